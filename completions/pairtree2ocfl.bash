@@ -24,9 +24,9 @@ _pairtree2ocfl() {
     case $command in
         migrate)
             options='--created --name --address --message --digest --tuple-size --tuples --gather --share
-                --ignore --sync --dry-run -n --verbose -v --progress --interval --expect --help -h'
+                --ignore --sync --dry-run -n --present-ok --verbose -v --progress --interval --expect --help -h'
             ;;
-        audit) options='--digest --tuple-size --tuples --gather --share --ignore --verbose -v --progress --help -h' ;;
+        audit) options='--digest --tuple-size --tuples --gather --share --ignore --skips-ok --verbose -v --progress --help -h' ;;
         names) options='--prefix --tuple-size --tuples --help -h' ;;
         help) options='migrate audit names help' ;;
         *) options='migrate audit names help --help -h --version -V' ;;

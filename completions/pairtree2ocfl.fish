@@ -20,6 +20,8 @@ complete -c pairtree2ocfl -n '__fish_seen_subcommand_from migrate audit' -l shar
 complete -c pairtree2ocfl -n '__fish_seen_subcommand_from migrate audit' -l ignore -x -d 'Leave out every entry of this name'
 complete -c pairtree2ocfl -n '__fish_seen_subcommand_from migrate' -l sync -d 'Have all put onto the disk'
 complete -c pairtree2ocfl -n '__fish_seen_subcommand_from migrate' -s n -l dry-run -d 'Rehearse'
+complete -c pairtree2ocfl -n '__fish_seen_subcommand_from migrate' -l present-ok -d 'Exit with 0 also where the log has present lines'
+complete -c pairtree2ocfl -n '__fish_seen_subcommand_from audit' -l skips-ok -d 'Exit with 0 also where the log has skip lines'
 complete -c pairtree2ocfl -n '__fish_seen_subcommand_from migrate audit' -s v -l verbose -d 'Tell of a fault also the reason'
 complete -c pairtree2ocfl -n '__fish_seen_subcommand_from migrate audit' -l progress -x -a 'auto always never' -d 'When to show how far the run is'
 complete -c pairtree2ocfl -n '__fish_seen_subcommand_from migrate' -l interval -x -d 'Seconds between two such lines'

@@ -358,6 +358,17 @@ def options(program, folder):
     return faults + differs(progress=(status, 0))
 
 
+def skip_lines(program, folder):
+    """With --skips-ok an audit has status 0 whose log has same and skip lines alone; an object that is absent or differs makes it 1."""
+    fresh(folder, store({"ab/c/obj/a.txt": b"abc", "ab/d": DIR}))
+    absent = audit(program, folder, "--skips-ok")[0]
+    migrate(program, folder)
+    found = [audit(program, folder, *words) for words in ((), ("--skips-ok",))]
+    faults = differs(status=([status for status, _, _ in found], [1, 0]), logs=(found[0][1:], found[1][1:]), absent=(absent, 1))
+    build(f"{folder}/s/pairtree_root", {"ab/c/obj/a.txt": b"abd"})
+    return faults + differs(differing=(audit(program, folder, "--skips-ok")[0], 1))
+
+
 def unreadable(program, folder):
     """What can't be read in the root is fault 2; root, who can read all, asks as another user."""
     fresh(folder, ONE)
@@ -427,6 +438,7 @@ CASES = [
     Alone("audit: a root in use", in_use),
     Alone("audit: two side by side", side_by_side),
     Alone("audit: options", options),
+    Alone("audit: skips that are well", skip_lines),
     Alone("audit: unreadable files", unreadable),
     Alone("audit: a link on the way", link_on_the_way),
     Alone("audit: shared contents", shared_contents),

@@ -14,8 +14,8 @@ import refusing
 import running
 from alone import Alone, differs, run
 from running import MEANT, TEXTS, Case, Run, ends
-from stores import ABC, DIR, GONE, ONE, ONE_DONE, ONE_ROOT, Link
-from stores import build, done, lines, object_files, read_tree, root, staged, store, stored
+from stores import ABC, DIR, GONE, ONE, ONE_DONE, ONE_PRESENT, ONE_ROOT, Link
+from stores import build, done, lines, object_files, read_tree, root, skip, staged, store, stored
 from tally import needs
 
 OVERLAP = b"pairtree2ocfl: SOURCE and DEST lie in one another\n"
@@ -300,6 +300,19 @@ def left_out():
     yield Case("a store without its pairtree", ONE, running.fault(5, {}, words=["--ignore", "pairtree_root"]))
 
 
+def present_lines():
+    """With --present-ok a run has status 0 whose log has done and present lines alone; a skip line makes it 1, as a present line without the option."""
+    end = {"as": "end", "done": 0, "present": 1, "skip": 0}
+    for words, status in {(): 1, ("--present-ok",): 0, ("--present-ok", "--dry-run"): 0}.items():
+        again = Run(lines(ONE_PRESENT, end), ONE_ROOT, status, words=words)
+        yield Case(f"a run again: {' '.join(words) or 'no more'}", ONE, ends([ONE_DONE], ONE_ROOT), again)
+    with_skip = {**ONE, "pairtree_root/ab/d": DIR}
+    first = ends([ONE_DONE, skip("ab/d", "empty")], ONE_ROOT, words=["--present-ok"])
+    again = ends([ONE_PRESENT, skip("ab/d", "empty")], ONE_ROOT, words=["--present-ok"])
+    yield Case("a skip where present lines are well", with_skip, first, again)
+    yield Case("a run where all is carried and present lines are well", ONE, ends([ONE_DONE], ONE_ROOT, words=["--present-ok"]))
+
+
 def rehearsals():
     """Every run of the other tests, rehearsed before it."""
     for case in (*carrying.CASES, *refusing.CASES):
@@ -360,5 +373,5 @@ ALONE = [
     Alone("progress elsewhere", seldom),
     Alone("progress by a rehearsal's log", expected),
 ]
-PARTS = (apart, roots_themselves, reasons, short_words, left_out, rehearsals)
+PARTS = (apart, roots_themselves, reasons, short_words, left_out, present_lines, rehearsals)
 CASES = [*ALONE, *(case for part in PARTS for case in part())]

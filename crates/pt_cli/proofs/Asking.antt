@@ -31,6 +31,7 @@ module _ (rows : List Row) where
       gather = is_set_in (codes "gather") rows;
       share = first_of (codes "share") rows;
       ignored = unwrap_or (all_of (codes "ignore") rows) [];
+      skips_ok = is_set_in (codes "skips-ok") rows;
       verbose = is_set_in (codes "verbose") rows;
       progress = p;
       source = f;
@@ -62,6 +63,7 @@ module _ (rows : List Row) where
       ignored = unwrap_or (all_of (codes "ignore") rows) [];
       sync = is_set_in (codes "sync") rows;
       rehearse = is_set_in (codes "dry-run") rows;
+      present_ok = is_set_in (codes "present-ok") rows;
       verbose = is_set_in (codes "verbose") rows;
       progress = p;
       interval = i;
@@ -78,6 +80,7 @@ module _ (rows : List Row) where
     gather = is_set_in (codes "gather") rows;
     share = first_of (codes "share") rows;
     ignored = unwrap_or (all_of (codes "ignore") rows) [];
+    skips_ok = is_set_in (codes "skips-ok") rows;
     verbose = is_set_in (codes "verbose") rows;
     progress = progress;
     source = source;
@@ -85,8 +88,8 @@ module _ (rows : List Row) where
   }
 
   -- the options of `migrate` with these values
-  abbrev made : Text → Text → Option Text → Text → Bool → Bool → ℕ → Option Text → AuditOptions → Options
-  made created name address message sync rehearse interval expected shared = record {
+  abbrev made : Text → Text → Option Text → Text → Bool → Bool → Bool → ℕ → Option Text → AuditOptions → Options
+  made created name address message sync rehearse present_ok interval expected shared = record {
     created = created;
     name = name;
     address = address;
@@ -99,6 +102,7 @@ module _ (rows : List Row) where
     ignored = shared.ignored;
     sync = sync;
     rehearse = rehearse;
+    present_ok = present_ok;
     verbose = shared.verbose;
     progress = shared.progress;
     interval = interval;
@@ -118,6 +122,7 @@ module _ (rows : List Row) where
     pub gather : shared.gather ≡ is_set_in (codes "gather") rows
     pub share : shared.share ≡ first_of (codes "share") rows
     pub ignored : shared.ignored ≡ unwrap_or (all_of (codes "ignore") rows) []
+    pub skips_ok : shared.skips_ok ≡ is_set_in (codes "skips-ok") rows
     pub verbose : shared.verbose ≡ is_set_in (codes "verbose") rows
 
   audit_parts : (shared : AuditOptions) (algorithm : Option Algorithm) (size count : Option ℕ) (progress : Option Progress) (source dest : Option Text)
@@ -131,20 +136,20 @@ module _ (rows : List Row) where
   audit_parts shared (Some a) (Some s) (Some c) (Some p) (Some f) (Some t) is =
       let same : the_shared a s c p f t ≡ shared = cc in
       subst (λ (g : AuditOptions). IsShared g (Some a) (Some s) (Some c) (Some p) (Some f) (Some t)) same
-      (record { algorithm = refl; size = refl; count = refl; progress = refl; source = refl; dest = refl; gather = refl; share = refl; ignored = refl; verbose = refl })
+      (record { algorithm = refl; size = refl; count = refl; progress = refl; source = refl; dest = refl; gather = refl; share = refl; ignored = refl; skips_ok = refl; verbose = refl })
 
-  pub all_there : (created name : Text) (address : Option Text) (message : Text) (sync rehearse : Bool) (interval : ℕ) (expected : Option Text) (shared : AuditOptions)
+  pub all_there : (created name : Text) (address : Option Text) (message : Text) (sync rehearse present_ok : Bool) (interval : ℕ) (expected : Option Text) (shared : AuditOptions)
       → Some shared ≡ audit_in rows → Some (created, name) ≡ both_of (first_of (codes "created") rows) (first_of (codes "name") rows)
       → address ≡ first_of (codes "address") rows → Some message ≡ first_of (codes "message") rows → sync ≡ is_set_in (codes "sync") rows
-      → rehearse ≡ is_set_in (codes "dry-run") rows → Some interval ≡ number_in (codes "interval") rows → expected ≡ first_of (codes "expect") rows
-      → Some (made created name address message sync rehearse interval expected shared) ≡ options_in rows
-  all_there created name address message sync rehearse interval expected shared holds named reaches says syncs rehearses waits awaits =
+      → rehearse ≡ is_set_in (codes "dry-run") rows → present_ok ≡ is_set_in (codes "present-ok") rows → Some interval ≡ number_in (codes "interval") rows → expected ≡ first_of (codes "expect") rows
+      → Some (made created name address message sync rehearse present_ok interval expected shared) ≡ options_in rows
+  all_there created name address message sync rehearse present_ok interval expected shared holds named reaches says syncs rehearses passes waits awaits =
       let names = both_parts _ _ created name named in
       let parts = audit_parts shared (first_of (codes "digest") rows >>= algorithm_of) (number_in (codes "tuple-size") rows) (number_in (codes "tuples") rows)
       (first_of (codes "progress") rows >>= progress_of) (first_of (codes "SOURCE") rows) (first_of (codes "DEST") rows) holds in
       let here : Option Options = options_of (Some created) (Some name) (Some message) (Some shared.algorithm) (Some shared.size) (Some shared.count) (Some shared.progress) (Some interval) (Some shared.source) (Some shared.dest) in
-      let put : Some (made created name address message sync rehearse interval expected shared) ≡ here =
-      λ i. Some (record (made created name (reaches i) message (syncs i) (rehearses i) interval (awaits i) shared) {
+      let put : Some (made created name address message sync rehearse present_ok interval expected shared) ≡ here =
+      λ i. Some (record (made created name (reaches i) message (syncs i) (rehearses i) (passes i) interval (awaits i) shared) {
         gather = parts.gather i;
         share = parts.share i;
         ignored = parts.ignored i;

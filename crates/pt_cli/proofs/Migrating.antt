@@ -33,15 +33,16 @@ refused given (Some x) layout e same =
     inl (ap (λ f. Err (words_of_meta f)) is_x)
 refused given None layout e memory = inr (ap (λ f. Err (words_of_meta f)) memory)
 
--- the options that `audit` has too
-abbrev shared_of : Options → AuditOptions
-shared_of given = record {
+-- the options that `audit` has too, with the one that it has alone
+abbrev shared_of : Bool → Options → AuditOptions
+shared_of skips_ok given = record {
   algorithm = given.algorithm;
   size = given.size;
   count = given.count;
   gather = given.gather;
   share = given.share;
   ignored = given.ignored;
+  skips_ok = skips_ok;
   verbose = given.verbose;
   progress = given.progress;
   source = given.source;
@@ -59,6 +60,7 @@ made given meta expected audit = Ok (Migrate (record {
   ignored = audit.ignored;
   sync = given.sync;
   rehearse = given.rehearse;
+  present_ok = given.present_ok;
   verbose = audit.verbose;
   progress = audit.progress;
   interval = given.interval;
@@ -68,15 +70,15 @@ made given meta expected audit = Ok (Migrate (record {
 }))
 
 -- what `audit` refuses of these options, `migrate` does
-refused_in : (given : Options) (layout : Tuples) (share : Option Portion) (named : Bool) (e : WordsFault)
-    → audit_parted (shared_of given) layout share named ≡ Err e → parted given layout share named ≡ Err e
-refused_in given layout None named e is = is
-refused_in given layout (Some s) false e is = is
-refused_in given layout (Some s) true e is = absurd (cc)
+refused_in : (skips_ok : Bool) (given : Options) (layout : Tuples) (share : Option Portion) (named : Bool) (e : WordsFault)
+    → audit_parted (shared_of skips_ok given) layout share named ≡ Err e → parted given layout share named ≡ Err e
+refused_in skips_ok given layout None named e is = is
+refused_in skips_ok given layout (Some s) false e is = is
+refused_in skips_ok given layout (Some s) true e is = absurd (cc)
 
-refused_too : (given : Options) (layout : Result Tuples LayoutFault) (e : WordsFault) → audit_cut (shared_of given) layout ≡ Err e → described given None layout ≡ Err e
-refused_too given (Err f) e is = is
-refused_too given (Ok tuples) e is = refused_in given tuples (share_asked given.share) (are_names given.ignored) e is
+refused_too : (skips_ok : Bool) (given : Options) (layout : Result Tuples LayoutFault) (e : WordsFault) → audit_cut (shared_of skips_ok given) layout ≡ Err e → described given None layout ≡ Err e
+refused_too skips_ok given (Err f) e is = is
+refused_too skips_ok given (Ok tuples) e is = refused_in skips_ok given tuples (share_asked given.share) (are_names given.ignored) e is
 
 -- the audit that is asked for
 abbrev audit_or : Comparison → Result Command WordsFault → Comparison
@@ -84,18 +86,18 @@ audit_or other (Ok (Audit audit)) = audit
 audit_or other _ = other
 
 -- and what makes an audit makes a migration
-made_in : (given : Options) (layout : Tuples) (share : Option Portion) (named : Bool) (audit : Comparison)
-    → audit_parted (shared_of given) layout share named ≡ Ok (Audit audit)
+made_in : (skips_ok : Bool) (given : Options) (layout : Tuples) (share : Option Portion) (named : Bool) (audit : Comparison)
+    → audit_parted (shared_of skips_ok given) layout share named ≡ Ok (Audit audit)
     → parted given layout share named ≡ made given (parts_of given.created given.name (given_address given.address) given.message) given.expected audit
-made_in given layout None named audit is = absurd (cc)
-made_in given layout (Some s) false audit is = absurd (cc)
-made_in given layout (Some s) true audit is =
+made_in skips_ok given layout None named audit is = absurd (cc)
+made_in skips_ok given layout (Some s) false audit is = absurd (cc)
+made_in skips_ok given layout (Some s) true audit is =
     ap (λ r. made given (parts_of given.created given.name (given_address given.address) given.message) given.expected (audit_or audit r)) is
 
-made_too : (given : Options) (layout : Result Tuples LayoutFault) (audit : Comparison) → audit_cut (shared_of given) layout ≡ Ok (Audit audit)
+made_too : (skips_ok : Bool) (given : Options) (layout : Result Tuples LayoutFault) (audit : Comparison) → audit_cut (shared_of skips_ok given) layout ≡ Ok (Audit audit)
     → described given None layout ≡ made given (parts_of given.created given.name (given_address given.address) given.message) given.expected audit
-made_too given (Err f) audit is = absurd (cc)
-made_too given (Ok tuples) audit is = made_in given tuples (share_asked given.share) (are_names given.ignored) audit is
+made_too skips_ok given (Err f) audit is = absurd (cc)
+made_too skips_ok given (Ok tuples) audit is = made_in skips_ok given tuples (share_asked given.share) (are_names given.ignored) audit is
 
 module _ (given : Options) where
   -- no description
@@ -112,20 +114,20 @@ module _ (given : Options) where
     described_too None layout r same is = is
 
     -- which are refused
-    pub no_audit : (e : WordsFault) (r : Result Command WordsFault) → IsAuditOf (shared_of given) (Err e) → IsErrAnd r (λ y. y ≡ e) → OrMemory (migrate_answer given) r
-    no_audit e (Ok command) audited is = absurd is
-    no_audit e (Err y) audited is =
+    pub no_audit : (skips_ok : Bool) (e : WordsFault) (r : Result Command WordsFault) → IsAuditOf (shared_of skips_ok given) (Err e) → IsErrAnd r (λ y. y ≡ e) → OrMemory (migrate_answer given) r
+    no_audit skips_ok e (Ok command) audited is = absurd is
+    no_audit skips_ok e (Err y) audited is =
         subst (λ f. OrMemory (migrate_answer given) (Err f)) (sym is) (described_too _ (layout_of given.size given.count) (Err e) told (go audited))
       where
-        go : IsAuditOf (shared_of given) (Err e) → OrMemory (described given None (layout_of given.size given.count)) (Err e)
-        go (inl same) = inl (sym (refused_too given _ e (sym same)))
+        go : IsAuditOf (shared_of skips_ok given) (Err e) → OrMemory (described given None (layout_of given.size given.count)) (Err e)
+        go (inl same) = inl (sym (refused_too skips_ok given _ e (sym same)))
         go (inr memory) = inr memory
 
     -- or are those of a migration
-    pub carried : (audit : Comparison) (expected : Option Text) → IsAuditOf (shared_of given) (Ok audit) → expected ≡ given.expected
+    pub carried : (skips_ok : Bool) (audit : Comparison) (expected : Option Text) → IsAuditOf (shared_of skips_ok given) (Ok audit) → expected ≡ given.expected
         → OrMemory (migrate_answer given) (made given meta expected audit)
-    carried audit expected audited awaits =
-        described_too _ _ _ told (inl ((λ i. made given (by _ told i) (awaits i) audit) ∙ sym (made_too given (layout_of given.size given.count) audit audited)))
+    carried skips_ok audit expected audited awaits =
+        described_too _ _ _ told (inl ((λ i. made given (by _ told i) (awaits i) audit) ∙ sym (made_too skips_ok given (layout_of given.size given.count) audit audited)))
       where
         by : (refusal : Option MetaFault) → Describes given refusal (Ok meta) → IsDescription given meta
         by (Some x) same = absurd (cc)

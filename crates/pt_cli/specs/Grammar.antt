@@ -111,6 +111,14 @@ sync_rule = flag_rule (codes "sync")
 abbrev pub rehearse_rule : Rule
 rehearse_rule = record (flag_rule (codes "dry-run")) { short = Some 110 }
 
+-- `--present-ok`
+abbrev pub present_rule : Rule
+present_rule = flag_rule (codes "present-ok")
+
+-- `--skips-ok`
+abbrev pub skips_rule : Rule
+skips_rule = flag_rule (codes "skips-ok")
+
 -- `--verbose`, `-v`
 abbrev pub verbose_rule : Rule
 verbose_rule = record (flag_rule (codes "verbose")) { short = Some 118 }
@@ -133,7 +141,7 @@ abbrev pub migrate_rules : Spelled → List Rule
 migrate_rules words =
     created_rule ∷ name_rule ∷ address_rule ∷ message_rule ∷ digest_rule words.algorithms
     ∷ size_rule ∷ count_rule ∷ gather_rule
-    ∷ share_rule ∷ ignore_rule ∷ sync_rule ∷ rehearse_rule ∷ verbose_rule
+    ∷ share_rule ∷ ignore_rule ∷ sync_rule ∷ rehearse_rule ∷ present_rule ∷ verbose_rule
     ∷ progress_rule words.times ∷ interval_rule ∷ expect_rule
     ∷ source_rule ∷ dest_rule ∷ []
 
@@ -148,7 +156,7 @@ IsMigrateApp app = (words : Spelled) × (app ≡ migrate_app words)
 abbrev pub audit_rules : Spelled → List Rule
 audit_rules words =
     digest_rule words.algorithms ∷ size_rule ∷ count_rule ∷ gather_rule ∷ share_rule ∷ ignore_rule
-    ∷ verbose_rule ∷ progress_rule words.times
+    ∷ skips_rule ∷ verbose_rule ∷ progress_rule words.times
     ∷ source_rule ∷ dest_rule ∷ []
 
 -- `audit [OPTIONS] SOURCE DEST`

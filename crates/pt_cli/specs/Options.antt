@@ -25,6 +25,7 @@ pub record Options : Type 0 where
   pub ignored : List Text
   pub sync : Bool
   pub rehearse : Bool
+  pub present_ok : Bool
   pub verbose : Bool
   pub progress : Progress
   pub interval : ℕ
@@ -108,6 +109,7 @@ options_in rows = do
     ignored = unwrap_or (all_of (codes "ignore") rows) [];
     sync = is_set_in (codes "sync") rows;
     rehearse = is_set_in (codes "dry-run") rows;
+    present_ok = is_set_in (codes "present-ok") rows;
     verbose = is_set_in (codes "verbose") rows;
     progress = progress;
     interval = interval;
@@ -139,6 +141,7 @@ pub record AuditOptions : Type 0 where
   pub gather : Bool
   pub share : Option Text
   pub ignored : List Text
+  pub skips_ok : Bool
   pub verbose : Bool
   pub progress : Progress
   pub source : Text
@@ -160,6 +163,7 @@ audit_in rows = do
     gather = is_set_in (codes "gather") rows;
     share = first_of (codes "share") rows;
     ignored = unwrap_or (all_of (codes "ignore") rows) [];
+    skips_ok = is_set_in (codes "skips-ok") rows;
     verbose = is_set_in (codes "verbose") rows;
     progress = progress;
     source = source;

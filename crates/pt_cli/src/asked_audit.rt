@@ -18,6 +18,7 @@ const MOMENT: &str = "1970-01-01T00:00:00Z";
 #[derive(Drop)]
 pub(crate) struct AskedAudit {
     pub wanted: WantedAudit,
+    pub skips_ok: bool,
     pub source: Text,
     pub dest: Text,
 }
@@ -26,7 +27,7 @@ pub(crate) struct AskedAudit {
 pub(crate) fn audit_asked_for(alloc: Global, words: Audit) -> Result<AskedAudit, MemoryFault>
     ensures { IfOk result (λ asked.
         ((meta : MetaParts) × (asked.wanted ≡ wanted_audit meta words))
-        × (asked.source ≡ words.source) × (asked.dest ≡ words.dest)) }
+        × (asked.skips_ok ≡ words.skips_ok) × (asked.source ≡ words.source) × (asked.dest ≡ words.dest)) }
 {
     let Ok(meta) = Meta::of(alloc, MOMENT, "audit", None, "") else {
         return Err(MemoryFault::Memory);
@@ -47,6 +48,7 @@ pub(crate) fn audit_asked_for(alloc: Global, words: Audit) -> Result<AskedAudit,
     };
     Ok(AskedAudit {
         wanted,
+        skips_ok: words.skips_ok,
         source: words.source,
         dest: words.dest,
     })

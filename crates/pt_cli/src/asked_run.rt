@@ -12,6 +12,7 @@ use pt_walk::Limits;
 pub(crate) struct AskedRun {
     pub wanted: Wanted,
     pub expected: Option<Text>,
+    pub present_ok: bool,
     pub source: Text,
     pub dest: Text,
 }
@@ -20,6 +21,7 @@ pub(crate) struct AskedRun {
 pub(crate) fn run_asked_for(words: Migrate) -> AskedRun
     ensures wanted { result.wanted ≡ wanted_of words }
     ensures expected { result.expected ≡ words.expected }
+    ensures present_ok { result.present_ok ≡ words.present_ok }
     ensures source { result.source ≡ words.source }
     ensures dest { result.dest ≡ words.dest }
 {
@@ -43,6 +45,7 @@ pub(crate) fn run_asked_for(words: Migrate) -> AskedRun
     AskedRun {
         wanted,
         expected: words.expected,
+        present_ok: words.present_ok,
         source: words.source,
         dest: words.dest,
     }

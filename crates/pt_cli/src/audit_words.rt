@@ -5,7 +5,7 @@ ghost use Rattle.pt_cli.specs.Given.{IsAuditOf, audit_given};
 ghost use Rattle.pt_cli.specs.Options.{audit_in};
 ghost use Rattle.pt_cli.specs.Words.{OrMemory, audit_answer};
 
-use crate::grammar::{DEST, GATHER, IGNORE, SHARE, SOURCE, VERBOSE};
+use crate::grammar::{DEST, GATHER, IGNORE, SHARE, SKIPS_OK, SOURCE, VERBOSE};
 use crate::words::{choices, is_set, names_asked, share, text, texts, tuples, two_texts};
 use crate::{Audit, Command, Text, WordsFault};
 use clap::ArgMatches;
@@ -23,6 +23,7 @@ pub(crate) struct GivenAudit<'m, 'a> {
     gather: bool,
     share: Option<&'a str>,
     ignored: Option<&'m [&'a str]>,
+    skips_ok: bool,
     verbose: bool,
     progress: Progress,
     source: &'a str,
@@ -43,6 +44,7 @@ pub(crate) fn audit_options<'m, 'a>(matches: &'m ArgMatches<'a>) -> Option<Given
         gather: is_set(matches, GATHER),
         share: text(matches, SHARE),
         ignored: texts(matches, IGNORE),
+        skips_ok: is_set(matches, SKIPS_OK),
         verbose: is_set(matches, VERBOSE),
         progress,
         source,
@@ -67,6 +69,7 @@ pub(crate) fn audit_of(alloc: Global, given: &GivenAudit<'_, '_>) -> Result<Audi
         gather: given.gather,
         share,
         ignored,
+        skips_ok: given.skips_ok,
         verbose: given.verbose,
         progress: given.progress,
         source,

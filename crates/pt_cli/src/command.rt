@@ -45,6 +45,8 @@ pub struct Migrate {
     pub sync: bool,
     /// Whether it is rehearsed only.
     pub rehearse: bool,
+    /// Whether present lines leave the status at 0.
+    pub present_ok: bool,
     /// Whether the reason of a fault is told.
     pub verbose: bool,
     /// When to show how far the run is.
@@ -72,6 +74,8 @@ pub struct Audit {
     pub share: Share,
     /// The names of the entries that are left out.
     pub ignored: Ignored,
+    /// Whether skip lines leave the status at 0.
+    pub skips_ok: bool,
     /// Whether the reason of a fault is told.
     pub verbose: bool,
     /// When to show how far the audit is.

@@ -42,6 +42,10 @@ pub(crate) const SYNC: &str = "sync";
 
 pub(crate) const REHEARSE: &str = "dry-run";
 
+pub(crate) const PRESENT_OK: &str = "present-ok";
+
+pub(crate) const SKIPS_OK: &str = "skips-ok";
+
 pub(crate) const VERBOSE: &str = "verbose";
 
 pub(crate) const PROGRESS: &str = "progress";
@@ -199,6 +203,11 @@ const MIGRATE_TAKES: &[Taken] = &[
         form: Form::Letter('n'),
         help: "Rehearse: read all, write the log, and make or change nothing in DEST",
     },
+    Taken {
+        id: PRESENT_OK,
+        form: Form::Flag,
+        help: "Exit with 0 also where the log has present lines, as a second run's has",
+    },
     TAKES_VERBOSE,
     TAKES_PROGRESS,
     Taken {
@@ -223,6 +232,11 @@ const AUDIT_TAKES: &[Taken] = &[
     TAKES_GATHER,
     TAKES_SHARE,
     TAKES_IGNORE,
+    Taken {
+        id: SKIPS_OK,
+        form: Form::Flag,
+        help: "Exit with 0 also where the log has skip lines",
+    },
     TAKES_VERBOSE,
     TAKES_PROGRESS,
     TAKES_SOURCE,
@@ -253,7 +267,7 @@ The causes of a skip:
 
 Exit status:
   0  everything was carried
-  1  the run ended, but the log has a line of skip or present
+  1  the run ended, but the log has a line of skip or present (with --present-ok, of skip)
   2  the words were refused, and nothing was done
   3  a fault ended the run, and standard error says which"#;
 
@@ -271,7 +285,7 @@ Each line says under "as" what was found:
 
 Exit status:
   0  all lines are same
-  1  the log has other lines
+  1  the log has other lines (with --skips-ok, lines of absent or differs)
   2  the words were refused, and nothing was done
   3  a fault ended the audit, and standard error says which"#;
 

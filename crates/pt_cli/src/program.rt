@@ -13,7 +13,7 @@ use crate::started::Started;
 use crate::{Audit, Command, Migrate, Named, NamesFault, Text, WordsFault, names_to, read_words};
 use pt_move::Fault;
 use pt_run::status::{DONE, REFUSED};
-use pt_run::{Host, Reads, Terminals, audit_guarded, failed, run_guarded};
+use pt_run::{Host, Reads, Telling, Terminals, audit_guarded_as, failed, run_guarded_as};
 use pt_tree::write_out;
 use std::alloc::AllocGlobal;
 use std::io;
@@ -34,7 +34,8 @@ where
         (λ words. Runs H.resolves H.identifies H.holds H.releases H.finds H.File.syncs
         H.File.puts H.lends H.takes_back H.Store.forest H.Folder.kept H.Output.contents
         (Serves H.Folder.System H.Folder.File.Handle.own H.Folder.File.Input H.Folder.Dir.Input)
-        (AsksEnd R.ends rt.now words.expected) (wanted_of words) words.source words.dest)
+        (AsksEnd R.ends rt.now words.expected) words.present_ok (wanted_of words)
+        words.source words.dest)
         (AuditsFor (Audits H.resolves H.identifies H.holds H.releases
         H.lends H.takes_back H.Store.forest H.Folder.forest H.Output.contents)))
         (Declines (TellsText H.lends H.takes_back H.Output.contents)))
@@ -70,7 +71,8 @@ where
         (λ words. Runs H.resolves H.identifies H.holds H.releases H.finds H.File.syncs
         H.File.puts H.lends H.takes_back H.Store.forest H.Folder.kept H.Output.contents
         (Serves H.Folder.System H.Folder.File.Handle.own H.Folder.File.Input H.Folder.Dir.Input)
-        (AsksEnd R.ends rt.now words.expected) (wanted_of words) words.source words.dest)
+        (AsksEnd R.ends rt.now words.expected) words.present_ok (wanted_of words)
+        words.source words.dest)
         (AuditsFor (Audits H.resolves H.identifies H.holds H.releases
         H.lends H.takes_back H.Store.forest H.Folder.forest H.Output.contents)))
         (Declines (TellsText H.lends H.takes_back H.Output.contents))
@@ -90,7 +92,8 @@ where
         (λ words. Runs H.resolves H.identifies H.holds H.releases H.finds H.File.syncs
         H.File.puts H.lends H.takes_back H.Store.forest H.Folder.kept H.Output.contents
         (Serves H.Folder.System H.Folder.File.Handle.own H.Folder.File.Input H.Folder.Dir.Input)
-        (AsksEnd R.ends rt.now words.expected) (wanted_of words) words.source words.dest)
+        (AsksEnd R.ends rt.now words.expected) words.present_ok (wanted_of words)
+        words.source words.dest)
         (AuditsFor (Audits H.resolves H.identifies H.holds H.releases
         H.lends H.takes_back H.Store.forest H.Folder.forest H.Output.contents))
         command host.old host.new result }
@@ -151,17 +154,21 @@ where
     ensures { Runs H.resolves H.identifies H.holds H.releases H.finds H.File.syncs
         H.File.puts H.lends H.takes_back H.Store.forest H.Folder.kept H.Output.contents
         (Serves H.Folder.System H.Folder.File.Handle.own H.Folder.File.Input H.Folder.Dir.Input)
-        (AsksEnd R.ends rt.now words.expected)
+        (AsksEnd R.ends rt.now words.expected) words.present_ok
         (wanted_of words) words.source words.dest host.old host.new result }
 {
     let AskedRun {
         wanted,
         expected,
+        present_ok,
         source,
         dest,
     } = run_asked_for(words);
-    let expected = text_in(&expected);
-    run_guarded(rt, host, wanted, expected, source.as_str(), dest.as_str())
+    let telling = Telling {
+        expected: text_in(&expected),
+        lenient: present_ok,
+    };
+    run_guarded_as(rt, host, wanted, telling, source.as_str(), dest.as_str())
 }
 
 // The text that there is, if there is one.
@@ -183,10 +190,14 @@ where
         words host.old host.new result }
 {
     match audit_asked_for(rt.alloc(), words) {
-        Ok(asked) => audit_guarded(
+        Ok(asked) => audit_guarded_as(
             rt,
             host,
             asked.wanted,
+            Telling {
+                expected: None,
+                lenient: asked.skips_ok,
+            },
             asked.source.as_str(),
             asked.dest.as_str(),
         ),

@@ -12,7 +12,7 @@ ghost use Rattle.pt_cli.specs.Words.{AreNamed, audit_answer, migrate_answer, nam
 use crate::audit_words::{GivenAudit, audit_command, audit_of, audit_options};
 use crate::grammar::{
     ADDRESS, AUDIT, CREATED, DIGEST, EXPECT, ID, INTERVAL, MESSAGE, MIGRATE, NAME, NAMES, PREFIX,
-    PROGRESS, REHEARSE, SYNC, TUPLE_SIZE, TUPLES, parser,
+    PRESENT_OK, PROGRESS, REHEARSE, SYNC, TUPLE_SIZE, TUPLES, parser,
 };
 use crate::{Command, Migrate, Named, Text};
 use clap::error::ErrorKind;
@@ -139,6 +139,7 @@ struct Given<'m, 'a> {
     message: &'a str,
     sync: bool,
     rehearse: bool,
+    present_ok: bool,
     interval: u32,
     expected: Option<&'a str>,
     shared: GivenAudit<'m, 'a>,
@@ -271,6 +272,7 @@ fn migrate_command(alloc: Global, given: &Given<'_, '_>) -> Result<Command, Word
         ignored: audit.ignored,
         sync: given.sync,
         rehearse: given.rehearse,
+        present_ok: given.present_ok,
         verbose: audit.verbose,
         progress: audit.progress,
         interval: given.interval,
@@ -362,6 +364,7 @@ fn options<'m, 'a>(matches: &'m ArgMatches<'a>) -> Option<Given<'m, 'a>>
         message: text(matches, MESSAGE)?,
         sync: is_set(matches, SYNC),
         rehearse: is_set(matches, REHEARSE),
+        present_ok: is_set(matches, PRESENT_OK),
         interval: number(matches, INTERVAL)?,
         expected: text(matches, EXPECT),
         shared,

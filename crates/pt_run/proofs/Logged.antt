@@ -19,14 +19,14 @@ log_counts job true was old new ran run = run.promises.log
 log_counts job false was old new ran run = run.promises.log
 
 -- so it failed nowhere in a run that ended well
-unfailed : (ran : Result Report Fault) (before after : ℕ) → Counts 3 before after ran → before ≡ 0 → run_status ran ≢ 3 → after ≡ 0
-unfailed (Ok report) before after counts none well = counts ∙ none
-unfailed (Err fault) before after counts none well = absurd (well refl)
+unfailed : (present_ok : Bool) (ran : Result Report Fault) (before after : ℕ) → Counts 3 before after ran → before ≡ 0 → run_status present_ok ran ≢ 3 → after ≡ 0
+unfailed present_ok (Ok report) before after counts none well = counts ∙ none
+unfailed present_ok (Err fault) before after counts none well = absurd (well refl)
 
 -- and its file is where all stands that it wrote, if it wrote anything
-pub logged : {W E : Type 0} (puts : E → W → Result (Unit {0}) Error → E → Type 0) (old new : DurableLog W E) (ran : Result Report Fault) → LogStays puts old new → Counts 3 old.failures new.failures ran → old.failures ≡ 0
-    → IsLogged puts old.file old.writer new.writer (run_status ran)
-logged {W} {E} puts old new ran stays counts none = by old.file refl
+pub logged : {W E : Type 0} (puts : E → W → Result (Unit {0}) Error → E → Type 0) (present_ok : Bool) (old new : DurableLog W E) (ran : Result Report Fault) → LogStays puts old new → Counts 3 old.failures new.failures ran → old.failures ≡ 0
+    → IsLogged puts old.file old.writer new.writer (run_status present_ok ran)
+logged {W} {E} puts present_ok old new ran stays counts none = by old.file refl
   where
     of_file : (o : Option E) → is_some o ≡ true → IfSome o (IsOnDisk puts new.writer) → (after : E) × IsOnDisk puts new.writer after
     of_file None some there = absurd (cc)
@@ -36,6 +36,6 @@ logged {W} {E} puts old new ran stays counts none = by old.file refl
     there some (inl same) = inl (ap (λ l. l.writer) same)
     there some (inr put) = inr (of_file new.file some put)
 
-    by : (o : Option E) → old.file ≡ o → IsLogged puts o old.writer new.writer (run_status ran)
+    by : (o : Option E) → old.file ≡ o → IsLogged puts o old.writer new.writer (run_status present_ok ran)
     by None is = tt
-    by (Some file) is = λ well. there (stays.file (ap is_some is)) (stays.there (unfailed ran old.failures new.failures counts none well))
+    by (Some file) is = λ well. there (stays.file (ap is_some is)) (stays.there (unfailed present_ok ran old.failures new.failures counts none well))

@@ -10,11 +10,11 @@ use Rattle.pt_run.specs.Ends.{run_status}
 use Rattle.pt_run.specs.Made.{IsStuckBy}
 
 -- what is stuck was counted as a failure, and a good end has counted none
-pub stuck_by : (synced : Bool) (before after : ℕ) (ran : Result Report Fault) (stuck : Option Stuck)
+pub stuck_by : (synced present_ok : Bool) (before after : ℕ) (ran : Result Report Fault) (stuck : Option Stuck)
     → ForSome stuck (λ _. synced ≡ true) → ForSome stuck (λ _. 1 ≤ after) → Counts 2 before after ran
-    → IsStuckBy synced before (run_status ran) stuck
-stuck_by synced before after (Ok report) stuck wanted risen counts = λ s is. (wanted s is, λ none. let rose = risen s is in absurd (omega (arith, rose, counts, none)))
-stuck_by synced before after (Err f) stuck wanted risen counts = λ s is. (wanted s is, λ none. refl)
+    → IsStuckBy synced before (run_status present_ok ran) stuck
+stuck_by synced present_ok before after (Ok report) stuck wanted risen counts = λ s is. (wanted s is, λ none. let rose = risen s is in absurd (omega (arith, rose, counts, none)))
+stuck_by synced present_ok before after (Err f) stuck wanted risen counts = λ s is. (wanted s is, λ none. refl)
 
 pub none_stuck_by : (synced : Bool) (before status : ℕ) (stuck : Option Stuck) → stuck ≡ None → IsStuckBy synced before status stuck
 none_stuck_by synced before status stuck none = λ s is. absurd (cc)

@@ -1,5 +1,5 @@
 -- What an audit on a machine comes to.
-use Rattle.std.specs.Prelude.{◌≡◌, ◌+◌, ◌==◌, ℕ, if◌then◌else◌, IfErr, IfOk, List, None, OnOk, Option, Result, Ok, Err}
+use Rattle.std.specs.Prelude.{◌≡◌, ◌+◌, ◌==◌, ℕ, Bool, true, false, if◌then◌else◌, IfErr, IfOk, List, None, OnOk, Option, Result, Ok, Err}
 use Rattle.std.specs.Option.{ForSome}
 use Rattle.std.specs.declared.io.Error.{Error}
 use Rattle.pt_audit.specs.Auditing.{EndsAs}
@@ -23,10 +23,15 @@ use Rattle.pt_state.specs.States.{job_of}
 use Rattle.pt_survey.specs.Growing.{Grows}
 use Rattle.pt_tree.specs.Forest.{Forest}
 
--- 0 where each object stands and nothing was passed over, 1 where not, 3 after a fault
-abbrev pub audit_status : Result Counts Fault → ℕ
-audit_status (Ok counts) = if counts.absent + counts.differs + counts.skipped == 0 then 0 else 1
-audit_status (Err fault) = 3
+-- how many lines of an audit's log tell of what isn't the same: those of objects, and skip lines unless these are well
+abbrev pub others : Bool → Counts → ℕ
+others false counts = counts.absent + counts.differs + counts.skipped
+others true counts = counts.absent + counts.differs
+
+-- of an audit, whose skip lines are well or not: 0 where its log has no such line, 1 where it has, 3 after a fault
+abbrev pub audit_status : Bool → Result Counts Fault → ℕ
+audit_status skips_ok (Ok counts) = if others skips_ok counts == 0 then 0 else 1
+audit_status skips_ok (Err fault) = 3
 
 -- the tree that an audit sees of a store: the one that its system keeps, without the entries that are left out
 abbrev pub store_tree : List (List ℕ) → Option Forest → Option Forest
@@ -38,7 +43,7 @@ root_tree tree = tree_in (source_told tree None)
 
 -- an audit was made over these folders of the systems, with what `audit` of pt_audit promises of it: where it ended well the output got its log, of both trees as they stood, and the root is one that a run could go on with; and they stand
 pub record AuditsOver {S D W : Type 0} (forest : S → List ℕ → Option Forest)
-    (folders : D → List ℕ → Option Forest) (contents : W → Option (List ℕ)) (wanted : WantedAudit)
+    (folders : D → List ℕ → Option Forest) (contents : W → Option (List ℕ)) (skips_ok : Bool) (wanted : WantedAudit)
     (store folder : List ℕ) (old new : Ground S D W) (status : ℕ) : Type 0 where
   pub ran : Result Counts Fault
   pub ends : IfOk ran (EndsAs (job_of wanted.job) (store_tree wanted.ignored (forest old.store store))
@@ -50,20 +55,20 @@ pub record AuditsOver {S D W : Type 0} (forest : S → List ℕ → Option Fores
       ≡ store_tree wanted.ignored (forest old.store store)
   pub root_stays : root_tree (folders new.folder folder) ≡ root_tree (folders old.folder folder)
   pub grows : Grows (contents old.output) (contents new.output)
-  pub status_is : status ≡ audit_status ran
+  pub status_is : status ≡ audit_status skips_ok ran
 
--- what `audit_guarded` does on a machine, by the words of its calls and of what is lent: the guard, with a lock that others may share, the audit over what is lent, which is given back, and the lock
+-- what `audit_guarded` does on a machine, by the words of its calls and of what is lent: the guard, with a lock that others may share, the audit over what is lent, which is given back, and the lock; skip lines are well for its status or not
 abbrev pub Audits : {H L S D W : Type 0}
     → (H → List ℕ → Result Place Error → H → Type 0) → (H → List ℕ → Result Folder Error → H → Type 0)
     → (Claim → H → List ℕ → Hold L → H → Type 0) → (H → L → H → Type 0)
     → (H → Ground S D W → H → Type 0) → (H → Ground S D W → H → Type 0)
     → (S → List ℕ → Option Forest) → (D → List ℕ → Option Forest) → (W → Option (List ℕ))
-    → WantedAudit → List ℕ → List ℕ → H → H → ℕ → Type 0
+    → Bool → WantedAudit → List ℕ → List ℕ → H → H → ℕ → Type 0
 Audits {H} {L} {S} {D} {W} resolves identifies holds releases lends takes_back forest folders contents
-    wanted source dest =
+    skips_ok wanted source dest =
     Guarded (Begins resolves identifies (holds Shared) source dest)
     (λ old new status. (ground : Ground S D W) × (lent : H) × lends old ground lent
     × (after : Ground S D W)
-    × AuditsOver forest folders contents wanted source dest ground after status
+    × AuditsOver forest folders contents skips_ok wanted source dest ground after status
     × takes_back lent after new)
     releases

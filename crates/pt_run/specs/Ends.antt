@@ -1,5 +1,5 @@
 -- What a migration ends with.
-use Rattle.std.specs.Prelude.{◌≡◌, ◌⊎◌, ◌+◌, ◌==◌, ℕ, if◌then◌else◌, Result, Ok, Err}
+use Rattle.std.specs.Prelude.{◌≡◌, ◌⊎◌, ◌+◌, ◌==◌, ℕ, Bool, true, false, if◌then◌else◌, Result, Ok, Err}
 use Rattle.pt_guard.specs.declared.guard.GuardFault.{GuardFault}
 use Rattle.pt_guard.specs.declared.guard.GuardFault.TheVariants as guard
 use Rattle.pt_plan.specs.declared.fault.Fault.{Fault}
@@ -14,15 +14,20 @@ guard_status guard.Root = 2
 guard_status guard.Taken = 3
 guard_status guard.Memory = 3
 
--- of a run: 0 where its log has neither present nor skip lines, 1 where it has, 3 after a fault
-abbrev pub run_status : Result Report Fault → ℕ
-run_status (Ok report) = if report.present + report.skipped == 0 then 0 else 1
-run_status (Err fault) = 3
+-- how many lines of a run's log tell of what it did not carry: skip lines, and present lines unless these are well
+abbrev pub uncarried : Bool → Report → ℕ
+uncarried false report = report.present + report.skipped
+uncarried true report = report.skipped
+
+-- of a run, whose present lines are well or not: 0 where its log has no such line, 1 where it has, 3 after a fault
+abbrev pub run_status : Bool → Result Report Fault → ℕ
+run_status present_ok (Ok report) = if uncarried present_ok report == 0 then 0 else 1
+run_status present_ok (Err fault) = 3
 
 -- what a run came to, and its status
-abbrev pub RunEnds : ℕ → Type 0
-RunEnds status = (result : Result Report Fault) × (status ≡ run_status result)
+abbrev pub RunEnds : Bool → ℕ → Type 0
+RunEnds present_ok status = (result : Result Report Fault) × (status ≡ run_status present_ok result)
 
 -- it may not begin, or it came to this
-abbrev pub Ends : ℕ → Type 0
-Ends status = ((fault : GuardFault) × (status ≡ guard_status fault)) ⊎ RunEnds status
+abbrev pub Ends : Bool → ℕ → Type 0
+Ends present_ok status = ((fault : GuardFault) × (status ≡ guard_status fault)) ⊎ RunEnds present_ok status

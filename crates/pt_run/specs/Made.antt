@@ -43,11 +43,11 @@ pub record IsRun (job : Job) (rehearse : Bool) (was : Option Writing) (old new :
   pub tells : is_some plays ≡ is_some was
   pub promises : Migrates job (seen rehearse was old) (seen rehearse plays new) ran
 
--- and this is its status
-abbrev pub IsMade : Wanted → Option Writing → World → World → ℕ → Type 0
-IsMade wanted was old new status =
+-- and this is its status, where present lines are well or not
+abbrev pub IsMade : Bool → Wanted → Option Writing → World → World → ℕ → Type 0
+IsMade present_ok wanted was old new status =
     (ran : Result Report Fault) × IsRun wanted.job wanted.rehearse was old new ran
-    × (status ≡ run_status ran)
+    × (status ≡ run_status present_ok ran)
 
 -- the paths of a run's two folders, the names of the entries that are left out of the store, and whether files are
 -- put onto the disk
@@ -82,11 +82,11 @@ IsStuckBy synced failures status stuck =
 -- a run was made between these folders, from this world to what its devices then tell over these systems and this
 -- output, with this status and this stuck; a rehearsal left of the folder what the system kept
 abbrev pub RunsFrom : {S D W F : Type 0} → (S → List ℕ → Option Forest) → (D → List ℕ → Kept F)
-    → (W → Option (List ℕ)) → Wanted → Between → World → Kept F
+    → (W → Option (List ℕ)) → Bool → Wanted → Between → World → Kept F
     → Ground S D W → ℕ → Type 0
-RunsFrom {S} {D} {W} {F} forest kept contents wanted at old was ground status =
+RunsFrom {S} {D} {W} {F} forest kept contents present_ok wanted at old was ground status =
     (reading : Option (List ℕ)) × (stuck : Option Stuck) × (writing : Option (Open F))
-    × (failures : Failures) × IsMade wanted (dest_told was None None) old
+    × (failures : Failures) × IsMade present_ok wanted (dest_told was None None) old
     (world_of forest kept contents at ground reading stuck writing failures) status
     × LeavesKept wanted.rehearse was (kept ground.folder at.folder)
     × IsStuckBy at.synced old.failures.dest status stuck
@@ -102,9 +102,9 @@ between wanted store folder =
 
 -- a run was made over these folders of the systems, with no file open, and left the systems and the output so
 abbrev pub RunsOver : {S D W F : Type 0} → (S → List ℕ → Option Forest) → (D → List ℕ → Kept F)
-    → (W → Option (List ℕ)) → Wanted → List ℕ → List ℕ → Ground S D W → Ground S D W → ℕ → Type 0
-RunsOver {S} {D} {W} {F} forest kept contents wanted store folder old new status =
-    RunsFrom forest kept contents wanted (between wanted store folder)
+    → (W → Option (List ℕ)) → Bool → Wanted → List ℕ → List ℕ → Ground S D W → Ground S D W → ℕ → Type 0
+RunsOver {S} {D} {W} {F} forest kept contents present_ok wanted store folder old new status =
+    RunsFrom forest kept contents present_ok wanted (between wanted store folder)
     (world_of forest kept contents (between wanted store folder) old None None None none_failed)
     (kept old.folder folder) new status
 
@@ -172,20 +172,20 @@ Guarded {H} {L} begins carries releases old new status =
 -- what `run_guarded` does on a machine, by the words of its calls (where paths lead, what they are known by, the lock
 -- taken and given back; the log's file, its syncing alone and behind the output; what is lent and taken back) and of what is lent (the trees of the two
 -- systems, what the output holds, and how the second serves): the guard, with the lock for it alone, the run that is wanted from one folder to the
--- other, before which it is asked what is expected of it, and the lock
+-- other, before which it is asked what is expected of it, and the lock; present lines are well for its status or not
 abbrev pub Runs : {H L S D W E F : Type 0} → (H → List ℕ → Result Place Error → H → Type 0)
     → (H → List ℕ → Result Folder Error → H → Type 0) → (Claim → H → List ℕ → Hold L → H → Type 0)
     → (H → L → H → Type 0) → (H → Result (Option E) Error → H → Type 0)
     → (E → Result (Unit {0}) Error → E → Type 0) → (E → W → Result (Unit {0}) Error → E → Type 0)
     → (H → Ground S D W → H → Type 0)
     → (H → Ground S D W → H → Type 0) → (S → List ℕ → Option Forest) → (D → List ℕ → Kept F)
-    → (W → Option (List ℕ)) → (Wanted → List ℕ → D → D → Type 0) → Type 0 → Wanted → List ℕ
+    → (W → Option (List ℕ)) → (Wanted → List ℕ → D → D → Type 0) → Type 0 → Bool → Wanted → List ℕ
     → List ℕ → H → H → ℕ → Type 0
 Runs {H} {L} {S} {D} {W} {E} {F} resolves identifies holds releases finds syncs puts lends
-    takes_back forest kept contents serves expects wanted source dest =
+    takes_back forest kept contents serves expects present_ok wanted source dest =
     Guarded (Begins resolves identifies (holds Alone) source dest)
     (λ old new status. (file : Result (Option E) Error) × (mid : H)
     × FindsLog finds syncs wanted.sync old mid file
     × GoesOver lends takes_back puts (serves wanted dest)
-    (Knows expects (RunsOver forest kept contents wanted source dest)) file mid new status)
+    (Knows expects (RunsOver forest kept contents present_ok wanted source dest)) file mid new status)
     releases

@@ -1,5 +1,5 @@
 -- What a rehearsal tells of the run that it rehearses.
-use Rattle.std.specs.Prelude.{◌≡◌, ◌++◌, ℕ, true, false, List, Option, None, Some, Ok}
+use Rattle.std.specs.Prelude.{◌≡◌, ◌++◌, ℕ, Bool, true, false, List, Option, None, Some, Ok}
 use Rattle.pt_plan.specs.World.{World, dest_tree, source_tree}
 use Rattle.pt_state.specs.declared.job.Job.{Job}
 use Rattle.pt_state.specs.declared.job.Report.{Report}
@@ -10,10 +10,10 @@ use Rattle.pt_run.specs.Ends.{run_status}
 use Rattle.pt_run.specs.Made.{IsRun}
 
 -- where a rehearsal and a run, of one job, over the same store and the same tree of the destination, both end well, both
--- logs get the same text, and both end with the same status
+-- logs get the same text, and both end with the same status, whether present lines are well or not
 abbrev pub RehearsalTellsTheRun : Type 0
 RehearsalTellsTheRun =
-    (job : Job) (s : Forest) (t : Tree) (was : Option Writing) (old new old' new' : World)
+    (job : Job) (present_ok : Bool) (s : Forest) (t : Tree) (was : Option Writing) (old new old' new' : World)
     (report report' : Report) (now : Writing) (first last first' last' : List ℕ)
     → IsRun job true (Some (record { tree = t; writing = None })) old new (Ok report)
     → IsRun job false was old' new' (Ok report')
@@ -22,4 +22,4 @@ RehearsalTellsTheRun =
     → old.log ≡ Some first → new.log ≡ Some last
     → old'.log ≡ Some first' → new'.log ≡ Some last'
     → ((told : List ℕ) × (last ≡ first ++ told) × (last' ≡ first' ++ told))
-    × (run_status (Ok report) ≡ run_status (Ok report'))
+    × (run_status present_ok (Ok report) ≡ run_status present_ok (Ok report'))

@@ -1,5 +1,5 @@
 //! An audit of the root in a folder against a store, on a machine.
-ghost use Rattle.std.specs.Prelude.{◌≡◌};
+ghost use Rattle.std.specs.Prelude.{◌≡◌, false};
 ghost use Rattle.pt_run.specs.Audits.{Audits, AuditsOver, audit_status};
 
 use crate::beginning::begun;
@@ -9,6 +9,7 @@ use crate::log::SyncsOutput;
 use crate::running::Ended;
 use crate::saying::{refused, tell_fault};
 use crate::status::{DONE, FAILED, TOLD};
+use crate::telling::Telling;
 use pt_audit::Counts;
 use pt_folder::{HostSource, System};
 use pt_guard::Claim;
@@ -42,6 +43,8 @@ pub struct WantedAudit {
 /// The guard is asked first, and for a lock that other audits may share. Where the audit may begin it is made over what the machine
 /// lends, which is given back then; and at last the lock is given back. Where it ends well the output has got its log, of both folders as their systems keep them.
 /// Nothing is made or changed in either folder.
+///
+/// Skip lines count as others: `audit_guarded_as` takes them as well, where that is asked.
 pub fn audit_guarded<R, H: Host>(
     rt: &R,
     host: &mut H,
@@ -53,30 +56,61 @@ where
     R: Reads + Clock + Eprint + AllocGlobal + Terminals,
     ensures { Audits H.resolves H.identifies H.holds H.releases H.lends H.takes_back
         H.Store.forest H.Folder.forest H.Output.contents
-        wanted source.now dest.now host.old host.new result }
+        false wanted source.now dest.now host.old host.new result }
+{
+    let telling = Telling {
+        expected: None,
+        lenient: false,
+    };
+    audit_guarded_as(rt, host, wanted, telling, source, dest)
+}
+
+/// The same, told of as it is asked: where it is lenient, skip lines count as well, so that the status is 1 only where an object is absent or
+/// differs.
+pub fn audit_guarded_as<R, H: Host>(
+    rt: &R,
+    host: &mut H,
+    wanted: WantedAudit,
+    telling: Telling<'_>,
+    source: &str,
+    dest: &str,
+) -> u8
+where
+    R: Reads + Clock + Eprint + AllocGlobal + Terminals,
+    ensures { Audits H.resolves H.identifies H.holds H.releases H.lends H.takes_back
+        H.Store.forest H.Folder.forest H.Output.contents
+        telling.entry.lenient wanted source.now dest.now host.old host.new result }
 {
     match begun(rt, host, wanted.verbose, Claim::Shared, source, dest) {
         Ok(Ok(lock)) => {
-            let status = hold(rt, host, wanted, source, dest);
+            let status = hold(rt, host, wanted, telling, source, dest);
             host.release(lock);
             status
         }
-        Ok(Err(_)) => hold(rt, host, wanted, source, dest),
+        Ok(Err(_)) => hold(rt, host, wanted, telling, source, dest),
         Err(fault) => refused(rt, fault),
     }
 }
 
 // Holds the root against the store over what the machine lends.
-fn hold<R, H: Host>(rt: &R, host: &mut H, wanted: WantedAudit, store: &str, folder: &str) -> u8
+fn hold<R, H: Host>(
+    rt: &R,
+    host: &mut H,
+    wanted: WantedAudit,
+    telling: Telling<'_>,
+    store: &str,
+    folder: &str,
+) -> u8
 where
     R: Reads + Clock + Eprint + AllocGlobal + Terminals,
     ensures { (given : _) × (lent : H) × H.lends host.old given lent × (after : _)
-        × AuditsOver H.Store.forest H.Folder.forest H.Output.contents wanted store.now folder.now
-        given after result × H.takes_back lent after host.new }
+        × AuditsOver H.Store.forest H.Folder.forest H.Output.contents
+        telling.entry.lenient wanted store.now folder.now given after result
+        × H.takes_back lent after host.new }
 {
     let ground = host.lend();
     let file: Option<H::File> = None;
-    let Ended { status, ground } = compare(rt, ground, file, wanted, store, folder);
+    let Ended { status, ground } = compare(rt, ground, file, wanted, telling, store, folder);
     host.take_back(ground);
     status
 }
@@ -87,13 +121,14 @@ fn compare<R, S: System, D: System, W: Write, F: SyncsOutput<W> + Drop>(
     ground: Ground<S, D, W>,
     file: Option<F>,
     wanted: WantedAudit,
+    telling: Telling<'_>,
     store: &str,
     folder: &str,
 ) -> Ended<S, D, W>
 where
     R: Reads + Clock + Eprint + AllocGlobal + Terminals,
-    ensures { AuditsOver S.forest D.forest W.contents wanted store.now folder.now
-        ground result.ground result.status }
+    ensures { AuditsOver S.forest D.forest W.contents
+        telling.entry.lenient wanted store.now folder.now ground result.ground result.status }
 {
     let alloc = rt.alloc();
     let tally = Tally::new();
@@ -116,7 +151,8 @@ where
     let ignoring = source.into_source();
     reason::left_out(rt, verbose & ignores, ignoring.left_out());
     let source = ignoring.into_source();
-    let status = told(rt, &ran, verbose, &source, &root, store, folder);
+    told(rt, &ran, verbose, &source, &root, store, folder);
+    let status = status_of(&ran, telling.lenient);
     let ground = Ground {
         store: source.into_system(),
         folder: root.into_system(),
@@ -125,7 +161,7 @@ where
     Ended { status, ground }
 }
 
-// Says what an audit came to, if a fault ended it, and why, if that is asked for; and gives the status.
+// Says what an audit came to, if a fault ended it, and why, if that is asked for.
 fn told<R: Reads + Eprint + AllocGlobal, S: System, D: System>(
     rt: &R,
     ran: &Result<Counts, Fault>,
@@ -134,16 +170,13 @@ fn told<R: Reads + Eprint + AllocGlobal, S: System, D: System>(
     root: &HostSource<'_, D>,
     store: &str,
     folder: &str,
-) -> u8
-    ensures { result ≡ audit_status ran.now }
-{
+) {
     if let Err(fault) = ran {
         failed(rt, fault);
         if verbose {
             reason::tell_audit(rt, fault, source, root, store, folder);
         }
     }
-    status_of(ran)
 }
 
 // Says which fault ended an audit, by which a destination is only read.
@@ -157,12 +190,13 @@ fn failed(rt: &impl Eprint, fault: &Fault) {
     }
 }
 
-// The exit status of an audit.
-fn status_of(ran: &Result<Counts, Fault>) -> u8
-    ensures { result ≡ audit_status ran.now }
+// The exit status of an audit, whose skip lines are well or not.
+fn status_of(ran: &Result<Counts, Fault>, skips_ok: bool) -> u8
+    ensures { result ≡ audit_status skips_ok ran.now }
 {
     match ran {
-        Ok(counts) if counts.absent > 0 || counts.differs > 0 || counts.skipped > 0 => TOLD,
+        Ok(counts) if counts.absent > 0 || counts.differs > 0 => TOLD,
+        Ok(counts) if counts.skipped > 0 && !skips_ok => TOLD,
         Ok(_) => DONE,
         Err(_) => FAILED,
     }

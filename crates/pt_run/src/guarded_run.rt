@@ -1,5 +1,5 @@
 //! A run from one folder to another, on a machine.
-ghost use Rattle.std.specs.Prelude.{option_map};
+ghost use Rattle.std.specs.Prelude.{false, option_map};
 ghost use Rattle.pt_notices.specs.Expected.{AsksEnd};
 ghost use Rattle.pt_run.specs.Made.{FindsLog, GoesOver, Knows, Runs, RunsOver};
 ghost use Rattle.pt_run.specs.Served.{Serves};
@@ -8,8 +8,9 @@ use crate::beginning::begun;
 use crate::devices::equipped;
 use crate::host::Host;
 use crate::log::Syncs;
-use crate::running::{Ended, run};
+use crate::running::{Ended, Shown, run};
 use crate::saying::{failed, refused};
+use crate::telling::Telling;
 use pt_guard::Claim;
 use pt_ignore::Ignored;
 use pt_move::{Fault, Job};
@@ -45,6 +46,8 @@ pub struct Wanted {
 /// `expected` is the path of a log, of a rehearsal say, whose end line tells how many lines there may be: then the share done and the time left
 /// are shown too. The guard is asked first, and the lock for this run alone. Where the run may begin it is made over what the machine lends, which is
 /// given back then; and at last the lock is given back.
+///
+/// Present lines count as what was not carried: `run_guarded_as` takes them as well done, where that is asked.
 pub fn run_guarded<R, H: Host>(
     rt: &R,
     host: &mut H,
@@ -59,15 +62,40 @@ where
         H.File.puts H.lends H.takes_back H.Store.forest H.Folder.kept H.Output.contents
         (Serves H.Folder.System H.Folder.File.Handle.own H.Folder.File.Input H.Folder.Dir.Input)
         (AsksEnd R.ends rt.now (option_map (λ log. log.now) expected.entry))
-        wanted source.now dest.now host.old host.new result }
+        false wanted source.now dest.now host.old host.new result }
+{
+    let telling = Telling {
+        expected,
+        lenient: false,
+    };
+    run_guarded_as(rt, host, wanted, telling, source, dest)
+}
+
+/// The same, told of as it is asked: where it is lenient, present lines count as carried, so that the status is 1 only where the log has skip
+/// lines.
+pub fn run_guarded_as<R, H: Host>(
+    rt: &R,
+    host: &mut H,
+    wanted: Wanted,
+    telling: Telling<'_>,
+    source: &str,
+    dest: &str,
+) -> u8
+where
+    R: Reads + Clock + Eprint + AllocGlobal + Terminals,
+    ensures { Runs H.resolves H.identifies H.holds H.releases H.finds H.File.syncs
+        H.File.puts H.lends H.takes_back H.Store.forest H.Folder.kept H.Output.contents
+        (Serves H.Folder.System H.Folder.File.Handle.own H.Folder.File.Input H.Folder.Dir.Input)
+        (AsksEnd R.ends rt.now (option_map (λ log. log.now) telling.entry.expected))
+        telling.entry.lenient wanted source.now dest.now host.old host.new result }
 {
     match begun(rt, host, wanted.verbose, Claim::Alone, source, dest) {
         Ok(Ok(lock)) => {
-            let status = carry(rt, host, wanted, expected, source, dest);
+            let status = carry(rt, host, wanted, telling, source, dest);
             host.release(lock);
             status
         }
-        Ok(Err(_)) => carry(rt, host, wanted, expected, source, dest),
+        Ok(Err(_)) => carry(rt, host, wanted, telling, source, dest),
         Err(fault) => refused(rt, fault),
     }
 }
@@ -77,7 +105,7 @@ fn carry<R, H: Host>(
     rt: &R,
     host: &mut H,
     wanted: Wanted,
-    expected: Option<&str>,
+    telling: Telling<'_>,
     store: &str,
     folder: &str,
 ) -> u8
@@ -88,18 +116,23 @@ where
         × GoesOver H.lends H.takes_back H.File.puts
         (Serves H.Folder.System H.Folder.File.Handle.own H.Folder.File.Input H.Folder.Dir.Input
         wanted folder.now)
-        (Knows (AsksEnd R.ends rt.now (option_map (λ log. log.now) expected.entry))
-        (RunsOver H.Store.forest H.Folder.kept H.Output.contents wanted store.now folder.now))
+        (Knows (AsksEnd R.ends rt.now (option_map (λ log. log.now) telling.entry.expected))
+        (RunsOver H.Store.forest H.Folder.kept H.Output.contents
+        telling.entry.lenient wanted store.now folder.now))
         file mid host.new result }
 {
     let file = match synced_output(rt, host, wanted.sync) {
         Ok(file) => file,
         Err(_) => return failed(rt, &Fault::Log),
     };
-    let expected = lines_expected(rt, expected);
+    let expected = lines_expected(rt, telling.expected);
     let ground = host.lend();
     let devices = equipped(rt.alloc(), ground, file, &wanted, store, folder);
-    let Ended { status, ground } = run(rt, devices, wanted, store, expected);
+    let shown = Shown {
+        expected,
+        present_ok: telling.lenient,
+    };
+    let Ended { status, ground } = run(rt, devices, wanted, store, shown);
     host.take_back(ground);
     status
 }

@@ -13,12 +13,14 @@ mod room;
 mod running;
 mod saying;
 pub mod status;
+mod telling;
 mod turns;
 
-pub use guarded_audit::{WantedAudit, audit_guarded};
-pub use guarded_run::{Wanted, run_guarded};
+pub use guarded_audit::{WantedAudit, audit_guarded, audit_guarded_as};
+pub use guarded_run::{Wanted, run_guarded, run_guarded_as};
 pub use host::{Ground, Host, OutputFile};
 pub use log::{DurableLog, Syncs, SyncsOutput};
 pub use pt_notices::{Progress, Reads, Terminals};
 pub use room::longest_made;
 pub use saying::failed;
+pub use telling::Telling;

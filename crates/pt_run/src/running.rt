@@ -1,5 +1,5 @@
 //! A run over its devices, and what it came to.
-ghost use Rattle.std.specs.Prelude.{◌≡◌, None};
+ghost use Rattle.std.specs.Prelude.{◌≡◌, Bool, None};
 ghost use Rattle.pt_folder.specs.DestHeld.{told_with as dest_told};
 ghost use Rattle.pt_folder.specs.Reading.{unread_open};
 ghost use Rattle.pt_folder.specs.SourceHeld.{told_of as source_told};
@@ -34,18 +34,27 @@ pub(crate) struct Ended<S, D, W> {
     pub ground: Ground<S, D, W>,
 }
 
+/// How a run over its devices is told of.
+#[derive(Clone, Copy, Drop)]
+pub(crate) struct Shown {
+    /// How many lines its log may come to, where that is known.
+    pub expected: Option<u64>,
+    /// Whether its present lines leave its status at 0.
+    pub present_ok: bool,
+}
+
 /// Makes the run that is wanted over its devices, or rehearses it, watched as that is wanted, and tells standard error of a fault. `store` is
-/// the path of the store; `expected` is how many lines its log may come to, where that is known.
+/// the path of the store.
 pub(crate) fn run<R, S: System, D: System, W: Write, F: SyncsOutput<W> + Drop>(
     rt: &R,
     devices: Devices<'_, S, D, W, F>,
     wanted: Wanted,
     store: &str,
-    expected: Option<u64>,
+    shown: Shown,
 ) -> Ended<S, D, W>
 where
     R: Reads + Clock + Eprint + AllocGlobal + Terminals,
-    ensures runs { RunsFrom S.forest D.kept W.contents wanted
+    ensures runs { RunsFrom S.forest D.kept W.contents shown.present_ok wanted
         (record {
           store = devices.entry.source.folder.path.now;
           folder = devices.entry.dest.folder.path.now;
@@ -76,7 +85,7 @@ where
     let watching = Watching {
         when: wanted.progress,
         interval: wanted.interval,
-        expected,
+        expected: shown.expected,
         words: Words::Run,
     };
     let verbose = wanted.verbose;
@@ -96,7 +105,8 @@ where
     let ignoring = source.into_source();
     reason::left_out(rt, verbose & ignores, ignoring.left_out());
     let source = ignoring.into_source();
-    let status = told(rt, &ran, verbose, &source, &dest, store);
+    told(rt, &ran, verbose, &source, &dest, store);
+    let status = status_of(&ran, shown.present_ok);
     let ground = Ground {
         store: source.into_system(),
         folder: dest.into_system(),
@@ -137,8 +147,8 @@ fn made<'a, S: Source, D: System, L: Log>(
     ensures log { L.keeps log.old log.new }
     ensures dest { result.dest.folder ≡ dest.entry.folder }
     ensures served { IsServed rehearse dest.entry result.dest }
-    ensures stuck { IsStuckBy dest.entry.synced dest.entry.failures (run_status result.ran)
-        result.dest.stuck }
+    ensures stuck { (present_ok : Bool) → IsStuckBy dest.entry.synced dest.entry.failures
+        (run_status present_ok result.ran) result.dest.stuck }
     ensures rehearsed { LeavesKept rehearse
         (D.kept dest.entry.desk.system dest.entry.folder.path.now)
         (D.kept result.dest.desk.system dest.entry.folder.path.now) }
@@ -154,7 +164,7 @@ fn made<'a, S: Source, D: System, L: Log>(
     Ran { ran, dest }
 }
 
-// Says what a run over these folders came to, if a fault ended it, and why, if that is asked for; and gives the status.
+// Says what a run over these folders came to, if a fault ended it, and why, if that is asked for.
 fn told<R: Reads + Eprint + AllocGlobal, S: System, D: System>(
     rt: &R,
     ran: &Result<Report, Fault>,
@@ -162,24 +172,22 @@ fn told<R: Reads + Eprint + AllocGlobal, S: System, D: System>(
     source: &HostSource<'_, S>,
     dest: &HostDest<'_, D>,
     store: &str,
-) -> u8
-    ensures { result ≡ run_status ran.now }
-{
+) {
     if let Err(fault) = ran {
         tell_fault(rt, fault);
         if verbose {
             reason::tell(rt, fault, source, dest, store);
         }
     }
-    status_of(ran)
 }
 
-// The exit status of a run.
-fn status_of(ran: &Result<Report, Fault>) -> u8
-    ensures { result ≡ run_status ran.now }
+// The exit status of a run, whose present lines are well or not.
+fn status_of(ran: &Result<Report, Fault>, present_ok: bool) -> u8
+    ensures { result ≡ run_status present_ok ran.now }
 {
     match ran {
-        Ok(report) if report.present > 0 || report.skipped > 0 => TOLD,
+        Ok(report) if report.skipped > 0 => TOLD,
+        Ok(report) if report.present > 0 && !present_ok => TOLD,
         Ok(_) => DONE,
         Err(_) => FAILED,
     }

@@ -16,7 +16,7 @@ returns g c =
     let migrates =
     λ (m : Migrate).
     Runs g.H.Places.resolves g.H.Places.identifies g.H.Places.holds g.H.Places.releases g.H.Host.finds g.H.File.Syncs.syncs g.H.File.SyncsOutput.puts
-    g.H.Host.lends g.H.Host.takes_back g.H.Store.System.forest g.H.Folder.System.kept g.H.Output.Write.contents (Serves g.H.Folder.System g.H.Folder.File.Handle g.H.Folder.File.Input g.H.Folder.Dir.Input) (AsksEnd g.R.Reads.ends c.args.rt.now m.expected) (wanted_of m) m.source m.dest in
+    g.H.Host.lends g.H.Host.takes_back g.H.Store.System.forest g.H.Folder.System.kept g.H.Output.Write.contents (Serves g.H.Folder.System g.H.Folder.File.Handle g.H.Folder.File.Input g.H.Folder.Dir.Input) (AsksEnd g.R.Reads.ends c.args.rt.now m.expected) m.present_ok (wanted_of m) m.source m.dest in
     let audits =
     AuditsFor (Audits g.H.Places.resolves g.H.Places.identifies g.H.Places.holds g.H.Places.releases g.H.Host.lends g.H.Host.takes_back g.H.Store.System.forest g.H.Folder.System.forest g.H.Output.Write.contents) in
     let tells = TellsText g.H.Host.lends g.H.Host.takes_back g.H.Output.Write.contents in

@@ -34,5 +34,5 @@ returns g c =
       store_stays = sym later ∙ made.source.1 ∙ store;
       root_stays = sym stands ∙ made.root.1 ∙ folder;
       grows = subst (λ l. Grows l (contents c.into_writer.result)) first (subst (Grows _) (ap contents (sym output)) made.log.1);
-      status_is = c.told-status.ensures;
+      status_is = c.status_of-status.ensures;
     }

@@ -18,7 +18,7 @@ returns g c =
         c.run-status.result.ground,
         (
           c.lines_expected-expected.ensures,
-          begun forest kept contents g.H.Store.File.Input.bytes c.args.wanted c.args.store.now c.args.folder.now c.lend-ground.result
+          begun forest kept contents g.H.Store.File.Input.bytes c.args.telling.lenient c.args.wanted c.args.store.now c.args.folder.now c.lend-ground.result
               _ _ _ _ _ _ _ _ _ _ _ _ made.store made.unread made.folder made.unwritten made.synced made.log _ _ c.run-status.ensures.runs,
         ),
         rw (made.log_synced, made.log.0) at (c.run-status.ensures.logged made.log.1),

@@ -29,11 +29,11 @@ returns-clause-served g c = rw c.if-rehearse.false c.make_turns-ran-2.ensures.de
 pub returns-then-rehearse-clause-stuck : goal.returns-then-rehearse-clause-stuck
 returns-then-rehearse-clause-stuck g c =
     let stays = c.make_turns-ran.ensures.dest_stays in
-    none_stuck_by _ _ _ _ (ap (λ d. d.stuck) c.into_dest-dest.ensures ∙ stays.3 ∙ c.new-rehearsal.ensures.stuck)
+    λ present_ok. none_stuck_by _ _ _ _ (ap (λ d. d.stuck) c.into_dest-dest.ensures ∙ stays.3 ∙ c.new-rehearsal.ensures.stuck)
 
 pub returns-clause-stuck : goal.returns-clause-stuck
 returns-clause-stuck g c =
     let dest = c.make_turns-ran-2.new.dest in
     let stays = c.make_turns-ran-2.ensures.dest_stays in
-    stuck_by c.args.dest.synced c.args.dest.failures dest.failures c.make_turns-ran-2.result dest.stuck
+    λ present_ok. stuck_by c.args.dest.synced present_ok c.args.dest.failures dest.failures c.make_turns-ran-2.result dest.stuck
     (λ s is. sym stays.0.1.1 ∙ dest.wanted s is) dest.risen c.make_turns-ran-2.ensures.promises.dest

@@ -1,5 +1,5 @@
 use Rattle.std.proofs.Common.{Err, Ok}
-use Rattle.pt_run.proofs.guarded_audit.audit_guarded.Goals as goal
+use Rattle.pt_run.proofs.guarded_audit.audit_guarded_as.Goals as goal
 
 pub returns-in-Ok-Ok : goal.returns-in-Ok-Ok
 returns-in-Ok-Ok g c = (
