@@ -26,7 +26,10 @@ _pairtree2ocfl() {
             options='--created --name --address --message --digest --tuple-size --tuples --gather --share
                 --ignore --sync --dry-run -n --present-ok --verbose -v --progress --interval --expect --help -h'
             ;;
-        audit) options='--digest --tuple-size --tuples --gather --share --ignore --skips-ok --verbose -v --progress --help -h' ;;
+        audit)
+            options='--digest --tuple-size --tuples --gather --share --ignore --skips-ok --verbose -v --progress
+                --interval --expect --help -h'
+            ;;
         names) options='--prefix --tuple-size --tuples --help -h' ;;
         help) options='migrate audit names help' ;;
         *) options='migrate audit names help --help -h --version -V' ;;

@@ -1,4 +1,4 @@
-"""The built program's tests over real folders. tests/cases has the cases: carrying, refusing and options those of `migrate`, auditing those of `audit`, sharing of shares,
+"""The built program's tests over real folders. tests/cases has the cases: carrying, refusing and options those of `migrate`, auditing those of `audit`, watching of progress, sharing of shares,
 peers beside plain Rust, surroundings of what is around a run, packages of what is shipped, guide of the guide's commands, joining of
 tools/roots.py, documents of what the documents name, gate of the gate itself. tests/harness has how they are run, and what must stand.
 
@@ -27,9 +27,10 @@ import refusing
 import running
 import sharing
 import surroundings
+import watching
 from tally import Tally
 
-FILES = (carrying, auditing, refusing, options, surroundings, sharing, peers, guide, joining, packages, documents, gate)
+FILES = (carrying, auditing, refusing, options, watching, surroundings, sharing, peers, guide, joining, packages, documents, gate)
 CASES = [case for file in FILES for case in file.CASES]
 
 

@@ -1,10 +1,8 @@
-"""Cases of what users expect of a run: reasons, one run at a time, folders that lie apart, rehearsal, durability, progress.
+"""Cases of what users expect of a run: reasons, one run at a time, folders that lie apart, rehearsal, durability.
 """
 
-import contextlib
 import fcntl
 import os
-import pty
 import re
 import subprocess
 import time
@@ -12,7 +10,7 @@ import time
 import carrying
 import refusing
 import running
-from alone import Alone, differs, run
+from alone import Alone, differs, many, run
 from running import MEANT, TEXTS, Case, Run, ends
 from stores import ABC, DIR, GONE, ONE, ONE_DONE, ONE_PRESENT, ONE_ROOT, Link
 from stores import build, done, lines, object_files, read_tree, root, skip, staged, store, stored
@@ -174,13 +172,6 @@ def holds(program, folder):
     return differs(second=((second.returncode, second.stdout, second.stderr), wanted), first=(first.returncode, 0))
 
 
-def many(folder, content=b""):
-    """More objects in the store, whose log is longer than a pipe holds."""
-    letters = "abcdef"
-    paths = (f"{a}{b}/{c}{d}" for a in letters for b in letters for c in letters for d in letters)
-    build(f"{folder}/s", {f"pairtree_root/{path}/obj/f": content for path in paths})
-
-
 def synced(program, folder):
     """With --sync each file is put onto the disk before it is closed, and then the folder that the object lies in; the log
     after each line, and once before, to see that it can be. Without it nothing is."""
@@ -216,73 +207,6 @@ def late(program, folder):
         told = ended.stderr.startswith(line) and ended.stderr.endswith(b": Input/output error (os error 5)\n")
         faults += differs(status=(ended.returncode, 3), told=(told, True))
     return faults
-
-
-def on_terminal(program, folder, *words, output=True):
-    """What standard error gets, where it is a terminal, in a run over many objects."""
-    many(folder, b"x" * 20_000)
-    ours, theirs = pty.openpty()
-    with open(f"{folder}/log", "wb") as log:
-        command = [program, "migrate", *MEANT, *words, "s", "d"]
-        with subprocess.Popen(command, cwd=folder, stdout=log if output else theirs, stderr=theirs) as child:
-            os.close(theirs)
-            said = b""
-            with contextlib.suppress(OSError):
-                while piece := os.read(ours, 65536):
-                    said += piece
-            child.wait(60)
-    os.close(ours)
-    return child.returncode, said
-
-
-FRONT = re.compile(rb"pairtree2ocfl: \d+ s, \d+/s, \d+\.\d MB/s: \d+ done, \d+ present, \d+ skipped")
-LINE = re.compile(FRONT.pattern + rb", \d+ bytes read, at [^\r\n]*")
-
-
-def shown(program, folder):
-    """On a terminal a line is written over, and taken away at the end; none where the log goes there too, or by `never`."""
-    status, said = on_terminal(program, folder)
-    first = said.split(b"\r")[1:2]
-    faults = differs(status=(status, 0), lines=(b"\n" in said, False), end=(said.endswith(b"\r\x1b[K"), True))
-    if said != b"\r\x1b[K" and not (first and FRONT.match(first[0]) and len(first[0]) <= 79 + len(b"\x1b[K")):
-        faults.append(f"standard error is {said[:300]!r}")
-    for words, output in ((("--progress", "never"), True), ((), False)):
-        status, said = on_terminal(program, folder, *words, output=output)
-        faults += differs(status=(status, 1), shown=(b"\x1b" in said, False))
-    return faults
-
-
-def seldom(program, folder):
-    """Elsewhere a line every ten seconds, where it is asked for."""
-    many(folder)
-    command = [program, "migrate", *MEANT, "--progress", "always", "s", "d"]
-    with subprocess.Popen(command, cwd=folder, stdout=subprocess.PIPE, stderr=subprocess.PIPE) as child:
-        time.sleep(11)
-        out, err = child.communicate(timeout=60)
-    quiet = run(program, folder, "--progress", "auto")
-    right = err and all(LINE.fullmatch(line) for line in err.splitlines())
-    faults = differs(status=(child.returncode, 0), lines=(out.count(b"\n"), 6**4 + 2), quiet=(quiet.stderr, b""))
-    return faults if right else [*faults, f"standard error is {err!r}"]
-
-
-AHEAD = re.compile(rb"pairtree2ocfl: \d+ s, \d+/s, \d+\.\d MB/s, (\d+) %(, \d+ s left)?: \d+ done, \d+ present, \d+ skipped, \d+ bytes read, at [^\r\n]*")
-
-
-def expected(program, folder):
-    """By a rehearsal's log the share done and the time left are shown too; a log without an end line is told, and the run goes on."""
-    many(folder)
-    with open(f"{folder}/log", "wb") as log:
-        log.write(run(program, folder, "--dry-run").stdout)
-    done = run(program, folder, "--progress", "always", "--interval", "0", "--expect", "log")
-    told = [AHEAD.fullmatch(line) for line in done.stderr.splitlines()]
-    shares = [int(line[1]) for line in told if line]
-    faults = differs(status=(done.returncode, 0), lines=(len(told) - len(shares), 0), rises=(shares, sorted(shares)))
-    faults += differs(first=(shares[:1], [0]), last=(shares[-1] >= 99, True), left=(all(line[2] for line in told if line and line[1] != b"0"), True))
-    none = run(program, folder, "--expect", "s/pairtree_version0_1")
-    said = b"pairtree2ocfl: s/pairtree_version0_1: it has no end line of a log\n"
-    absent = run(program, folder, "--expect", "none")
-    faults += differs(none=((none.returncode, none.stderr), (1, said)))
-    return faults + differs(absent=((absent.returncode, absent.stderr), (1, said.replace(b"s/pairtree_version0_1", b"none"))))
 
 
 def left_out():
@@ -369,9 +293,6 @@ ALONE = [
     Alone("a run holds its destination", holds),
     Alone("files, folders and the log put onto the disk", synced),
     Alone("an error that comes late", late),
-    Alone("progress on a terminal", shown),
-    Alone("progress elsewhere", seldom),
-    Alone("progress by a rehearsal's log", expected),
 ]
 PARTS = (apart, roots_themselves, reasons, short_words, left_out, present_lines, rehearsals)
 CASES = [*ALONE, *(case for part in PARTS for case in part())]

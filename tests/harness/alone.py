@@ -24,6 +24,13 @@ class Alone:
                 return [repr(error)]
 
 
+def many(folder, content=b""):
+    """More objects in the store of a test, whose log is longer than a pipe holds."""
+    letters = "abcdef"
+    paths = (f"{a}{b}/{c}{d}" for a in letters for b in letters for c in letters for d in letters)
+    build(f"{folder}/s", {f"pairtree_root/{path}/obj/f": content for path in paths})
+
+
 def run(program, folder, *words, **options):
     """The program over the folders of a test."""
     command = [program, "migrate", *MEANT, *words, "s", "d"]

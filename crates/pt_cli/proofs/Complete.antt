@@ -87,15 +87,16 @@ all_given : (rows : List Row) (created name message digest source dest : Text) (
 all_given rows created name message digest source dest algorithm size_text count_text when interval_text size count progress interval e1 e2 e3 e4 e5 e6 e7 e8 e9 e10 e11 e12 e13 e14 e15 =
     rw (e1, e2, e3, e4, e5, e6, e7, e8, e9, e10, e11, e12, e13, e14, e15) refl
 
-audit_given : (rows : List Row) (digest source dest : Text) (algorithm : Algorithm) (size_text count_text when : Text) (size count : ℕ) (progress : Progress)
+audit_given : (rows : List Row) (digest source dest : Text) (algorithm : Algorithm) (size_text count_text when interval_text : Text) (size count : ℕ) (progress : Progress) (interval : ℕ)
     → first_of (codes "digest") rows ≡ Some digest → algorithm_of digest ≡ Some algorithm
     → one_of (codes "tuple-size") rows ≡ Some size_text → number_of size_text ≡ Some size
     → one_of (codes "tuples") rows ≡ Some count_text → number_of count_text ≡ Some count
     → first_of (codes "progress") rows ≡ Some when → progress_of when ≡ Some progress
+    → one_of (codes "interval") rows ≡ Some interval_text → number_of interval_text ≡ Some interval
     → first_of (codes "SOURCE") rows ≡ Some source → first_of (codes "DEST") rows ≡ Some dest
     → is_some (option_map audit_answer (audit_in rows)) ≡ true
-audit_given rows digest source dest algorithm size_text count_text when size count progress e1 e2 e3 e4 e5 e6 e7 e8 e9 e10 =
-    rw (e1, e2, e3, e4, e5, e6, e7, e8, e9, e10) refl
+audit_given rows digest source dest algorithm size_text count_text when interval_text size count progress interval e1 e2 e3 e4 e5 e6 e7 e8 e9 e10 e11 e12 =
+    rw (e1, e2, e3, e4, e5, e6, e7, e8, e9, e10, e11, e12) refl
 
 id_given : (rows : List Row) (id size_text count_text : Text) (size count : ℕ) → first_of (codes "ID") rows ≡ Some id
     → one_of (codes "tuple-size") rows ≡ Some size_text → number_of size_text ≡ Some size
@@ -176,7 +177,7 @@ module _ (spelled others : Spelled) where
   fit_migrate = ((refl, refl, refl), ((refl, refl, refl), ((refl, refl, refl), ((refl, refl, refl), ((refl, refl, refl), ((refl, refl, refl), ((refl, refl, refl), ((refl, refl, refl), ((refl, refl, refl), ((refl, refl, refl), ((refl, refl, refl), ((refl, refl, refl), ((refl, refl, refl), ((refl, refl, refl), ((refl, refl, refl), ((refl, refl, refl), ((refl, refl, refl), ((refl, refl, refl), ((refl, refl, refl), ((refl, refl, refl), tt))))))))))))))))))))
 
   fit_audit : Every (Fits built_audit.rules) built_audit.rules
-  fit_audit = ((refl, refl, refl), ((refl, refl, refl), ((refl, refl, refl), ((refl, refl, refl), ((refl, refl, refl), ((refl, refl, refl), ((refl, refl, refl), ((refl, refl, refl), ((refl, refl, refl), ((refl, refl, refl), ((refl, refl, refl), ((refl, refl, refl), tt))))))))))))
+  fit_audit = ((refl, refl, refl), ((refl, refl, refl), ((refl, refl, refl), ((refl, refl, refl), ((refl, refl, refl), ((refl, refl, refl), ((refl, refl, refl), ((refl, refl, refl), ((refl, refl, refl), ((refl, refl, refl), ((refl, refl, refl), ((refl, refl, refl), ((refl, refl, refl), ((refl, refl, refl), tt))))))))))))))
 
   audit_is_answered : Answered built_audit
   audit_is_answered words e =
@@ -184,14 +185,16 @@ module _ (spelled others : Spelled) where
       let size = default_value built_audit refl fit_audit [] words false [] e (codes "tuple-size") _ refl refl in
       let count = default_value built_audit refl fit_audit [] words false [] e (codes "tuples") _ refl refl in
       let when = default_value built_audit refl fit_audit [] words false [] e (codes "progress") _ refl refl in
+      let interval = default_value built_audit refl fit_audit [] words false [] e (codes "interval") _ refl refl in
       let source = required_value built_audit refl fit_audit [] words false [] e (codes "SOURCE") _ refl refl refl in
       let dest = required_value built_audit refl fit_audit [] words false [] e (codes "DEST") _ refl refl refl in
       let algorithm = algorithm_there others.algorithms others.spells_algorithms digest.0 digest.3 in
       let progress = time_there others.times others.spells_times when.0 when.3 in
       let digits = number_there size.0 size.3 in
       let number = number_there count.0 count.3 in
-      audit_given (rows_after built_audit.rules [] words) digest.0 source.0 dest.0 algorithm.0 _ _ when.0 digits.0 number.0 progress.0
-      digest.1 algorithm.1 size.2 digits.1 count.2 number.1 when.1 progress.1 source.1 dest.1
+      let seconds = number_there interval.0 interval.3 in
+      audit_given (rows_after built_audit.rules [] words) digest.0 source.0 dest.0 algorithm.0 _ _ when.0 _ digits.0 number.0 progress.0 seconds.0
+      digest.1 algorithm.1 size.2 digits.1 count.2 number.1 when.1 progress.1 interval.2 seconds.1 source.1 dest.1
 
   names_is_answered : Answered built_names
   names_is_answered words e =

@@ -45,13 +45,15 @@ shared_of skips_ok given = record {
   skips_ok = skips_ok;
   verbose = given.verbose;
   progress = given.progress;
+  interval = given.interval;
+  expected = given.expected;
   source = given.source;
   dest = given.dest;
 }
 
 -- the migration with what an audit has too
-abbrev made : Options → MetaParts → Option Text → Comparison → Result Command WordsFault
-made given meta expected audit = Ok (Migrate (record {
+abbrev made : Options → MetaParts → Comparison → Result Command WordsFault
+made given meta audit = Ok (Migrate (record {
   meta = meta;
   algorithm = audit.algorithm;
   layout = audit.layout;
@@ -63,8 +65,8 @@ made given meta expected audit = Ok (Migrate (record {
   present_ok = given.present_ok;
   verbose = audit.verbose;
   progress = audit.progress;
-  interval = given.interval;
-  expected = expected;
+  interval = audit.interval;
+  expected = audit.expected;
   source = audit.source;
   dest = audit.dest;
 }))
@@ -88,14 +90,14 @@ audit_or other _ = other
 -- and what makes an audit makes a migration
 made_in : (skips_ok : Bool) (given : Options) (layout : Tuples) (share : Option Portion) (named : Bool) (audit : Comparison)
     → audit_parted (shared_of skips_ok given) layout share named ≡ Ok (Audit audit)
-    → parted given layout share named ≡ made given (parts_of given.created given.name (given_address given.address) given.message) given.expected audit
+    → parted given layout share named ≡ made given (parts_of given.created given.name (given_address given.address) given.message) audit
 made_in skips_ok given layout None named audit is = absurd (cc)
 made_in skips_ok given layout (Some s) false audit is = absurd (cc)
 made_in skips_ok given layout (Some s) true audit is =
-    ap (λ r. made given (parts_of given.created given.name (given_address given.address) given.message) given.expected (audit_or audit r)) is
+    ap (λ r. made given (parts_of given.created given.name (given_address given.address) given.message) (audit_or audit r)) is
 
 made_too : (skips_ok : Bool) (given : Options) (layout : Result Tuples LayoutFault) (audit : Comparison) → audit_cut (shared_of skips_ok given) layout ≡ Ok (Audit audit)
-    → described given None layout ≡ made given (parts_of given.created given.name (given_address given.address) given.message) given.expected audit
+    → described given None layout ≡ made given (parts_of given.created given.name (given_address given.address) given.message) audit
 made_too skips_ok given (Err f) audit is = absurd (cc)
 made_too skips_ok given (Ok tuples) audit is = made_in skips_ok given tuples (share_asked given.share) (are_names given.ignored) audit is
 
@@ -124,10 +126,10 @@ module _ (given : Options) where
         go (inr memory) = inr memory
 
     -- or are those of a migration
-    pub carried : (skips_ok : Bool) (audit : Comparison) (expected : Option Text) → IsAuditOf (shared_of skips_ok given) (Ok audit) → expected ≡ given.expected
-        → OrMemory (migrate_answer given) (made given meta expected audit)
-    carried skips_ok audit expected audited awaits =
-        described_too _ _ _ told (inl ((λ i. made given (by _ told i) (awaits i) audit) ∙ sym (made_too skips_ok given (layout_of given.size given.count) audit audited)))
+    pub carried : (skips_ok : Bool) (audit : Comparison) → IsAuditOf (shared_of skips_ok given) (Ok audit)
+        → OrMemory (migrate_answer given) (made given meta audit)
+    carried skips_ok audit audited =
+        described_too _ _ _ told (inl ((λ i. made given (by _ told i) audit) ∙ sym (made_too skips_ok given (layout_of given.size given.count) audit audited)))
       where
         by : (refusal : Option MetaFault) → Describes given refusal (Ok meta) → IsDescription given meta
         by (Some x) same = absurd (cc)

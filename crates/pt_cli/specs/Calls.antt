@@ -1,5 +1,5 @@
 -- Which call the words of a command lead to, and what it is given.
-use Rattle.std.specs.Prelude.{◌≡◌, ◌≢◌, ◌⊎◌, ◌↔◌, ℕ, Bool, List, [], Option, Result, Ok, Err, IfErr, IsErrOf, OnErr, OnOk}
+use Rattle.std.specs.Prelude.{◌≡◌, ◌≢◌, ◌⊎◌, ◌↔◌, ℕ, List, [], Option, Result, Ok, Err, IfErr, IsErrOf, OnErr, OnOk}
 use Rattle.std.specs.Io.KnownBytes.{Appends}
 use Rattle.std.specs.IoError.{error_kind}
 use Rattle.std.specs.declared.io.Error.{Error}
@@ -101,9 +101,8 @@ TellsText {H} {S} {D} {W} lends takes_back contents text old new status =
     × IsToldAs written status
 
 -- the audit that words ask for is made, or memory was wanting before anything was asked of the machine, which is 3
-abbrev pub AuditsFor : {H : Type 0} → (Bool → WantedAudit → List ℕ → List ℕ → H → H → ℕ → Type 0)
+abbrev pub AuditsFor : {H : Type 0} → (Comparison → WantedAudit → H → H → ℕ → Type 0)
     → Comparison → H → H → ℕ → Type 0
 AuditsFor audits words old new status =
-    ((meta : MetaParts)
-    × audits words.skips_ok (wanted_audit meta words) words.source words.dest old new status)
+    ((meta : MetaParts) × audits words (wanted_audit meta words) old new status)
     ⊎ ((status ≡ 3) × (new ≡ old))

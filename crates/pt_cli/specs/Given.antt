@@ -23,6 +23,8 @@ audit_given g = record {
   skips_ok = g.skips_ok;
   verbose = g.verbose;
   progress = g.progress;
+  interval = g.interval;
+  expected = option_map (λ (e : Bor Text). e.now) g.expected;
   source = g.source.now;
   dest = g.dest.now;
 }
@@ -45,8 +47,8 @@ options_given g = record {
   present_ok = g.present_ok;
   verbose = g.shared.verbose;
   progress = g.shared.progress;
-  interval = g.interval;
-  expected = option_map (λ (e : Bor Text). e.now) g.expected;
+  interval = g.shared.interval;
+  expected = (audit_given g.shared).expected;
   source = g.shared.source.now;
   dest = g.shared.dest.now;
 }

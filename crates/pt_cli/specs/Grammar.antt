@@ -157,7 +157,7 @@ abbrev pub audit_rules : Spelled → List Rule
 audit_rules words =
     digest_rule words.algorithms ∷ size_rule ∷ count_rule ∷ gather_rule ∷ share_rule ∷ ignore_rule
     ∷ skips_rule ∷ verbose_rule ∷ progress_rule words.times
-    ∷ source_rule ∷ dest_rule ∷ []
+    ∷ interval_rule ∷ expect_rule ∷ source_rule ∷ dest_rule ∷ []
 
 -- `audit [OPTIONS] SOURCE DEST`
 abbrev pub audit_app : Spelled → App

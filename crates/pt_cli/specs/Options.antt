@@ -144,6 +144,8 @@ pub record AuditOptions : Type 0 where
   pub skips_ok : Bool
   pub verbose : Bool
   pub progress : Progress
+  pub interval : ℕ
+  pub expected : Option Text
   pub source : Text
   pub dest : Text
 
@@ -154,6 +156,7 @@ audit_in rows = do
   size ← number_in (codes "tuple-size") rows
   count ← number_in (codes "tuples") rows
   progress ← first_of (codes "progress") rows >>= progress_of
+  interval ← number_in (codes "interval") rows
   source ← first_of (codes "SOURCE") rows
   dest ← first_of (codes "DEST") rows
   Some (record {
@@ -166,6 +169,8 @@ audit_in rows = do
     skips_ok = is_set_in (codes "skips-ok") rows;
     verbose = is_set_in (codes "verbose") rows;
     progress = progress;
+    interval = interval;
+    expected = first_of (codes "expect") rows;
     source = source;
     dest = dest;
   })

@@ -111,6 +111,8 @@ audit_with given layout share = Audit (record {
   skips_ok = given.skips_ok;
   verbose = given.verbose;
   progress = given.progress;
+  interval = given.interval;
+  expected = given.expected;
   source = given.source;
   dest = given.dest;
 })

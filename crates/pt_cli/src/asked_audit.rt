@@ -6,7 +6,7 @@ ghost use Rattle.pt_cli.specs.Calls.{wanted_audit};
 use crate::{Audit, Text};
 use pt_move::Job;
 use pt_object::Meta;
-use pt_run::WantedAudit;
+use pt_run::{PacedAudit, WantedAudit};
 use pt_tree::MemoryFault;
 use pt_walk::Limits;
 use std::alloc::Global;
@@ -17,7 +17,8 @@ const MOMENT: &str = "1970-01-01T00:00:00Z";
 /// An audit by its words: what is wanted of it, and its two folders.
 #[derive(Drop)]
 pub(crate) struct AskedAudit {
-    pub wanted: WantedAudit,
+    pub audit: PacedAudit,
+    pub expected: Option<Text>,
     pub skips_ok: bool,
     pub source: Text,
     pub dest: Text,
@@ -26,8 +27,9 @@ pub(crate) struct AskedAudit {
 // What the words of an audit ask for, and between which folders. What its inventories say of their version isn't compared.
 pub(crate) fn audit_asked_for(alloc: Global, words: Audit) -> Result<AskedAudit, MemoryFault>
     ensures { IfOk result (λ asked.
-        ((meta : MetaParts) × (asked.wanted ≡ wanted_audit meta words))
-        × (asked.skips_ok ≡ words.skips_ok) × (asked.source ≡ words.source) × (asked.dest ≡ words.dest)) }
+        ((meta : MetaParts) × (asked.audit.wanted ≡ wanted_audit meta words))
+        × (asked.expected ≡ words.expected) × (asked.skips_ok ≡ words.skips_ok)
+        × (asked.source ≡ words.source) × (asked.dest ≡ words.dest)) }
 {
     let Ok(meta) = Meta::of(alloc, MOMENT, "audit", None, "") else {
         return Err(MemoryFault::Memory);
@@ -47,7 +49,11 @@ pub(crate) fn audit_asked_for(alloc: Global, words: Audit) -> Result<AskedAudit,
         progress: words.progress,
     };
     Ok(AskedAudit {
-        wanted,
+        audit: PacedAudit {
+            wanted,
+            interval: words.interval,
+        },
+        expected: words.expected,
         skips_ok: words.skips_ok,
         source: words.source,
         dest: words.dest,

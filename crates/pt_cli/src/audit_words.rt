@@ -5,8 +5,10 @@ ghost use Rattle.pt_cli.specs.Given.{IsAuditOf, audit_given};
 ghost use Rattle.pt_cli.specs.Options.{audit_in};
 ghost use Rattle.pt_cli.specs.Words.{OrMemory, audit_answer};
 
-use crate::grammar::{DEST, GATHER, IGNORE, SHARE, SKIPS_OK, SOURCE, VERBOSE};
-use crate::words::{choices, is_set, names_asked, share, text, texts, tuples, two_texts};
+use crate::grammar::{DEST, EXPECT, GATHER, IGNORE, INTERVAL, SHARE, SKIPS_OK, SOURCE, VERBOSE};
+use crate::words::{
+    choices, is_set, names_asked, number, share, text, text_of, texts, tuples, two_texts,
+};
 use crate::{Audit, Command, Text, WordsFault};
 use clap::ArgMatches;
 use pt_name::Layout;
@@ -26,6 +28,8 @@ pub(crate) struct GivenAudit<'m, 'a> {
     skips_ok: bool,
     verbose: bool,
     progress: Progress,
+    interval: u32,
+    expected: Option<&'a str>,
     source: &'a str,
     dest: &'a str,
 }
@@ -47,6 +51,8 @@ pub(crate) fn audit_options<'m, 'a>(matches: &'m ArgMatches<'a>) -> Option<Given
         skips_ok: is_set(matches, SKIPS_OK),
         verbose: is_set(matches, VERBOSE),
         progress,
+        interval: number(matches, INTERVAL)?,
+        expected: text(matches, EXPECT),
         source,
         dest,
     })
@@ -61,6 +67,7 @@ pub(crate) fn audit_of(alloc: Global, given: &GivenAudit<'_, '_>) -> Result<Audi
         return Err(WordsFault::Share);
     };
     let ignored = names_asked(alloc, given.ignored)?;
+    let expected = text_of(alloc, given.expected)?;
     let source = Text::of(alloc, given.source)?;
     let dest = Text::of(alloc, given.dest)?;
     Ok(Audit {
@@ -72,6 +79,8 @@ pub(crate) fn audit_of(alloc: Global, given: &GivenAudit<'_, '_>) -> Result<Audi
         skips_ok: given.skips_ok,
         verbose: given.verbose,
         progress: given.progress,
+        interval: given.interval,
+        expected,
         source,
         dest,
     })

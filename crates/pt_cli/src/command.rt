@@ -80,6 +80,10 @@ pub struct Audit {
     pub verbose: bool,
     /// When to show how far the audit is.
     pub progress: Progress,
+    /// How many seconds pass between two such lines where they don't go to a terminal.
+    pub interval: u32,
+    /// The log of a rehearsal, a run or an audit, which tells how much there is to do.
+    pub expected: Option<Text>,
     /// The folder that holds `pairtree_root`.
     pub source: Text,
     /// The folder in which `ocfl` is.

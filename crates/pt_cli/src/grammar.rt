@@ -137,6 +137,18 @@ const TAKES_PROGRESS: Taken = Taken {
     help: "When to show on standard error how far the run is",
 };
 
+const TAKES_INTERVAL: Taken = Taken {
+    id: INTERVAL,
+    form: Form::Number("SECONDS", "10"),
+    help: "Seconds between two such lines, where they don't go to a terminal",
+};
+
+const TAKES_EXPECT: Taken = Taken {
+    id: EXPECT,
+    form: Form::Value("LOG"),
+    help: "Show the share done and the time left too, by the log of a rehearsal",
+};
+
 const TAKES_SOURCE: Taken = Taken {
     id: SOURCE,
     form: Form::Place,
@@ -210,16 +222,8 @@ const MIGRATE_TAKES: &[Taken] = &[
     },
     TAKES_VERBOSE,
     TAKES_PROGRESS,
-    Taken {
-        id: INTERVAL,
-        form: Form::Number("SECONDS", "10"),
-        help: "Seconds between two such lines, where they don't go to a terminal",
-    },
-    Taken {
-        id: EXPECT,
-        form: Form::Value("LOG"),
-        help: "Show the share done and the time left too, by the log of a rehearsal",
-    },
+    TAKES_INTERVAL,
+    TAKES_EXPECT,
     TAKES_SOURCE,
     TAKES_DEST,
 ];
@@ -239,6 +243,8 @@ const AUDIT_TAKES: &[Taken] = &[
     },
     TAKES_VERBOSE,
     TAKES_PROGRESS,
+    TAKES_INTERVAL,
+    TAKES_EXPECT,
     TAKES_SOURCE,
     TAKES_DEST,
 ];

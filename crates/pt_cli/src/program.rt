@@ -7,7 +7,7 @@ ghost use Rattle.pt_run.specs.Audits.{Audits};
 ghost use Rattle.pt_run.specs.Made.{Runs};
 ghost use Rattle.pt_run.specs.Served.{Serves};
 
-use crate::asked_audit::audit_asked_for;
+use crate::asked_audit::{AskedAudit, audit_asked_for};
 use crate::asked_run::{AskedRun, run_asked_for};
 use crate::started::Started;
 use crate::{Audit, Command, Migrate, Named, NamesFault, Text, WordsFault, names_to, read_words};
@@ -36,8 +36,9 @@ where
         (Serves H.Folder.System H.Folder.File.Handle.own H.Folder.File.Input H.Folder.Dir.Input)
         (AsksEnd R.ends rt.now words.expected) words.present_ok (wanted_of words)
         words.source words.dest)
-        (AuditsFor (Audits H.resolves H.identifies H.holds H.releases
-        H.lends H.takes_back H.Store.forest H.Folder.forest H.Output.contents)))
+        (AuditsFor (λ words wanted. Audits H.resolves H.identifies H.holds H.releases
+        H.lends H.takes_back H.Store.forest H.Folder.forest H.Output.contents
+        (AsksEnd R.ends rt.now words.expected) words.skips_ok wanted words.source words.dest)))
         (Declines (TellsText H.lends H.takes_back H.Output.contents)))
         host.old host.new (exit_status result) }
 {
@@ -73,8 +74,9 @@ where
         (Serves H.Folder.System H.Folder.File.Handle.own H.Folder.File.Input H.Folder.Dir.Input)
         (AsksEnd R.ends rt.now words.expected) words.present_ok (wanted_of words)
         words.source words.dest)
-        (AuditsFor (Audits H.resolves H.identifies H.holds H.releases
-        H.lends H.takes_back H.Store.forest H.Folder.forest H.Output.contents)))
+        (AuditsFor (λ words wanted. Audits H.resolves H.identifies H.holds H.releases
+        H.lends H.takes_back H.Store.forest H.Folder.forest H.Output.contents
+        (AsksEnd R.ends rt.now words.expected) words.skips_ok wanted words.source words.dest)))
         (Declines (TellsText H.lends H.takes_back H.Output.contents))
         (map string_bytes words.now) host.old host.new result }
 {
@@ -94,8 +96,9 @@ where
         (Serves H.Folder.System H.Folder.File.Handle.own H.Folder.File.Input H.Folder.Dir.Input)
         (AsksEnd R.ends rt.now words.expected) words.present_ok (wanted_of words)
         words.source words.dest)
-        (AuditsFor (Audits H.resolves H.identifies H.holds H.releases
-        H.lends H.takes_back H.Store.forest H.Folder.forest H.Output.contents))
+        (AuditsFor (λ words wanted. Audits H.resolves H.identifies H.holds H.releases
+        H.lends H.takes_back H.Store.forest H.Folder.forest H.Output.contents
+        (AsksEnd R.ends rt.now words.expected) words.skips_ok wanted words.source words.dest))
         command host.old host.new result }
 {
     match command {
@@ -185,24 +188,38 @@ fn text_in(text: &Option<Text>) -> Option<&str>
 fn make_audit<R, H: Host>(rt: &R, host: &mut H, words: Audit) -> u8
 where
     R: Reads + Clock + Eprint + AllocGlobal + Terminals,
-    ensures { AuditsFor (Audits H.resolves H.identifies H.holds H.releases
-        H.lends H.takes_back H.Store.forest H.Folder.forest H.Output.contents)
+    ensures { AuditsFor (λ words wanted. Audits H.resolves H.identifies H.holds H.releases
+        H.lends H.takes_back H.Store.forest H.Folder.forest H.Output.contents
+        (AsksEnd R.ends rt.now words.expected) words.skips_ok wanted words.source words.dest)
         words host.old host.new result }
 {
     match audit_asked_for(rt.alloc(), words) {
-        Ok(asked) => audit_guarded_as(
-            rt,
-            host,
-            asked.wanted,
-            Telling {
-                expected: None,
-                lenient: asked.skips_ok,
-            },
-            asked.source.as_str(),
-            asked.dest.as_str(),
-        ),
+        Ok(asked) => hold(rt, host, asked),
         Err(_) => failed(rt, &Fault::Memory),
     }
+}
+
+// Makes an audit that is asked for, and gives its status.
+fn hold<R, H: Host>(rt: &R, host: &mut H, asked: AskedAudit) -> u8
+where
+    R: Reads + Clock + Eprint + AllocGlobal + Terminals,
+    ensures { Audits H.resolves H.identifies H.holds H.releases
+        H.lends H.takes_back H.Store.forest H.Folder.forest H.Output.contents
+        (AsksEnd R.ends rt.now asked.expected) asked.skips_ok asked.audit.wanted
+        asked.source asked.dest host.old host.new result }
+{
+    let AskedAudit {
+        audit,
+        expected,
+        skips_ok,
+        source,
+        dest,
+    } = asked;
+    let telling = Telling {
+        expected: text_in(&expected),
+        lenient: skips_ok,
+    };
+    audit_guarded_as(rt, host, audit, telling, source.as_str(), dest.as_str())
 }
 
 // Writes the names that are asked for to the machine's output, and gives the status of that.

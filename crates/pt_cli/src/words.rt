@@ -11,8 +11,8 @@ ghost use Rattle.pt_cli.specs.Words.{AreNamed, audit_answer, migrate_answer, nam
 
 use crate::audit_words::{GivenAudit, audit_command, audit_of, audit_options};
 use crate::grammar::{
-    ADDRESS, AUDIT, CREATED, DIGEST, EXPECT, ID, INTERVAL, MESSAGE, MIGRATE, NAME, NAMES, PREFIX,
-    PRESENT_OK, PROGRESS, REHEARSE, SYNC, TUPLE_SIZE, TUPLES, parser,
+    ADDRESS, AUDIT, CREATED, DIGEST, ID, MESSAGE, MIGRATE, NAME, NAMES, PREFIX, PRESENT_OK,
+    PROGRESS, REHEARSE, SYNC, TUPLE_SIZE, TUPLES, parser,
 };
 use crate::{Command, Migrate, Named, Text};
 use clap::error::ErrorKind;
@@ -140,8 +140,6 @@ struct Given<'m, 'a> {
     sync: bool,
     rehearse: bool,
     present_ok: bool,
-    interval: u32,
-    expected: Option<&'a str>,
     shared: GivenAudit<'m, 'a>,
 }
 
@@ -261,7 +259,6 @@ fn migrate_command(alloc: Global, given: &Given<'_, '_>) -> Result<Command, Word
         given.address,
         given.message,
     )?;
-    let expected = text_of(alloc, given.expected)?;
     let audit = audit_of(alloc, &given.shared)?;
     Ok(Command::Migrate(Migrate {
         meta,
@@ -275,8 +272,8 @@ fn migrate_command(alloc: Global, given: &Given<'_, '_>) -> Result<Command, Word
         present_ok: given.present_ok,
         verbose: audit.verbose,
         progress: audit.progress,
-        interval: given.interval,
-        expected,
+        interval: audit.interval,
+        expected: audit.expected,
         source: audit.source,
         dest: audit.dest,
     }))
@@ -342,7 +339,7 @@ fn name_in(alloc: Global, text: &str) -> Result<Name, WordsFault>
 }
 
 // A copy of a text, where there is one.
-fn text_of(alloc: Global, text: Option<&str>) -> Result<Option<Text>, MemoryFault>
+pub(crate) fn text_of(alloc: Global, text: Option<&str>) -> Result<Option<Text>, MemoryFault>
     ensures { IfOk result (λ copy. copy ≡ option_map (λ t. t.now) text.entry) }
 {
     match text {
@@ -365,8 +362,6 @@ fn options<'m, 'a>(matches: &'m ArgMatches<'a>) -> Option<Given<'m, 'a>>
         sync: is_set(matches, SYNC),
         rehearse: is_set(matches, REHEARSE),
         present_ok: is_set(matches, PRESENT_OK),
-        interval: number(matches, INTERVAL)?,
-        expected: text(matches, EXPECT),
         shared,
     })
 }
@@ -431,7 +426,7 @@ pub(crate) fn texts<'m, 'a>(matches: &'m ArgMatches<'a>, id: &str) -> Option<&'m
     matches.get_strs(id)
 }
 
-fn number(matches: &ArgMatches<'_>, id: &str) -> Option<u32>
+pub(crate) fn number(matches: &ArgMatches<'_>, id: &str) -> Option<u32>
     ensures { result ≡ number_in id.now (rows_of (found_of matches.now)) }
 {
     matches.get_one(id)

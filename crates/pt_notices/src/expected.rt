@@ -38,14 +38,29 @@ fn counted_in(bytes: &[u8]) -> Option<u64> {
     }
 }
 
-// What the last line of a text counts, if it is an end line.
+// What the last line of a text counts, if it is an end line, of a run's log or of an audit's.
 fn last_count(text: &str) -> Option<u64> {
-    let (_, counts) = text.rsplit_once("{\"as\":\"end\",\"done\":")?;
-    let (done, counts) = counts.split_once(",\"present\":")?;
-    let (present, counts) = counts.split_once(",\"skip\":")?;
-    let skipped = counts.strip_suffix("}\n")?;
-    let done: u64 = done.parse().ok()?;
-    let present: u64 = present.parse().ok()?;
-    let skipped: u64 = skipped.parse().ok()?;
-    Some(done.saturating_add(present).saturating_add(skipped))
+    match text.rsplit_once("{\"as\":\"end\",\"done\":") {
+        Some((_, counts)) => {
+            let (done, counts) = counts.split_once(",\"present\":")?;
+            let (present, counts) = counts.split_once(",\"skip\":")?;
+            sum(&[done, present, counts.strip_suffix("}\n")?])
+        }
+        None => {
+            let (_, counts) = text.rsplit_once("{\"absent\":")?;
+            let (absent, counts) = counts.split_once(",\"as\":\"end\",\"differs\":")?;
+            let (differs, counts) = counts.split_once(",\"same\":")?;
+            let (same, counts) = counts.split_once(",\"skip\":")?;
+            sum(&[absent, differs, same, counts.strip_suffix("}\n")?])
+        }
+    }
+}
+
+// The sum of what texts write, if each is a number.
+fn sum(texts: &[&str]) -> Option<u64> {
+    let mut total = 0u64;
+    for text in texts {
+        total = total.saturating_add(text.parse().ok()?);
+    }
+    Some(total)
 }

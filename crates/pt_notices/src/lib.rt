@@ -2,6 +2,7 @@
 #![tactic(auto)]
 
 mod expected;
+mod numbers;
 pub mod prefix;
 mod reads;
 pub mod reason;

@@ -1,4 +1,8 @@
+use std::env::Env;
 use std::io::IsTerminal;
+
+// How many columns a line has where nothing is known of the terminal.
+const USUAL: usize = 80;
 
 /// What is known of a program's two outputs.
 pub trait Terminals {
@@ -7,6 +11,10 @@ pub trait Terminals {
 
     /// Whether standard error is a terminal.
     fn errors_are_terminal(&self) -> bool;
+
+    /// How many columns a line of the terminal has, where that is told: by `COLUMNS` in the environment, and where `TERM` names no terminal that
+    /// understands more than text, as the usual 80. None where the terminal itself may be told to cut a longer line.
+    fn columns(&self) -> Option<usize>;
 }
 
 impl Terminals for HostRuntime {
@@ -16,5 +24,27 @@ impl Terminals for HostRuntime {
 
     fn errors_are_terminal(&self) -> bool {
         self.stderr().is_terminal()
+    }
+
+    fn columns(&self) -> Option<usize> {
+        let mut text = [0u8; 64];
+        if let Some(columns) = told(self, "COLUMNS", &mut text)
+            && let Ok(columns) = columns.parse()
+            && columns > 0
+        {
+            return Some(columns);
+        }
+        match told(self, "TERM", &mut text) {
+            None | Some("" | "dumb") => Some(USUAL),
+            Some(_) => None,
+        }
+    }
+}
+
+// What a variable of the environment holds, where that is a short text.
+fn told<'a>(env: &impl Env, name: &str, text: &'a mut [u8]) -> Option<&'a str> {
+    match env.var(name, text) {
+        Ok(length) => str::from_utf8(text.get(..length)?).ok(),
+        Err(_) => None,
     }
 }

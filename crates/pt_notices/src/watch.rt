@@ -1,6 +1,7 @@
 //! A source that is watched: as it is called, it shows on standard error how far the run is.
 ghost use Rattle.std.specs.Prelude.{◌≡◌};
 
+use crate::numbers::{grouped, size, time};
 use crate::shown::escaped;
 use crate::tally::Tally;
 use crate::terminal::Terminals;
@@ -21,9 +22,6 @@ pub enum Progress {
 
 // How many milliseconds pass between two lines on a terminal.
 const ON_TERMINAL: u64 = 200;
-
-// How many characters a line on a terminal may have.
-const WIDTH: usize = 79;
 
 /// How a run is watched.
 #[derive(Clone, Copy, Debug, Drop)]
@@ -56,11 +54,13 @@ pub struct Watched<'a, S: Source, R> {
     alloc: Global,
     shows: bool,
     on_terminal: bool,
+    columns: Option<usize>,
     period: u64,
     expected: Option<u64>,
     words: Words,
     begun: u64,
     due: u64,
+    has_shown: bool,
     at: Vec<u8>,
 }
 
@@ -94,11 +94,13 @@ impl<'a, S: Source, R: Clock + Eprint + Terminals> Watched<'a, S, R> {
             alloc,
             shows,
             on_terminal,
+            columns: rt.columns(),
             period,
             expected: watching.expected,
             words: watching.words,
             begun,
             due: begun.saturating_add(period),
+            has_shown: false,
             at: Vec::new(alloc),
         }
     }
@@ -117,11 +119,23 @@ impl<'a, S: Source, R: Clock + Eprint + Terminals> Watched<'a, S, R> {
         self.source
     }
 
-    /// Takes the line away that is shown on a terminal.
+    /// Ends what is shown: the line on a terminal is taken away, and elsewhere a run that was too short for a line gets its last one.
     pub fn end(&self) {
-        if self.shows && self.on_terminal {
-            let _ = eprint!(self.rt; "\r\x1b[K");
+        if !self.shows {
+            return;
         }
+        if self.on_terminal {
+            let _ = eprint!(self.rt; "\r\x1b[K");
+        } else if !self.has_shown
+            && let Ok(line) = self.line(self.passed())
+        {
+            let _ = eprintln!(self.rt; "pairtree2ocfl: {line}");
+        }
+    }
+
+    // How many milliseconds have passed since it began.
+    fn passed(&self) -> u64 {
+        millis(self.rt).saturating_sub(self.begun)
     }
 
     // Something at a path is under way.
@@ -152,49 +166,64 @@ impl<'a, S: Source, R: Clock + Eprint + Terminals> Watched<'a, S, R> {
         let Ok(line) = self.line(now.saturating_sub(self.begun)) else {
             return;
         };
-        let _ = if self.on_terminal {
-            eprint!(self.rt; "\r{line}\x1b[K")
-        } else {
-            eprintln!(self.rt; "{line}")
-        };
+        if !self.on_terminal {
+            self.has_shown = true;
+            let _ = eprintln!(self.rt; "pairtree2ocfl: {line}");
+        } else if let Ok(line) = self.over(line.as_str()) {
+            let _ = eprint!(self.rt; "{line}");
+        }
     }
 
-    // How far the run is after so many milliseconds, and how fast it was, on one line.
+    // What writes a line over the one that a terminal shows: it wraps none meanwhile, and so cuts what is longer.
+    fn over(&self, line: &str) -> Result<String, AllocError> {
+        let room = match self.columns {
+            Some(columns) => columns.saturating_sub(1),
+            None => line.len(),
+        };
+        let mut text = String::from_str(self.alloc, "\r\x1b[?7l")?;
+        for c in line.chars().take(room) {
+            text.push(c)?;
+        }
+        text.push_str("\x1b[K\x1b[?7h")?;
+        Ok(text)
+    }
+
+    // How far the run is after so many milliseconds, and how fast it was, on one line, what matters most in front.
     fn line(&self, passed: u64) -> Result<String, AllocError> {
+        let alloc = self.alloc;
         let (done, present, skipped) = (
             self.tally.done(),
             self.tally.present(),
             self.tally.skipped(),
         );
-        let bytes = self.tally.bytes();
-        let (seconds, lines) = (
-            passed / 1000,
-            done.saturating_add(present).saturating_add(skipped),
-        );
-        let (places, tenths) = (
-            lines.saturating_mul(1000) / passed.max(1),
-            bytes / 100 / passed.max(1),
-        );
-        let (whole, tenth) = (tenths / 10, tenths % 10);
+        let lines = done.saturating_add(present).saturating_add(skipped);
         let ahead = match self.expected {
-            Some(expected) => ahead(self.alloc, lines, expected, passed)?,
-            None => String::new(self.alloc),
-        };
-        let at = match str::from_utf8(self.at.as_slice()) {
-            Ok(at) => escaped(self.alloc, at)?,
-            Err(_) => String::new(self.alloc),
+            Some(expected) => ahead(alloc, lines, expected, passed)?,
+            None => String::new(alloc),
         };
         let (carried, other) = match self.words {
             Words::Run => ("done", "present"),
             Words::Audit => ("same", "not the same"),
         };
-        let line = format!(in self.alloc;
-            "pairtree2ocfl: {seconds} s, {places}/s, {whole}.{tenth} MB/s{ahead}: {done} {carried}, {present} {other}, {skipped} skipped, {bytes} bytes read, at {at}"
-        )?;
-        if self.on_terminal {
-            return cut(self.alloc, line.as_str());
-        }
-        Ok(line)
+        let (done, present) = (grouped(alloc, done)?, grouped(alloc, present)?);
+        let skipped = grouped(alloc, skipped)?;
+        let spent = self.spent(lines, passed)?;
+        format!(in alloc; "{ahead}{done} {carried}, {present} {other}, {skipped} skipped, {spent}")
+    }
+
+    // The time that passed, the lines and bytes a second, the bytes that were read, and what is read just now.
+    fn spent(&self, lines: u64, passed: u64) -> Result<String, AllocError> {
+        let alloc = self.alloc;
+        let bytes = self.tally.bytes();
+        let read = size(alloc, bytes)?;
+        let speed = size(alloc, bytes.saturating_mul(1000) / passed.max(1))?;
+        let places = grouped(alloc, lines.saturating_mul(1000) / passed.max(1))?;
+        let passed = time(alloc, passed)?;
+        let at = match str::from_utf8(self.at.as_slice()) {
+            Ok(at) => escaped(alloc, at)?,
+            Err(_) => String::new(alloc),
+        };
+        format!(in alloc; "{passed}, {places}/s, {speed}/s, {read} read, at {at}")
     }
 }
 
@@ -202,20 +231,12 @@ impl<'a, S: Source, R: Clock + Eprint + Terminals> Watched<'a, S, R> {
 fn ahead(alloc: Global, lines: u64, expected: u64, passed: u64) -> Result<String, AllocError> {
     let done = lines.min(expected);
     let percent = done.saturating_mul(100) / expected.max(1);
-    let left = passed.saturating_mul(expected.saturating_sub(done)) / done.max(1) / 1000;
     if done == 0 {
-        return format!(in alloc; ", {percent} %");
+        return format!(in alloc; "{percent} %, ");
     }
-    format!(in alloc; ", {percent} %, {left} s left")
-}
-
-// The first characters of a line, as many as fit on a terminal.
-fn cut(alloc: Global, line: &str) -> Result<String, AllocError> {
-    let mut front = String::new(alloc);
-    for c in line.chars().take(WIDTH) {
-        front.push(c)?;
-    }
-    Ok(front)
+    let left = passed.saturating_mul(expected.saturating_sub(done)) / done;
+    let left = time(alloc, left)?;
+    format!(in alloc; "{percent} %, {left} left, ")
 }
 
 // The clock's milliseconds, or 0 where there is none.

@@ -57,17 +57,17 @@ pub record AuditsOver {S D W : Type 0} (forest : S → List ℕ → Option Fores
   pub grows : Grows (contents old.output) (contents new.output)
   pub status_is : status ≡ audit_status skips_ok ran
 
--- what `audit_guarded` does on a machine, by the words of its calls and of what is lent: the guard, with a lock that others may share, the audit over what is lent, which is given back, and the lock; skip lines are well for its status or not
+-- what `audit_guarded` does on a machine, by the words of its calls and of what is lent: the guard, with a lock that others may share, the audit over what is lent, before which it is asked what is expected of it, and which is given back, and the lock; skip lines are well for its status or not
 abbrev pub Audits : {H L S D W : Type 0}
     → (H → List ℕ → Result Place Error → H → Type 0) → (H → List ℕ → Result Folder Error → H → Type 0)
     → (Claim → H → List ℕ → Hold L → H → Type 0) → (H → L → H → Type 0)
     → (H → Ground S D W → H → Type 0) → (H → Ground S D W → H → Type 0)
     → (S → List ℕ → Option Forest) → (D → List ℕ → Option Forest) → (W → Option (List ℕ))
-    → Bool → WantedAudit → List ℕ → List ℕ → H → H → ℕ → Type 0
+    → Type 0 → Bool → WantedAudit → List ℕ → List ℕ → H → H → ℕ → Type 0
 Audits {H} {L} {S} {D} {W} resolves identifies holds releases lends takes_back forest folders contents
-    skips_ok wanted source dest =
+    expects skips_ok wanted source dest =
     Guarded (Begins resolves identifies (holds Shared) source dest)
-    (λ old new status. (ground : Ground S D W) × (lent : H) × lends old ground lent
+    (λ old new status. expects × (ground : Ground S D W) × (lent : H) × lends old ground lent
     × (after : Ground S D W)
     × AuditsOver forest folders contents skips_ok wanted source dest ground after status
     × takes_back lent after new)

@@ -1,12 +1,13 @@
 //! An audit of the root in a folder against a store, on a machine.
-ghost use Rattle.std.specs.Prelude.{◌≡◌, false};
+ghost use Rattle.std.specs.Prelude.{◌≡◌, ⊤, false, option_map};
+ghost use Rattle.pt_notices.specs.Expected.{AsksEnd};
 ghost use Rattle.pt_run.specs.Audits.{Audits, AuditsOver, audit_status};
 
 use crate::beginning::begun;
 use crate::devices::{Sides, both_sides};
 use crate::host::{Ground, Host};
 use crate::log::SyncsOutput;
-use crate::running::Ended;
+use crate::running::{Ended, Shown};
 use crate::saying::{refused, tell_fault};
 use crate::status::{DONE, FAILED, TOLD};
 use crate::telling::Telling;
@@ -15,7 +16,9 @@ use pt_folder::{HostSource, System};
 use pt_guard::Claim;
 use pt_ignore::Ignored;
 use pt_move::{Fault, Job};
-use pt_notices::{Progress, Reads, Tally, Terminals, Watched, Watching, Words, reason};
+use pt_notices::{
+    Progress, Reads, Tally, Terminals, Watched, Watching, Words, lines_expected, reason,
+};
 use std::alloc::AllocGlobal;
 use std::io::Write;
 use std::rt::Clock;
@@ -34,6 +37,15 @@ pub struct WantedAudit {
     pub verbose: bool,
     /// When to show how far it is.
     pub progress: Progress,
+}
+
+/// An audit that is wanted, and how often it shows how far it is.
+#[derive(Debug, Drop)]
+pub struct PacedAudit {
+    /// What is wanted of it.
+    pub wanted: WantedAudit,
+    /// How many seconds pass between two lines that show it, where they don't go to a terminal.
+    pub interval: u32,
 }
 
 /// Holds the root in a destination against a store on a machine, and gives the exit status: 0 each object stands as a run makes
@@ -55,22 +67,26 @@ pub fn audit_guarded<R, H: Host>(
 where
     R: Reads + Clock + Eprint + AllocGlobal + Terminals,
     ensures { Audits H.resolves H.identifies H.holds H.releases H.lends H.takes_back
-        H.Store.forest H.Folder.forest H.Output.contents
+        H.Store.forest H.Folder.forest H.Output.contents ⊤
         false wanted source.now dest.now host.old host.new result }
 {
     let telling = Telling {
         expected: None,
         lenient: false,
     };
-    audit_guarded_as(rt, host, wanted, telling, source, dest)
+    let audit = PacedAudit {
+        wanted,
+        interval: INTERVAL,
+    };
+    audit_guarded_as(rt, host, audit, telling, source, dest)
 }
 
 /// The same, told of as it is asked: where it is lenient, skip lines count as well, so that the status is 1 only where an object is absent or
-/// differs.
+/// differs. The log that is expected to be as long may be one of a rehearsal, a run or an audit.
 pub fn audit_guarded_as<R, H: Host>(
     rt: &R,
     host: &mut H,
-    wanted: WantedAudit,
+    audit: PacedAudit,
     telling: Telling<'_>,
     source: &str,
     dest: &str,
@@ -79,15 +95,16 @@ where
     R: Reads + Clock + Eprint + AllocGlobal + Terminals,
     ensures { Audits H.resolves H.identifies H.holds H.releases H.lends H.takes_back
         H.Store.forest H.Folder.forest H.Output.contents
-        telling.entry.lenient wanted source.now dest.now host.old host.new result }
+        (AsksEnd R.ends rt.now (option_map (λ log. log.now) telling.entry.expected))
+        telling.entry.lenient audit.wanted source.now dest.now host.old host.new result }
 {
-    match begun(rt, host, wanted.verbose, Claim::Shared, source, dest) {
+    match begun(rt, host, audit.wanted.verbose, Claim::Shared, source, dest) {
         Ok(Ok(lock)) => {
-            let status = hold(rt, host, wanted, telling, source, dest);
+            let status = hold(rt, host, audit, telling, source, dest);
             host.release(lock);
             status
         }
-        Ok(Err(_)) => hold(rt, host, wanted, telling, source, dest),
+        Ok(Err(_)) => hold(rt, host, audit, telling, source, dest),
         Err(fault) => refused(rt, fault),
     }
 }
@@ -96,21 +113,26 @@ where
 fn hold<R, H: Host>(
     rt: &R,
     host: &mut H,
-    wanted: WantedAudit,
+    audit: PacedAudit,
     telling: Telling<'_>,
     store: &str,
     folder: &str,
 ) -> u8
 where
     R: Reads + Clock + Eprint + AllocGlobal + Terminals,
-    ensures { (given : _) × (lent : H) × H.lends host.old given lent × (after : _)
-        × AuditsOver H.Store.forest H.Folder.forest H.Output.contents
-        telling.entry.lenient wanted store.now folder.now given after result
-        × H.takes_back lent after host.new }
+    ensures { AsksEnd R.ends rt.now (option_map (λ log. log.now) telling.entry.expected)
+        × (given : _) × (lent : H) × H.lends host.old given lent × (after : _)
+        × AuditsOver H.Store.forest H.Folder.forest H.Output.contents telling.entry.lenient
+        audit.wanted store.now folder.now given after result × H.takes_back lent after host.new }
 {
+    let shown = Shown {
+        expected: lines_expected(rt, telling.expected),
+        interval: audit.interval,
+        lenient: telling.lenient,
+    };
     let ground = host.lend();
     let file: Option<H::File> = None;
-    let Ended { status, ground } = compare(rt, ground, file, wanted, telling, store, folder);
+    let Ended { status, ground } = compare(rt, ground, file, audit.wanted, shown, store, folder);
     host.take_back(ground);
     status
 }
@@ -121,21 +143,21 @@ fn compare<R, S: System, D: System, W: Write, F: SyncsOutput<W> + Drop>(
     ground: Ground<S, D, W>,
     file: Option<F>,
     wanted: WantedAudit,
-    telling: Telling<'_>,
+    shown: Shown,
     store: &str,
     folder: &str,
 ) -> Ended<S, D, W>
 where
     R: Reads + Clock + Eprint + AllocGlobal + Terminals,
     ensures { AuditsOver S.forest D.forest W.contents
-        telling.entry.lenient wanted store.now folder.now ground result.ground result.status }
+        shown.lenient wanted store.now folder.now ground result.ground result.status }
 {
     let alloc = rt.alloc();
     let tally = Tally::new();
     let watching = Watching {
         when: wanted.progress,
-        interval: INTERVAL,
-        expected: None,
+        interval: shown.interval,
+        expected: shown.expected,
         words: Words::Audit,
     };
     let verbose = wanted.verbose;
@@ -152,7 +174,7 @@ where
     reason::left_out(rt, verbose & ignores, ignoring.left_out());
     let source = ignoring.into_source();
     told(rt, &ran, verbose, &source, &root, store, folder);
-    let status = status_of(&ran, telling.lenient);
+    let status = status_of(&ran, shown.lenient);
     let ground = Ground {
         store: source.into_system(),
         folder: root.into_system(),

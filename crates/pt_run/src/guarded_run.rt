@@ -130,7 +130,8 @@ where
     let devices = equipped(rt.alloc(), ground, file, &wanted, store, folder);
     let shown = Shown {
         expected,
-        present_ok: telling.lenient,
+        interval: wanted.interval,
+        lenient: telling.lenient,
     };
     let Ended { status, ground } = run(rt, devices, wanted, store, shown);
     host.take_back(ground);

@@ -16,7 +16,7 @@ pub mod status;
 mod telling;
 mod turns;
 
-pub use guarded_audit::{WantedAudit, audit_guarded, audit_guarded_as};
+pub use guarded_audit::{PacedAudit, WantedAudit, audit_guarded, audit_guarded_as};
 pub use guarded_run::{Wanted, run_guarded, run_guarded_as};
 pub use host::{Ground, Host, OutputFile};
 pub use log::{DurableLog, Syncs, SyncsOutput};

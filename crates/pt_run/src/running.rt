@@ -34,13 +34,15 @@ pub(crate) struct Ended<S, D, W> {
     pub ground: Ground<S, D, W>,
 }
 
-/// How a run over its devices is told of.
+/// How a run or an audit over its devices is told of.
 #[derive(Clone, Copy, Drop)]
 pub(crate) struct Shown {
     /// How many lines its log may come to, where that is known.
     pub expected: Option<u64>,
-    /// Whether its present lines leave its status at 0.
-    pub present_ok: bool,
+    /// How many seconds pass between two lines that show how far it is, where they don't go to a terminal.
+    pub interval: u32,
+    /// Whether a run's present lines, or an audit's skip lines, leave its status at 0.
+    pub lenient: bool,
 }
 
 /// Makes the run that is wanted over its devices, or rehearses it, watched as that is wanted, and tells standard error of a fault. `store` is
@@ -54,7 +56,7 @@ pub(crate) fn run<R, S: System, D: System, W: Write, F: SyncsOutput<W> + Drop>(
 ) -> Ended<S, D, W>
 where
     R: Reads + Clock + Eprint + AllocGlobal + Terminals,
-    ensures runs { RunsFrom S.forest D.kept W.contents shown.present_ok wanted
+    ensures runs { RunsFrom S.forest D.kept W.contents shown.lenient wanted
         (record {
           store = devices.entry.source.folder.path.now;
           folder = devices.entry.dest.folder.path.now;
@@ -84,7 +86,7 @@ where
     } = devices;
     let watching = Watching {
         when: wanted.progress,
-        interval: wanted.interval,
+        interval: shown.interval,
         expected: shown.expected,
         words: Words::Run,
     };
@@ -106,7 +108,7 @@ where
     reason::left_out(rt, verbose & ignores, ignoring.left_out());
     let source = ignoring.into_source();
     told(rt, &ran, verbose, &source, &dest, store);
-    let status = status_of(&ran, shown.present_ok);
+    let status = status_of(&ran, shown.lenient);
     let ground = Ground {
         store: source.into_system(),
         folder: dest.into_system(),

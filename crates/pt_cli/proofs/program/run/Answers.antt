@@ -3,10 +3,12 @@ use Rattle.std.specs.Process.{exit_status}
 use Rattle.pt_notices.specs.Expected.{AsksEnd}
 use Rattle.pt_cli.specs.Calls.{AuditsFor, TellsNames, TellsText, wanted_of}
 use Rattle.pt_cli.specs.Statuses.{Declines, Ends, EndsWith, IsWordless, Obeys}
+use Rattle.pt_cli.specs.declared.command.Audit.{Audit as Comparison}
 use Rattle.pt_cli.specs.declared.command.Migrate.{Migrate}
 use Rattle.pt_run.specs.Audits.{Audits}
 use Rattle.pt_run.specs.Made.{Runs}
 use Rattle.pt_run.specs.Served.{Serves}
+use Rattle.pt_run.specs.declared.guarded_audit.WantedAudit.{WantedAudit}
 use Rattle.pt_cli.proofs.program.run.Goals as goal
 use Rattle.pt_cli.proofs.program.run.Goals.{in-Ok, in-Err}
 
@@ -18,7 +20,7 @@ returns g c =
     Runs g.H.Places.resolves g.H.Places.identifies g.H.Places.holds g.H.Places.releases g.H.Host.finds g.H.File.Syncs.syncs g.H.File.SyncsOutput.puts
     g.H.Host.lends g.H.Host.takes_back g.H.Store.System.forest g.H.Folder.System.kept g.H.Output.Write.contents (Serves g.H.Folder.System g.H.Folder.File.Handle g.H.Folder.File.Input g.H.Folder.Dir.Input) (AsksEnd g.R.Reads.ends c.args.rt.now m.expected) m.present_ok (wanted_of m) m.source m.dest in
     let audits =
-    AuditsFor (Audits g.H.Places.resolves g.H.Places.identifies g.H.Places.holds g.H.Places.releases g.H.Host.lends g.H.Host.takes_back g.H.Store.System.forest g.H.Folder.System.forest g.H.Output.Write.contents) in
+    AuditsFor (λ (a : Comparison) (wanted : WantedAudit). Audits g.H.Places.resolves g.H.Places.identifies g.H.Places.holds g.H.Places.releases g.H.Host.lends g.H.Host.takes_back g.H.Store.System.forest g.H.Folder.System.forest g.H.Output.Write.contents (AsksEnd g.R.Reads.ends c.args.rt.now a.expected) a.skips_ok wanted a.source a.dest) in
     let tells = TellsText g.H.Host.lends g.H.Host.takes_back g.H.Output.Write.contents in
     let done = λ (words : List (List ℕ)). EndsWith (Obeys names migrates audits) (Declines tells) words in
     let starts = g.R.Started.starts c.args.rt.now in

@@ -12,4 +12,4 @@ returns-in_err-audit c =
 
 pub returns : goal.returns
 returns c =
-    carried (options_given c.args.given.now) c.in_ok-meta.meta c.in_ok-meta.ensures c.args.given.now.shared.skips_ok c.in_ok-audit.audit c.in_ok-expected.expected c.in_ok-audit.ensures c.in_ok-expected.ensures
+    carried (options_given c.args.given.now) c.in_ok-meta.meta c.in_ok-meta.ensures c.args.given.now.shared.skips_ok c.in_ok-audit.audit c.in_ok-audit.ensures

@@ -8,5 +8,5 @@ use Rattle.pt_cli.proofs.words.options.Goals as goal
 pub returns : goal.returns
 returns c =
     all_there (rows_of (found_of c.args.matches.now)) c.in_ok-created.created.now c.in_ok-created.name.now (option_map (λ (s : Bor (List ℕ)). s.now) c.text.result)
-    c.in_ok-text.field-0.now c.is_set.result c.is_set-2.result c.is_set-3.result c.in_ok-number.field-0 (option_map (λ (s : Bor (List ℕ)). s.now) c.text-3.result) (audit_given c.in_ok-shared.shared)
-    c.in_ok-shared.ensures c.in_ok-created.ensures c.text.ensures c.in_ok-text.ensures c.is_set.ensures c.is_set-2.ensures c.is_set-3.ensures c.in_ok-number.ensures c.text-3.ensures
+    c.in_ok-text.field-0.now c.is_set.result c.is_set-2.result c.is_set-3.result (audit_given c.in_ok-shared.shared)
+    c.in_ok-shared.ensures c.in_ok-created.ensures c.text.ensures c.in_ok-text.ensures c.is_set.ensures c.is_set-2.ensures c.is_set-3.ensures

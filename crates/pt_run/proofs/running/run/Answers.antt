@@ -27,7 +27,7 @@ returns-clause-runs g c =
         c.status_of-status.ensures,
       ),
       rw (c.into_system-2.ensures) made.rehearsed,
-      λ s is. let stuck = made.stuck c.args.shown.present_ok s is in (stuck.0, λ none. c.status_of-status.ensures ∙ stuck.1 none),
+      λ s is. let stuck = made.stuck c.args.shown.lenient s is in (stuck.0, λ none. c.status_of-status.ensures ∙ stuck.1 none),
     )
 
 pub returns-clause-served : goal.returns-clause-served
@@ -38,4 +38,4 @@ returns-clause-logged g c =
     let made = c.made-ran.ensures in
     let ran = c.made-ran.result.ran in
     let counts = log_counts c.args.wanted.job c.args.wanted.rehearse _ _ _ ran made.promises in
-    λ none. rw (c.into_writer.ensures, c.status_of-status.ensures) (logged g.F.SyncsOutput.puts c.args.shown.present_ok c.args.devices.log c.made-ran.new.log ran made.log counts none)
+    λ none. rw (c.into_writer.ensures, c.status_of-status.ensures) (logged g.F.SyncsOutput.puts c.args.shown.lenient c.args.devices.log c.made-ran.new.log ran made.log counts none)

@@ -1,0 +1,188 @@
+"""Cases of what is shown while a run or an audit goes on.
+"""
+
+import contextlib
+import os
+import pty
+import re
+import subprocess
+import time
+
+from alone import Alone, differs, many, run
+from running import MEANT
+
+TIME = rb"(?:\d+ h \d\d? min|\d\d?:\d\d)"
+SIZE = rb"(?:\d\d?\d? bytes?|\d\d?\d?(?:,\d\d\d)*\.\d [kMGT]B)"
+NUMBER = rb"\d\d?\d?(?:,\d\d\d)*"
+COUNTS = {
+    "migrate": rb"%s done, %s present, %s skipped" % (NUMBER, NUMBER, NUMBER),
+    "audit": rb"%s same, %s not the same, %s skipped" % (NUMBER, NUMBER, NUMBER),
+}
+SPENT = rb", %s, %s/s, %s/s, %s read, at [^\r\n]*" % (TIME, NUMBER, SIZE, SIZE)
+AHEAD = rb"(\d+) %%(?:, (%s) left)?, " % TIME
+HERE = {name: value for name, value in os.environ.items() if name != "COLUMNS"}
+
+
+def line_of(command, ahead=b""):
+    """A line that shows how far a command is."""
+    return re.compile(ahead + COUNTS[command] + SPENT)
+
+
+class Screen:
+    """A terminal of so many columns. Of its codes it knows those of the program: to clear the rest of a row, and to wrap what is longer or not."""
+
+    CODES = re.compile(rb"\x1b\[(K|\?7l|\?7h)|([^\x1b])", re.DOTALL)
+
+    def __init__(self, columns):
+        self.columns = columns
+        self.rows, self.column, self.wraps = [[]], 0, True
+
+    def texts(self, said):
+        """The rows that stand there each time that the program goes back to the start of one."""
+        for code, letter in self.CODES.findall(said):
+            if letter == b"\r":
+                yield [b"".join(row) for row in self.rows]
+            self.take(code, letter)
+
+    def take(self, code, letter):
+        """Does what a code, or else a letter, has it do."""
+        row = self.rows[-1]
+        if code == b"K":
+            del row[self.column :]
+        elif code:
+            self.wraps = code == b"?7h"
+        elif letter == b"\r":
+            self.column = 0
+        elif letter == b"\n" or (self.column == self.columns and self.wraps):
+            self.rows.append([] if letter == b"\n" else [letter])
+            self.column = len(self.rows[-1])
+        else:
+            self.column = min(self.column, self.columns - 1)
+            row[self.column :] = [*row[self.column : self.column], letter]
+            self.column += 1
+
+
+def on_terminal(program, folder, *words, output=True, **env):
+    """What standard error gets, where it is a terminal, in a run over many objects."""
+    many(folder, b"x" * 20_000)
+    ours, theirs = pty.openpty()
+    with open(f"{folder}/log", "wb") as log:
+        command = [program, "migrate", *MEANT, *words, "s", "d"]
+        how = {"cwd": folder, "stdout": log if output else theirs, "stderr": theirs, "env": {**HERE, "TERM": "xterm", **env}}
+        with subprocess.Popen(command, **how) as child:
+            os.close(theirs)
+            said = b""
+            with contextlib.suppress(OSError):
+                while piece := os.read(ours, 65536):
+                    said += piece
+            child.wait(60)
+    os.close(ours)
+    subprocess.run(["rm", "-rf", f"{folder}/d"], check=True)
+    os.mkdir(f"{folder}/d")
+    return child.returncode, said
+
+
+def shown(program, folder):
+    """On a terminal a line is written over, and taken away at the end; none where the log goes there too, or by `never`."""
+    status, said = on_terminal(program, folder)
+    faults = differs(status=(status, 0), lines=(b"\n" in said, False), end=(said.endswith(b"\r\x1b[K"), True))
+    for words, output in ((("--progress", "never"), True), ((), False)):
+        status, said = on_terminal(program, folder, *words, output=output)
+        faults += differs(status=(status, 0), shown=(b"\x1b" in said, False))
+    return faults
+
+
+def wide(program, folder):
+    """A line has one row of the terminal, however wide that is, with as much of it as there is room for, the front at least."""
+    faults = []
+    for columns, env in ((40, {}), (200, {}), (200, {"COLUMNS": "40"}), (200, {"TERM": "dumb"}), (200, {"TERM": ""}), (40, {"COLUMNS": "x"})):
+        status, said = on_terminal(program, folder, **env)
+        texts = list(Screen(columns).texts(said))
+        faults += differs(**{f"{columns} {env} status": (status, 0), "rows": ({len(rows) for rows in texts}, {1})})
+        room = {"40": 39, "dumb": 79, "": 79}.get(env.get("COLUMNS") or env.get("TERM", "xterm"), columns)
+        full = [rows[0] for rows in texts if rows[0]]
+        whole = line_of("migrate")
+        right = [len(text) <= room and (whole.fullmatch(text) if room > 100 else re.match(COUNTS["migrate"], text)) for text in full]
+        faults += differs(shown=(bool(full), True), right=(all(right), True)) + [f"it is {full[0]!r}" for one in right[:1] if not one]
+    return faults
+
+
+def seldom(program, folder):
+    """Elsewhere a line every ten seconds, where it is asked for."""
+    many(folder)
+    command = [program, "migrate", *MEANT, "--progress", "always", "s", "d"]
+    with subprocess.Popen(command, cwd=folder, stdout=subprocess.PIPE, stderr=subprocess.PIPE) as child:
+        time.sleep(11)
+        out, err = child.communicate(timeout=60)
+    quiet = run(program, folder, "--progress", "auto")
+    right = err and all(line_of("migrate", b"pairtree2ocfl: ").fullmatch(line) for line in err.splitlines())
+    faults = differs(status=(child.returncode, 0), lines=(out.count(b"\n"), 6**4 + 2), quiet=(quiet.stderr, b""))
+    return faults if right else [*faults, f"standard error is {err!r}"]
+
+
+def short(program, folder):
+    """A run, a rehearsal or an audit that is shorter than the interval shows its last state."""
+    faults = []
+    for command in (["migrate", *MEANT, "--dry-run"], ["migrate", *MEANT], ["audit"]):
+        done = subprocess.run([program, *command, "--progress", "always", "s", "d"], cwd=folder, capture_output=True, timeout=60)
+        told = line_of(command[0], b"pairtree2ocfl: ").fullmatch(done.stderr.rstrip(b"\n"))
+        count = {"migrate": b": 1 done, 0 present, 0 skipped", "audit": b": 1 same, 0 not the same, 0 skipped"}[command[0]]
+        faults += differs(status=(done.returncode, 0)) + ([] if told and count in done.stderr else [f"{command} says {done.stderr!r}"])
+    return faults
+
+
+def expected(program, folder):
+    """By a rehearsal's log the share done and the time left are shown too; a log without an end line is told, and the run goes on."""
+    many(folder)
+    with open(f"{folder}/log", "wb") as log:
+        log.write(run(program, folder, "--dry-run").stdout)
+    faults = ahead(program, folder, ["migrate", *MEANT], "log")
+    none = run(program, folder, "--expect", "s/pairtree_version0_1")
+    said = b"pairtree2ocfl: s/pairtree_version0_1: it has no end line of a log\n"
+    absent = run(program, folder, "--expect", "none")
+    faults += differs(none=((none.returncode, none.stderr), (1, said)))
+    return faults + differs(absent=((absent.returncode, absent.stderr), (1, said.replace(b"s/pairtree_version0_1", b"none"))))
+
+
+def expected_of_audit(program, folder):
+    """An audit shows the same by a run's log, and by an audit's."""
+    many(folder)
+    faults = []
+    for number, command in enumerate((["migrate", *MEANT], ["audit"], ["audit"])):
+        with open(f"{folder}/log-{number}", "wb") as log:
+            subprocess.run([program, *command, "s", "d"], cwd=folder, stdout=log, check=True, timeout=120)
+        faults += ahead(program, folder, ["audit"], f"log-{number}")
+    return faults
+
+
+def ahead(program, folder, command, log):
+    """What goes wrong where the share done is shown at each call of a command, which does what the log says."""
+    words = [program, *command, "--progress", "always", "--interval", "0", "--expect", log, "s", "d"]
+    done = subprocess.run(words, cwd=folder, capture_output=True, stdin=subprocess.DEVNULL, timeout=120)
+    line = line_of(command[0], b"pairtree2ocfl: " + AHEAD)
+    told = [line.fullmatch(line_told) for line_told in done.stderr.splitlines()]
+    shares = [int(line[1]) for line in told if line]
+    faults = differs(status=(done.returncode, 0), lines=(len(told) - len(shares), 0), rises=(shares, sorted(shares)))
+    return faults + differs(first=(shares[:1], [0]), last=(shares[-1:] >= [99], True), left=(all(line[2] for line in told if line and line[1] != b"0"), True))
+
+
+def far_off(program, folder):
+    """Of what takes long the hours and minutes that are left are shown."""
+    many(folder)
+    with open(f"{folder}/log", "wb") as log:
+        log.write(b'{"as":"end","done":1000000000,"present":0,"skip":0}\n')
+    done = run(program, folder, "--progress", "always", "--interval", "0", "--expect", "log")
+    told = [line for line in done.stderr.splitlines() if b" left, " in line]
+    right = [re.match(rb"pairtree2ocfl: 0 %, [1-9]\d* h [1-5]?\d min left, [1-9]", line) for line in told]
+    return differs(status=(done.returncode, 0), told=(len(told) > 100, True), right=(all(right), True))
+
+
+CASES = [
+    Alone("progress on a terminal", shown),
+    Alone("progress by the terminal's width", wide),
+    Alone("progress elsewhere", seldom),
+    Alone("progress of a short run", short),
+    Alone("progress by a rehearsal's log", expected),
+    Alone("progress of an audit by a log", expected_of_audit),
+    Alone("progress of what takes long", far_off),
+]
