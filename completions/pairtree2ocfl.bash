@@ -24,10 +24,10 @@ _pairtree2ocfl() {
     case $command in
         migrate)
             options='--created --name --address --message --digest --tuple-size --tuples --gather --share
-                --ignore --sync --dry-run -n --present-ok --verbose -v --progress --interval --expect --help -h'
+                --ignore --sync --dry-run -n --present-ok --verbose -v --quiet -q --progress --interval --expect --help -h'
             ;;
         audit)
-            options='--digest --tuple-size --tuples --gather --share --ignore --skips-ok --verbose -v --progress
+            options='--digest --tuple-size --tuples --gather --share --ignore --skips-ok --verbose -v --quiet -q --progress
                 --interval --expect --help -h'
             ;;
         names) options='--prefix --tuple-size --tuples --help -h' ;;

@@ -23,6 +23,7 @@ complete -c pairtree2ocfl -n '__fish_seen_subcommand_from migrate' -s n -l dry-r
 complete -c pairtree2ocfl -n '__fish_seen_subcommand_from migrate' -l present-ok -d 'Exit with 0 also where the log has present lines'
 complete -c pairtree2ocfl -n '__fish_seen_subcommand_from audit' -l skips-ok -d 'Exit with 0 also where the log has skip lines'
 complete -c pairtree2ocfl -n '__fish_seen_subcommand_from migrate audit' -s v -l verbose -d 'Tell of a fault also the reason'
+complete -c pairtree2ocfl -n '__fish_seen_subcommand_from migrate audit' -s q -l quiet -d 'Show neither how far it is nor a summary'
 complete -c pairtree2ocfl -n '__fish_seen_subcommand_from migrate audit' -l progress -x -a 'auto always never' -d 'When to show how far the run is'
 complete -c pairtree2ocfl -n '__fish_seen_subcommand_from migrate audit' -l interval -x -d 'Seconds between two such lines'
 complete -c pairtree2ocfl -n '__fish_seen_subcommand_from migrate audit' -l expect -r -F -d 'The log of a rehearsal'

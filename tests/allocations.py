@@ -21,7 +21,7 @@ sys.dont_write_bytecode = True
 
 import lanes
 import stores
-from running import MEANT
+from running import MEANT, timeless
 from tally import Lacking, Skipped, Tally, faults_of
 
 OUT_OF_MEMORY = b"pairtree2ocfl: fault 4: out of memory\n"
@@ -65,7 +65,7 @@ class Program:
             env = {} if number is None else {"LD_PRELOAD": self.shim, "REFUSE": str(number), "TOLD": str(told.fileno())}
             how = {"cwd": folder, "stdin": subprocess.DEVNULL, "capture_output": True, "timeout": 300, "env": env}
             done = subprocess.run([self.path, *words], pass_fds=(told.fileno(),), **how)
-            return (done.returncode, done.stdout, done.stderr), os.fstat(told.fileno()).st_size
+            return (done.returncode, done.stdout, timeless(done.stderr)), os.fstat(told.fileno()).st_size
 
 
 class Case:

@@ -11,7 +11,7 @@ import carrying
 import refusing
 import running
 from alone import Alone, differs, many, run
-from running import MEANT, TEXTS, Case, Run, ends
+from running import MEANT, TEXTS, Case, Run, ends, summary, timeless
 from stores import ABC, DIR, GONE, ONE, ONE_DONE, ONE_PRESENT, ONE_ROOT, Link
 from stores import build, done, lines, object_files, read_tree, root, skip, staged, store, stored
 from tally import needs
@@ -106,7 +106,7 @@ def reasons():
     shown = "x\\u{a}\\u{1b}[31m\\u{7f}\\u{85}\\\\"
     text = f"{shown}/staging: {none}"
     yield from told("control characters of a path", ONE, 2, text, dest_name=strange)
-    yield Case("no reason without a fault", ONE, ends([ONE_DONE], ONE_ROOT, words=["-v"]))
+    yield Case("no reason without a fault", ONE, ends([ONE_DONE], ONE_ROOT, words=["-v"], err=summary(ONE_DONE)))
     no_output = b"pairtree2ocfl: fault 3: cannot write the output\n"
     run = Run(b"", ONE_ROOT, 3, no_output, words=["-v"], output="/dev/full")
     yield Case("no reason where a fault has no path", ONE, run)
@@ -215,7 +215,7 @@ def left_out():
     waste.update({"pairtree_root/ab/c/obj/.DS_Store/x": b"2", "pairtree_root/ab/c/Thumbs.db": b"3", "pairtree_root/ab/c/.DS_Store/x/obj/f": b"4"})
     source, words = {**ONE, **waste}, ["--ignore", ".DS_Store", "--ignore=Thumbs.db"]
     yield Case("names that are left out", source, ends([ONE_DONE], ONE_ROOT, words=words))
-    told = b"pairtree2ocfl: left out by their names: 5\n"
+    told = summary(ONE_DONE) + b"pairtree2ocfl: left out by their names: 5\n"
     yield Case("names that are left out, told", source, ends([ONE_DONE], ONE_ROOT, words=[*words, "-v"], err=told))
     others = store({"ab/c/obj/.DS_Storex": b"1", "ab/c/obj/x.DS_Store": b"2"})
     files = {".DS_Storex": b"1", "x.DS_Store": b"2"}
@@ -259,6 +259,7 @@ class Rehearsed(Case):
         ran = running.started(words, folder, run.output)
         if before != after:
             yield f"changed: {sorted(before.items() ^ after.items())[:4]}"
+        rehearsed, ran = ((*answer[:2], timeless(answer[2])) for answer in (rehearsed, ran))
         by_parser = ran[0] == 2 and ran[2].startswith(b"error: ")
         if rehearsed != ran and not (by_parser and rehearsed[:2] == ran[:2]):
             yield f"the rehearsal gave {rehearsed!r:.600}, and the run {ran!r:.600}"
@@ -277,13 +278,15 @@ def stamps(folder):
 
 def short_words():
     """The short words of options."""
-    yield Case("-n is --dry-run, -v is --verbose", ONE, Run(lines(ONE_DONE, END_OF_ONE), {}, 0, words=["-nv"]))
+    yield Case("-n is --dry-run, -v is --verbose", ONE, Run(lines(ONE_DONE, END_OF_ONE), {}, 0, summary(ONE_DONE), words=["-nv"]))
     twice = store({"^6/1b/c/one/a.txt": b"abc", "ab/c/obj/a.txt": b"abc"})
     yield Rehearsed("rehearsed: one identifier in two places", twice, Run(b"", {}, 1))
     for words in (["--dry-run=1"], ["--progress", "often"], ["--sync=no"], ["-x"]):
         yield Case(f"refused by the parser: {' '.join(words)}", ONE, running.refused_by_parser(MEANT, *words))
-    for words in (["--sync"], ["--progress=always"], ["--progress", "never", "--verbose"]):
+    for words in (["--sync"], ["-q"], ["--quiet", "--progress=always", "-v"]):
         yield Case(f"the words {' '.join(words)}", ONE, ends([ONE_DONE], ONE_ROOT, words=words))
+    for words in (["--progress=always"], ["--progress", "never", "--verbose"]):
+        yield Case(f"the words {' '.join(words)}", ONE, ends([ONE_DONE], ONE_ROOT, words=words, err=summary(ONE_DONE)))
 
 
 END_OF_ONE = {"as": "end", "done": 1, "present": 0, "skip": 0}

@@ -12,8 +12,8 @@ import time
 import stores
 from alone import Alone, differs, run
 from options import OVERLAP
-from running import MEANT, as_nobody, mount_below, started
-from stores import DIR, FIFO, ONE, build, read_tree
+from running import MEANT, as_nobody, mount_below, started, summary, timeless
+from stores import DIR, FIFO, ONE, ONE_DONE, build, read_tree
 from tally import needs
 
 TOP = os.path.dirname(os.path.dirname(os.path.dirname(os.path.abspath(__file__))))
@@ -133,7 +133,7 @@ def no_lock(program, folder):
     nobody = as_nobody()
     faults = []
     line = b"pairtree2ocfl: d: it is not locked: Permission denied (os error 13)\n"
-    for words, err in {(): b"", ("-v",): line}.items():
+    for words, err in {(): b"", ("-v",): line + summary(ONE_DONE)}.items():
         subprocess.run(["rm", "-rf", f"{folder}/d"], check=True)
         os.mkdir(f"{folder}/d")
         shutil.copy(program, f"{folder}/program")
@@ -141,7 +141,7 @@ def no_lock(program, folder):
         os.chmod(f"{folder}/d", 0o333)
         command = [*nobody, f"{folder}/program", "migrate", *MEANT, *words, "s", "d"]
         done = subprocess.run(command, cwd=folder, capture_output=True, timeout=120)
-        faults += differs(**{" ".join(words): ((done.returncode, done.stderr), (0, err))})
+        faults += differs(**{" ".join(words): ((done.returncode, timeless(done.stderr)), (0, err))})
     return faults
 
 
@@ -195,9 +195,9 @@ def prefixes(program, folder):
     }.items():
         with open(f"{folder}/s/pairtree_prefix", "wb") as file:
             file.write(prefix)
-        for words, said in {("-n", "-v"): line if told else b"", ("-n",): b""}.items():
+        for words, said in {("-n", "-v"): (line if told else b"") + summary(ONE_DONE), ("-n",): b""}.items():
             done = run(program, folder, *words)
-            faults += differs(**{repr((prefix, words)): ((done.returncode, done.stderr), (0, said))})
+            faults += differs(**{repr((prefix, words)): ((done.returncode, timeless(done.stderr)), (0, said))})
     return faults
 
 
@@ -254,8 +254,8 @@ def system_limit(program, folder):
                 done = subprocess.run([program, *words, "-v", source, "d"], cwd=folder, capture_output=True, timeout=120)
                 name = f"{words[0]}{words[-1][:2]}, {kind} of {length} in {source}"
                 if read:
-                    wanted = (1 if kind != "folder" or words == ["audit"] else 0, True, b"")
-                    faults += differs(**{name: ((done.returncode, words == ["audit"] or lines[kind] in done.stdout, done.stderr), wanted)})
+                    wanted = (1 if kind != "folder" or words == ["audit"] else 0, True, 1)
+                    faults += differs(**{name: ((done.returncode, words == ["audit"] or lines[kind] in done.stdout, done.stderr.count(b"\n")), wanted)})
                     continue
                 told = done.stderr.splitlines()
                 ends = [told[0], told[-1].endswith(b"ff: File name too long (os error 36)")] if told else []

@@ -1,4 +1,4 @@
-"""Cases of what is shown while a run or an audit goes on.
+"""Cases of what is shown while a run or an audit goes on, and of the summary at its end.
 """
 
 import contextlib
@@ -8,8 +8,10 @@ import re
 import subprocess
 import time
 
+import stores
 from alone import Alone, differs, many, run
-from running import MEANT
+from running import MEANT, summary, timeless
+from stores import DIR, ONE_DONE, Link, build
 
 TIME = rb"(?:\d+ h \d\d? min|\d\d?:\d\d)"
 SIZE = rb"(?:\d\d?\d? bytes?|\d\d?\d?(?:,\d\d\d)*\.\d [kMGT]B)"
@@ -82,11 +84,16 @@ def on_terminal(program, folder, *words, output=True, **env):
     return child.returncode, said
 
 
+# The summary of a run over many objects, with the length of all.
+MANY = b"pairtree2ocfl: 1,297 done, 0 present, 0 skipped, 1,297 files, %s\n"
+
+
 def shown(program, folder):
-    """On a terminal a line is written over, and taken away at the end; none where the log goes there too, or by `never`."""
+    """On a terminal a line is written over, and taken away before the summary; none where the log goes there too, by `never`, or by `--quiet`."""
     status, said = on_terminal(program, folder)
-    faults = differs(status=(status, 0), lines=(b"\n" in said, False), end=(said.endswith(b"\r\x1b[K"), True))
-    for words, output in ((("--progress", "never"), True), ((), False)):
+    last = said.rpartition(b"\r\x1b[K")[2].replace(b"\r\n", b"\n")
+    faults = differs(status=(status, 0), lines=(said.count(b"\n"), 1), last=(timeless(last), MANY % b"25.9 MB"))
+    for words, output in ((("--progress", "never"), True), (("-q",), True), ((), False)):
         status, said = on_terminal(program, folder, *words, output=output)
         faults += differs(status=(status, 0), shown=(b"\x1b" in said, False))
     return faults
@@ -97,7 +104,7 @@ def wide(program, folder):
     faults = []
     for columns, env in ((40, {}), (200, {}), (200, {"COLUMNS": "40"}), (200, {"TERM": "dumb"}), (200, {"TERM": ""}), (40, {"COLUMNS": "x"})):
         status, said = on_terminal(program, folder, **env)
-        texts = list(Screen(columns).texts(said))
+        texts = list(Screen(columns).texts(said.rpartition(b"\r\x1b[K")[0]))
         faults += differs(**{f"{columns} {env} status": (status, 0), "rows": ({len(rows) for rows in texts}, {1})})
         room = {"40": 39, "dumb": 79, "": 79}.get(env.get("COLUMNS") or env.get("TERM", "xterm"), columns)
         full = [rows[0] for rows in texts if rows[0]]
@@ -115,19 +122,75 @@ def seldom(program, folder):
         time.sleep(11)
         out, err = child.communicate(timeout=60)
     quiet = run(program, folder, "--progress", "auto")
-    right = err and all(line_of("migrate", b"pairtree2ocfl: ").fullmatch(line) for line in err.splitlines())
-    faults = differs(status=(child.returncode, 0), lines=(out.count(b"\n"), 6**4 + 2), quiet=(quiet.stderr, b""))
+    *told, last = err.splitlines(keepends=True)
+    right = told and all(line_of("migrate", b"pairtree2ocfl: ").fullmatch(line.rstrip()) for line in told)
+    faults = differs(status=(child.returncode, 0), lines=(out.count(b"\n"), 6**4 + 2), quiet=(quiet.stderr, b""), last=(timeless(last), MANY % b"3 bytes"))
     return faults if right else [*faults, f"standard error is {err!r}"]
 
 
 def short(program, folder):
-    """A run, a rehearsal or an audit that is shorter than the interval shows its last state."""
+    """Of what is shorter than the interval the summary alone is shown, and after a fault its last state."""
     faults = []
     for command in (["migrate", *MEANT, "--dry-run"], ["migrate", *MEANT], ["audit"]):
-        done = subprocess.run([program, *command, "--progress", "always", "s", "d"], cwd=folder, capture_output=True, timeout=60)
-        told = line_of(command[0], b"pairtree2ocfl: ").fullmatch(done.stderr.rstrip(b"\n"))
-        count = {"migrate": b": 1 done, 0 present, 0 skipped", "audit": b": 1 same, 0 not the same, 0 skipped"}[command[0]]
-        faults += differs(status=(done.returncode, 0)) + ([] if told and count in done.stderr else [f"{command} says {done.stderr!r}"])
+        done = started(program, folder, *command, "--progress", "always")
+        faults += differs(**{" ".join(command): ((done.returncode, timeless(done.stderr)), (0, summary(ONE_DONE) if command != ["audit"] else SAME))})
+    os.mkdir(f"{folder}/d/staging")
+    done = started(program, folder, "migrate", *MEANT, "--progress", "always")
+    state, *rest = done.stderr.splitlines()
+    faults += differs(rest=((done.returncode, rest), (3, [b"pairtree2ocfl: fault 7: a staging directory is left in the destination"])))
+    return faults + ([] if line_of("migrate", b"pairtree2ocfl: ").fullmatch(state) else [f"the state is {state!r}"])
+
+
+def started(program, folder, *words):
+    """The program on the two folders of a test."""
+    return subprocess.run([program, *words, "s", "d"], cwd=folder, capture_output=True, stdin=subprocess.DEVNULL, timeout=120)
+
+
+SAME = b"pairtree2ocfl: 1 same, 0 absent, 0 different, 0 skipped, 1 file, 3 bytes\n"
+# What lies below pairtree_root beside the first object: one of its identifier, one whose path looks like a line's own keys, and skips.
+MIXED = {
+    "ab/^6/3/obj/a": b"t" * 1500,
+    'ab/d/o,"bytes":9,"files":9,/x': b"12345",
+    "ab/e": DIR,
+    "ab/f/one/x": b"",
+    "ab/f/two/x": b"",
+    "ab/g/one/x": b"",
+    "ab/g/y": b"",
+    "ab/h/obj/link": Link("none"),
+    "README": b"",
+}
+SKIPPED = b"5 skipped (root 1, empty 1, split 2, other 1)"
+
+
+def summed(program, folder):
+    """The summary counts each kind of line, the skips by cause, and the files and bytes of what was carried."""
+    build(f"{folder}/s", {f"pairtree_root/{path}": content for path, content in MIXED.items()})
+    faults = []
+    first = b"pairtree2ocfl: 2 done, 1 present, %s, 2 files, 1.5 kB\n" % SKIPPED
+    again = b"pairtree2ocfl: 0 done, 3 present, %s, 0 files, 0 bytes\n" % SKIPPED
+    for words, said in (("-vn", first), ("-v", first), ("-v", again), ("-vq", b"")):
+        done = started(program, folder, "migrate", *MEANT, words)
+        faults += differs(**{words: ((done.returncode, timeless(done.stderr)), (1, said))})
+    return faults
+
+
+def summed_of_audit(program, folder):
+    """Of an audit what differs is counted by its reason, and the files and bytes of what is the same."""
+    build(f"{folder}/s", {f"pairtree_root/{path}": content for path, content in MIXED.items()})
+    run(program, folder)
+    place, faults = f"{folder}/d/ocfl/{stores.place('abd')}", []
+    for change, counts in {
+        "true": b"2 same, 0 absent, 1 different (missing 1), %s, 2 files, 1.5 kB",
+        "touch more": b"1 same, 0 absent, 2 different (missing 1, extra 1), %s, 1 file, 1.5 kB",
+        "rm inventory.json": b"1 same, 0 absent, 2 different (missing 2), %s, 1 file, 1.5 kB",
+        "printf other > v1/content/x": b"1 same, 0 absent, 2 different (missing 1, bytes 1), %s, 1 file, 1.5 kB",
+        "rm -r v1 && touch v1": b"1 same, 0 absent, 2 different (missing 1, kind 1), %s, 1 file, 1.5 kB",
+        "cd .. && rm -r abd": b"1 same, 1 absent, 1 different (missing 1), %s, 1 file, 1.5 kB",
+    }.items():
+        subprocess.run(["sh", "-c", change], cwd=place, check=True)
+        done = started(program, folder, "audit", "-v")
+        said = b"pairtree2ocfl: %s\n" % (counts % SKIPPED)
+        faults += differs(**{change: ((done.returncode, timeless(done.stderr)), (1, said))})
     return faults
 
 
@@ -160,7 +223,7 @@ def ahead(program, folder, command, log):
     words = [program, *command, "--progress", "always", "--interval", "0", "--expect", log, "s", "d"]
     done = subprocess.run(words, cwd=folder, capture_output=True, stdin=subprocess.DEVNULL, timeout=120)
     line = line_of(command[0], b"pairtree2ocfl: " + AHEAD)
-    told = [line.fullmatch(line_told) for line_told in done.stderr.splitlines()]
+    told = [line.fullmatch(text) for text in done.stderr.splitlines()[:-1]]
     shares = [int(line[1]) for line in told if line]
     faults = differs(status=(done.returncode, 0), lines=(len(told) - len(shares), 0), rises=(shares, sorted(shares)))
     return faults + differs(first=(shares[:1], [0]), last=(shares[-1:] >= [99], True), left=(all(line[2] for line in told if line and line[1] != b"0"), True))
@@ -182,6 +245,8 @@ CASES = [
     Alone("progress by the terminal's width", wide),
     Alone("progress elsewhere", seldom),
     Alone("progress of a short run", short),
+    Alone("the summary of a run", summed),
+    Alone("the summary of an audit", summed_of_audit),
     Alone("progress by a rehearsal's log", expected),
     Alone("progress of an audit by a log", expected_of_audit),
     Alone("progress of what takes long", far_off),

@@ -6,6 +6,7 @@ output, standard error, every entry of the destination, and that the source stan
 
 import contextlib
 import os
+import re
 import subprocess
 import sys
 import tempfile
@@ -25,6 +26,9 @@ TEXTS = {
     9: "a source file changed during the run",
 }
 MEANT = ("--created", "2024-05-01T12:00:00Z", "--name", "Ada")
+CAUSES = ("root", "empty", "split", "past", "name", "utf8", "other", "limit", "reserved")
+# The time at the end of a summary: a test asks for none.
+TOOK = re.compile(rb"(pairtree2ocfl: .*), \d\d?:\d\d\n")
 
 
 class Run:
@@ -105,7 +109,7 @@ class Case:
         status, out, err = started(run.command(program, folder), folder, run.output)
         if status != run.status:
             yield f"the status is {status}, not {run.status}"
-        for stream, found, right in (("standard output", out, run.out), ("standard error", err, run.err)):
+        for stream, found, right in (("standard output", out, run.out), ("standard error", timeless(err), run.err)):
             if not (right(found) if callable(right) else found == right):
                 yield f"{stream} is {stores.shown(found)}" + ("" if callable(right) else f", not {stores.shown(right)}")
         yield from stores.differences(self.steady(stores.read_tree(folder)), wanted)
@@ -164,6 +168,30 @@ def ends(entries, dest, **options):
     """A run that comes to its end, with these lines before the last one."""
     status = 0 if all(entry["as"] == "done" for entry in entries) else 1
     return Run(stores.whole_log(*entries), dest, status, **options)
+
+
+def timeless(err):
+    """Standard error with no time in a summary."""
+    return TOOK.sub(rb"\1\n", err)
+
+
+def summary(*entries):
+    """The summary of a run whose log has these lines before the last one, without its time."""
+    kinds = [entry["as"] for entry in entries]
+    causes = [entry["cause"] for entry in entries if entry["as"] == "skip"]
+    parts = ", ".join(f"{cause} {causes.count(cause)}" for cause in CAUSES if cause in causes)
+    files, length = (sum(entry.get(key, 0) for entry in entries) for key in ("files", "bytes"))
+    text = f"{kinds.count('done')} done, {kinds.count('present')} present, {len(causes)} skipped{f' ({parts})' if parts else ''}"
+    return f"pairtree2ocfl: {text}, {files} file{'s' * (files != 1)}, {sized(length)}\n".encode()
+
+
+def sized(length):
+    """So many bytes, in the largest unit that they fill, with one decimal that isn't rounded up."""
+    if length < 1000:
+        return f"{length} byte{'s' * (length != 1)}"
+    power = min(len(str(length)) - 1, 12) // 3
+    tenths = length * 10 // 1000**power
+    return f"{tenths // 10}.{tenths % 10} {'kMGT'[power - 1]}B"
 
 
 def fault(number, dest, *entries, **options):

@@ -34,6 +34,7 @@ module _ (rows : List Row) where
       ignored = unwrap_or (all_of (codes "ignore") rows) [];
       skips_ok = is_set_in (codes "skips-ok") rows;
       verbose = is_set_in (codes "verbose") rows;
+      quiet = is_set_in (codes "quiet") rows;
       progress = p;
       interval = i;
       expected = first_of (codes "expect") rows;
@@ -68,6 +69,7 @@ module _ (rows : List Row) where
       rehearse = is_set_in (codes "dry-run") rows;
       present_ok = is_set_in (codes "present-ok") rows;
       verbose = is_set_in (codes "verbose") rows;
+      quiet = is_set_in (codes "quiet") rows;
       progress = p;
       interval = i;
       expected = first_of (codes "expect") rows;
@@ -85,6 +87,7 @@ module _ (rows : List Row) where
     ignored = unwrap_or (all_of (codes "ignore") rows) [];
     skips_ok = is_set_in (codes "skips-ok") rows;
     verbose = is_set_in (codes "verbose") rows;
+    quiet = is_set_in (codes "quiet") rows;
     progress = progress;
     interval = interval;
     expected = first_of (codes "expect") rows;
@@ -109,6 +112,7 @@ module _ (rows : List Row) where
     rehearse = rehearse;
     present_ok = present_ok;
     verbose = shared.verbose;
+    quiet = shared.quiet;
     progress = shared.progress;
     interval = shared.interval;
     expected = shared.expected;
@@ -131,6 +135,7 @@ module _ (rows : List Row) where
     pub skips_ok : shared.skips_ok ≡ is_set_in (codes "skips-ok") rows
     pub expected : shared.expected ≡ first_of (codes "expect") rows
     pub verbose : shared.verbose ≡ is_set_in (codes "verbose") rows
+    pub quiet : shared.quiet ≡ is_set_in (codes "quiet") rows
 
   audit_parts : (shared : AuditOptions) (algorithm : Option Algorithm) (size count : Option ℕ) (progress : Option Progress) (interval : Option ℕ) (source dest : Option Text)
       → Some shared ≡ audit_of algorithm size count progress interval source dest → IsShared shared algorithm size count progress interval source dest
@@ -158,6 +163,7 @@ module _ (rows : List Row) where
         skips_ok = refl;
         expected = refl;
         verbose = refl;
+        quiet = refl;
       })
 
   pub all_there : (created name : Text) (address : Option Text) (message : Text) (sync rehearse present_ok : Bool) (shared : AuditOptions)
@@ -176,6 +182,7 @@ module _ (rows : List Row) where
         share = parts.share i;
         ignored = parts.ignored i;
         verbose = parts.verbose i;
+        quiet = parts.quiet i;
         expected = parts.expected i;
       }) in
       let found : here ≡ options_in rows =

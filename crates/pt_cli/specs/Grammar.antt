@@ -123,6 +123,10 @@ skips_rule = flag_rule (codes "skips-ok")
 abbrev pub verbose_rule : Rule
 verbose_rule = record (flag_rule (codes "verbose")) { short = Some 118 }
 
+-- `--quiet`, `-q`
+abbrev pub quiet_rule : Rule
+quiet_rule = record (flag_rule (codes "quiet")) { short = Some 113 }
+
 -- the source, which must be there
 abbrev pub source_rule : Rule
 source_rule = record (new_rule (codes "SOURCE")) { required = true }
@@ -142,6 +146,7 @@ migrate_rules words =
     created_rule ∷ name_rule ∷ address_rule ∷ message_rule ∷ digest_rule words.algorithms
     ∷ size_rule ∷ count_rule ∷ gather_rule
     ∷ share_rule ∷ ignore_rule ∷ sync_rule ∷ rehearse_rule ∷ present_rule ∷ verbose_rule
+    ∷ quiet_rule
     ∷ progress_rule words.times ∷ interval_rule ∷ expect_rule
     ∷ source_rule ∷ dest_rule ∷ []
 
@@ -156,7 +161,7 @@ IsMigrateApp app = (words : Spelled) × (app ≡ migrate_app words)
 abbrev pub audit_rules : Spelled → List Rule
 audit_rules words =
     digest_rule words.algorithms ∷ size_rule ∷ count_rule ∷ gather_rule ∷ share_rule ∷ ignore_rule
-    ∷ skips_rule ∷ verbose_rule ∷ progress_rule words.times
+    ∷ skips_rule ∷ verbose_rule ∷ quiet_rule ∷ progress_rule words.times
     ∷ interval_rule ∷ expect_rule ∷ source_rule ∷ dest_rule ∷ []
 
 -- `audit [OPTIONS] SOURCE DEST`

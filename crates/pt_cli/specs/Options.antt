@@ -27,6 +27,7 @@ pub record Options : Type 0 where
   pub rehearse : Bool
   pub present_ok : Bool
   pub verbose : Bool
+  pub quiet : Bool
   pub progress : Progress
   pub interval : ℕ
   pub expected : Option Text
@@ -111,6 +112,7 @@ options_in rows = do
     rehearse = is_set_in (codes "dry-run") rows;
     present_ok = is_set_in (codes "present-ok") rows;
     verbose = is_set_in (codes "verbose") rows;
+    quiet = is_set_in (codes "quiet") rows;
     progress = progress;
     interval = interval;
     expected = first_of (codes "expect") rows;
@@ -143,6 +145,7 @@ pub record AuditOptions : Type 0 where
   pub ignored : List Text
   pub skips_ok : Bool
   pub verbose : Bool
+  pub quiet : Bool
   pub progress : Progress
   pub interval : ℕ
   pub expected : Option Text
@@ -168,6 +171,7 @@ audit_in rows = do
     ignored = unwrap_or (all_of (codes "ignore") rows) [];
     skips_ok = is_set_in (codes "skips-ok") rows;
     verbose = is_set_in (codes "verbose") rows;
+    quiet = is_set_in (codes "quiet") rows;
     progress = progress;
     interval = interval;
     expected = first_of (codes "expect") rows;

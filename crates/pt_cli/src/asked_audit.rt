@@ -20,6 +20,7 @@ pub(crate) struct AskedAudit {
     pub audit: PacedAudit,
     pub expected: Option<Text>,
     pub skips_ok: bool,
+    pub quiet: bool,
     pub source: Text,
     pub dest: Text,
 }
@@ -28,7 +29,7 @@ pub(crate) struct AskedAudit {
 pub(crate) fn audit_asked_for(alloc: Global, words: Audit) -> Result<AskedAudit, MemoryFault>
     ensures { IfOk result (λ asked.
         ((meta : MetaParts) × (asked.audit.wanted ≡ wanted_audit meta words))
-        × (asked.expected ≡ words.expected) × (asked.skips_ok ≡ words.skips_ok)
+        × (asked.expected ≡ words.expected) × (asked.skips_ok ≡ words.skips_ok) × (asked.quiet ≡ words.quiet)
         × (asked.source ≡ words.source) × (asked.dest ≡ words.dest)) }
 {
     let Ok(meta) = Meta::of(alloc, MOMENT, "audit", None, "") else {
@@ -55,6 +56,7 @@ pub(crate) fn audit_asked_for(alloc: Global, words: Audit) -> Result<AskedAudit,
         },
         expected: words.expected,
         skips_ok: words.skips_ok,
+        quiet: words.quiet,
         source: words.source,
         dest: words.dest,
     })

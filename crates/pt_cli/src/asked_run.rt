@@ -13,6 +13,7 @@ pub(crate) struct AskedRun {
     pub wanted: Wanted,
     pub expected: Option<Text>,
     pub present_ok: bool,
+    pub quiet: bool,
     pub source: Text,
     pub dest: Text,
 }
@@ -22,6 +23,7 @@ pub(crate) fn run_asked_for(words: Migrate) -> AskedRun
     ensures wanted { result.wanted ≡ wanted_of words }
     ensures expected { result.expected ≡ words.expected }
     ensures present_ok { result.present_ok ≡ words.present_ok }
+    ensures quiet { result.quiet ≡ words.quiet }
     ensures source { result.source ≡ words.source }
     ensures dest { result.dest ≡ words.dest }
 {
@@ -46,6 +48,7 @@ pub(crate) fn run_asked_for(words: Migrate) -> AskedRun
         wanted,
         expected: words.expected,
         present_ok: words.present_ok,
+        quiet: words.quiet,
         source: words.source,
         dest: words.dest,
     }

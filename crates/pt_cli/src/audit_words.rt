@@ -5,7 +5,9 @@ ghost use Rattle.pt_cli.specs.Given.{IsAuditOf, audit_given};
 ghost use Rattle.pt_cli.specs.Options.{audit_in};
 ghost use Rattle.pt_cli.specs.Words.{OrMemory, audit_answer};
 
-use crate::grammar::{DEST, EXPECT, GATHER, IGNORE, INTERVAL, SHARE, SKIPS_OK, SOURCE, VERBOSE};
+use crate::grammar::{
+    DEST, EXPECT, GATHER, IGNORE, INTERVAL, QUIET, SHARE, SKIPS_OK, SOURCE, VERBOSE,
+};
 use crate::words::{
     choices, is_set, names_asked, number, share, text, text_of, texts, tuples, two_texts,
 };
@@ -27,6 +29,7 @@ pub(crate) struct GivenAudit<'m, 'a> {
     ignored: Option<&'m [&'a str]>,
     skips_ok: bool,
     verbose: bool,
+    quiet: bool,
     progress: Progress,
     interval: u32,
     expected: Option<&'a str>,
@@ -50,6 +53,7 @@ pub(crate) fn audit_options<'m, 'a>(matches: &'m ArgMatches<'a>) -> Option<Given
         ignored: texts(matches, IGNORE),
         skips_ok: is_set(matches, SKIPS_OK),
         verbose: is_set(matches, VERBOSE),
+        quiet: is_set(matches, QUIET),
         progress,
         interval: number(matches, INTERVAL)?,
         expected: text(matches, EXPECT),
@@ -78,6 +82,7 @@ pub(crate) fn audit_of(alloc: Global, given: &GivenAudit<'_, '_>) -> Result<Audi
         ignored,
         skips_ok: given.skips_ok,
         verbose: given.verbose,
+        quiet: given.quiet,
         progress: given.progress,
         interval: given.interval,
         expected,

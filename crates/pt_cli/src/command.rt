@@ -49,6 +49,8 @@ pub struct Migrate {
     pub present_ok: bool,
     /// Whether the reason of a fault is told.
     pub verbose: bool,
+    /// Whether neither how far it is nor a summary is told.
+    pub quiet: bool,
     /// When to show how far the run is.
     pub progress: Progress,
     /// How many seconds pass between two such lines where they don't go to a terminal.
@@ -78,6 +80,8 @@ pub struct Audit {
     pub skips_ok: bool,
     /// Whether the reason of a fault is told.
     pub verbose: bool,
+    /// Whether neither how far it is nor a summary is told.
+    pub quiet: bool,
     /// When to show how far the audit is.
     pub progress: Progress,
     /// How many seconds pass between two such lines where they don't go to a terminal.

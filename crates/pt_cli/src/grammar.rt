@@ -48,6 +48,8 @@ pub(crate) const SKIPS_OK: &str = "skips-ok";
 
 pub(crate) const VERBOSE: &str = "verbose";
 
+pub(crate) const QUIET: &str = "quiet";
+
 pub(crate) const PROGRESS: &str = "progress";
 
 pub(crate) const INTERVAL: &str = "interval";
@@ -128,7 +130,13 @@ const TAKES_IGNORE: Taken = Taken {
 const TAKES_VERBOSE: Taken = Taken {
     id: VERBOSE,
     form: Form::Letter('v'),
-    help: "Tell of a fault also the path and the reason, on one more line",
+    help: "Tell of a fault also the path and the reason, on one more line, and else a summary at the end",
+};
+
+const TAKES_QUIET: Taken = Taken {
+    id: QUIET,
+    form: Form::Letter('q'),
+    help: "Show neither how far it is nor a summary at the end",
 };
 
 const TAKES_PROGRESS: Taken = Taken {
@@ -221,6 +229,7 @@ const MIGRATE_TAKES: &[Taken] = &[
         help: "Exit with 0 also where the log has present lines, as a second run's has",
     },
     TAKES_VERBOSE,
+    TAKES_QUIET,
     TAKES_PROGRESS,
     TAKES_INTERVAL,
     TAKES_EXPECT,
@@ -242,6 +251,7 @@ const AUDIT_TAKES: &[Taken] = &[
         help: "Exit with 0 also where the log has skip lines",
     },
     TAKES_VERBOSE,
+    TAKES_QUIET,
     TAKES_PROGRESS,
     TAKES_INTERVAL,
     TAKES_EXPECT,

@@ -164,12 +164,14 @@ where
         wanted,
         expected,
         present_ok,
+        quiet,
         source,
         dest,
     } = run_asked_for(words);
     let telling = Telling {
         expected: text_in(&expected),
         lenient: present_ok,
+        quiet,
     };
     run_guarded_as(rt, host, wanted, telling, source.as_str(), dest.as_str())
 }
@@ -212,12 +214,14 @@ where
         audit,
         expected,
         skips_ok,
+        quiet,
         source,
         dest,
     } = asked;
     let telling = Telling {
         expected: text_in(&expected),
         lenient: skips_ok,
+        quiet,
     };
     audit_guarded_as(rt, host, audit, telling, source.as_str(), dest.as_str())
 }

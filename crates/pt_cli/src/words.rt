@@ -271,6 +271,7 @@ fn migrate_command(alloc: Global, given: &Given<'_, '_>) -> Result<Command, Word
         rehearse: given.rehearse,
         present_ok: given.present_ok,
         verbose: audit.verbose,
+        quiet: audit.quiet,
         progress: audit.progress,
         interval: audit.interval,
         expected: audit.expected,

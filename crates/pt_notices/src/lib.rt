@@ -1,6 +1,7 @@
 //! What standard error is told of a run or an audit beside how it ended: how far it is, why a fault came, and what is doubtful.
 #![tactic(auto)]
 
+mod counted;
 mod expected;
 mod numbers;
 pub mod prefix;
@@ -11,6 +12,7 @@ mod tally;
 mod terminal;
 mod watch;
 
+pub use counted::{Counted, LineCounts};
 pub use expected::lines_expected;
 pub use reads::Reads;
 pub use tally::Tally;

@@ -1,6 +1,7 @@
 //! A source that is watched: as it is called, it shows on standard error how far the run is.
 ghost use Rattle.std.specs.Prelude.{◌≡◌};
 
+use crate::counted::LineCounts;
 use crate::numbers::{grouped, size, time};
 use crate::shown::escaped;
 use crate::tally::Tally;
@@ -34,6 +35,10 @@ pub struct Watching {
     pub expected: Option<u64>,
     /// Which lines its log has.
     pub words: Words,
+    /// Whether its summary is told at the end also where it isn't shown how far it is.
+    pub verbose: bool,
+    /// Whether neither is told.
+    pub quiet: bool,
 }
 
 /// Which lines a log has, as progress names them.
@@ -53,6 +58,7 @@ pub struct Watched<'a, S: Source, R> {
     tally: &'a Tally,
     alloc: Global,
     shows: bool,
+    sums: bool,
     on_terminal: bool,
     columns: Option<usize>,
     period: u64,
@@ -60,7 +66,6 @@ pub struct Watched<'a, S: Source, R> {
     words: Words,
     begun: u64,
     due: u64,
-    has_shown: bool,
     at: Vec<u8>,
 }
 
@@ -76,12 +81,14 @@ impl<'a, S: Source, R: Clock + Eprint + Terminals> Watched<'a, S, R> {
         ensures { result.source ≡ source }
     {
         let on_terminal = rt.errors_are_terminal();
-        let shows = match watching.when {
-            Progress::Auto => on_terminal && !rt.output_is_terminal(),
-            Progress::Always => true,
-            Progress::Never => false,
-        };
-        let begun = if shows { millis(rt) } else { 0 };
+        let shows = !watching.quiet
+            && match watching.when {
+                Progress::Auto => on_terminal && !rt.output_is_terminal(),
+                Progress::Always => true,
+                Progress::Never => false,
+            };
+        let sums = shows || watching.verbose && !watching.quiet;
+        let begun = if sums { millis(rt) } else { 0 };
         let period = if on_terminal {
             ON_TERMINAL
         } else {
@@ -93,6 +100,7 @@ impl<'a, S: Source, R: Clock + Eprint + Terminals> Watched<'a, S, R> {
             tally,
             alloc,
             shows,
+            sums,
             on_terminal,
             columns: rt.columns(),
             period,
@@ -100,7 +108,6 @@ impl<'a, S: Source, R: Clock + Eprint + Terminals> Watched<'a, S, R> {
             words: watching.words,
             begun,
             due: begun.saturating_add(period),
-            has_shown: false,
             at: Vec::new(alloc),
         }
     }
@@ -119,23 +126,36 @@ impl<'a, S: Source, R: Clock + Eprint + Terminals> Watched<'a, S, R> {
         self.source
     }
 
-    /// Ends what is shown: the line on a terminal is taken away, and elsewhere a run that was too short for a line gets its last one.
-    pub fn end(&self) {
-        if !self.shows {
+    /// Whether a summary is wanted at the end.
+    pub fn sums(&self) -> bool {
+        self.sums
+    }
+
+    /// Ends what is shown: the line on a terminal is taken away. Then comes, where one is wanted, the summary of the log's lines, where these are
+    /// given; else, where it was shown how far the run is, how far it was.
+    pub fn end(&self, counts: Option<&LineCounts>) {
+        if !self.sums {
             return;
         }
-        if self.on_terminal {
+        if self.shows && self.on_terminal {
             let _ = eprint!(self.rt; "\r\x1b[K");
-        } else if !self.has_shown
-            && let Ok(line) = self.line(self.passed())
-        {
-            let _ = eprintln!(self.rt; "pairtree2ocfl: {line}");
+        }
+        let passed = millis(self.rt).saturating_sub(self.begun);
+        let last = match counts {
+            Some(counts) => self.summary(counts, passed),
+            None if self.shows => self.line(passed),
+            None => return,
+        };
+        if let Ok(last) = last {
+            let _ = eprintln!(self.rt; "pairtree2ocfl: {last}");
         }
     }
 
-    // How many milliseconds have passed since it began.
-    fn passed(&self) -> u64 {
-        millis(self.rt).saturating_sub(self.begun)
+    // What these lines of the log come to, and how long it took.
+    fn summary(&self, counts: &LineCounts, passed: u64) -> Result<String, AllocError> {
+        let lines = counts.summary(self.alloc, self.words)?;
+        let passed = time(self.alloc, passed)?;
+        format!(in self.alloc; "{lines}, {passed}")
     }
 
     // Something at a path is under way.
@@ -167,7 +187,6 @@ impl<'a, S: Source, R: Clock + Eprint + Terminals> Watched<'a, S, R> {
             return;
         };
         if !self.on_terminal {
-            self.has_shown = true;
             let _ = eprintln!(self.rt; "pairtree2ocfl: {line}");
         } else if let Ok(line) = self.over(line.as_str()) {
             let _ = eprint!(self.rt; "{line}");

@@ -17,7 +17,7 @@ use pt_guard::Claim;
 use pt_ignore::Ignored;
 use pt_move::{Fault, Job};
 use pt_notices::{
-    Progress, Reads, Tally, Terminals, Watched, Watching, Words, lines_expected, reason,
+    Counted, Progress, Reads, Tally, Terminals, Watched, Words, lines_expected, reason,
 };
 use std::alloc::AllocGlobal;
 use std::io::Write;
@@ -73,6 +73,7 @@ where
     let telling = Telling {
         expected: None,
         lenient: false,
+        quiet: false,
     };
     let audit = PacedAudit {
         wanted,
@@ -129,6 +130,7 @@ where
         expected: lines_expected(rt, telling.expected),
         interval: audit.interval,
         lenient: telling.lenient,
+        quiet: telling.quiet,
     };
     let ground = host.lend();
     let file: Option<H::File> = None;
@@ -154,22 +156,18 @@ where
 {
     let alloc = rt.alloc();
     let tally = Tally::new();
-    let watching = Watching {
-        when: wanted.progress,
-        interval: shown.interval,
-        expected: shown.expected,
-        words: Words::Audit,
-    };
     let verbose = wanted.verbose;
+    let watching = shown.watching(wanted.progress, Words::Audit, verbose);
     let ignores = !wanted.ignored.names().is_empty();
     let Sides {
         source,
         mut root,
-        mut log,
+        log,
     } = both_sides(alloc, ground, file, wanted.ignored, store, folder);
     let mut source = Watched::new(source, rt, alloc, &tally, watching);
+    let mut log = Counted::new(log, source.sums());
     let ran = pt_audit::audit(alloc, &mut source, &mut root, &mut log, wanted.job, &tally);
-    source.end();
+    source.end(log.counts_if(ran.is_ok()));
     let ignoring = source.into_source();
     reason::left_out(rt, verbose & ignores, ignoring.left_out());
     let source = ignoring.into_source();
@@ -178,7 +176,7 @@ where
     let ground = Ground {
         store: source.into_system(),
         folder: root.into_system(),
-        output: log.into_writer(),
+        output: log.into_log().into_writer(),
     };
     Ended { status, ground }
 }

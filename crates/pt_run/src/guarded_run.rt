@@ -67,6 +67,7 @@ where
     let telling = Telling {
         expected,
         lenient: false,
+        quiet: false,
     };
     run_guarded_as(rt, host, wanted, telling, source, dest)
 }
@@ -132,6 +133,7 @@ where
         expected,
         interval: wanted.interval,
         lenient: telling.lenient,
+        quiet: telling.quiet,
     };
     let Ended { status, ground } = run(rt, devices, wanted, store, shown);
     host.take_back(ground);

@@ -20,7 +20,7 @@ use crate::turns::make_turns;
 use pt_folder::{HostDest, HostSource, System};
 use pt_ignore::Ignoring;
 use pt_move::{Fault, Job, Report};
-use pt_notices::{Reads, Tally, Terminals, Watched, Watching, Words, reason};
+use pt_notices::{Counted, Progress, Reads, Tally, Terminals, Watched, Watching, Words, reason};
 use pt_rehearsal::Rehearsal;
 use pt_tree::{Log, Source};
 use std::alloc::{AllocGlobal, Global};
@@ -43,6 +43,22 @@ pub(crate) struct Shown {
     pub interval: u32,
     /// Whether a run's present lines, or an audit's skip lines, leave its status at 0.
     pub lenient: bool,
+    /// Whether neither how far it is nor its summary is told.
+    pub quiet: bool,
+}
+
+impl Shown {
+    /// How that is watched, whose log has these lines, and whose summary is told in any case where it is verbose.
+    pub(crate) fn watching(self, when: Progress, words: Words, verbose: bool) -> Watching {
+        Watching {
+            when,
+            interval: self.interval,
+            expected: self.expected,
+            words,
+            verbose,
+            quiet: self.quiet,
+        }
+    }
 }
 
 /// Makes the run that is wanted over its devices, or rehearses it, watched as that is wanted, and tells standard error of a fault. `store` is
@@ -79,21 +95,13 @@ where
 {
     let alloc = rt.alloc();
     let tally = Tally::new();
-    let Devices {
-        source,
-        dest,
-        mut log,
-    } = devices;
-    let watching = Watching {
-        when: wanted.progress,
-        interval: shown.interval,
-        expected: shown.expected,
-        words: Words::Run,
-    };
+    let Devices { source, dest, log } = devices;
     let verbose = wanted.verbose;
+    let watching = shown.watching(wanted.progress, Words::Run, verbose);
     let ignores = !wanted.ignored.names().is_empty();
     let ignoring = Ignoring::new(source, wanted.ignored);
     let mut source = Watched::new(ignoring, rt, alloc, &tally, watching);
+    let mut log = Counted::new(log, source.sums());
     let Ran { ran, dest } = made(
         alloc,
         &mut source,
@@ -103,7 +111,7 @@ where
         wanted.job,
         &tally,
     );
-    source.end();
+    source.end(log.counts_if(ran.is_ok()));
     let ignoring = source.into_source();
     reason::left_out(rt, verbose & ignores, ignoring.left_out());
     let source = ignoring.into_source();
@@ -112,7 +120,7 @@ where
     let ground = Ground {
         store: source.into_system(),
         folder: dest.into_system(),
-        output: log.into_writer(),
+        output: log.into_log().into_writer(),
     };
     Ended { status, ground }
 }

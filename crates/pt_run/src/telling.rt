@@ -7,4 +7,6 @@ pub struct Telling<'a> {
     pub expected: Option<&'a str>,
     /// Whether a run's present lines, or an audit's skip lines, leave the status at 0.
     pub lenient: bool,
+    /// Whether neither how far it is nor a summary at the end is told.
+    pub quiet: bool,
 }

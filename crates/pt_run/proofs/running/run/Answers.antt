@@ -1,4 +1,4 @@
-use Rattle.std.proofs.Common.{◌∙◌, sym}
+use Rattle.std.proofs.Common.{◌∙◌, ap, sym}
 use Rattle.pt_folder.specs.Reading.{unread_open}
 use Rattle.pt_run.proofs.Logged.{log_counts, logged}
 use Rattle.pt_run.proofs.running.run.Goals as goal
@@ -11,18 +11,20 @@ returns-clause-runs g c =
       unread_open g.S.File.Input.bytes source.reading,
       dest.stuck,
       dest.writing,
-      record { source = source.failures; dest = dest.failures; log = c.made-ran.new.log.failures },
+      record { source = source.failures; dest = dest.failures; log = c.made-ran.new.log.log.failures },
       (
         c.made-ran.result.ran,
         rw (
           c.into_system.ensures,
           c.into_system-2.ensures,
           c.into_writer.ensures,
+          c.into_log.ensures,
           c.into_source-source.ensures,
           c.into_source-ignoring.ensures,
           ← c.new-ignoring.ensures.source,
           ← c.new-ignoring.ensures.names,
           ← c.new-source.ensures,
+          ← c.new-log.ensures,
         ) (rw (made.source.1, made.source.0) at made.promises),
         c.status_of-status.ensures,
       ),
@@ -38,4 +40,6 @@ returns-clause-logged g c =
     let made = c.made-ran.ensures in
     let ran = c.made-ran.result.ran in
     let counts = log_counts c.args.wanted.job c.args.wanted.rehearse _ _ _ ran made.promises in
-    λ none. rw (c.into_writer.ensures, c.status_of-status.ensures) (logged g.F.SyncsOutput.puts c.args.shown.lenient c.args.devices.log c.made-ran.new.log ran made.log counts none)
+    λ none. rw (c.into_writer.ensures, c.into_log.ensures, c.status_of-status.ensures, ← c.new-log.ensures)
+    (logged g.F.SyncsOutput.puts c.args.shown.lenient c.new-log.result.log c.made-ran.new.log.log ran made.log counts
+    (ap (λ l. l.failures) c.new-log.ensures ∙ none))
