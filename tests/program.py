@@ -60,6 +60,13 @@ def is_help(text):
     return b"Usage: pairtree2ocfl" in text and b"names" in text
 
 
+def is_help_on_audit(text):
+    """The help of `audit`, whose options say what it does, and nothing of what a run does."""
+    options = text.partition(b"Options:")[2].partition(b"\n\n")[0]
+    said = (b"Audit the objects of share K of N", b"Audit what lies directly", b"how far the audit is", b"a run, a rehearsal or an audit")
+    return b"Usage: pairtree2ocfl audit" in text and all(one in options for one in said) and not re.search(rb"[Cc]arr|the run\b|staging", options)
+
+
 def is_version(text):
     """The name, the version, and on a line of its own the toolchain's."""
     return re.fullmatch(rb"pairtree2ocfl \d+\.\d+\.\d+\nrattle-kit-\S+ logic [0-9a-f]{16}\n", text) is not None
@@ -136,6 +143,7 @@ CASES = [
     *layouts(),
     Case("help on standard output", ["--help"], 0, is_help),
     Case("help on one command", ["names", "--help"], 0, is_help),
+    Case("help on audit", ["audit", "--help"], 0, is_help_on_audit),
     Case("the empty identifier", ["names", ""], 2, b"", b"pairtree2ocfl: the identifier is empty\n"),
     Case("no words at all", [], 2, b"", is_refusal),
     Case("names without an identifier", ["names"], 2, b"", is_refusal),

@@ -109,18 +109,6 @@ const TAKES_DIGEST: Taken = Taken {
     help: "The digest algorithm of the inventories",
 };
 
-const TAKES_GATHER: Taken = Taken {
-    id: GATHER,
-    form: Form::Flag,
-    help: "Carry what lies directly in an identifier's folder too, as one object [default: skip it]",
-};
-
-const TAKES_SHARE: Taken = Taken {
-    id: SHARE,
-    form: Form::Value("K/N"),
-    help: "Carry the objects of share K of N shares alone, as 2/8 [default: all objects]",
-};
-
 const TAKES_IGNORE: Taken = Taken {
     id: IGNORE,
     form: Form::Repeated("NAME"),
@@ -139,34 +127,16 @@ const TAKES_QUIET: Taken = Taken {
     help: "Show neither how far it is nor a summary at the end",
 };
 
-const TAKES_PROGRESS: Taken = Taken {
-    id: PROGRESS,
-    form: Form::Word("WHEN", &["auto", "always", "never"], "auto"),
-    help: "When to show on standard error how far the run is",
-};
-
 const TAKES_INTERVAL: Taken = Taken {
     id: INTERVAL,
     form: Form::Number("SECONDS", "10"),
     help: "Seconds between two such lines, where they don't go to a terminal",
 };
 
-const TAKES_EXPECT: Taken = Taken {
-    id: EXPECT,
-    form: Form::Value("LOG"),
-    help: "Show the share done and the time left too, by the log of a rehearsal",
-};
-
 const TAKES_SOURCE: Taken = Taken {
     id: SOURCE,
     form: Form::Place,
     help: "The folder that holds pairtree_root",
-};
-
-const TAKES_DEST: Taken = Taken {
-    id: DEST,
-    form: Form::Place,
-    help: "A folder that stands already; ocfl and staging in it are the program's",
 };
 
 // What `names` takes.
@@ -210,8 +180,16 @@ const MIGRATE_TAKES: &[Taken] = &[
     TAKES_DIGEST,
     TAKES_TUPLE_SIZE,
     TAKES_TUPLES,
-    TAKES_GATHER,
-    TAKES_SHARE,
+    Taken {
+        id: GATHER,
+        form: Form::Flag,
+        help: "Carry what lies directly in an identifier's folder too, as one object [default: skip it]",
+    },
+    Taken {
+        id: SHARE,
+        form: Form::Value("K/N"),
+        help: "Carry the objects of share K of N shares alone, as 2/8 [default: all objects]",
+    },
     TAKES_IGNORE,
     Taken {
         id: SYNC,
@@ -230,11 +208,23 @@ const MIGRATE_TAKES: &[Taken] = &[
     },
     TAKES_VERBOSE,
     TAKES_QUIET,
-    TAKES_PROGRESS,
+    Taken {
+        id: PROGRESS,
+        form: Form::Word("WHEN", &["auto", "always", "never"], "auto"),
+        help: "When to show on standard error how far the run is",
+    },
     TAKES_INTERVAL,
-    TAKES_EXPECT,
+    Taken {
+        id: EXPECT,
+        form: Form::Value("LOG"),
+        help: "Show the share done and the time left too, by the log of a rehearsal",
+    },
     TAKES_SOURCE,
-    TAKES_DEST,
+    Taken {
+        id: DEST,
+        form: Form::Place,
+        help: "A folder that stands already; ocfl and staging in it are the program's",
+    },
 ];
 
 // What `audit` takes.
@@ -242,8 +232,16 @@ const AUDIT_TAKES: &[Taken] = &[
     TAKES_DIGEST,
     TAKES_TUPLE_SIZE,
     TAKES_TUPLES,
-    TAKES_GATHER,
-    TAKES_SHARE,
+    Taken {
+        id: GATHER,
+        form: Form::Flag,
+        help: "Audit what lies directly in an identifier's folder too, as one object [default: skip it]",
+    },
+    Taken {
+        id: SHARE,
+        form: Form::Value("K/N"),
+        help: "Audit the objects of share K of N shares alone, as 2/8 [default: all objects]",
+    },
     TAKES_IGNORE,
     Taken {
         id: SKIPS_OK,
@@ -252,11 +250,23 @@ const AUDIT_TAKES: &[Taken] = &[
     },
     TAKES_VERBOSE,
     TAKES_QUIET,
-    TAKES_PROGRESS,
+    Taken {
+        id: PROGRESS,
+        form: Form::Word("WHEN", &["auto", "always", "never"], "auto"),
+        help: "When to show on standard error how far the audit is",
+    },
     TAKES_INTERVAL,
-    TAKES_EXPECT,
+    Taken {
+        id: EXPECT,
+        form: Form::Value("LOG"),
+        help: "Show the share done and the time left too, by the log of a run, a rehearsal or an audit",
+    },
     TAKES_SOURCE,
-    TAKES_DEST,
+    Taken {
+        id: DEST,
+        form: Form::Place,
+        help: "The folder in which ocfl is",
+    },
 ];
 
 // The program's version, and the line of the toolchain that proves it.
