@@ -20,8 +20,8 @@ pub trait Syncs {
         ensures synced { syncs self.old result self.new };
 }
 
-/// What can have all that a writer has written put onto its disk. Each thing that syncs does so for any writer to its output; and a
-/// machine may say more of its own, as which bytes its disk has then.
+/// What can have all that a writer has written put onto its disk: each thing that syncs, for any writer to its output. What is proved
+/// over these holds whatever `puts` means, and so says behind which writing a sync came.
 pub trait SyncsOutput<W: Write>: Syncs {
     /// Having all that this writer has written put onto the disk may answer so, and leave it so.
     ghost puts: { Self → W → Result (Unit {0}) Error → Self → Type 0 };
