@@ -100,7 +100,7 @@ impl<'a> InventoryPieces<'a> {
                 groups: grouped(alloc, rows.as_slice(), contents)?,
             },
             next: Step::Head,
-            text: Vec::new(alloc),
+            text: Vec::with_capacity(alloc, ROOM)?,
         })
     }
 
@@ -114,7 +114,6 @@ impl<'a> InventoryPieces<'a> {
             return Ok(false);
         }
         text.clear();
-        text.reserve(ROOM)?;
         let mut out = Output::behind(self.alloc, text, self.next.is_behind_value())?;
         self.next = self.parts.put_next(&mut out, self.next)?;
         self.text = out.into_text();

@@ -15,6 +15,9 @@ use pt_tree::{MemoryFault, NamePath};
 use std::alloc::{AllocError, Global};
 use std::marker::Model;
 
+// The room for a path to begin with.
+const ROOM: usize = 128;
+
 // A text of JSON, seen as its tokens.
 #[derive(Drop)]
 pub(crate) struct Output {
@@ -50,7 +53,7 @@ impl Output {
     {
         let mut out = Output {
             writer: Writer::new(room),
-            path: Vec::new(alloc),
+            path: Vec::with_capacity(alloc, ROOM)?,
             digits: Digits::of_hex(),
         };
         if is_behind_value {

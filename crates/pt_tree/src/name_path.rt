@@ -78,12 +78,13 @@ impl NamePath {
     ) -> Result<NamePath, MemoryFault>
         ensures { IfOk result (λ path. path ≡ map known_text names.now) }
     {
-        let mut path = NamePath::new(alloc);
-        path.reserve(names.len().saturating_add(room))?;
+        let mut list = Vec::with_capacity(alloc, names.len().saturating_add(room))?;
         for name in names {
-            path.push(Name::from(*name))?;
+            list.push(Name::from(*name))?;
         }
-        Ok(path)
+        Ok(NamePath {
+            names: NameList::Own(list),
+        })
     }
 
     /// The path whose names stand in a text with `/` between, as `join` writes it; the empty text is the top.

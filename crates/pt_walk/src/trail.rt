@@ -110,10 +110,10 @@ impl Trail {
     pub fn path(&self) -> Result<NamePath, MemoryFault>
         ensures { IfOk result (λ path. path ≡ trail_path self.now) }
     {
-        let mut path = NamePath::new(*self.frames.allocator());
         let outer = self.frames.len().saturating_sub(1);
-        // For the entry and for what stands above the trail too.
-        path.reserve(outer.saturating_add(2))?;
+        // There is room for the entry and for what stands above the trail too.
+        let room = outer.saturating_add(2);
+        let mut path = NamePath::of_known_with_room(*self.frames.allocator(), &[], room)?;
         for frame in &self.frames[..outer] {
             frame.add_name(&mut path)?;
         }
