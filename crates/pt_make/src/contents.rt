@@ -47,7 +47,7 @@ pub(crate) fn make_content<O: Outside>(
     requires row { position.row < length state.old.rows }
     requires may { MayMakeContent (O.world out.old).source (O.world out.old).dest object
         (held_of state.old []) position }
-    ensures turn { TakesTurn O.world (O.within 1)
+    ensures turn { TakesTurn O.world (O.within 1 0)
         (phase.Carrying object (stage.Make (part.Content position))) state.old state.new
         out.old out.new result }
 {
@@ -114,7 +114,7 @@ fn make_folder<O: Outside>(
 ) -> Result<Phase, Fault>
     requires next { IsNextFolder state.now position path.now }
     requires may { MayMake (O.world out.old).dest path.now }
-    ensures turn { TakesTurn O.world (O.within 0)
+    ensures turn { TakesTurn O.world (O.within 0 0)
         (phase.Carrying object (stage.Make (part.Content position))) state.now state.now
         out.old out.new result }
 {
@@ -138,7 +138,7 @@ fn open_copy<O: Outside>(
     requires next { IsNextCopy state.old object position copied.now }
     requires may { MayMake (O.world out.old).dest copied.now.to
         × CanOpen (O.world out.old).source copied.now.from }
-    ensures turn { TakesTurn O.world (O.within 1)
+    ensures turn { TakesTurn O.world (O.within 1 0)
         (phase.Carrying object (stage.Make (part.Content position))) state.old state.new
         out.old out.new result }
 {

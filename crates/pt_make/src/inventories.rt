@@ -40,7 +40,7 @@ pub(crate) fn make_inventory<O: Outside>(
     requires contents { HasContentsOfRows state.old }
     requires fed { IsFedFor folder state.old object }
     requires may { MayMake (O.world out.old).dest (in_folder folder (inventory_name ∷ [])) }
-    ensures turn { TakesTurn O.world (O.within 0)
+    ensures turn { TakesTurn O.world (O.within 0 0)
         (phase.Carrying object (stage.Make (inventory_part folder))) state.old state.new
         out.old out.new result }
 {
@@ -122,7 +122,7 @@ pub(crate) fn make_sidecar<O: Outside>(
     requires fed { HasFedInventory state.old object }
     requires may { MayMake (O.world out.old).dest
         (in_folder folder (sidecar_name_of state.old.job.algorithm ∷ [])) }
-    ensures turn { TakesTurn O.world (O.within 0)
+    ensures turn { TakesTurn O.world (O.within 0 0)
         (phase.Carrying object (stage.Make (sidecar_part folder))) state.old state.new
         out.old out.new result }
 {
@@ -157,7 +157,7 @@ fn put_sidecar<O: Outside>(
 ) -> Result<(), Fault>
     requires fed { HasFedInventory state.now object.now }
     requires may { MayMake (O.world out.old).dest path.now }
-    ensures { Wrote O.world (O.within 0) (makes_file path.now
+    ensures { Wrote O.world (O.within 0 0) (makes_file path.now
         (sidecar_text state.now.job.algorithm (inventory_held state.now object.now)))
         out.old out.new result }
 {

@@ -32,7 +32,7 @@ pub fn make<O: Outside>(
     requires may { MayMakePart (job_of state.old.job) object part (held_of state.old [])
         (O.world out.old).source (O.world out.old).dest }
     requires ready { IsReadyFor part object state.old }
-    ensures turn { TakesTurn O.world (O.within 1) (phase.Carrying object (stage.Make part))
+    ensures turn { TakesTurn O.world (O.within 1 0) (phase.Carrying object (stage.Make part))
         state.old state.new out.old out.new result }
 {
     match part {
@@ -50,7 +50,7 @@ pub fn make<O: Outside>(
 // Makes `staging`.
 fn make_staging<O: Outside>(state: &State, object: Object, out: &mut O) -> Result<Phase, Fault>
     requires may { MayMake (O.world out.old).dest staging }
-    ensures turn { TakesTurn O.world (O.within 0) (phase.Carrying object (stage.Make part.Staging))
+    ensures turn { TakesTurn O.world (O.within 0 0) (phase.Carrying object (stage.Make part.Staging))
         state.now state.now out.old out.new result }
 {
     let path = NamePath::of_known(state.alloc, &[Known::Staging])?;
@@ -61,7 +61,7 @@ fn make_staging<O: Outside>(state: &State, object: Object, out: &mut O) -> Resul
 // Makes the object's declaration (OCFL 1.1, "Object Conformance Declaration").
 fn make_declaration<O: Outside>(state: &State, object: Object, out: &mut O) -> Result<Phase, Fault>
     requires may { MayMake (O.world out.old).dest (staging ++ object_declaration_name ∷ []) }
-    ensures turn { TakesTurn O.world (O.within 0)
+    ensures turn { TakesTurn O.world (O.within 0 0)
         (phase.Carrying object (stage.Make part.Declaration)) state.now state.now
         out.old out.new result }
 {
@@ -73,7 +73,7 @@ fn make_declaration<O: Outside>(state: &State, object: Object, out: &mut O) -> R
 // Makes the version's folder (OCFL 1.1, "Version Directories").
 fn make_version<O: Outside>(state: &State, object: Object, out: &mut O) -> Result<Phase, Fault>
     requires may { MayMake (O.world out.old).dest (in_version []) }
-    ensures turn { TakesTurn O.world (O.within 0) (phase.Carrying object (stage.Make part.Version))
+    ensures turn { TakesTurn O.world (O.within 0 0) (phase.Carrying object (stage.Make part.Version))
         state.now state.now out.old out.new result }
 {
     let path = NamePath::of_known(state.alloc, &[Known::Staging, Known::Version])?;

@@ -24,7 +24,7 @@ pub fn make_tuple<O: Outside>(
 ) -> Result<Phase, Fault>
     requires few { index < state.now.job.layout.count }
     requires may { HasParent (O.world out.old).dest (tuple_folder object index) }
-    ensures turn { TakesTurn O.world (O.within 0) (phase.Carrying object (stage.Tuples index))
+    ensures turn { TakesTurn O.world (O.within 0 1) (phase.Carrying object (stage.Tuples index))
         state.now state.now out.old out.new result }
 {
     let _tuples = state.job.layout.count();
@@ -43,7 +43,7 @@ fn enter_tuple<O: Outside>(
     requires few { index < state.now.job.layout.count }
     requires path { path.now ≡ tuple_folder object index }
     requires may { HasParent (O.world out.old).dest path.now }
-    ensures turn { TakesTurn O.world (O.within 0) (phase.Carrying object (stage.Tuples index))
+    ensures turn { TakesTurn O.world (O.within 0 1) (phase.Carrying object (stage.Tuples index))
         state.now state.now out.old out.new result }
 {
     match out.kind(path)? {
@@ -72,7 +72,7 @@ fn after_tuple(state: &State, object: Object, index: usize) -> Phase
 /// Renames `staging` to an object's place.
 pub fn rename<O: Outside>(state: &State, object: Object, out: &mut O) -> Result<Phase, Fault>
     requires may { MayMove (O.world out.old).dest staging (in_root object.place) }
-    ensures turn { TakesTurn O.world (O.within 0) (phase.Carrying object stage.Rename)
+    ensures turn { TakesTurn O.world (O.within 0 0) (phase.Carrying object stage.Rename)
         state.now state.now out.old out.new result }
 {
     let from = NamePath::of_known(state.alloc, &[Known::Staging])?;
@@ -90,7 +90,7 @@ fn move_object<O: Outside>(
 ) -> Result<Phase, Fault>
     requires may { MayMove (O.world out.old).dest from.now to.now }
     requires paths { (from.now ≡ staging) × (to.now ≡ in_root object.place) }
-    ensures turn { TakesTurn O.world (O.within 0) (phase.Carrying object stage.Rename)
+    ensures turn { TakesTurn O.world (O.within 0 0) (phase.Carrying object stage.Rename)
         state.now state.now out.old out.new result }
 {
     out.rename(from, to)?;

@@ -16,7 +16,7 @@ use pt_state::{Outside, State};
 /// Tells that an object is done, and walks on from its site.
 pub fn tell_done<O: Outside>(state: &mut State, object: Object, out: &mut O) -> Result<Phase, Fault>
     requires { CanTellDone state.old }
-    ensures turn { TakesTurn O.world (O.within 0) (phase.Carrying object stage.Line)
+    ensures turn { TakesTurn O.world (O.within 0 0) (phase.Carrying object stage.Line)
         state.old state.new out.old out.new result }
 {
     let at = object_path(&object, &state.trail)?;
@@ -35,7 +35,7 @@ pub fn tell_done<O: Outside>(state: &mut State, object: Object, out: &mut O) -> 
 
 /// Tells that the run is done.
 pub fn tell_end<O: Outside>(state: &State, out: &mut O) -> Result<Phase, Fault>
-    ensures turn { TakesTurn O.world (O.within 0) phase.End state.now state.now
+    ensures turn { TakesTurn O.world (O.within 0 0) phase.End state.now state.now
         out.old out.new result }
 {
     put_end(state.alloc, out, &state.counts)?;

@@ -39,3 +39,12 @@ pub record IsBounded (job : Job) (here : Phase) (kept : Kept) : Type 0 where
 abbrev pub most_calls : Phase → ℕ
 most_calls (phase.Opening (opening.Prefix here)) = 2
 most_calls _ = 1
+
+-- how often it asks the destination at most what stands
+abbrev pub most_looks : Phase → ℕ
+most_looks (phase.Opening opening.Staging) = 1
+most_looks (phase.Opening opening.Root) = 1
+most_looks (phase.Opening (opening.RootCheck file)) = 2
+most_looks phase.Judge = 1
+most_looks (phase.Carrying object (stage.Tuples number)) = 1
+most_looks _ = 0

@@ -43,7 +43,7 @@ pub fn migrate<S: Source, D: Dest, L: Log>(
 // Makes the steps of a run to its end, or to its first fault.
 fn run<O: Outside>(alloc: Global, out: &mut O, job: Job) -> Result<Report, Fault>
     ensures run { Migrates job (O.world out.old) (O.world out.new) result }
-    ensures same { (n : ℕ) × O.within n out.old out.new }
+    ensures same { (n k : ℕ) × O.within n k out.old out.new }
 {
     job.layout.count();
     let mut mover = Mover::start(alloc, job);

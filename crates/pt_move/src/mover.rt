@@ -5,6 +5,7 @@ ghost use Rattle.pt_plan.specs.World.{World};
 ghost use Rattle.pt_state.specs.Counting.{AtMostCalls};
 ghost use Rattle.pt_state.specs.Outside.{world};
 ghost use Rattle.pt_walk.specs.Trail.{entries_held};
+ghost use Rattle.pt_move.specs.Bounds.{most_looks};
 ghost use Rattle.pt_move.specs.Promises.{Keeps, TurnKeeps};
 ghost use Rattle.pt_move.specs.Running.{BeganSomewhere, HasBegun, IsBegun, IsNew, IsWell};
 ghost use Rattle.pt_move.specs.Stepping.{Any, IsReady, Made, Stays, Steps, most_calls_at};
@@ -111,7 +112,8 @@ impl Mover {
             (S.failed source.new) (D.failed dest.new) (L.failed log.new))
             self.old self.new result }
         ensures calls { AtMostCalls (most_calls_at self.old)
-            (S.called source.old) (S.called source.new) }
+            (S.called source.old) (S.called source.new)
+            × AtMostCalls (most_looks self.old.phase) (D.looked dest.old) (D.looked dest.new) }
         ensures source_stays { Stays S.keeps result source.old source.new }
         ensures dest_stays { Stays D.keeps result dest.old dest.new }
         ensures log_stays { Stays L.keeps result log.old log.new }
@@ -126,7 +128,8 @@ impl Mover {
             → Keeps start (O.world out.old) (O.world out.new) self.old self.new result }
         ensures goes_on { HasBegun (O.world out.new) self.new }
         ensures steps { Steps (O.world out.old) (O.world out.new) self.old self.new result }
-        ensures calls { O.within (most_calls_at self.old) out.old out.new }
+        ensures calls { O.within (most_calls_at self.old) (most_looks self.old.phase)
+            out.old out.new }
         ensures stays { Stays Any result out.old out.new }
     {
         self.begun(out);
@@ -180,7 +183,7 @@ fn made_turn<O: Outside>(state: &mut State, here: Phase, out: &mut O) -> Result<
         → IsBegun start (O.world out.old) (record { phase = here; state = state.old })
         → TurnKeeps start (O.world out.old) (O.world out.new) state.old state.new result }
     ensures made { Made O.world
-        (O.within (most_calls_at (record { phase = here; state = state.old })))
+        (O.within (most_calls_at (record { phase = here; state = state.old })) (most_looks here))
         here state.old state.new out.old out.new result }
 {
     turn(state, here, out)

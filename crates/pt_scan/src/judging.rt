@@ -30,7 +30,7 @@ use std::alloc::Global;
 /// growth is refused; what is held stays then.
 pub fn judge<O: Outside>(state: &mut State, out: &mut O) -> Result<Phase, Fault>
     requires { CanPass state.old }
-    ensures turn { TakesTurn O.world (O.within 0) phase.Judge state.old state.new
+    ensures turn { TakesTurn O.world (O.within 0 1) phase.Judge state.old state.new
         out.old out.new result }
 {
     match finding(state) {
@@ -76,7 +76,7 @@ fn pass_over<O: Outside>(
 ) -> Result<Phase, Fault>
     requires line { IsPassedAt state.old site.now cause }
     requires few { state.old.counts.skipped < 2 ^ 40 }
-    ensures turn { TakesTurn O.world (O.within 0) phase.Judge state.old state.new
+    ensures turn { TakesTurn O.world (O.within 0 0) phase.Judge state.old state.new
         out.old out.new result }
 {
     if !state.job.share.is_first() {
@@ -96,7 +96,7 @@ fn judge_object<O: Outside>(
 ) -> Result<Phase, Fault>
     requires judges { IsJudging state.old site.now index }
     requires passes { CanPass state.old }
-    ensures turn { TakesTurn O.world (O.within 0) phase.Judge state.old state.new
+    ensures turn { TakesTurn O.world (O.within 0 1) phase.Judge state.old state.new
         out.old out.new result }
 {
     match named(state, site)? {
@@ -135,7 +135,7 @@ fn find_place<O: Outside>(
     requires judges { IsJudging state.old site.now index }
     requires ours { IsOurs state.old candidate }
     requires present { state.old.counts.present < 2 ^ 40 }
-    ensures turn { TakesTurn O.world (O.within 0) phase.Judge state.old state.new
+    ensures turn { TakesTurn O.world (O.within 0 1) phase.Judge state.old state.new
         out.old out.new result }
 {
     match kind_at(state.alloc, &candidate.place, out)? {
@@ -160,7 +160,7 @@ fn find_place<O: Outside>(
 
 // Asks what stands at a place of the storage root.
 fn kind_at<O: Outside>(alloc: Global, place: &NamePath, out: &mut O) -> Result<Option<Kind>, Fault>
-    ensures { Found O.world (O.within 0) (in_root place.now) out.old out.new result }
+    ensures { Found O.world (O.within 0 1) (in_root place.now) out.old out.new result }
 {
     let path = in_storage_root(alloc, place)?;
     out.kind(&path)

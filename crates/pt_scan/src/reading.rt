@@ -33,7 +33,7 @@ pub fn read<O: Outside>(
 ) -> Result<Phase, Fault>
     requires may { CanRead (O.world out.old).source }
     requires reads { CanReadOn object bytes state.old }
-    ensures turn { TakesTurn O.world (O.within 1) (phase.Carrying object (stage.Read bytes))
+    ensures turn { TakesTurn O.world (O.within 1 0) (phase.Carrying object (stage.Read bytes))
         state.old state.new out.old out.new result }
     ensures block { IfOk result (IsNextBlock (O.world out.old).source state.new.block.items) }
 {
@@ -49,7 +49,7 @@ fn take_block<O: Outside>(
     out: &mut O,
 ) -> Result<Phase, Fault>
     requires { CanReadOn object bytes state.old }
-    ensures turn { EndsTurn O.world (O.within 0) (asks (Reads state.old.block.items))
+    ensures turn { EndsTurn O.world (O.within 0 0) (asks (Reads state.old.block.items))
         (phase.Carrying object (stage.Read bytes)) state.old state.new out.old out.new result }
     ensures block { IfOk result (KeepsBlock state.old.block.items state.new.block.items) }
 {
@@ -92,7 +92,7 @@ fn pass_object<O: Outside>(
     requires long { (0 < length state.old.block.items)
         × (state.old.job.limits.file_bytes < bytes + length state.old.block.items) }
     requires passes { CanPassOver object state.old }
-    ensures turn { EndsTurn O.world (O.within 0) (asks (Reads state.old.block.items))
+    ensures turn { EndsTurn O.world (O.within 0 0) (asks (Reads state.old.block.items))
         (phase.Carrying object (stage.Read bytes)) state.old state.new out.old out.new result }
     ensures walks { IfOk result (λ next. next ≡ phase.Walk) }
 {

@@ -39,7 +39,7 @@ pub fn open_object<O: Outside>(
         → IsTrue (is_dir_entry (current_entry state.old.trail)) }
     requires passes { CanPassOver object state.old }
     requires empty { object.empty < 2 ^ 40 }
-    ensures turn { TakesTurn O.world (O.within 1) (phase.Carrying object stage.Open)
+    ensures turn { TakesTurn O.world (O.within 1 0) (phase.Carrying object stage.Open)
         state.old state.new out.old out.new result }
 {
     if object.gathered {
@@ -60,7 +60,7 @@ pub fn scan<O: Outside>(state: &mut State, object: Object, out: &mut O) -> Resul
     requires open { MayOpen (O.world out.old).source state.old.trail }
     requires scans { CanScan object state.old }
     requires empty { object.empty < 2 ^ 40 }
-    ensures turn { TakesTurn O.world (O.within 1) (phase.Carrying object stage.Scan)
+    ensures turn { TakesTurn O.world (O.within 1 0) (phase.Carrying object stage.Scan)
         state.old state.new out.old out.new result }
 {
     let in_site = is_in_site(&object, &state.trail);
@@ -102,7 +102,7 @@ fn pass_object<O: Outside>(
     out: &mut O,
 ) -> Result<Phase, Fault>
     requires { CanPassOver object state.old }
-    ensures turn { TakesTurnAt O.world (O.within 0) (λ here. GivesUp here object cause state.old)
+    ensures turn { TakesTurnAt O.world (O.within 0 0) (λ here. GivesUp here object cause state.old)
         state.old state.new out.old out.new result }
 {
     give_up(state, &object, cause, out)?;
@@ -118,7 +118,7 @@ fn enter_directory<O: Outside>(
     requires enter { CanEnter (O.world out.old).source state.old.trail }
     requires passes { CanPassOver object state.old }
     requires empty { object.empty < 2 ^ 40 }
-    ensures turn { TakesTurnAt O.world (O.within 1) (λ here. MeetsDirectory here object state.old)
+    ensures turn { TakesTurnAt O.world (O.within 1 0) (λ here. MeetsDirectory here object state.old)
         state.old state.new out.old out.new result }
 {
     if state.trail.len() as u64 > state.job.limits.depth() {
@@ -131,7 +131,7 @@ fn enter_directory<O: Outside>(
 // Lists the directory at the trail's place and enters it; gives whether it has no entries.
 fn enter<O: Outside>(state: &mut State, out: &mut O) -> Result<bool, Fault>
     requires enter { CanEnter (O.world out.old).source state.old.trail }
-    ensures { Entered O.world (O.within 1) state.old state.new out.old out.new result }
+    ensures { Entered O.world (O.within 1 0) state.old state.new out.old out.new result }
 {
     let path = listed_path(state)?;
     let listing = out.list(&path)?;
@@ -156,7 +156,7 @@ fn meet_file<O: Outside>(state: &mut State, object: Object, out: &mut O) -> Resu
     requires file { IsAtFile state.old.trail }
     requires may { MayOpen (O.world out.old).source state.old.trail }
     requires scans { CanScan object state.old }
-    ensures turn { TakesTurn O.world (O.within 1) (phase.Carrying object stage.Scan)
+    ensures turn { TakesTurn O.world (O.within 1 0) (phase.Carrying object stage.Scan)
         state.old state.new out.old out.new result }
 {
     if state.rows.len() as u64 >= state.job.limits.files() {
@@ -244,7 +244,7 @@ pub(crate) fn give_up<O: Outside>(
     out: &mut O,
 ) -> Result<(), Fault>
     requires { CanPassOver object.now state.old }
-    ensures { GaveUp O.world (O.within 0) object.now cause state.old state.new
+    ensures { GaveUp O.world (O.within 0 0) object.now cause state.old state.new
         out.old out.new result }
 {
     let path = site_path(state.alloc, object, &state.trail)?;

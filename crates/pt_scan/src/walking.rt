@@ -23,7 +23,7 @@ use pt_walk::{At, Cause, Trail, is_shorty};
 pub fn open_root<O: Outside>(state: &mut State, out: &mut O) -> Result<Phase, Fault>
     requires may { CanList (O.world out.old).source (in_pairtree_of []) }
     requires trail { state.old.trail ≡ [] }
-    ensures turn { TakesTurn O.world (O.within 1) (phase.Opening opening.OpenRoot)
+    ensures turn { TakesTurn O.world (O.within 1 0) (phase.Opening opening.OpenRoot)
         state.old state.new out.old out.new result }
 {
     let path = NamePath::of_known(state.alloc, &[Known::PairtreeRoot])?;
@@ -41,7 +41,7 @@ pub fn open_root<O: Outside>(state: &mut State, out: &mut O) -> Result<Phase, Fa
 pub fn walk<O: Outside>(state: &mut State, out: &mut O) -> Result<Phase, Fault>
     requires may { MayEnter (O.world out.old).source state.old.trail }
     requires few { state.old.counts.skipped < 2 ^ 40 }
-    ensures turn { TakesTurn O.world (O.within 1) phase.Walk state.old state.new
+    ensures turn { TakesTurn O.world (O.within 1 0) phase.Walk state.old state.new
         out.old out.new result }
 {
     match state.trail.current() {
@@ -67,7 +67,7 @@ pub fn walk<O: Outside>(state: &mut State, out: &mut O) -> Result<Phase, Fault>
 fn meet_shorty<O: Outside>(state: &mut State, out: &mut O) -> Result<Phase, Fault>
     requires may { MayEnter (O.world out.old).source state.old.trail }
     requires passes { CanPassShorty state.old }
-    ensures turn { TakesTurn O.world (O.within 1) phase.Walk state.old state.new
+    ensures turn { TakesTurn O.world (O.within 1 0) phase.Walk state.old state.new
         out.old out.new result }
 {
     if is_last(&state.trail) {
@@ -83,7 +83,7 @@ fn meet_shorty<O: Outside>(state: &mut State, out: &mut O) -> Result<Phase, Faul
 fn pass_shorty<O: Outside>(state: &mut State, cause: Cause, out: &mut O) -> Result<Phase, Fault>
     requires line { PassesShorty state.old cause }
     requires passes { CanPassShorty state.old }
-    ensures turn { TakesTurn O.world (O.within 0) phase.Walk state.old state.new
+    ensures turn { TakesTurn O.world (O.within 0 0) phase.Walk state.old state.new
         out.old out.new result }
 {
     if !state.job.share.is_first() {
@@ -101,7 +101,7 @@ fn enter_site<O: Outside>(state: &mut State, out: &mut O) -> Result<Phase, Fault
     requires line { EntersSite state.old }
     requires may { MayEnter (O.world out.old).source state.old.trail }
     requires shorty { IsAtShorty state.old.trail }
-    ensures turn { TakesTurn O.world (O.within 1) phase.Walk state.old state.new
+    ensures turn { TakesTurn O.world (O.within 1 0) phase.Walk state.old state.new
         out.old out.new result }
 {
     let path = listed_path(state)?;

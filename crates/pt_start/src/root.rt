@@ -24,7 +24,7 @@ use std::alloc::Global;
 // The layout of the storage root (extension 0003).
 /// Asks whether `staging` is there.
 pub fn staging<O: Outside>(state: &State, out: &mut O) -> Result<Phase, Fault>
-    ensures turn { TakesTurn O.world (O.within 0) (phase.Opening opening.Staging)
+    ensures turn { TakesTurn O.world (O.within 0 1) (phase.Opening opening.Staging)
         state.now state.now out.old out.new result }
 {
     let path = NamePath::of_known(state.alloc, &[Known::Staging])?;
@@ -36,7 +36,7 @@ pub fn staging<O: Outside>(state: &State, out: &mut O) -> Result<Phase, Fault>
 
 /// Asks whether the storage root is there.
 pub fn root<O: Outside>(state: &State, out: &mut O) -> Result<Phase, Fault>
-    ensures turn { TakesTurn O.world (O.within 0) (phase.Opening opening.Root) state.now state.now
+    ensures turn { TakesTurn O.world (O.within 0 1) (phase.Opening opening.Root) state.now state.now
         out.old out.new result }
 {
     let path = NamePath::of_known(state.alloc, &[Known::StorageRoot])?;
@@ -52,7 +52,7 @@ pub fn root<O: Outside>(state: &State, out: &mut O) -> Result<Phase, Fault>
 pub fn make_root<O: Outside>(state: &State, item: u8, out: &mut O) -> Result<Phase, Fault>
     requires may { MayMakeRootItem (O.world out.old).dest state.now.job.layout item }
     requires item { item < 6 }
-    ensures turn { TakesTurn O.world (O.within 0) (phase.Opening (opening.RootMake item))
+    ensures turn { TakesTurn O.world (O.within 0 0) (phase.Opening (opening.RootMake item))
         state.now state.now out.old out.new result }
 {
     if item < 3 {
@@ -75,7 +75,7 @@ fn make_folder<O: Outside>(
 ) -> Result<Phase, Fault>
     requires may { MayMake (O.world out.old).dest path.now }
     requires here { IsItemAt state.now.job.layout item (MakeFolder path.now) }
-    ensures turn { TakesTurn O.world (O.within 0) (phase.Opening (opening.RootMake item))
+    ensures turn { TakesTurn O.world (O.within 0 0) (phase.Opening (opening.RootMake item))
         state.now state.now out.old out.new result }
 {
     out.mkdir(path)?;
@@ -91,7 +91,7 @@ fn make_file<O: Outside>(
 ) -> Result<Phase, Fault>
     requires may { MayMake (O.world out.old).dest path.now }
     requires here { IsItemAt state.now.job.layout item (MakeFile path.now bytes.now) }
-    ensures turn { TakesTurn O.world (O.within 0) (phase.Opening (opening.RootMake item))
+    ensures turn { TakesTurn O.world (O.within 0 0) (phase.Opening (opening.RootMake item))
         state.now state.now out.old out.new result }
 {
     put_file(out, path, bytes)?;
@@ -130,7 +130,7 @@ fn after_item(item: u8) -> Phase
 /// Renames `staging` to the storage root.
 pub fn rename_root<O: Outside>(state: &State, out: &mut O) -> Result<Phase, Fault>
     requires { MayMove (O.world out.old).dest staging_path storage_root }
-    ensures turn { TakesTurn O.world (O.within 0) (phase.Opening opening.RootRename)
+    ensures turn { TakesTurn O.world (O.within 0 0) (phase.Opening opening.RootRename)
         state.now state.now out.old out.new result }
 {
     let from = NamePath::of_known(state.alloc, &[Known::Staging])?;
@@ -146,7 +146,7 @@ fn move_root<O: Outside>(
 ) -> Result<Phase, Fault>
     requires may { MayMove (O.world out.old).dest from.now to.now }
     requires paths { (from.now ≡ staging_path) × (to.now ≡ storage_root) }
-    ensures turn { TakesTurn O.world (O.within 0) (phase.Opening opening.RootRename)
+    ensures turn { TakesTurn O.world (O.within 0 0) (phase.Opening opening.RootRename)
         state.now state.now out.old out.new result }
 {
     out.rename(from, to)?;
@@ -156,7 +156,7 @@ fn move_root<O: Outside>(
 /// Compares one of the three files of the storage root that stands with what this program writes.
 pub fn check_root<O: Outside>(state: &mut State, file: usize, out: &mut O) -> Result<Phase, Fault>
     requires { file < 3 }
-    ensures turn { TakesTurn O.world (O.within 0) (phase.Opening (opening.RootCheck file))
+    ensures turn { TakesTurn O.world (O.within 0 2) (phase.Opening (opening.RootCheck file))
         state.old state.new out.old out.new result }
 {
     let files = root_files(state.alloc, state.job.layout)?;
@@ -175,7 +175,7 @@ fn compare<O: Outside>(
     out: &mut O,
 ) -> Result<Phase, Fault>
     requires here { IsFileAt state.old.job.layout file path.now bytes.now }
-    ensures turn { TakesTurn O.world (O.within 0) (phase.Opening (opening.RootCheck file))
+    ensures turn { TakesTurn O.world (O.within 0 2) (phase.Opening (opening.RootCheck file))
         state.old state.new out.old out.new result }
 {
     let here = out.kind(path)?;

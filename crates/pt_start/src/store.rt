@@ -20,7 +20,7 @@ use std::alloc::Global;
 /// Lists the top.
 pub fn begin<O: Outside>(state: &State, out: &mut O) -> Result<Phase, Fault>
     requires { CanList (O.world out.old).source [] }
-    ensures turn { TakesTurn O.world (O.within 1) (phase.Opening opening.Begin) state.now state.now
+    ensures turn { TakesTurn O.world (O.within 1 0) (phase.Opening opening.Begin) state.now state.now
         out.old out.new result }
 {
     let top = NamePath::new(state.alloc);
@@ -86,7 +86,7 @@ pub fn prefix<O: Outside>(
     out: &mut O,
 ) -> Result<Phase, Fault>
     requires { MayOpenPrefix (O.world out.old).source here }
-    ensures turn { TakesTurn O.world (O.within 2) (phase.Opening (opening.Prefix here))
+    ensures turn { TakesTurn O.world (O.within 2 0) (phase.Opening (opening.Prefix here))
         state.old state.new out.old out.new result }
 {
     match here {

@@ -1,5 +1,5 @@
 -- What a call of the devices came to in the world, from what the device promises.
-use Rattle.std.proofs.Common.{◌≡◌, ℕ, List, refl, sym, subst, ap, arith}
+use Rattle.std.proofs.Common.{◌≡◌, ℕ, List, refl, sym, subst, ap, add-zero, arith}
 use Rattle.std.specs.Prelude.{Option, Some, Err, IsTrue, IsSome}
 use Rattle.std.specs.Io.KnownBytes.{Appends}
 use Rattle.std.specs.Option.{option_map}
@@ -8,7 +8,7 @@ use Rattle.pt_plan.specs.RunFaults.{dest_fault, log_fault, source_fault}
 use Rattle.pt_plan.specs.Turn.{IsNotOfLog}
 use Rattle.pt_plan.specs.World.{Peeks}
 use Rattle.pt_tree.specs.Dest.{CanPeek, IsPeeked, LeavesPart, after_append, after_finish, after_mkdir, after_rename}
-use Rattle.pt_tree.specs.Failures.{IsCounted, IsOneMoreCall}
+use Rattle.pt_tree.specs.Failures.{AreAsManyCalls, IsCounted, IsOneMoreCall}
 use Rattle.pt_tree.specs.Listing.{Item as Entry, names_rise}
 use Rattle.pt_tree.specs.Source.{IsListed, IsRead, after_next}
 use Rattle.pt_tree.specs.Tree.{Entry as TreeEntry, bytes_of}
@@ -27,7 +27,11 @@ pub one_more : (a b : ℕ → Type 0) → IsOneMoreCall a b → AtMostCalls 1 a 
 unfolding AtMostCalls
 one_more a b call = λ n h. (1, (omega arith, call n h))
 
-pub ruleset counting = (calls_none, one_more)
+pub no_more : (a b : ℕ → Type 0) → AreAsManyCalls a b → AtMostCalls 0 a b
+unfolding AtMostCalls
+no_more a b call = λ n h. (0, (omega arith, subst b (sym (add-zero n)) (call n h)))
+
+pub ruleset counting = (calls_none, one_more, no_more)
 
 -- ---- the source
 

@@ -1,7 +1,7 @@
--- How often a turn calls the source.
+-- How often a turn calls the source, and asks the destination.
 use Rattle.std.proofs.Common.{ℕ, ◌+◌, ◌≤◌, sym, subst, add-zero, zero-add, add_assoc, add-le-add, le_refl, le_trans}
 
--- a source that was called n times is now called at most so many times more
+-- what was called n times is now called at most so many times more
 unfoldable pub AtMostCalls : ℕ → (ℕ → Type 0) → (ℕ → Type 0) → Type 0
 AtMostCalls most before after = (n : ℕ) → before n → (m : ℕ) × ((m ≤ most) × after (n + m))
 

@@ -40,7 +40,7 @@ Turned here s s' old new answer =
 
 -- ---- what the functions of a run promise of the devices as one
 
--- a call: it did this, or failed and changed nothing; the source was called no more often than that
+-- a call: it did this, or failed and changed nothing; source and destination were called no more often than that
 pub record Called {O T : Type 0} (world : O → World) (within : O → O → Type 0) (calls : Calls) (old new : O)
     (result : Result T Fault) : Type 0 where
   pub did : OnOk result (Did calls (world old) (world new))

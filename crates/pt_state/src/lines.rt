@@ -42,7 +42,7 @@ pub fn put_done<O: Outside>(
     counts: &mut Report,
 ) -> Result<(), Fault>
     requires { counts.old.done < 2 ^ 40 }
-    ensures { Told O.world (O.within 0) (DoneLine object.now.at.now object.now.bytes
+    ensures { Told O.world (O.within 0 0) (DoneLine object.now.at.now object.now.bytes
         object.now.empty object.now.files object.now.id.now object.now.to.now)
         counts.old counts.new out.old out.new result }
 {
@@ -79,7 +79,7 @@ pub fn put_present<O: Outside>(
     counts: &mut Report,
 ) -> Result<(), Fault>
     requires { counts.old.present < 2 ^ 40 }
-    ensures { Told O.world (O.within 0) (PresentLine at.now id.now to.now)
+    ensures { Told O.world (O.within 0 0) (PresentLine at.now id.now to.now)
         counts.old counts.new out.old out.new result }
 {
     let value = present_line(alloc, at, id, to)?;
@@ -115,7 +115,7 @@ pub fn put_skip<O: Outside>(
     counts: &mut Report,
 ) -> Result<(), Fault>
     requires { counts.old.skipped < 2 ^ 40 }
-    ensures { Told O.world (O.within 0) (SkippedLine at.now cause)
+    ensures { Told O.world (O.within 0 0) (SkippedLine at.now cause)
         counts.old counts.new out.old out.new result }
 {
     let value = skip_line(alloc, at, cause)?;
@@ -137,7 +137,7 @@ fn skip_line(alloc: Global, at: &NamePath, cause: Cause) -> Result<Value, Memory
 
 /// Tells that the run is done.
 pub fn put_end<O: Outside>(alloc: Global, out: &mut O, counts: &Report) -> Result<(), Fault>
-    ensures { Wrote O.world (O.within 0) (tells (EndLine counts.now.done counts.now.present
+    ensures { Wrote O.world (O.within 0 0) (tells (EndLine counts.now.done counts.now.present
         counts.now.skipped)) out.old out.new result }
 {
     let value = end_line(alloc, counts)?;
@@ -163,7 +163,7 @@ fn put<O: Outside>(alloc: Global, out: &mut O, value: &Value) -> Result<(), Faul
         → OnOk result (Did (tells line) (O.world out.old) (O.world out.new)) }
     ensures front { (line : Line) → IsTreeOf line (view value.now)
         → IfErr result (λ why. LeavesSome (tells line) why (O.world out.old) (O.world out.new)) }
-    ensures calls { O.within 0 out.old out.new }
+    ensures calls { O.within 0 0 out.old out.new }
 {
     let mut text = value.to_string(alloc)?;
     text.push_str("\n")?;

@@ -23,59 +23,60 @@ pub trait Outside {
     /// What the three tell, and how often each failed.
     ghost world: { Self → World };
 
-    /// It is over the same three devices, and the source was called at most so many times more.
-    ghost within: { ℕ → Self → Self → Type 0 };
+    /// It is over the same three devices; the source was called at most so many times more, and the destination asked at
+    /// most so many times more what stands.
+    ghost within: { ℕ → ℕ → Self → Self → Type 0 };
 
     /// Lists a directory of the source.
     fn list(&mut self, path: &NamePath) -> Result<Listing, Fault>
         requires { CanList (world self.old).source path.now }
-        ensures { Listed world (within 1) path.now self.old self.new result };
+        ensures { Listed world (within 1 0) path.now self.old self.new result };
 
     /// Opens a file of the source.
     fn open(&mut self, path: &NamePath) -> Result<(), Fault>
         requires { CanOpen (world self.old).source path.now }
-        ensures { Called world (within 1) (asks (Opens path.now)) self.old self.new result };
+        ensures { Called world (within 1 0) (asks (Opens path.now)) self.old self.new result };
 
     /// Reads the next block of the open file of the source.
     fn next(&mut self, block: &mut Block) -> Result<(), Fault>
         requires { CanRead (world self.old).source }
-        ensures { Called world (within 1) (asks (Reads block.new.items)) self.old self.new result };
+        ensures { Called world (within 1 0) (asks (Reads block.new.items)) self.old self.new result };
 
     /// Asks what stands at a path of the destination.
     fn kind(&mut self, path: &NamePath) -> Result<Option<Kind>, Fault>
-        ensures { Found world (within 0) path.now self.old self.new result };
+        ensures { Found world (within 0 1) path.now self.old self.new result };
 
     /// Reads the first block of a file of the destination.
     fn peek(&mut self, path: &NamePath, block: &mut Block) -> Result<(), Fault>
         requires { CanPeek (world self.old).dest path.now }
-        ensures { Called world (within 0) (does (Peeks path.now block.new.items))
+        ensures { Called world (within 0 1) (does (Peeks path.now block.new.items))
             self.old self.new result };
 
     /// Makes a directory in the destination.
     fn mkdir(&mut self, path: &NamePath) -> Result<(), Fault>
         requires { MayMake (world self.old).dest path.now }
-        ensures { Called world (within 0) (does (Makes (MakeFolder path.now)))
+        ensures { Called world (within 0 0) (does (Makes (MakeFolder path.now)))
             self.old self.new result };
 
     /// Makes an empty file in the destination, which is then the open one.
     fn create(&mut self, path: &NamePath) -> Result<(), Fault>
         requires { MayMake (world self.old).dest path.now }
-        ensures { Called world (within 0) (does (Creates path.now)) self.old self.new result };
+        ensures { Called world (within 0 0) (does (Creates path.now)) self.old self.new result };
 
     /// Adds a piece to the destination's open file.
     fn append(&mut self, piece: &[u8]) -> Result<(), Fault>
         requires { CanWrite (world self.old).dest }
-        ensures { Wrote world (within 0) (does (Adds piece.now)) self.old self.new result };
+        ensures { Wrote world (within 0 0) (does (Adds piece.now)) self.old self.new result };
 
     /// Closes the destination's open file.
     fn finish(&mut self) -> Result<(), Fault>
         requires { CanWrite (world self.old).dest }
-        ensures { Called world (within 0) (does Finishes) self.old self.new result };
+        ensures { Called world (within 0 0) (does Finishes) self.old self.new result };
 
     /// Moves what stands at a path of the destination to another.
     fn rename(&mut self, from: &NamePath, to: &NamePath) -> Result<(), Fault>
         requires { MayMove (world self.old).dest from.now to.now }
-        ensures { Called world (within 0) (does (Renames from.now to.now))
+        ensures { Called world (within 0 0) (does (Renames from.now to.now))
             self.old self.new result };
 
     /// Puts the text of a line at the end of the log.
@@ -84,25 +85,29 @@ pub trait Outside {
             (world self.old) (world self.new)) }
         ensures err { (line : Line) → text.now ≡ line_text line
             → IfErr result (λ why. LeavesSome (tells line) why (world self.old) (world self.new)) }
-        ensures calls { within 0 self.old self.new };
+        ensures calls { within 0 0 self.old self.new };
 
     /// Nothing was called.
-    ghost none: { (a : Self) → within 0 a a };
+    ghost none: { (a : Self) → within 0 0 a a };
 
     /// No more is no more than more.
-    ghost most: { (a b : Self) (m n : ℕ) → within m a b → m ≤ n → within n a b };
+    ghost most: { (a b : Self) (m n k l : ℕ) → within m k a b → m ≤ n → k ≤ l → within n l a b };
 
-    /// A call of the destination or of the log is none of the source.
-    ghost still: { (a b c : Self) (n : ℕ) → within n a b → within 0 b c → within n a c };
+    /// A change of the destination or a call of the log is none that is counted.
+    ghost still: { (a b c : Self) (n k : ℕ) → within n k a b → within 0 0 b c → within n k a c };
 
     /// Nor is one before it.
-    ghost after: { (a b c : Self) (n : ℕ) → within 0 a b → within n b c → within n a c };
+    ghost after: { (a b c : Self) (n k : ℕ) → within 0 0 a b → within n k b c → within n k a c };
 
     /// Calls are followed by others.
-    ghost more: { (a b c : Self) (m n : ℕ) → within m a b → within n b c → within (m + n) a c };
+    ghost more: { (a b c : Self) (m n k l : ℕ) → within m k a b → within n l b c
+        → within (m + n) (k + l) a c };
 
-    /// Two calls are two.
-    ghost twice: { (a b c : Self) → within 1 a b → within 1 b c → within 2 a c };
+    /// Two calls of the source are two.
+    ghost twice: { (a b c : Self) → within 1 0 a b → within 1 0 b c → within 2 0 a c };
+
+    /// And so are two of the destination.
+    ghost both: { (a b c : Self) → within 0 1 a b → within 0 1 b c → within 0 2 a c };
 
     /// In each directory of a source that tells the names rise.
     ghost proper: { (o : Self) (told : Reading) → (world o).source ≡ Some told
@@ -124,11 +129,12 @@ impl<'s, 'd, 'l, S: Source, D: Dest, L: Log> Outside for Devices<'s, 'd, 'l, S, 
     ghost world = { λ o. world_of (S.told o.source.now) (D.told o.dest.now) (L.told o.log.now)
         (S.failed o.source.now) (D.failed o.dest.now) (L.failed o.log.now) };
 
-    ghost within = { λ n a b. (b.source.ghost_name ≡ a.source.ghost_name)
+    ghost within = { λ n k a b. (b.source.ghost_name ≡ a.source.ghost_name)
         × (b.dest.ghost_name ≡ a.dest.ghost_name) × (b.log.ghost_name ≡ a.log.ghost_name)
         × S.keeps a.source.now b.source.now × D.keeps a.dest.now b.dest.now
         × L.keeps a.log.now b.log.now
-        × AtMostCalls n (S.called a.source.now) (S.called b.source.now) };
+        × AtMostCalls n (S.called a.source.now) (S.called b.source.now)
+        × AtMostCalls k (D.looked a.dest.now) (D.looked b.dest.now) };
 
     ghost none = { λ a. (
       refl,
@@ -138,9 +144,10 @@ impl<'s, 'd, 'l, S: Source, D: Dest, L: Log> Outside for Devices<'s, 'd, 'l, S, 
       D.is_kept a.dest.now,
       L.is_kept a.log.now,
       calls_none (S.called a.source.now),
+      calls_none (D.looked a.dest.now),
     ) };
 
-    ghost most = { λ a b m n p few. (
+    ghost most = { λ a b m n k l p few looks. (
       p.0,
       p.1,
       p.2,
@@ -148,9 +155,10 @@ impl<'s, 'd, 'l, S: Source, D: Dest, L: Log> Outside for Devices<'s, 'd, 'l, S, 
       p.4,
       p.5,
       calls_most (S.called a.source.now) (S.called b.source.now) m n p.6 few,
+      calls_most (D.looked a.dest.now) (D.looked b.dest.now) k l p.7 looks,
     ) };
 
-    ghost still = { λ a b c n p q. (
+    ghost still = { λ a b c n k p q. (
       q.0 ∙ p.0,
       q.1 ∙ p.1,
       q.2 ∙ p.2,
@@ -158,9 +166,10 @@ impl<'s, 'd, 'l, S: Source, D: Dest, L: Log> Outside for Devices<'s, 'd, 'l, S, 
       D.keeps_on a.dest.now b.dest.now c.dest.now p.4 q.4,
       L.keeps_on a.log.now b.log.now c.log.now p.5 q.5,
       calls_still (S.called a.source.now) (S.called b.source.now) (S.called c.source.now) n p.6 q.6,
+      calls_still (D.looked a.dest.now) (D.looked b.dest.now) (D.looked c.dest.now) k p.7 q.7,
     ) };
 
-    ghost after = { λ a b c n p q. (
+    ghost after = { λ a b c n k p q. (
       q.0 ∙ p.0,
       q.1 ∙ p.1,
       q.2 ∙ p.2,
@@ -168,9 +177,10 @@ impl<'s, 'd, 'l, S: Source, D: Dest, L: Log> Outside for Devices<'s, 'd, 'l, S, 
       D.keeps_on a.dest.now b.dest.now c.dest.now p.4 q.4,
       L.keeps_on a.log.now b.log.now c.log.now p.5 q.5,
       calls_after (S.called a.source.now) (S.called b.source.now) (S.called c.source.now) n p.6 q.6,
+      calls_after (D.looked a.dest.now) (D.looked b.dest.now) (D.looked c.dest.now) k p.7 q.7,
     ) };
 
-    ghost more = { λ a b c m n p q. (
+    ghost more = { λ a b c m n k l p q. (
       q.0 ∙ p.0,
       q.1 ∙ p.1,
       q.2 ∙ p.2,
@@ -178,6 +188,7 @@ impl<'s, 'd, 'l, S: Source, D: Dest, L: Log> Outside for Devices<'s, 'd, 'l, S, 
       D.keeps_on a.dest.now b.dest.now c.dest.now p.4 q.4,
       L.keeps_on a.log.now b.log.now c.log.now p.5 q.5,
       calls_more (S.called a.source.now) (S.called b.source.now) (S.called c.source.now) m n p.6 q.6,
+      calls_more (D.looked a.dest.now) (D.looked b.dest.now) (D.looked c.dest.now) k l p.7 q.7,
     ) };
 
     ghost twice = { λ a b c p q. (
@@ -188,6 +199,18 @@ impl<'s, 'd, 'l, S: Source, D: Dest, L: Log> Outside for Devices<'s, 'd, 'l, S, 
       D.keeps_on a.dest.now b.dest.now c.dest.now p.4 q.4,
       L.keeps_on a.log.now b.log.now c.log.now p.5 q.5,
       calls_more (S.called a.source.now) (S.called b.source.now) (S.called c.source.now) 1 1 p.6 q.6,
+      calls_still (D.looked a.dest.now) (D.looked b.dest.now) (D.looked c.dest.now) 0 p.7 q.7,
+    ) };
+
+    ghost both = { λ a b c p q. (
+      q.0 ∙ p.0,
+      q.1 ∙ p.1,
+      q.2 ∙ p.2,
+      S.keeps_on a.source.now b.source.now c.source.now p.3 q.3,
+      D.keeps_on a.dest.now b.dest.now c.dest.now p.4 q.4,
+      L.keeps_on a.log.now b.log.now c.log.now p.5 q.5,
+      calls_still (S.called a.source.now) (S.called b.source.now) (S.called c.source.now) 0 p.6 q.6,
+      calls_more (D.looked a.dest.now) (D.looked b.dest.now) (D.looked c.dest.now) 1 1 p.7 q.7,
     ) };
 
     ghost proper = { λ o told is. S.proper o.source.now told is };

@@ -1,4 +1,4 @@
--- How devices count their failures, and a source its calls.
+-- How devices count their failures, and a source its calls or a destination its looks.
 use Rattle.std.specs.Prelude.{◌≡◌, ℕ, ◌+◌, ◌≤◌, ◌-◌, ◌^◌, min, Result, Ok, Err}
 use Rattle.pt_tree.specs.declared.faults.TreeFault.{TreeFault}
 use Rattle.pt_tree.specs.declared.faults.TreeFault.TheVariants.{Device, Memory}
@@ -20,3 +20,7 @@ IsCounted old new (Err Memory) = new ≡ old
 -- the number of calls, whatever it was, is one more
 abbrev pub IsOneMoreCall : (ℕ → Type 0) → (ℕ → Type 0) → Type 0
 IsOneMoreCall before after = (n : ℕ) → before n → after (n + 1)
+
+-- the number of calls, whatever it was, is the same
+abbrev pub AreAsManyCalls : (ℕ → Type 0) → (ℕ → Type 0) → Type 0
+AreAsManyCalls before after = (n : ℕ) → before n → after n

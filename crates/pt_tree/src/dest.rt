@@ -1,6 +1,6 @@
-ghost use Rattle.std.specs.Prelude.{◌≡◌, ℕ, [], Option, Some, IfOk, OnOk, OnErr};
+ghost use Rattle.std.specs.Prelude.{◌≡◌, ℕ, [], Option, Some, IfOk, OnOk, OnErr, ⊤};
 ghost use Rattle.std.specs.Option.{option_map};
-ghost use Rattle.pt_tree.specs.Failures.{IsCounted};
+ghost use Rattle.pt_tree.specs.Failures.{AreAsManyCalls, IsCounted, IsOneMoreCall};
 ghost use Rattle.pt_tree.specs.Tree.{IsTree};
 ghost use Rattle.pt_tree.specs.Dest.{Writing, IsKindAt, CanPeek, IsPeeked, MayMake, CanWrite, MayMove, LeavesPart, after_mkdir, after_create, after_append, after_finish, after_rename};
 
@@ -9,7 +9,8 @@ use crate::{Block, Kind, NamePath, TreeFault};
 /// A tree of files to write into.
 ///
 /// A destination may tell what it holds: then contracts say what its calls give and leave. No call changes whether it
-/// tells. A failed call changes nothing, but for a failed `append`.
+/// tells. A failed call changes nothing, but for a failed `append`. It may count how often it is asked what stands; `kind`
+/// and `peek` raise that number by one, failed or not, and no other call does.
 ///
 /// Each call answers `Device` only where the count of failures rose in it, or stood at its greatest value, 2^64 - 1;
 /// and `Memory` where a growth was refused.
@@ -19,6 +20,9 @@ pub trait Dest {
 
     /// How often it failed, up to 2^64 - 1.
     ghost failed: { Self → ℕ };
+
+    /// It was asked so many times what stands, by `kind` and `peek`. One that keeps no such number leaves it open.
+    ghost looked: { Self → ℕ → Type 0 } = { λ _ _. ⊤ };
 
     /// What no call changes beside: it is the first device still, as its calls left it.
     ghost keeps: { Self → Self → Type 0 };
@@ -32,6 +36,7 @@ pub trait Dest {
         ensures kind { IfOk result (λ kind. IsKindAt (told self.old) path.now kind) }
         ensures same { told self.new ≡ told self.old }
         ensures failures { IsCounted (failed self.old) (failed self.new) result }
+        ensures looks { IsOneMoreCall (looked self.old) (looked self.new) }
         ensures keeps { keeps self.old self.new };
 
     /// The block becomes the first bytes of the file at a path, up to 8,192. On a fault the block is empty.
@@ -43,6 +48,7 @@ pub trait Dest {
         ensures empty { OnErr result (block.new.items ≡ []) }
         ensures same { told self.new ≡ told self.old }
         ensures failures { IsCounted (failed self.old) (failed self.new) result }
+        ensures looks { IsOneMoreCall (looked self.old) (looked self.new) }
         ensures keeps { keeps self.old self.new };
 
     /// Makes a directory. Where the destination tells, the path has to be absent and its parent a directory.
@@ -52,6 +58,7 @@ pub trait Dest {
             ≡ option_map (after_mkdir path.now) (told self.old)) }
         ensures same { OnErr result (told self.new ≡ told self.old) }
         ensures failures { IsCounted (failed self.old) (failed self.new) result }
+        ensures looks { AreAsManyCalls (looked self.old) (looked self.new) }
         ensures keeps { keeps self.old self.new };
 
     /// Makes an empty file and opens it; a file that was open keeps its bytes. Where the destination tells, the path
@@ -62,6 +69,7 @@ pub trait Dest {
             ≡ option_map (after_create path.now) (told self.old)) }
         ensures same { OnErr result (told self.new ≡ told self.old) }
         ensures failures { IsCounted (failed self.old) (failed self.new) result }
+        ensures looks { AreAsManyCalls (looked self.old) (looked self.new) }
         ensures keeps { keeps self.old self.new };
 
     /// Adds a piece to the open file, which stays open. A failed call leaves a part of the piece, from its start.
@@ -73,6 +81,7 @@ pub trait Dest {
             ≡ option_map (after_append piece.now) (told self.old)) }
         ensures part { OnErr result (LeavesPart (told self.old) (told self.new) piece.now) }
         ensures failures { IsCounted (failed self.old) (failed self.new) result }
+        ensures looks { AreAsManyCalls (looked self.old) (looked self.new) }
         ensures keeps { keeps self.old self.new };
 
     /// Closes the open file. Where the destination tells, a file has to be open.
@@ -81,6 +90,7 @@ pub trait Dest {
         ensures closed { OnOk result (told self.new ≡ option_map after_finish (told self.old)) }
         ensures same { OnErr result (told self.new ≡ told self.old) }
         ensures failures { IsCounted (failed self.old) (failed self.new) result }
+        ensures looks { AreAsManyCalls (looked self.old) (looked self.new) }
         ensures keeps { keeps self.old self.new };
 
     /// Moves what stands at `from`, with all below, to `to`; a file that is open there is closed.
@@ -93,6 +103,7 @@ pub trait Dest {
             ≡ option_map (after_rename from.now to.now) (told self.old)) }
         ensures same { OnErr result (told self.new ≡ told self.old) }
         ensures failures { IsCounted (failed self.old) (failed self.new) result }
+        ensures looks { AreAsManyCalls (looked self.old) (looked self.new) }
         ensures keeps { keeps self.old self.new };
 
     /// It is itself.

@@ -1,4 +1,4 @@
-use Rattle.std.proofs.Common.{rules}
+use Rattle.std.proofs.Common.{le_refl, rules}
 use Rattle.pt_move.proofs.Answering.{making_turn}
 use Rattle.pt_move.proofs.Keeping.{outcomes}
 use Rattle.pt_move.proofs.mover.made_turn.Goals as goal
@@ -10,5 +10,5 @@ returns-clause-made g c = record {
   own = c.turn.ensures.turn.own;
   well = search (rules, making_turn, outcomes);
   leaves = search (rules, making_turn, outcomes);
-  few = g.met.O.Outside.most _ _ _ _ c.turn.ensures.turn.few (search (rules, making_turn));
+  few = g.met.O.Outside.most _ _ _ _ _ _ c.turn.ensures.turn.few (search (rules, making_turn)) (le_refl _);
 }

@@ -1,4 +1,4 @@
-use Rattle.std.proofs.Common.{rules}
+use Rattle.std.proofs.Common.{arith, rules}
 use Rattle.pt_move.proofs.Answering.{goes_on_halted, stepping}
 use Rattle.pt_move.proofs.Keeping.{answered}
 use Rattle.pt_move.specs.Stepping.{StepLeaves}
@@ -39,3 +39,7 @@ returns-in_default-2 g c = record {
 
 pub made_turn-requires : goal.made_turn-requires
 made_turn-requires g c = search rules
+
+-- at the limit nothing is called
+pub returns-then-self-turns-clause-calls : goal.returns-then-self-turns-clause-calls
+returns-then-self-turns-clause-calls g c = g.met.O.Outside.most _ _ _ _ _ _ (g.met.O.Outside.none _) (omega arith) (omega arith)
