@@ -1,10 +1,12 @@
 // A survey under way, made step by step.
 ghost use Rattle.std.specs.Option.{ForSome};
 ghost use Rattle.std.specs.Prelude.{◌≡◌, ◌≢◌, ℕ, true, length, Option, Some, None, IfErr, OnOk, IfOk};
+ghost use Rattle.pt_move.specs.Bounds.{most_calls};
 ghost use Rattle.pt_move.specs.Running.{IsNew, IsWell};
 ghost use Rattle.pt_plan.specs.Answer.{phase_after};
 ghost use Rattle.pt_survey.specs.Growing.{BlamesRightly, KeepsLog, KeepsTree, Leaves};
 ghost use Rattle.pt_plan.specs.World.{source_tree};
+ghost use Rattle.pt_state.specs.Counting.{AtMostCalls};
 ghost use Rattle.pt_state.specs.Outside.{world};
 ghost use Rattle.pt_survey.specs.Bare.{bare};
 ghost use Rattle.pt_move.specs.Turning.{CountedTurn};
@@ -110,8 +112,8 @@ impl Survey {
         }
     }
 
-    /// Makes one step, which is a turn of a run over a destination in which nothing stands. What is passed over is told in
-    /// the log as a run tells it; of an object nothing is told.
+    /// Makes one step, which is a turn of a run over a destination in which nothing stands, and calls the source no more often
+    /// than that. What is passed over is told in the log as a run tells it; of an object nothing is told.
     pub fn step<S: Source, L: Log>(&mut self, source: &mut S, log: &mut L) -> Result<Sight, Fault>
         requires { Surveys (S.told source.old) self.old }
         ensures on { (count : ℕ) → IsSurvey (S.told source.old) count self.old
@@ -120,7 +122,9 @@ impl Survey {
         ensures sight { IfOk result (λ sight. sight ≡ sight_at self.new.phase) }
         ensures made { OnOk result (MakesStep (S.told source.old) (S.told source.new)
             self.old self.new) }
-        ensures source { KeepsTree S.told S.keeps source.old source.new }
+        ensures source { KeepsTree S.told S.keeps source.old source.new
+            × AtMostCalls (most_calls self.old.phase)
+            (S.called source.old) (S.called source.new) }
         ensures log { KeepsLog L.told L.keeps log.old log.new }
         ensures blames { BlamesRightly (S.failed source.old) (S.failed source.new)
             (L.failed log.old) (L.failed log.new) result }
@@ -217,7 +221,8 @@ fn stepped<S: Source, L: Log>(
     ensures made { IfOk result (λ next. MakesStep (S.told source.old) (S.told source.new)
         (record { phase = here; state = state.old })
         (record { phase = next; state = state.new })) }
-    ensures source_stays { S.keeps source.old source.new }
+    ensures source_stays { S.keeps source.old source.new
+        × AtMostCalls (most_calls here) (S.called source.old) (S.called source.new) }
     ensures log_stays { L.keeps log.old log.new }
 {
     if is_at_hand(&here) {
@@ -249,7 +254,8 @@ fn look<S: Source, L: Log>(
         (world (S.told source.new) (Some bare) (L.told log.new)
         (S.failed source.new) 0 (L.failed log.new)) result }
     ensures block { ReadsNext here (S.told source.old) state.new.block.items result }
-    ensures source_stays { S.keeps source.old source.new }
+    ensures source_stays { S.keeps source.old source.new
+        × AtMostCalls (most_calls here) (S.called source.old) (S.called source.new) }
     ensures log_stays { L.keeps log.old log.new }
 {
     turn(
@@ -270,7 +276,8 @@ fn pass<S: Source>(state: &mut State, here: Phase, source: &mut S) -> Result<Pha
     ensures turn { CountedTurn here state.old state.new
         (world (S.told source.old) (Some bare) None (S.failed source.old) 0 0)
         (world (S.told source.new) (Some bare) None (S.failed source.new) 0 0) result }
-    ensures source_stays { S.keeps source.old source.new }
+    ensures source_stays { S.keeps source.old source.new
+        × AtMostCalls (most_calls here) (S.called source.old) (S.called source.new) }
 {
     turn(
         state,

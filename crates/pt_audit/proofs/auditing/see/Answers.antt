@@ -16,7 +16,7 @@ returns-clause-saw g c =
         follows = record {
           holds = holds_its_fields _;
           under_way = now;
-          paced = c.in_ok-follow.ensures.paced _ (behind _ _ _ _ _ _ c.requires.under_way now c.in_ok-sight.ensures.made.scans c.in_ok-sight.ensures.source.1 c.requires.paced);
+          paced = c.in_ok-follow.ensures.paced _ (behind _ _ _ _ _ _ c.requires.under_way now c.in_ok-sight.ensures.made.scans c.in_ok-sight.ensures.source.0.1 c.requires.paced);
           can = c.in_ok-follow.ensures.still;
         };
         saw = c.in_ok-sight.ensures.sight;
