@@ -90,7 +90,7 @@ fn put_text<O: Outside>(
     out: &mut O,
 ) -> Result<(), Fault>
     requires { MayMake (O.world out.old).dest path.now }
-    ensures wrote { Wrote O.world (O.within 0) (makes_file path.now text.entry.rest)
+    ensures wrote { Wrote O.world (O.within 0 0) (makes_file path.now text.entry.rest)
         out.old out.new result }
     ensures fed { OnOk result (IsFedMore hasher.old hasher.new text.entry.rest) }
 {

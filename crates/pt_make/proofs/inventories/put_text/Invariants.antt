@@ -6,7 +6,7 @@ use Rattle.pt_make.proofs.inventories.put_text.Given as goal
 abbrev pub invariant-loop-text : goal.invariant-loop-text
 invariant-loop-text g l = record {
   put : HasPut l.path l.fn.text.rest l.text.rest l.fn.hasher l.hasher (g.O.Outside.world l.fn.out) (g.O.Outside.world l.out);
-  few : g.O.Outside.within 0 l.fn.out l.out;
+  few : g.O.Outside.within 0 0 l.fn.out l.out;
 }
 
 abbrev pub decreases-loop-text : goal.decreases-loop-text

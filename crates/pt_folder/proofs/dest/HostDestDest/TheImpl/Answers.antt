@@ -8,6 +8,7 @@ kind-tells g c =
       kind = own.kind;
       same = own.same;
       failures = own.call.failures;
+      looks = λ n is. tt;
       keeps = (own.call.keeps, next _ _ none (looks c.args.path.now c.result own.asked own.call));
     }
 
@@ -18,6 +19,7 @@ peek-tells g c =
       empty = own.empty;
       same = own.same;
       failures = own.call.failures;
+      looks = λ n is. tt;
       keeps = (own.call.keeps, next _ _ none (peeks c.args.path.now c.new.block.now.items c.result own.asked own.call));
     }
 
@@ -27,6 +29,7 @@ mkdir-tells g c =
       made = own.made;
       same = own.same;
       failures = own.call.failures;
+      looks = λ n is. tt;
       keeps = (own.call.keeps, next _ _ none (makes_dir c.args.path.now c.result own.asked own.call));
     }
 
@@ -36,6 +39,7 @@ create-tells g c =
       made = own.made;
       same = own.same;
       failures = own.call.failures;
+      looks = λ n is. tt;
       keeps = (own.call.keeps, next _ _ none (makes_file c.args.path.now c.result own.asked own.call));
     }
 
@@ -45,6 +49,7 @@ append-tells g c =
       added = own.added;
       part = own.part;
       failures = own.call.failures;
+      looks = λ n is. tt;
       keeps = (own.call.keeps, next _ _ none (writes c.args.piece.now c.result own.writes own.call));
     }
 
@@ -54,6 +59,7 @@ finish-tells g c =
       closed = own.finished;
       same = own.same;
       failures = own.call.failures;
+      looks = λ n is. tt;
       keeps = (own.call.keeps, next _ _ none (closes c.result own.closed own.writing own.system own.call));
     }
 
@@ -63,5 +69,6 @@ rename-tells g c =
       moved = own.moved;
       same = own.same;
       failures = own.call.failures;
+      looks = λ n is. tt;
       keeps = (own.call.keeps, next _ _ none (moves c.args.from.now c.args.to.now c.result own.asked own.writing own.left own.call));
     }
