@@ -10,8 +10,8 @@ use crate::state::{Group, put_grouped};
 use crate::{Algorithm, Content, Meta, Rows};
 use pt_tree::MemoryFault;
 
-// How many contents are put at once, at most: an object of fewer files has an inventory of one piece.
-const CONTENTS: usize = 256;
+// How many contents are put at once, at most: an object of fewer files has an inventory of one piece, some 80 MB long.
+const CONTENTS: usize = 262_144;
 
 #[derive(Drop)]
 pub(crate) struct Parts<'a> {
