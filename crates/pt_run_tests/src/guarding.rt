@@ -117,9 +117,9 @@ fn audited(alloc: Global, paths: &Paths) -> Result<io::Result<u8>, GuardFault> {
     begin(&mut &*paths, alloc, Claim::Shared, "s", "d")
 }
 
-// What it is refused for where the lock can be had.
-fn refusal(alloc: Global, leads: Leads, numbers: Numbers) -> Option<GuardFault> {
-    begun(alloc, &where_to(leads, numbers, Lock::Held)).err()
+// What comes of it where the lock can be had: the lock that it begins with, if it has one, or what it is refused for.
+fn lock_of(alloc: Global, leads: Leads, numbers: Numbers) -> Result<Option<u8>, GuardFault> {
+    begun(alloc, &where_to(leads, numbers, Lock::Held)).map(io::Result::ok)
 }
 
 // Whether it is refused as an overlap, before the lock is asked for.
@@ -218,8 +218,8 @@ const BOTH: Leads = &[
     ("d/ocfl", "/y/z/d/ocfl"),
 ];
 
-// What paths on the way to them are known by, and what a run is refused for then.
-const ON_THE_WAY: &[(Numbers, Option<GuardFault>)] = &[
+// What paths on the way to them are known by, and what comes of a run then.
+const ON_THE_WAY: &[(Numbers, Result<Option<u8>, GuardFault>)] = &[
     (
         &[
             ("s", 1),
@@ -227,23 +227,23 @@ const ON_THE_WAY: &[(Numbers, Option<GuardFault>)] = &[
             ("d/ocfl", 4),
             ("/y/z/d", 1),
         ],
-        Some(GuardFault::Overlap),
+        Err(GuardFault::Overlap),
     ),
     (
         &[("s", 1), ("s/pairtree_root", 3), ("d/ocfl", 4), ("/y/z", 1)],
-        Some(GuardFault::Overlap),
+        Err(GuardFault::Overlap),
     ),
     (
         &[("s", 1), ("s/pairtree_root", 3), ("d/ocfl", 4), ("/", 1)],
-        Some(GuardFault::Overlap),
+        Err(GuardFault::Overlap),
     ),
     (
         &[("s", 1), ("s/pairtree_root", 3), ("d/ocfl", 4), ("/y", 3)],
-        Some(GuardFault::Overlap),
+        Err(GuardFault::Overlap),
     ),
     (
         &[("s", 1), ("s/pairtree_root", 3), ("d/ocfl", 4), ("/x", 4)],
-        Some(GuardFault::Overlap),
+        Err(GuardFault::Overlap),
     ),
     (
         &[
@@ -252,18 +252,18 @@ const ON_THE_WAY: &[(Numbers, Option<GuardFault>)] = &[
             ("d/ocfl", 4),
             ("/x/s/pairtree_root", 4),
         ],
-        Some(GuardFault::Overlap),
+        Err(GuardFault::Overlap),
     ),
     (
         &[("s", 1), ("s/pairtree_root", 3), ("d/ocfl", 4), ("/", 9)],
-        None,
+        Ok(Some(7)),
     ),
 ];
 
 #[test]
 fn a_folder_by_another_path_is_known(rt: HostRuntime) {
-    for (numbers, fault) in ON_THE_WAY {
-        assert!(rt; refusal(rt.alloc(), BOTH, numbers) == *fault, "{numbers:?}");
+    for (numbers, comes) in ON_THE_WAY {
+        assert!(rt; lock_of(rt.alloc(), BOTH, numbers) == *comes, "{numbers:?}");
     }
 }
 
@@ -277,8 +277,8 @@ const UNPLACED: &[(Leads, Numbers)] = &[
 #[test]
 fn what_stands_and_has_no_place_is_refused(rt: HostRuntime) {
     for (leads, numbers) in UNPLACED {
-        let fault = refusal(rt.alloc(), leads, numbers);
-        assert!(rt; fault == Some(GuardFault::Hidden), "{leads:?}");
+        let comes = lock_of(rt.alloc(), leads, numbers);
+        assert!(rt; comes == Err(GuardFault::Hidden), "{leads:?}");
     }
 }
 
@@ -298,7 +298,7 @@ const UNTOLD: &[(Leads, Numbers)] = &[
 #[test]
 fn want_of_memory_is_no_unknown_place(rt: HostRuntime) {
     for (leads, numbers) in UNTOLD {
-        let fault = refusal(rt.alloc(), leads, numbers);
-        assert!(rt; fault == Some(GuardFault::Memory), "{leads:?}");
+        let comes = lock_of(rt.alloc(), leads, numbers);
+        assert!(rt; comes == Err(GuardFault::Memory), "{leads:?}");
     }
 }
