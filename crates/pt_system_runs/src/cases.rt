@@ -1,4 +1,8 @@
 //! What a case is: a store, and what runs over it must tell and leave.
+use crate::texts::{DECLARATION, OF_ROOT};
+use pt_memory::MemDest;
+use pt_texts::{add, path, tree};
+use std::alloc::Global;
 
 /// A store, and what runs over it must tell and leave. All of it was computed apart from the program.
 #[derive(Clone, Copy)]
@@ -6,16 +10,77 @@ pub struct Case {
     pub name: &'static str,
     /// The entries of the store: paths and bytes. A path that ends in `/` is an empty directory.
     pub store: &'static [(&'static str, &'static str)],
-    /// The status of a run into an empty root.
-    pub status: u8,
-    /// Its log.
-    pub log: &'static str,
-    /// The log of a run over the root that holds the objects.
+    /// What a run meets, in the order of the walk.
+    pub met: &'static [Met],
+}
+
+/// What a run meets.
+#[derive(Clone, Copy)]
+pub enum Met {
+    /// What isn't carried, with its line of the log.
+    Skip(&'static str),
+    Object(&'static Object),
+}
+
+/// An object, and what runs tell and leave of it.
+#[derive(Clone, Copy)]
+pub struct Object {
+    /// Its place in the storage root.
+    pub place: &'static str,
+    /// Its line of the log where it is carried.
+    pub done: &'static str,
+    /// Its line of the log where it stands.
     pub present: &'static str,
-    /// Files of the root.
-    pub files: &'static [(&'static str, &'static str)],
-    /// Whether nothing else stands there, and no run carries only some of the objects.
-    pub alone: bool,
-    /// Each so many calls one fails.
-    pub stride: u64,
+    /// The files that are stored of it: their paths in it, and bytes.
+    pub contents: &'static [(&'static str, &'static str)],
+    pub inventory: &'static str,
+    pub sidecar: &'static str,
+}
+
+impl Case {
+    /// The root that holds each object whole, and nothing else.
+    pub fn root(&self, alloc: Global) -> Option<MemDest> {
+        let mut root = tree(alloc, OF_ROOT).ok()?;
+        for met in self.met {
+            if let Met::Object(object) = met {
+                object.plant(alloc, &mut root)?;
+            }
+        }
+        Some(root)
+    }
+}
+
+impl Object {
+    /// Whether it stands in a root.
+    pub fn stands(&self, alloc: Global, root: &MemDest) -> Option<bool> {
+        let declared = format!(in alloc; "ocfl/{}/{DECLARATION}", self.place).ok()?;
+        let at = path(alloc, declared.as_str()).ok()?;
+        Some(root.file(&at).is_some())
+    }
+
+    // Plants what OCFL 1.1 wants of it: its declaration, and for itself and its one version the inventory with its sidecar.
+    fn plant(&self, alloc: Global, root: &mut MemDest) -> Option<()> {
+        self.put(alloc, root, "", (DECLARATION, "ocfl_object_1.1\n"))?;
+        for above in ["", "v1/"] {
+            self.put(alloc, root, above, ("inventory.json", self.inventory))?;
+            self.put(alloc, root, above, ("inventory.json.sha512", self.sidecar))?;
+        }
+        for file in self.contents {
+            self.put(alloc, root, "v1/content/", *file)?;
+        }
+        Some(())
+    }
+
+    // Plants one file of it, by its path below a folder of it.
+    fn put(
+        &self,
+        alloc: Global,
+        root: &mut MemDest,
+        above: &str,
+        file: (&str, &str),
+    ) -> Option<()> {
+        let (at, bytes) = file;
+        let path = format!(in alloc; "ocfl/{}/{above}{at}", self.place).ok()?;
+        add(alloc, root, &[(path.as_str(), bytes)]).ok()
+    }
 }

@@ -6,6 +6,8 @@ mod demo;
 mod machine;
 mod one_object;
 mod rows;
+mod texts;
+mod told;
 
 use cases::Case;
 use rows::{Found, Row, tried};

@@ -1,9 +1,10 @@
 //! The rows: what runs over a case leave, held against what they should.
 use crate::cases::Case;
 use crate::machine::{Ran, carry};
+use crate::told::Told;
 use pt_memory::MemDest;
 use pt_memory_system::Faults;
-use pt_texts::{add, path, tree};
+use pt_texts::{add, path};
 use std::alloc::{AllocGlobal, Global};
 
 /// What a row finds.
@@ -25,7 +26,7 @@ pub enum Row {
     RehearsedBefore,
     /// A rehearsal over the root that holds the objects.
     RehearsedAfter,
-    /// A run stopped at calls in turn, each time followed by one that nothing stops.
+    /// A run stopped at each call in turn, each time followed by one that nothing stops.
     Stopped,
 }
 
@@ -46,80 +47,45 @@ fn tried_on(rt: &HostRuntime, case: &Case, row: Row, ran: &mut Ran) -> Option<Fo
 }
 
 fn carrying(rt: &HostRuntime, case: &Case, ran: &mut Ran) -> Option<Found> {
+    let told = case.tells(rt.alloc(), &ran.root)?;
     carry(rt, &Faults::new(), ran, false)?;
-    match told(ran, case.status, case.log) {
-        Found::Well => stands(rt.alloc(), case, &ran.root),
-        differs => Some(differs),
-    }
+    Some(differs(ran, &told, &case.root(rt.alloc())?))
 }
 
 fn rehearsing(rt: &HostRuntime, case: &Case, ran: &mut Ran) -> Option<Found> {
+    let told = case.tells(rt.alloc(), &ran.root)?;
     carry(rt, &Faults::new(), ran, true)?;
-    match told(ran, case.status, case.log) {
-        Found::Well if is_empty(rt.alloc(), &ran.root) => {}
-        Found::Well => return Some(Found::Otherwise("the rehearsal leaves something")),
-        differs => return Some(differs),
+    match differs(ran, &told, &MemDest::new(rt.alloc())) {
+        Found::Well => carrying(rt, case, ran),
+        found => Some(found),
     }
-    carry(rt, &Faults::new(), ran, false)?;
-    match told(ran, case.status, case.log) {
-        Found::Well => stands(rt.alloc(), case, &ran.root),
-        _ => Some(Found::Otherwise("the run tells something else")),
-    }
-}
-
-fn is_empty(alloc: Global, root: &MemDest) -> bool {
-    root.same(&MemDest::new(alloc))
 }
 
 fn rehearsing_again(rt: &HostRuntime, case: &Case, ran: &mut Ran) -> Option<Found> {
     carry(rt, &Faults::new(), ran, false)?;
+    let told = case.tells(rt.alloc(), &ran.root)?;
     carry(rt, &Faults::new(), ran, true)?;
-    match told(ran, 1, case.present) {
-        Found::Well => stands(rt.alloc(), case, &ran.root),
-        differs => Some(differs),
-    }
+    Some(differs(ran, &told, &case.root(rt.alloc())?))
 }
 
-// Whether a run ended with this status and this log.
-fn told(ran: &Ran, status: u8, log: &str) -> Found {
-    if ran.status != status {
+// How a run differs from one that tells this and leaves this root.
+fn differs(ran: &Ran, told: &Told, root: &MemDest) -> Found {
+    if ran.status != told.status {
         Found::Otherwise("the status is another")
-    } else if ran.log.as_slice() != log.as_bytes() {
+    } else if ran.log.as_slice() != told.log.as_bytes() {
         Found::Otherwise("the log is another")
+    } else if !ran.root.same(root) {
+        Found::Otherwise("the root is another")
     } else {
         Found::Well
     }
 }
 
-// Whether a root has the case's files.
-fn stands(alloc: Global, case: &Case, root: &MemDest) -> Option<Found> {
-    for (at, bytes) in case.files {
-        if !has_file(alloc, root, at, bytes)? {
-            return Some(Found::Otherwise("a file is another"));
-        }
-    }
-    if case.alone && !has_all(alloc, root, case.files)? {
-        return Some(Found::Otherwise("something else stands there"));
-    }
-    Some(Found::Well)
-}
-
-fn has_file(alloc: Global, root: &MemDest, at: &str, bytes: &str) -> Option<bool> {
-    let at = path(alloc, at).ok()?;
-    Some(root.file(&at) == Some(bytes.as_bytes()))
-}
-
-// Whether these files are all that stands there.
-fn has_all(alloc: Global, root: &MemDest, files: &[(&str, &str)]) -> Option<bool> {
-    let tree = tree(alloc, files).ok()?;
-    Some(root.same(&tree))
-}
-
-// Runs that are stopped after each so many calls, until one isn't stopped.
+// Runs that are stopped after no call, after one, after two and so on, until one isn't stopped.
 fn stopping(rt: &HostRuntime, case: &Case, ran: &mut Ran) -> Option<Found> {
-    carry(rt, &Faults::new(), ran, false)?;
-    for turn in 0..10_000u64 {
-        match stopped(rt, case, &ran.root, turn.wrapping_mul(case.stride))? {
+    let whole = case.root(rt.alloc())?;
+    for passing in 0..10_000u64 {
+        match stopped(rt, case, &whole, passing)? {
             Stop::Well => {}
             Stop::Otherwise(why) => return Some(Found::Otherwise(why)),
             Stop::Past => return Some(Found::Well),
@@ -151,40 +117,28 @@ fn stopping_once(
     add(rt.alloc(), &mut ran.store, case.store).ok()?;
     let faults = Faults::new();
     faults.fail_after(Some(passing));
+    let told = case.tells(rt.alloc(), &ran.root)?;
     carry(rt, &faults, ran, false)?;
     if faults.made() <= passing {
-        return Some(past(case, whole, ran));
+        return Some(match differs(ran, &told, whole) {
+            Found::Well => Stop::Past,
+            _ => Stop::Otherwise("no call fails, and the run is another"),
+        });
     }
     if ran.status != 3 {
         return Some(Stop::Otherwise("a call fails and the status is another"));
     }
+    after_a_stop(rt, case, whole, ran)
+}
+
+// The run after a stopped one, of which `staging` is taken away.
+fn after_a_stop(rt: &HostRuntime, case: &Case, whole: &MemDest, ran: &mut Ran) -> Option<Stop> {
     let _ = ran.root.take_away(&path(rt.alloc(), "staging").ok()?);
+    let told = case.tells(rt.alloc(), &ran.root)?;
     carry(rt, &Faults::new(), ran, false)?;
-    Some(after_a_stop(case, whole, ran))
-}
-
-// Whether a run that wasn't stopped left all.
-fn past(case: &Case, whole: &MemDest, ran: &Ran) -> Stop {
-    if ran.status != case.status {
-        Stop::Otherwise("no call fails and the status is another")
-    } else if !ran.root.same(whole) {
-        Stop::Otherwise("no call fails and something else is left")
-    } else {
-        Stop::Past
-    }
-}
-
-// Whether the run after a stopped one left all.
-fn after_a_stop(case: &Case, whole: &MemDest, ran: &Ran) -> Stop {
-    let present = ran.log.as_slice() == case.present.as_bytes();
-    let status = if present { 1 } else { case.status };
-    if ran.status != status {
-        Stop::Otherwise("the second run ends in another status")
-    } else if !ran.root.same(whole) {
-        Stop::Otherwise("the second run leaves something else")
-    } else if case.alone && !present && ran.log.as_slice() != case.log.as_bytes() {
-        Stop::Otherwise("the second run tells something else")
-    } else {
-        Stop::Well
-    }
+    Some(match differs(ran, &told, whole) {
+        Found::Well => Stop::Well,
+        Found::Otherwise(why) => Stop::Otherwise(why),
+        Found::Unmade => Stop::Otherwise("the devices can't be made"),
+    })
 }
