@@ -188,7 +188,7 @@ def many_stores(program, folder):
 
 def audit_in_shares(program, folder):
     """The guide's audit in shares, side by side: the lines are those of one audit, each in one share's log, and the status tells of a fault."""
-    needs("bash", "xargs")
+    needs("bash")
     names = [f"{a}{b}" for a in "abcdefgh" for b in "abcdefgh"]
     build(f"{folder}/s", {f"pairtree_root/{x}/{y}/obj/f": b"1" for x in names for y in names[:20]})
     faults = differs(run=(migrate(program, folder, "s", "d"), 0))

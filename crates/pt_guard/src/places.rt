@@ -7,7 +7,7 @@ ghost use Rattle.std.specs.declared.result.Result.{Result};
 ghost use Rattle.pt_guard.specs.declared.places.Claim.{Claim};
 ghost use Rattle.pt_guard.specs.declared.places.Folder.{Folder};
 ghost use Rattle.pt_guard.specs.declared.places.Hold.{Hold};
-ghost use Rattle.pt_guard.specs.Hold.{AsksFolder, AsksLock, hold_of};
+ghost use Rattle.pt_guard.specs.Hold.{AsksFolder, AsksLock, HoldsBy, hold_of};
 ghost use Rattle.pt_guard.specs.Wanting.{IsWanting};
 
 use crate::declared::declares;
@@ -136,16 +136,26 @@ where
     }
 
     fn hold(&mut self, path: &str, claim: Claim) -> Hold<R::File> {
-        match declares(*self, path) {
-            Ok(true) => Hold::Root,
-            Ok(false) => locked(*self, path, claim),
-            Err(error) if is_wanting(&error) => Hold::Unknown(error),
-            Err(_) => locked(*self, path, claim),
-        }
+        let told = declares(*self, path);
+        held_by(*self, told, path, claim)
     }
 
     fn release(&mut self, lock: R::File) {
         drop(lock);
+    }
+}
+
+// What asking so for the lock of the folder at a path comes to, by what is told of its names.
+fn held_by<R: Files>(rt: &R, told: io::Result<bool>, path: &str, claim: Claim) -> Hold<R::File>
+where
+    R::File: Lockable,
+    ensures { HoldsBy R.File.answers claim told result }
+{
+    match told {
+        Ok(true) => Hold::Root,
+        Ok(false) => locked(rt, path, claim),
+        Err(error) if is_wanting(&error) => Hold::Unknown(error),
+        Err(_) => locked(rt, path, claim),
     }
 }
 
