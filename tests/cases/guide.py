@@ -280,18 +280,22 @@ def walk(program, folder):
         lines = sorted(done.stdout.decode().splitlines())
         if wanted is not None and lines != sorted(wanted):
             faults.append(f"{part} prints {lines}, not {sorted(wanted)}")
-        faults += differs(**{f"{part} says": (done.stderr, b"")})
+        faults += differs(**{f"{part} says": (SUMMARY.sub(b"", done.stderr), b"")})
     return faults + [f"{part} isn't in the guide" for part, *_ in WALK if not any(part == step[0] for step in seen)]
 
+
+# What a run whose block has `--verbose` says at its end.
+SUMMARY = re.compile(rb"^pairtree2ocfl: \d+ done, \d+ present, \d+ skipped.*\n", re.MULTILINE)
 
 # The blocks that other cases run.
 ELSEWHERE = ("shares.sh here", "--share K/N", "damaged.txt", 'damaged DEST/ocfl', "audit-2.log", "@csv", "xargs", "#SBATCH", "join out", "rm -r DEST/staging")
 
 
 def guide_blocks():
-    """The blocks of commands of the guide."""
+    """The blocks of commands of the guide; a block that begins with the program's name and a colon shows what it says."""
     with open(f"{TOP}/docs/GUIDE.md", encoding="utf-8") as file:
-        return re.findall(r"(?:^    .*\n?)+", file.read(), re.MULTILINE)
+        blocks = re.findall(r"(?:^    .*\n?)+", file.read(), re.MULTILINE)
+    return [block for block in blocks if not block.startswith("    pairtree2ocfl: ")]
 
 
 def stopped(program, folder):
