@@ -82,7 +82,7 @@ fn text_of<'a>(state: &'a State, object: &'a Object) -> Result<InventoryPieces<'
 }
 
 // Makes a file of the destination with a text, and feeds it to the hasher, if there is one. Each piece is written and fed
-// before the next is made, so that the text is nowhere as a whole.
+// before the next is made, so that a text of many pieces is nowhere as a whole.
 fn put_text<O: Outside>(
     path: &NamePath,
     mut text: InventoryPieces<'_>,

@@ -47,7 +47,7 @@ pub fn inventory(
     Ok(unsafe { String::from_utf8_unchecked(text) })
 }
 
-/// The text that `inventory` gives, made piece by piece so that it is nowhere as a whole: seen as the piece that was made last, and as
+/// The text that `inventory` gives, made piece by piece so that one of many pieces is nowhere as a whole: seen as the piece that was made last, and as
 /// what is still to be made.
 #[derive(Drop)]
 pub struct InventoryPieces<'a> {
