@@ -9,7 +9,7 @@ use Rattle.pt_plan.specs.declared.fault.Fault.{Fault}
 use Rattle.pt_state.specs.States.{job_of}
 use Rattle.pt_state.specs.declared.job.Job as own
 use Rattle.pt_state.specs.declared.job.Report.{Report}
-use Rattle.pt_survey.specs.Surveying.{Steps, work_of_survey}
+use Rattle.pt_audit.specs.Surveying.{Steps, work_of_survey}
 use Rattle.pt_tree.specs.Forest.{Forest}
 
 module _ {source : Option Forest} {first : Running} where

@@ -26,11 +26,11 @@ use Rattle.pt_plan.specs.declared.phase.Opening.TheVariants as opening
 use Rattle.pt_plan.specs.declared.phase.Phase.TheVariants as phase
 use Rattle.pt_plan.specs.declared.phase.Stage.TheVariants as stage
 use Rattle.pt_state.specs.declared.state.State.{State}
-use Rattle.pt_survey.specs.Surveying.{sight_at}
-use Rattle.pt_survey.specs.Files.{IsOpened as IsOpenedFile, IsOpenedAt, names_before}
-use Rattle.pt_survey.specs.declared.survey.Opened.{Opened as OpenedFile}
-use Rattle.pt_survey.specs.declared.survey.Sight.{Sight}
-use Rattle.pt_survey.specs.declared.survey.Sight.TheVariants as sight
+use Rattle.pt_audit.specs.Surveying.{sight_at}
+use Rattle.pt_audit.specs.Files.{IsOpened as IsOpenedFile, IsOpenedAt, names_before}
+use Rattle.pt_audit.specs.declared.survey.Opened.{Opened as OpenedFile}
+use Rattle.pt_audit.specs.declared.survey.Sight.{Sight}
+use Rattle.pt_audit.specs.declared.survey.Sight.TheVariants as sight
 use Rattle.pt_tree.specs.Forest.{Dir, File, Forest, Node, Other, as_file, file_at, kind_of, node_at}
 use Rattle.pt_tree.specs.Path.{Path}
 use Rattle.pt_tree.specs.Source.{Reading, after_open}

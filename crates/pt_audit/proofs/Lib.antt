@@ -9,3 +9,10 @@ mod Pacing
 mod Following
 mod AuditRules
 mod Bounding
+mod Files
+pub mod Alone
+pub mod Seen
+pub mod Stepping
+pub mod Working
+pub mod Steps
+mod SurveyRules

@@ -36,12 +36,12 @@ use Rattle.pt_scan.proofs.ObjectPaths.{logical_is, logical_within}
 use Rattle.pt_scan.specs.Blocks.{IsNextBlock, is_reading}
 use Rattle.pt_state.specs.States.{held_of, job_of}
 use Rattle.pt_state.specs.declared.state.State.{State}
-use Rattle.pt_survey.proofs.Stepping.{stands_so}
-use Rattle.pt_survey.specs.Files.{Scanned, ScansOn, is_of_object, is_scanning, names_before}
-use Rattle.pt_survey.specs.Surveying.{IsHand, IsHandAt, Surveys, passed, sight_at}
-use Rattle.pt_survey.specs.declared.survey.AtHand.{AtHand}
-use Rattle.pt_survey.specs.declared.survey.Sight.{Sight}
-use Rattle.pt_survey.specs.declared.survey.Sight.TheVariants as sight
+use Rattle.pt_audit.proofs.Stepping.{stands_so}
+use Rattle.pt_audit.specs.Files.{Scanned, ScansOn, is_of_object, is_scanning, names_before}
+use Rattle.pt_audit.specs.Surveying.{IsHand, IsHandAt, Surveys, passed, sight_at}
+use Rattle.pt_audit.specs.declared.survey.AtHand.{AtHand}
+use Rattle.pt_audit.specs.declared.survey.Sight.{Sight}
+use Rattle.pt_audit.specs.declared.survey.Sight.TheVariants as sight
 use Rattle.pt_tree.specs.Forest.{Forest}
 use Rattle.pt_tree.proofs.Below.{whole_of}
 use Rattle.pt_tree.specs.Path.{Path, rest_below}

@@ -23,9 +23,9 @@ use Rattle.pt_plan.specs.declared.phase.Phase.TheVariants as phase
 use Rattle.pt_plan.specs.declared.phase.Stage.TheVariants as stage
 use Rattle.pt_state.specs.States.{held_of, job_of}
 use Rattle.pt_state.specs.declared.job.Job as own
-use Rattle.pt_survey.specs.Surveying.{IsSurvey, SurveySays, is_of_dest, Surveys, sight_at}
-use Rattle.pt_survey.specs.declared.survey.Sight.{Sight}
-use Rattle.pt_survey.specs.declared.survey.Sight.TheVariants as sight
+use Rattle.pt_audit.specs.Surveying.{IsSurvey, SurveySays, is_of_dest, Surveys, sight_at}
+use Rattle.pt_audit.specs.declared.survey.Sight.{Sight}
+use Rattle.pt_audit.specs.declared.survey.Sight.TheVariants as sight
 use Rattle.pt_tree.specs.Failures.{HasRisen}
 use Rattle.pt_tree.specs.Forest.{Forest}
 use Rattle.pt_tree.specs.Source.{Reading}

@@ -48,11 +48,11 @@ use Rattle.pt_state.specs.States.{held_of, job_of}
 use Rattle.pt_state.specs.declared.job.Job as own
 use Rattle.pt_state.specs.declared.job.Report.{Report}
 use Rattle.pt_state.specs.declared.state.State.{State}
-use Rattle.pt_survey.specs.Surveying.{WasAtHand, GoesOn, HasAtHand, IsHand, IsHandAt, IsOf, IsSurvey, IsWithinWork, is_before_sites, is_before_store, Leads as SeesLeads, Nothing as SeesNothing, Sees, Skips, Surveys, is_looking, sight_at}
-use Rattle.pt_survey.specs.declared.survey.AtHand as hand
-use Rattle.pt_survey.specs.declared.survey.Sight.{Sight}
-use Rattle.pt_survey.specs.declared.survey.Sight.TheVariants as sight
-use Rattle.pt_survey.proofs.Seen.{has_at_hand}
+use Rattle.pt_audit.specs.Surveying.{WasAtHand, GoesOn, HasAtHand, IsHand, IsHandAt, IsOf, IsSurvey, IsWithinWork, is_before_sites, is_before_store, Leads as SeesLeads, Nothing as SeesNothing, Sees, Skips, Surveys, is_looking, sight_at}
+use Rattle.pt_audit.specs.declared.survey.AtHand as hand
+use Rattle.pt_audit.specs.declared.survey.Sight.{Sight}
+use Rattle.pt_audit.specs.declared.survey.Sight.TheVariants as sight
+use Rattle.pt_audit.proofs.Seen.{has_at_hand}
 use Rattle.pt_tree.specs.Failures.{greatest_count}
 use Rattle.pt_tree.specs.Forest.{Forest, file_at}
 use Rattle.pt_tree.specs.Path.{Path}

@@ -23,10 +23,10 @@ use Rattle.pt_plan.specs.declared.phase.Phase.TheVariants as phase
 use Rattle.pt_plan.specs.declared.phase.Stage.TheVariants as stage
 use Rattle.pt_state.specs.States.{job_of}
 use Rattle.pt_state.specs.declared.job.Job as own
-use Rattle.pt_survey.specs.Surveying.{IsSurvey, Surveys, is_before_sites, is_before_store, sight_at}
-use Rattle.pt_survey.specs.declared.survey.Sight.{Sight}
-use Rattle.pt_survey.specs.declared.survey.Sight.TheVariants as sight
-use Rattle.pt_survey.specs.declared.survey.AtHand.{AtHand}
+use Rattle.pt_audit.specs.Surveying.{IsSurvey, Surveys, is_before_sites, is_before_store, sight_at}
+use Rattle.pt_audit.specs.declared.survey.Sight.{Sight}
+use Rattle.pt_audit.specs.declared.survey.Sight.TheVariants as sight
+use Rattle.pt_audit.specs.declared.survey.AtHand.{AtHand}
 use Rattle.pt_tree.specs.Failures.{greatest_count}
 use Rattle.pt_tree.specs.Forest.{Forest}
 use Rattle.pt_tree.specs.Path.{Path}

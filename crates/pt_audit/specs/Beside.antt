@@ -19,10 +19,10 @@ use Rattle.pt_plan.specs.declared.phase.Phase.{Phase}
 use Rattle.pt_plan.specs.declared.phase.Phase.TheVariants as phase
 use Rattle.pt_plan.specs.declared.phase.Stage.TheVariants as stage
 use Rattle.pt_state.specs.declared.state.State.{State}
-use Rattle.pt_survey.specs.Files.{names_before}
-use Rattle.pt_survey.specs.Surveying.{Surveys, sight_at}
-use Rattle.pt_survey.specs.declared.survey.AtHand.{AtHand}
-use Rattle.pt_survey.specs.declared.survey.Sight.{Sight}
+use Rattle.pt_audit.specs.Files.{names_before}
+use Rattle.pt_audit.specs.Surveying.{Surveys, sight_at}
+use Rattle.pt_audit.specs.declared.survey.AtHand.{AtHand}
+use Rattle.pt_audit.specs.declared.survey.Sight.{Sight}
 use Rattle.pt_tree.specs.Forest.{Forest}
 use Rattle.pt_tree.specs.Path.{Path}
 use Rattle.pt_tree.specs.Source.{Reading}

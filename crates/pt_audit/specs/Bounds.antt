@@ -7,7 +7,7 @@ use Rattle.pt_plan.specs.declared.fault.Fault.{Fault}
 use Rattle.pt_plan.specs.declared.phase.Phase.TheVariants as phase
 use Rattle.pt_state.specs.States.{job_of}
 use Rattle.pt_state.specs.declared.job.Job as own
-use Rattle.pt_survey.specs.Surveying.{Steps, work_of_survey}
+use Rattle.pt_audit.specs.Surveying.{Steps, work_of_survey}
 use Rattle.pt_tree.specs.Forest.{Forest}
 
 -- so many steps lead from one survey to another: each is counted, and after each no more is held than the source's bound, and nothing else than a state's fields

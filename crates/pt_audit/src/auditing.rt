@@ -12,19 +12,19 @@ ghost use Rattle.pt_compare.specs.Root.{KeepsRoot, tree_in};
 ghost use Rattle.pt_state.specs.States.{job_of};
 ghost use Rattle.pt_plan.specs.World.{source_tree};
 ghost use Rattle.pt_plan.specs.declared.phase.Phase.TheVariants as phase;
-ghost use Rattle.pt_survey.specs.Growing.{KeepsLog};
-ghost use Rattle.pt_survey.specs.Surveying.{GoesOn as SurveyGoesOn, IsSurvey, Steps, Surveys, sight_at};
-ghost use Rattle.pt_survey.specs.declared.survey.Sight.TheVariants as sight;
+ghost use Rattle.pt_audit.specs.Growing.{KeepsLog};
+ghost use Rattle.pt_audit.specs.Surveying.{GoesOn as SurveyGoesOn, IsSurvey, Steps, Surveys, sight_at};
+ghost use Rattle.pt_audit.specs.declared.survey.Sight.TheVariants as sight;
 
 use crate::beside::Beside;
 use crate::layout::check_layout;
 use crate::lines::{end_line, object_line};
+use crate::survey::{AtHand, Sight, Survey};
 use crate::{Counting, Counts};
 use pt_compare::{Finding, Root, Scanned, compare};
 use pt_move::Job;
 use pt_plan::Fault;
 use pt_state::paths::{in_pairtree, in_storage_root};
-use pt_survey::{AtHand, Sight, Survey};
 use pt_tree::{Log, Source};
 use std::alloc::Global;
 

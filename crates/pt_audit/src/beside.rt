@@ -6,14 +6,14 @@ ghost use Rattle.pt_audit.specs.Failing.{ReadFailsAs};
 ghost use Rattle.pt_compare.specs.Parts.{in_content};
 ghost use Rattle.pt_compare.specs.Root.{KeepsRoot};
 ghost use Rattle.pt_plan.specs.TurnWalk.{in_root};
-ghost use Rattle.pt_survey.specs.Surveying.{sight_at};
-ghost use Rattle.pt_survey.specs.declared.survey.Sight.TheVariants as sight;
+ghost use Rattle.pt_audit.specs.Surveying.{sight_at};
+ghost use Rattle.pt_audit.specs.declared.survey.Sight.TheVariants as sight;
 ghost use Rattle.pt_tree.specs.Path.{rest_below};
 ghost use Rattle.pt_tree.specs.Source.{Reading};
 
+use crate::survey::{Sight, Survey};
 use pt_compare::{Root, come_next, has_ended, open_standing};
 use pt_plan::Fault;
-use pt_survey::{Sight, Survey};
 use pt_tree::{Block, Known, MemoryFault, Name, NamePath};
 use std::alloc::Global;
 

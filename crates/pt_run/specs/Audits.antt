@@ -20,7 +20,7 @@ use Rattle.pt_run.specs.Made.{Guarded}
 use Rattle.pt_run.specs.declared.guarded_audit.WantedAudit.{WantedAudit}
 use Rattle.pt_run.specs.declared.host.Ground.{Ground}
 use Rattle.pt_state.specs.States.{job_of}
-use Rattle.pt_survey.specs.Growing.{Grows}
+use Rattle.pt_audit.specs.Growing.{Grows}
 use Rattle.pt_tree.specs.Forest.{Forest}
 
 -- how many lines of an audit's log tell of what isn't the same: those of objects, and skip lines unless these are well

@@ -1,6 +1,6 @@
 use Rattle.std.proofs.Common.{◌∙◌}
 use Rattle.pt_audit.proofs.Telling.{step_told}
-use Rattle.pt_survey.specs.Growing.{grows_on}
+use Rattle.pt_audit.specs.Growing.{grows_on}
 use Rattle.pt_audit.proofs.auditing.go_on.Goals as goal
 
 pub tell-requires : goal.tell-requires

@@ -1,11 +1,11 @@
 use Rattle.std.proofs.Common.{◌+◌, arith, refl, rules, subst, sym, ◌∙◌}
 use Rattle.std.specs.Prelude.{Option}
 use Rattle.pt_audit.specs.Bounds.{NoStep, OneMore}
-use Rattle.pt_survey.specs.Surveying.{Steps}
+use Rattle.pt_audit.specs.Surveying.{Steps}
 use Rattle.pt_tree.specs.Forest.{Forest}
 use Rattle.pt_audit.proofs.Telling.{same_end, same_layout, same_trees}
 use Rattle.pt_audit.proofs.Saying.{same_failures}
-use Rattle.pt_survey.specs.Growing.{grows_none, grows_on}
+use Rattle.pt_audit.specs.Growing.{grows_none, grows_on}
 use Rattle.pt_audit.proofs.auditing.go_through.Goals as goal
 
 pub loop-more-init : goal.loop-more-init

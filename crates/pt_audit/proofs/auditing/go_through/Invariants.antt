@@ -5,7 +5,7 @@ use Rattle.pt_audit.specs.Bounds.{Surveyed}
 use Rattle.pt_audit.specs.Failing.{failures}
 use Rattle.pt_compare.specs.Root.{KeepsRoot, tree_in}
 use Rattle.pt_plan.specs.World.{source_tree}
-use Rattle.pt_survey.specs.Growing.{KeepsLog}
+use Rattle.pt_audit.specs.Growing.{KeepsLog}
 use Rattle.pt_audit.proofs.auditing.go_through.Given as goal
 
 abbrev pub invariant-loop-more : goal.invariant-loop-more

@@ -3,7 +3,7 @@ use Rattle.pt_audit.proofs.Saying.{has_layout, says_err, says_failed, says_layou
 use Rattle.pt_audit.proofs.Pacing.{at_sight, follows_told}
 use Rattle.pt_audit.proofs.Telling.{not_told, on_end, on_more, on_store}
 use Rattle.pt_audit.specs.Auditing.{IsAt, is_told}
-use Rattle.pt_survey.specs.Growing.{grows_none}
+use Rattle.pt_audit.specs.Growing.{grows_none}
 use Rattle.pt_compare.specs.Root.{tree_in}
 use Rattle.pt_plan.specs.World.{source_tree}
 use Rattle.pt_audit.proofs.auditing.tell.Goals as goal

@@ -2,8 +2,8 @@ use Rattle.std.proofs.Common.{refl, rules, subst}
 use Rattle.std.specs.Prelude.{Option}
 use Rattle.pt_audit.proofs.Pacing.{alike_at_hand}
 use Rattle.pt_audit.proofs.Telling.{can_compare, told_object}
-use Rattle.pt_survey.specs.Surveying.{IsHand}
-use Rattle.pt_survey.specs.declared.survey.AtHand.{AtHand}
+use Rattle.pt_audit.specs.Surveying.{IsHand}
+use Rattle.pt_audit.specs.declared.survey.AtHand.{AtHand}
 use Rattle.pt_audit.proofs.auditing.tell_object.Goals as goal
 
 pub found-requires-clause-alike : goal.found-requires-clause-alike

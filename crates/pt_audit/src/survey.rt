@@ -1,19 +1,22 @@
-// A survey under way, made step by step.
+//! A survey of a store under way, made step by step: its sites and objects are looked at as a run does, and nothing is made of
+//! them.
+#![tactic(auto, using(crate::proofs::SurveyRules::survey_rules))]
+
 ghost use Rattle.std.specs.Option.{ForSome};
 ghost use Rattle.std.specs.Prelude.{◌≡◌, ◌≢◌, ℕ, true, length, Option, Some, None, IfErr, OnOk, IfOk};
 ghost use Rattle.pt_move.specs.Bounds.{most_calls};
 ghost use Rattle.pt_move.specs.Running.{IsNew, IsWell};
 ghost use Rattle.pt_plan.specs.Answer.{phase_after};
-ghost use Rattle.pt_survey.specs.Growing.{BlamesRightly, KeepsLog, KeepsTree, Leaves};
+ghost use Rattle.pt_audit.specs.Growing.{BlamesRightly, KeepsLog, KeepsTree, Leaves};
 ghost use Rattle.pt_plan.specs.World.{source_tree};
 ghost use Rattle.pt_state.specs.Counting.{AtMostCalls};
 ghost use Rattle.pt_state.specs.Outside.{world};
-ghost use Rattle.pt_survey.specs.Bare.{bare};
+ghost use Rattle.pt_audit.specs.Bare.{bare};
 ghost use Rattle.pt_move.specs.Turning.{CountedTurn};
 ghost use Rattle.pt_plan.specs.declared.phase.Phase.TheVariants as phase;
 ghost use Rattle.pt_scan.specs.Blocks.{ReadsNext};
-ghost use Rattle.pt_survey.specs.Files.{IsOpened, MakesStep, names_before as names_before_file};
-ghost use Rattle.pt_survey.specs.Surveying.{GoesOn, IsHand, IsReady, IsSurvey, SurveySays, Surveys, is_at_hand as is_at_hand_there, is_looking, passed as passed_phase, sight_at};
+ghost use Rattle.pt_audit.specs.Files.{IsOpened, MakesStep, names_before as names_before_file};
+ghost use Rattle.pt_audit.specs.Surveying.{GoesOn, IsHand, IsReady, IsSurvey, SurveySays, Surveys, is_at_hand as is_at_hand_there, is_looking, passed as passed_phase, sight_at};
 ghost use Rattle.pt_tree.specs.Forest.{is_proper};
 ghost use Rattle.pt_tree.specs.Source.{Reading};
 
@@ -86,7 +89,7 @@ impl Model for Survey {
 
     ghost invariant = { λ m. IsWell (record { phase = m.phase; state = m.state }) };
 
-    ghost use Rattle.pt_survey.specs.Surveys.{survey_of};
+    ghost use Rattle.pt_audit.specs.Surveys.{survey_of};
 
     ghost inverse = { survey_of };
 }

@@ -34,9 +34,9 @@ use Rattle.pt_state.specs.declared.state.State.{State}
 use Rattle.pt_move.specs.Carried.{IsCarried}
 use Rattle.pt_plan.specs.declared.fault.Fault.{Fault}
 use Rattle.pt_plan.specs.declared.fault.Fault.TheVariants as fault
-use Rattle.pt_survey.specs.declared.survey.AtHand.{AtHand}
-use Rattle.pt_survey.specs.declared.survey.Sight.{Sight}
-use Rattle.pt_survey.specs.declared.survey.Sight.TheVariants as sight
+use Rattle.pt_audit.specs.declared.survey.AtHand.{AtHand}
+use Rattle.pt_audit.specs.declared.survey.Sight.{Sight}
+use Rattle.pt_audit.specs.declared.survey.Sight.TheVariants as sight
 use Rattle.pt_tree.specs.Forest.{Forest}
 use Rattle.pt_tree.specs.Path.{Path}
 use Rattle.pt_tree.specs.Source.{Reading}

@@ -1,6 +1,8 @@
 //! What a survey has in place of a destination, and of a log for what it doesn't tell.
+#![tactic(auto, using(crate::proofs::SurveyRules::survey_rules))]
+
 ghost use Rattle.std.specs.Prelude.{None, Some, ⊤};
-ghost use Rattle.pt_survey.specs.Bare.{bare, bare_is_tree, no_log};
+ghost use Rattle.pt_audit.specs.Bare.{bare, bare_is_tree, no_log};
 
 use pt_tree::{Block, Dest, Kind, Log, NamePath, TreeFault};
 

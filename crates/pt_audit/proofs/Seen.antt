@@ -50,8 +50,8 @@ use Rattle.pt_begun.proofs.source.InObject.{site_itself}
 use Rattle.pt_begun.proofs.source.InPairtree.{file_in_pairtree, pairtree_proper}
 use Rattle.pt_begun.proofs.source.ReadsOn.{reads_block}
 use Rattle.pt_begun.proofs.source.WalksKeep.{deep_next, done_at_shorty, none_at_end, none_at_entry, past_next}
-use Rattle.pt_survey.specs.Bare.{bare}
-use Rattle.pt_survey.specs.Surveying.{HasAtHand, Leads, Nothing, Sees, Skips, SeesItem, is_looking, is_of_survey, passed}
+use Rattle.pt_audit.specs.Bare.{bare}
+use Rattle.pt_audit.specs.Surveying.{HasAtHand, Leads, Nothing, Sees, Skips, SeesItem, is_looking, is_of_survey, passed}
 
 -- ---- each kind of item
 

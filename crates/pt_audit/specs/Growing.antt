@@ -8,7 +8,7 @@ use Rattle.pt_plan.specs.declared.fault.Fault.TheVariants as fault
 use Rattle.pt_plan.specs.World.{source_tree}
 use Rattle.pt_plan.specs.declared.phase.Phase.{Phase}
 use Rattle.pt_state.specs.declared.job.Job.{Job}
-use Rattle.pt_survey.specs.Surveying.{SurveySays}
+use Rattle.pt_audit.specs.Surveying.{SurveySays}
 use Rattle.pt_tree.specs.Source.{Reading}
 
 -- what stood in a log stands, and bytes may stand behind it

@@ -1,6 +1,6 @@
 use Rattle.std.proofs.Common.{arith, refl}
 use Rattle.pt_state.specs.Counting.{calls_most, calls_none}
-use Rattle.pt_survey.proofs.survey.Survey.step.Goals as goal
+use Rattle.pt_audit.proofs.survey.Survey.step.Goals as goal
 
 -- after the end, and at the limit, nothing is called
 pub returns-in-Ended-clause-source : goal.returns-in-Ended-clause-source

@@ -47,13 +47,13 @@ use Rattle.pt_move.specs.Promises.{TurnKeeps}
 use Rattle.pt_move.proofs.Answering.{fed_going, fed_to_end, has_fed, left_by_turn, may_turn, stands_there, well_after}
 use Rattle.pt_move.proofs.Keeping.{keeps_after, tree_stays}
 use Rattle.pt_tree.specs.Failures.{HasRisen}
-use Rattle.pt_survey.specs.Bare.{bare}
-use Rattle.pt_survey.specs.Growing.{BlamesRightly, Grows, Leaves, grows_none}
+use Rattle.pt_audit.specs.Bare.{bare}
+use Rattle.pt_audit.specs.Growing.{BlamesRightly, Grows, Leaves, grows_none}
 use Rattle.pt_plan.specs.TurnPlace.{done_line}
-use Rattle.pt_survey.specs.Surveying.{WasAtHand, GoesOn, HasAtHand, IsReady, IsSurvey, IsWithinWork, SurveySays, is_at_hand, is_of_dest, Leads, Nothing, Skips, Sees, Surveys, is_looking, is_of_survey, no_start, passed, source_alone}
-use Rattle.pt_survey.proofs.Alone.{counted_alone, no_change, no_line}
-use Rattle.pt_survey.proofs.Seen.{has_at_hand, looks_on, looks_sees}
-use Rattle.pt_survey.proofs.Working.{is_left, within_on}
+use Rattle.pt_audit.specs.Surveying.{WasAtHand, GoesOn, HasAtHand, IsReady, IsSurvey, IsWithinWork, SurveySays, is_at_hand, is_of_dest, Leads, Nothing, Skips, Sees, Surveys, is_looking, is_of_survey, no_start, passed, source_alone}
+use Rattle.pt_audit.proofs.Alone.{counted_alone, no_change, no_line}
+use Rattle.pt_audit.proofs.Seen.{has_at_hand, looks_on, looks_sees}
+use Rattle.pt_audit.proofs.Working.{is_left, within_on}
 
 -- ---- it is a run in progress over the source alone
 

@@ -21,10 +21,10 @@ use Rattle.pt_scan.specs.Blocks.{ReadsNext}
 use Rattle.pt_state.specs.Outside.{world}
 use Rattle.pt_state.specs.States.{job_of, kept_of}
 use Rattle.pt_state.specs.declared.state.State.{State}
-use Rattle.pt_survey.proofs.Seen.{making_is_none, placing_is_none}
-use Rattle.pt_survey.proofs.Stepping.{going, line_follows}
-use Rattle.pt_survey.specs.Files.{Scanned, ScansOn, is_of_object, is_scanning}
-use Rattle.pt_survey.specs.Surveying.{Surveys, is_at_hand, is_looking, passed}
+use Rattle.pt_audit.proofs.Seen.{making_is_none, placing_is_none}
+use Rattle.pt_audit.proofs.Stepping.{going, line_follows}
+use Rattle.pt_audit.specs.Files.{Scanned, ScansOn, is_of_object, is_scanning}
+use Rattle.pt_audit.specs.Surveying.{Surveys, is_at_hand, is_looking, passed}
 use Rattle.pt_tree.specs.Dest.{Writing}
 use Rattle.pt_tree.specs.Source.{Reading}
 

@@ -28,7 +28,7 @@ use Rattle.pt_move.proofs.Outcomes.{reading_of}
 use Rattle.pt_move.specs.Running.{Running, run_of}
 use Rattle.pt_state.specs.States.{held_of, job_of, kept_of}
 use Rattle.pt_state.specs.declared.state.State.{State}
-use Rattle.pt_survey.specs.Surveying.{IsSurvey, IsWithinWork, all_free, no_start, passed, source_alone, work_of_survey}
+use Rattle.pt_audit.specs.Surveying.{IsSurvey, IsWithinWork, all_free, no_start, passed, source_alone, work_of_survey}
 
 -- ---- the marks
 

@@ -11,8 +11,8 @@ use Rattle.pt_plan.specs.declared.phase.Stage.TheVariants as stage
 use Rattle.pt_scan.specs.Blocks.{IsNextBlock, is_reading}
 use Rattle.pt_state.specs.States.{held_of, job_of}
 use Rattle.pt_state.specs.declared.state.State.{State}
-use Rattle.pt_survey.specs.Surveying.{Steps, passed}
-use Rattle.pt_survey.specs.declared.survey.Opened.{Opened}
+use Rattle.pt_audit.specs.Surveying.{Steps, passed}
+use Rattle.pt_audit.specs.declared.survey.Opened.{Opened}
 use Rattle.pt_tree.specs.Source.{Reading}
 use Rattle.pt_walk.specs.Trail.{names_to}
 

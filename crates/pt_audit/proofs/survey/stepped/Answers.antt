@@ -1,9 +1,9 @@
 use Rattle.std.proofs.Common.{rules}
 use Rattle.std.specs.Prelude.{None}
-use Rattle.pt_survey.proofs.Stepping.{halt_leaves, halt_leaves_log, halt_well, looking_is, step_leaves, step_leaves_log, step_looks, step_passes, step_well}
-use Rattle.pt_survey.proofs.Files.{step_scans, step_scans_none}
-use Rattle.pt_survey.proofs.Steps.{step_steps}
-use Rattle.pt_survey.proofs.survey.stepped.Goals as goal
+use Rattle.pt_audit.proofs.Stepping.{halt_leaves, halt_leaves_log, halt_well, looking_is, step_leaves, step_leaves_log, step_looks, step_passes, step_well}
+use Rattle.pt_audit.proofs.Files.{step_scans, step_scans_none}
+use Rattle.pt_audit.proofs.Steps.{step_steps}
+use Rattle.pt_audit.proofs.survey.stepped.Goals as goal
 
 pub returns-in_err-pass-clause-well : goal.returns-in_err-pass-clause-well
 returns-in_err-pass-clause-well g c =

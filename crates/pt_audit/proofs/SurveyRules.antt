@@ -1,0 +1,4 @@
+-- What a survey's functions are proved by.
+use Rattle.pt_audit.proofs.Stepping.{steps}
+
+pub ruleset survey_rules = (steps)
