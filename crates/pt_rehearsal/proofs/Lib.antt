@@ -4,3 +4,4 @@ mod Moves
 pub mod Staying
 mod Steps
 mod TextSets
+mod Walks

@@ -4,7 +4,7 @@ use Rattle.std.specs.Prelude.{Option, None, Some, Result, Ok, Err, IfOk, IsSome,
 use Rattle.std.specs.Option.{option_map, ForSome}
 use Rattle.std.specs.declared.io.Error.{Error}
 use Rattle.std.proofs.Math.Logic.{∥∥₁_elim, ∥∥₁_map}
-use Rattle.pt_played.specs.Steps.{Added, Closed, MadeDir, MadeFile, Moved, Step, played}
+use Rattle.pt_rehearsal.specs.Steps.{Added, Closed, MadeDir, MadeFile, Moved, Step, played}
 use Rattle.pt_tree.specs.Dest.{CanPeek, IsKindAt, IsPeeked, MayMake, MayMove, Writing}
 use Rattle.pt_tree.specs.Name.{AreNames}
 use Rattle.pt_tree.specs.Path.{Path}

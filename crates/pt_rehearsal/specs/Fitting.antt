@@ -1,7 +1,7 @@
 -- What is remembered fits the tree that a rehearsal plays over the folder's own.
 use Rattle.std.specs.Prelude.{◌≡◌, ℕ, Bool, true, false, List, [], ◌∷◌, Option, None, Some}
 use Rattle.std.specs.Option.{option_map, ForSome}
-use Rattle.pt_played.specs.Steps.{Step, played}
+use Rattle.pt_rehearsal.specs.Steps.{Step, played}
 use Rattle.pt_tree.specs.Dest.{Writing}
 use Rattle.pt_tree.specs.Name.{AreNames}
 use Rattle.pt_tree.specs.Path.{Path, joined}

@@ -1,7 +1,9 @@
 pub mod Fitting
+pub mod Noted
 pub mod Rehearsal
 pub mod Seeing
 pub mod Stays
+pub mod Steps
 pub mod Texts
 pub mod Told
 pub mod Untold

@@ -2,7 +2,7 @@
 use Rattle.std.specs.Prelude.{◌≡◌, List, Option, None, Some, refl}
 use Rattle.std.proofs.Common.{subst}
 use Rattle.std.proofs.Math.Logic.{∥∥₁_elim}
-use Rattle.pt_played.specs.Steps.{Step, played}
+use Rattle.pt_rehearsal.specs.Steps.{Step, played}
 use Rattle.pt_tree.specs.Dest.{Writing}
 use Rattle.pt_tree.specs.Tree.{IsTree}
 use Rattle.pt_folder.specs.EntryCodes.{tree_once}

@@ -1,6 +1,6 @@
 -- Over a folder that tells nothing, each call of a rehearsal may be made.
 use Rattle.std.specs.Prelude.{◌≡◌, List, Option, None, Some, refl}
-use Rattle.pt_played.specs.Steps.{Step}
+use Rattle.pt_rehearsal.specs.Steps.{Step}
 use Rattle.pt_tree.specs.Dest.{CanPeek, CanWrite, MayMake, MayMove}
 use Rattle.pt_tree.specs.Path.{Path}
 use Rattle.pt_folder.specs.DestHeld.{told_with}

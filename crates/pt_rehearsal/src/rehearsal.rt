@@ -11,9 +11,9 @@ ghost use Rattle.pt_tree.specs.Failures.{IsCounted};
 ghost use Rattle.pt_rehearsal.specs.Stays.{LooksAtFolder, Stays};
 ghost use Rattle.pt_rehearsal.specs.Seeing.{Remembers, made_dir, made_file, moved_to, nothing, view};
 
+use crate::played::{Note, Played};
 use crate::remembered::{Remembered, Seen};
 use pt_folder::{HostDest, Input, System};
-use pt_played::{Note, Played};
 use pt_tree::{Block, Dest, Kind, NamePath, TreeFault};
 use std::alloc::Global;
 

@@ -7,7 +7,7 @@ use Rattle.pt_folder.specs.declared.system.Input.{Ghosts as OfInput}
 use Rattle.pt_folder.specs.declared.system.System.{Ghosts as OfSystem}
 use Rattle.pt_move.specs.Migrates.{Migrates}
 use Rattle.pt_plan.specs.declared.fault.Fault.{Fault}
-use Rattle.pt_played.specs.Steps.{Step}
+use Rattle.pt_rehearsal.specs.Steps.{Step}
 use Rattle.pt_rehearsal.specs.Fitting.{told_over}
 use Rattle.pt_rehearsal.specs.Rehearsal.{told}
 use Rattle.pt_rehearsal.specs.Stays.{Stays}

@@ -1,6 +1,7 @@
+//! What a destination was asked to do, as proofs alone know it: no code reads it, and it takes no memory.
 ghost use Rattle.std.specs.Prelude.{◌≡◌, List, []};
 ghost use base.Fml.{ftrue};
-ghost use Rattle.pt_played.specs.Steps.{Step, steps_code};
+ghost use Rattle.pt_rehearsal.specs.Steps.{Step, steps_code};
 
 use pt_tree::NamePath;
 use std::marker::Model;
@@ -35,7 +36,7 @@ pub enum Note<'a> {
 }
 
 impl Played {
-    ghost use Rattle.pt_played.specs.Noted.{noted};
+    ghost use Rattle.pt_rehearsal.specs.Noted.{noted};
 
     /// No step.
     pub fn new() -> Played

@@ -1,8 +1,8 @@
 -- What a note adds to the steps.
 use Rattle.std.specs.Prelude.{List, ◌∷◌}
-use Rattle.pt_played.specs.Steps.{Step, Added, Closed, MadeDir, MadeFile, Moved}
-use Rattle.pt_played.specs.declared.played.Note.{Note}
-use Rattle.pt_played.specs.declared.played.Note.TheVariants as note
+use Rattle.pt_rehearsal.specs.Steps.{Step, Added, Closed, MadeDir, MadeFile, Moved}
+use Rattle.pt_rehearsal.specs.declared.played.Note.{Note}
+use Rattle.pt_rehearsal.specs.declared.played.Note.TheVariants as note
 
 abbrev pub step_of : Note → Step
 step_of (note.MadeDir path) = MadeDir path.now
