@@ -1,11 +1,10 @@
 //! The storage root that stands has to be one of this layout, before anything is compared.
-ghost use Rattle.std.specs.Prelude.{◌≡◌, ◌<◌, IfOk, length};
+ghost use Rattle.std.specs.Prelude.{◌<◌, IfOk, length};
 ghost use Rattle.std.specs.Option.{ForSome};
 ghost use Rattle.pt_audit.specs.Failing.{RootFailsAs};
 ghost use Rattle.pt_audit.specs.Layout.{IsFolder, IsSo, TellsFile, TellsLayout};
 ghost use Rattle.pt_compare.specs.Root.{KeepsRoot, tree_in};
 ghost use Rattle.pt_name.specs.Tuples.{IsLayout};
-ghost use Rattle.pt_plan.specs.TurnStart.{is_dir_kind, is_file_kind};
 ghost use Rattle.pt_tree.specs.Failures.{IsCounted};
 ghost use Rattle.pt_state.specs.States.{job_of};
 
@@ -13,8 +12,9 @@ use pt_compare::{Root, standing};
 use pt_move::Job;
 use pt_object::root_files;
 use pt_plan::Fault;
+use pt_state::kinds::{is_dir, is_file};
 use pt_state::paths::in_storage_root;
-use pt_tree::{Block, Kind, Known, NamePath, TreeFault};
+use pt_tree::{Block, Known, NamePath, TreeFault};
 use std::alloc::Global;
 
 /// Whether a run could go on with the root that stands: nothing stands at `ocfl`, or a directory with the three files of this
@@ -95,16 +95,4 @@ fn has_file<R: Root>(
     root.open(&whole)?;
     root.next(&mut block)?;
     Ok(block.as_slice() == bytes)
-}
-
-fn is_file(here: Option<Kind>) -> bool
-    ensures { result ≡ is_file_kind here }
-{
-    matches!(here, Some(Kind::File))
-}
-
-fn is_dir(here: Option<Kind>) -> bool
-    ensures { result ≡ is_dir_kind here }
-{
-    matches!(here, Some(Kind::Dir))
 }

@@ -6,4 +6,5 @@ pub mod Places
 pub mod Standing
 pub mod Tells
 pub mod Texts
+pub mod RootTurns
 mod MakeRules

@@ -1,4 +1,5 @@
-//! The turns that make an object in `staging` and bring it to its place, and those that tell of it and of the end.
+//! The turns that look at a storage root or make one, those that make an object in `staging` and bring it to its place, and
+//! those that tell of it and of the end.
 #![tactic(auto, using(crate::proofs::MakeRules::make_rules))]
 
 mod contents;
@@ -6,4 +7,5 @@ pub mod copying;
 mod inventories;
 pub mod making;
 pub mod placing;
+pub mod root;
 pub mod telling;

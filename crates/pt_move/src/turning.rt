@@ -11,11 +11,10 @@ ghost use Rattle.pt_move.specs.Bounds.{IsBounded, most_calls, most_looks};
 ghost use Rattle.pt_move.specs.Stands.{CanAdd, Stands};
 ghost use Rattle.pt_move.specs.Turning.{HasFed, TakesCounted};
 
-use pt_make::{copying, making, placing, telling};
+use pt_make::{copying, making, placing, root, telling};
 use pt_object::{Contents, Hasher, Rows};
 use pt_plan::{Fault, Opening, Phase, Stage};
-use pt_scan::{judging, reading, scanning, walking};
-use pt_start::{root, store};
+use pt_scan::{judging, reading, scanning, store, walking};
 use pt_state::{Job, Outside, Report, State};
 use pt_tree::Block;
 use pt_walk::Trail;

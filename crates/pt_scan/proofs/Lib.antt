@@ -7,4 +7,5 @@ pub mod Leaving
 pub mod ObjectPaths
 pub mod SiteTurns
 pub mod ScanTurns
+pub mod StoreTurns
 mod ScanRules

@@ -4,4 +4,5 @@ pub mod Turns
 pub mod LineTexts
 pub mod Whole
 pub mod Words
+pub mod Starts
 mod StateRules

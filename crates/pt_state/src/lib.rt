@@ -3,6 +3,7 @@
 
 pub mod files;
 mod job;
+pub mod kinds;
 pub mod lines;
 pub mod outside;
 pub mod paths;

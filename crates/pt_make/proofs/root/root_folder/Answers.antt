@@ -1,6 +1,6 @@
 use Rattle.std.proofs.Common.{arith, refl}
-use Rattle.pt_start.proofs.Starting.{folder_item}
-use Rattle.pt_start.proofs.root.root_folder.Goals as goal
+use Rattle.pt_make.proofs.RootTurns.{folder_item}
+use Rattle.pt_make.proofs.root.root_folder.Goals as goal
 
 pub returns-then-item-eq0 : goal.returns-then-item-eq0
 returns-then-item-eq0 c = let at = c.if-item-eq0.true in λ tuples. folder_item tuples _ 0 _ _ (omega (arith, at)) refl c.of_known.ensures

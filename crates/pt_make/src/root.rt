@@ -1,4 +1,6 @@
 //! The destination has to hold a storage root of this program and layout, or none, which is then made.
+#![tactic(auto, using(crate::proofs::RootTurns::root_rules))]
+
 ghost use Rattle.std.specs.Prelude.{◌≡◌, ◌<◌, IfOk};
 ghost use Rattle.pt_name.specs.Tuples.{Tuples};
 ghost use Rattle.pt_object.specs.Script.{MakeFile, MakeFolder};
@@ -10,18 +12,17 @@ ghost use Rattle.pt_plan.specs.declared.phase.Opening.TheVariants as opening;
 ghost use Rattle.pt_plan.specs.declared.phase.Phase.TheVariants as phase;
 ghost use Rattle.pt_tree.specs.Dest.{MayMake, MayMove};
 ghost use Rattle.pt_state.specs.Outside.{TakesTurn};
-ghost use Rattle.pt_start.specs.Starting.{IsFileAt, IsItemAt, IsRootItem};
+ghost use Rattle.pt_make.specs.Root.{IsFileAt, IsItemAt, IsRootItem};
 
-use crate::store::is_file;
 use pt_object::root_files;
 use pt_plan::{Fault, Opening, Phase};
 use pt_state::files::put_file;
+use pt_state::kinds::is_file;
 use pt_state::paths::{in_staging, in_storage_root};
 use pt_state::{Outside, State};
 use pt_tree::{Kind, Known, MemoryFault, NamePath};
 use std::alloc::Global;
 
-// The layout of the storage root (extension 0003).
 /// Asks whether `staging` is there.
 pub fn staging<O: Outside>(state: &State, out: &mut O) -> Result<Phase, Fault>
     ensures turn { TakesTurn O.world (O.within 0 1) (phase.Opening opening.Staging)

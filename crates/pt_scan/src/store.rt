@@ -1,18 +1,21 @@
 //! The source has to be a Pairtree store with a good prefix.
+#![tactic(auto, using(crate::proofs::StoreTurns::store_rules))]
+
 ghost use Rattle.std.specs.Prelude.{◌≡◌, [], None, IfOk, IfErr, slice_get};
 ghost use Rattle.std.specs.String.{string_bytes};
 ghost use Rattle.pt_name.specs.Prefix.{prefix_refusal, without_line_ends};
 ghost use Rattle.pt_plan.specs.Permits.{MayOpenPrefix};
-ghost use Rattle.pt_plan.specs.TurnStart.{is_dir_kind, is_file_kind, kind_in as kind_in_of, lists_store};
+ghost use Rattle.pt_plan.specs.TurnStart.{kind_in as kind_in_of, lists_store};
 ghost use Rattle.pt_plan.specs.declared.phase.Opening.TheVariants as opening;
 ghost use Rattle.pt_plan.specs.declared.phase.Phase.TheVariants as phase;
 ghost use Rattle.pt_tree.specs.Source.{CanList};
 ghost use Rattle.pt_state.specs.Outside.{TakesTurn};
-ghost use Rattle.pt_start.specs.Starting.{PrefixFails, kind_if_named};
+ghost use Rattle.pt_scan.specs.Store.{PrefixFails, kind_if_named};
 
 use pt_name::{PrefixFault, read_prefix};
 use pt_plan::{Fault, Opening, Phase};
 use pt_state::files::read_first;
+use pt_state::kinds::{is_dir, is_file};
 use pt_state::{Outside, State};
 use pt_tree::{Block, Kind, Known, Listing, NamePath};
 use std::alloc::Global;
@@ -37,18 +40,6 @@ fn is_store(listing: &Listing) -> bool
 {
     is_file(kind_in(listing, Known::VersionFile.text()))
         && is_dir(kind_in(listing, Known::PairtreeRoot.text()))
-}
-
-pub(crate) fn is_file(kind: Option<Kind>) -> bool
-    ensures { result ≡ is_file_kind kind }
-{
-    matches!(kind, Some(Kind::File))
-}
-
-fn is_dir(kind: Option<Kind>) -> bool
-    ensures { result ≡ is_dir_kind kind }
-{
-    matches!(kind, Some(Kind::Dir))
 }
 
 // The kind of the entry of this name.

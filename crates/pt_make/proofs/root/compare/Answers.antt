@@ -1,8 +1,8 @@
 use Rattle.std.proofs.Common.{rules}
 use Rattle.pt_state.proofs.Together.{looked_then}
 use Rattle.pt_state.proofs.Turns.{stayed}
-use Rattle.pt_start.proofs.Starting.{starting}
-use Rattle.pt_start.proofs.root.compare.Goals as goal
+use Rattle.pt_make.proofs.RootTurns.{starting}
+use Rattle.pt_make.proofs.root.compare.Goals as goal
 
 pub returns-in_err-peek : goal.returns-in_err-peek
 returns-in_err-peek g c = record {
