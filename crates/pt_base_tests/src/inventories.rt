@@ -3,8 +3,8 @@ ghost use Rattle.pt_object.specs.Distinct.{content_of_row, distinct};
 
 use crate::answers::{Holds, all_hold, gives_text};
 use crate::objects::{OF_ABC, OF_NOTHING, SHORT_OF_ABC};
+use pt_memory::texts::path;
 use pt_object::{Algorithm, Contents, Digest, Hasher, Meta, MetaFault, Rows, inventory};
-use pt_texts::path;
 use pt_tree::{MemoryFault, NamePath};
 use std::alloc::{AllocError, Global};
 

@@ -1,6 +1,6 @@
 //! The worked examples of names, paths and listings.
 use crate::answers::{Holds, all_hold, is_path, none_wrong, refuses};
-use pt_texts::path;
+use pt_memory::texts::path;
 use pt_tree::{Kind, Listing, ListingFault, Name, NameFault, NamePath};
 use std::alloc::Global;
 

@@ -1,6 +1,6 @@
 use crate::answers::{Holds, all_hold, gives_bytes, gives_text, refuses};
+use pt_memory::texts::path;
 use pt_name::*;
-use pt_texts::path;
 use std::alloc::Global;
 
 enum Row {

@@ -1,10 +1,10 @@
 use crate::answers::{Holds, all_hold, gives_text, is_path, refuses};
+use pt_memory::texts::path;
 use pt_name::Layout;
 use pt_object::{
     Algorithm, Content, Contents, Digest, Hasher, Meta, MetaFault, RootFiles, Row, Rows,
     object_declaration, root_declaration, root_files, sidecar,
 };
-use pt_texts::path;
 use pt_tree::{Block, NamePath};
 use std::alloc::{AllocError, Global};
 

@@ -5,8 +5,8 @@ ghost use Rattle.pt_tree.specs.Source.{CanOpen};
 
 use crate::answers::none_wrong;
 use crate::listings::is_entry;
+use pt_memory::texts::{path, tree};
 use pt_memory::{LooseSource, MemDest, MemSource, PlantFault, SwapFault, TakeFault};
-use pt_texts::{path, tree};
 use pt_tree::{
     Block, Dest, Kind, ListingFault, MemoryFault, NameFault, NamePath, Source, TreeFault,
 };

@@ -1,7 +1,7 @@
 //! Calls of a destination and of a source as data, for tests, and what is found then.
 use crate::folder_fakes::{World, byte_at};
 use pt_folder::{HostDest, HostSource};
-use pt_texts::path;
+use pt_memory::texts::path;
 use pt_tree::{Block, Dest, Kind, Listing, Name, NamePath, Source, TreeFault};
 use std::alloc::Global;
 use std::rt::Files;

@@ -11,6 +11,7 @@ mod mem_source;
 mod moving;
 mod opening;
 mod planting;
+pub mod texts;
 
 pub use loose_source::{LooseSource, SwapFault};
 pub use mem_dest::{MemDest, TakeFault};

@@ -4,9 +4,9 @@
 use crate::objects::{ABC, Base, Files, ONE, STORE, TOLD, is_tree};
 use crate::steps::{Ends, Step, all_go};
 use crate::stores::{Asked, Goes, go_on, goes_over, goes_over_store, job, run};
+use pt_memory::texts::{path, store};
 use pt_memory::{LooseSource, MemDest, MemLog, MemSource};
 use pt_move::{Fault, Job, Mover, Report, Turn};
-use pt_texts::{path, store};
 use pt_tree::Source;
 use std::alloc::Global;
 

@@ -2,7 +2,7 @@
 #![tactic(auto)]
 
 use pt_memory::MemDest;
-use pt_texts::add;
+use pt_memory::texts::add;
 use std::alloc::{AllocError, Global};
 
 /// Files by their paths; a path that ends in `/` is a directory, and the text `*9` is nine letters `a`.

@@ -3,9 +3,9 @@
 
 use crate::objects::{Base, Files, is_tree};
 use crate::stores::{Asked, run};
+use pt_memory::texts::{add, path, plant, store};
 use pt_memory::{MemDest, MemLog, MemSource};
 use pt_move::{Fault, Report};
-use pt_texts::{add, path, plant, store};
 use std::alloc::Global;
 use std::process::Abort;
 

@@ -4,11 +4,11 @@
 ghost use Rattle.pt_move.specs.Running.{HasBegun};
 ghost use Rattle.pt_state.specs.Outside.{world};
 
+use pt_memory::texts::store;
 use pt_memory::{MemDest, MemLog, MemSource};
 use pt_move::{Fault, Job, Mover, Report, Turn, migrate};
 use pt_name::{Layout, LayoutFault, Share, ShareFault};
 use pt_object::{Algorithm, Meta, MetaFault};
-use pt_texts::store;
 use pt_tree::{Dest, Log, Source};
 use pt_walk::{Limits, LimitsFault};
 use std::alloc::Global;

@@ -1,8 +1,8 @@
 //! Tests as data: steps of a destination over a system whose calls are counted.
 use crate::counting::{Counted, Counts};
 use pt_folder::{Cause, Failure, HostDest};
+use pt_memory::texts::path;
 use pt_rehearsal::Rehearsal;
-use pt_texts::path;
 use pt_tree::{Block, Dest, Kind, NamePath, TreeFault};
 use std::alloc::Global;
 

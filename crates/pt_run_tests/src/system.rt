@@ -1,9 +1,9 @@
 //! Each call of the system in memory, and each as it fails.
 use pt_folder::{Handle, HostDest, Input, System};
+use pt_memory::texts::path;
 use pt_memory::{MemDest, MemSource};
 use pt_memory_system::{Faults, MemFile, MemNames, MemorySystem};
 use pt_rehearsal::Rehearsal;
-use pt_texts::path;
 use pt_tree::{Dest, Kind, NamePath, TreeFault};
 use std::alloc::Global;
 use std::io;

@@ -1,9 +1,9 @@
 //! The stores that are swept, and devices in memory made from texts.
+use pt_memory::texts::store;
 use pt_memory::{MemDest, MemLog, MemSource};
 use pt_move::{Fault, Job, Report, migrate};
 use pt_name::{Layout, Share};
 use pt_object::{Algorithm, Meta};
-use pt_texts::store;
 use pt_walk::Limits;
 use std::alloc::Global;
 

@@ -1,8 +1,8 @@
 //! One device fails at each of its calls, or the log at each of its bytes.
 use crate::stores::{Case, before, carry, run, whole};
+use pt_memory::texts::{path, store};
 use pt_memory::{MemDest, MemLog, MemSource};
 use pt_move::Fault;
-use pt_texts::{path, store};
 use pt_tree::NamePath;
 use std::alloc::Global;
 

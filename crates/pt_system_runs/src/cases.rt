@@ -1,7 +1,7 @@
 //! What a case is: a store, and what runs over it must tell and leave.
 use crate::texts::{DECLARATION, OF_ROOT};
 use pt_memory::MemDest;
-use pt_texts::{add, path, tree};
+use pt_memory::texts::{add, path, tree};
 use std::alloc::Global;
 
 /// A store, and what runs over it must tell and leave. All of it was computed apart from the program.

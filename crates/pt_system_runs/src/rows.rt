@@ -3,8 +3,8 @@ use crate::cases::Case;
 use crate::machine::{Ran, carry};
 use crate::told::Told;
 use pt_memory::MemDest;
+use pt_memory::texts::{add, path};
 use pt_memory_system::Faults;
-use pt_texts::{add, path};
 use std::alloc::{AllocGlobal, Global};
 
 /// What a row finds.

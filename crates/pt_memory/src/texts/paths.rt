@@ -1,5 +1,5 @@
 //! Paths from texts.
-use pt_memory::PlantFault;
+use crate::PlantFault;
 use pt_tree::{Name, NameFault, NamePath, TreeFault};
 use std::alloc::Global;
 

@@ -1,4 +1,4 @@
-//! Paths, stores and trees from texts, for tests. No code of the program stands on it.
+//! Paths, stores and trees from texts, for tests.
 //!
 //! Each function answers `Memory` where a growth was refused, and `Device` where its text says nothing that can stand.
 #![tactic(auto)]

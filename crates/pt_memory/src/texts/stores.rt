@@ -1,7 +1,7 @@
 //! Stores from one line of text.
-use crate::paths::{path, planted};
-use crate::trees::way;
-use pt_memory::MemSource;
+use crate::MemSource;
+use crate::texts::paths::{path, planted};
+use crate::texts::trees::way;
 use pt_tree::{NamePath, TreeFault};
 use std::alloc::Global;
 

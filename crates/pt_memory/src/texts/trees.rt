@@ -1,6 +1,6 @@
 //! Trees from pairs of a path and bytes.
-use crate::paths::{planted, push};
-use pt_memory::{MemDest, MemSource, PlantFault};
+use crate::texts::paths::{planted, push};
+use crate::{MemDest, MemSource, PlantFault};
 use pt_tree::{NamePath, TreeFault};
 use std::alloc::Global;
 
