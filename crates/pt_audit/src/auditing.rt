@@ -20,9 +20,9 @@ use crate::beside::Beside;
 use crate::layout::check_layout;
 use crate::lines::{end_line, object_line};
 use crate::survey::{AtHand, Sight, Survey};
-use crate::{Counting, Counts};
+use crate::Counts;
 use pt_compare::{Finding, Root, Scanned, compare};
-use pt_move::Job;
+use pt_move::{Job, Observer};
 use pt_plan::Fault;
 use pt_state::paths::{in_pairtree, in_storage_root};
 use pt_tree::{Log, Source};
@@ -42,13 +42,13 @@ use std::alloc::Global;
 /// each of them the survey holds no more than a run's bound, and nothing but a run's fields. While a file of the store is read
 /// for its digest, what stands in the root is read beside it; of a content that isn't alike both are read once more. A step calls
 /// the store at most once or twice; no clause counts what the comparison reads.
-pub fn audit<S: Source, R: Root, L: Log, C: Counting>(
+pub fn audit<S: Source, R: Root, L: Log, O: Observer<Counts>>(
     alloc: Global,
     source: &mut S,
     root: &mut R,
     log: &mut L,
     job: Job,
-    counting: &C,
+    observer: &O,
 ) -> Result<Counts, Fault>
     ensures ends { IfOk result (EndsAs (job_of job) (tree_in (S.told source.old))
         (tree_in (R.told root.old)) (L.told log.old) (L.told log.new)) }
@@ -65,18 +65,18 @@ pub fn audit<S: Source, R: Root, L: Log, C: Counting>(
 {
     let mut survey = Survey::start(alloc, job);
     let mut beside = Beside::new(alloc);
-    go_through(alloc, &mut survey, &mut beside, source, root, log, counting)
+    go_through(alloc, &mut survey, &mut beside, source, root, log, observer)
 }
 
 // Makes the steps of a survey that has just begun, to its end. After each it is told how many lines there are.
-fn go_through<S: Source, R: Root, L: Log, C: Counting>(
+fn go_through<S: Source, R: Root, L: Log, O: Observer<Counts>>(
     alloc: Global,
     survey: &mut Survey,
     beside: &mut Beside,
     source: &mut S,
     root: &mut R,
     log: &mut L,
-    counting: &C,
+    observer: &O,
 ) -> Result<Counts, Fault>
     requires { Begins (S.told source.old) (R.told root.old) (L.told log.old) beside.old survey.old }
     ensures ends { IfOk result (λ counts. EndsAs (job_of survey.old.state.job)
@@ -97,7 +97,7 @@ fn go_through<S: Source, R: Root, L: Log, C: Counting>(
     loop {
         let more = go_on(alloc, survey, &mut counts, beside, source, root, log)?;
         let so_far = counts.with_skipped(survey.report().skipped);
-        counting.counted(so_far);
+        observer.observe(so_far);
         if !more {
             return Ok(so_far);
         }

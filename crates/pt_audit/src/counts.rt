@@ -16,12 +16,6 @@ pub struct Counts {
     pub skipped: u64,
 }
 
-/// What is told how far an audit is.
-pub trait Counting {
-    /// So many lines of each kind were put.
-    fn counted(&self, counts: Counts);
-}
-
 impl Counts {
     /// Of no line yet.
     pub fn none() -> Counts

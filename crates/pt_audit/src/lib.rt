@@ -12,6 +12,6 @@ mod lines;
 mod survey;
 
 pub use auditing::audit;
-pub use counts::{Counting, Counts};
+pub use counts::Counts;
 pub use pt_compare::{Difference, Finding, Root, Why};
 pub use survey::{AtHand, Opened, Sight, Survey};

@@ -1,8 +1,8 @@
 -- What a whole run promises, from its steps.
 use Rattle.std.proofs.Common.{◌≡◌, ◌≢◌, refl, ◌∙◌}
 use Rattle.std.specs.Prelude.{IsErrAnd, Ok, Err, Result}
-use Rattle.pt_begun.specs.Begun.{IsWorld, Start, start_of}
-use Rattle.pt_state.proofs.Words.{IsLayout, World, source_tree}
+use Rattle.pt_begun.specs.Begun.{Start, start_of}
+use Rattle.pt_state.proofs.Words.{World, source_tree}
 use Rattle.pt_state.proofs.Words.phase
 use Rattle.pt_state.specs.declared.job.Report.{Report}
 use Rattle.pt_state.specs.declared.job.Job.{Job}
@@ -16,7 +16,7 @@ use Rattle.pt_plan.specs.declared.fault.Fault.{Fault}
 use Rattle.pt_plan.specs.declared.fault.Fault.TheVariants as fault
 use Rattle.pt_move.specs.declared.mover.Turn.{Turn}
 use Rattle.pt_move.specs.declared.mover.Turn.TheVariants as turn
-use Rattle.pt_move.proofs.Ending.{new_goes_on, new_is_begun, not_ended}
+use Rattle.pt_move.proofs.Ending.{new_goes_on, not_ended}
 use Rattle.pt_move.proofs.Ran.{RanSoFar, blames_err, blames_ok, none_failed, ran_halted, ran_nothing, ran_on, ran_whole}
 use Rattle.pt_move.proofs.WholeLog.{told_finished, told_front, told_more, told_none}
 
@@ -32,9 +32,9 @@ pub record SoFar (job : Job) (first now : World) (r : Running) : Type 0 where
   pub told : HasTold first.log now.log r.state.counts
   pub ran : RanSoFar job first now r
 
-pub new_so_far : (job : Job) (r : Running) (w : World) → IsNew job r → IsLayout job.layout → IsWorld w → SoFar job w w r
-new_so_far job r w new layout is = record {
-  begun = new_is_begun job r w new layout is;
+pub new_so_far : (job : Job) (r : Running) (w : World) → IsNew job r → IsBegun (start_of w) w r → SoFar job w w r
+new_so_far job r w new begun = record {
+  begun = begun;
   tree = refl;
   failures = refl;
   same = new.job_is;

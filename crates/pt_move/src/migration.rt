@@ -3,7 +3,7 @@ ghost use Rattle.std.specs.Prelude.{ℕ};
 ghost use Rattle.pt_state.specs.Outside.{world};
 ghost use Rattle.pt_move.specs.Migrates.{Migrates};
 
-use crate::{Fault, Mover, Turn};
+use crate::{Fault, Mover, Observer, Turn, Unobserved};
 use pt_state::{Devices, Job, Outside, Report};
 use pt_tree::{Dest, Log, Source};
 use std::alloc::Global;
@@ -37,19 +37,46 @@ pub fn migrate<S: Source, D: Dest, L: Log>(
     ensures dest_stays { D.keeps dest.old dest.new }
     ensures log_stays { L.keeps log.old log.new }
 {
-    run(alloc, &mut Devices { source, dest, log }, job)
+    migrate_observed(alloc, source, dest, log, job, &Unobserved)
 }
 
-// Makes the steps of a run to its end, or to its first fault.
-fn run<O: Outside>(alloc: Global, out: &mut O, job: Job) -> Result<Report, Fault>
+/// A run as `migrate` makes it, and with all that is promised of that. The observer gets the run's report after each turn that isn't the
+/// last one or a faulty one; it has no part in what the run does.
+pub fn migrate_observed<S: Source, D: Dest, L: Log, O: Observer<Report>>(
+    alloc: Global,
+    source: &mut S,
+    dest: &mut D,
+    log: &mut L,
+    job: Job,
+    observer: &O,
+) -> Result<Report, Fault>
+    ensures promises { Migrates job
+        (world (S.told source.old) (D.told dest.old) (L.told log.old)
+        (S.failed source.old) (D.failed dest.old) (L.failed log.old))
+        (world (S.told source.new) (D.told dest.new) (L.told log.new)
+        (S.failed source.new) (D.failed dest.new) (L.failed log.new))
+        result }
+    ensures source_stays { S.keeps source.old source.new }
+    ensures dest_stays { D.keeps dest.old dest.new }
+    ensures log_stays { L.keeps log.old log.new }
+{
+    run(alloc, &mut Devices { source, dest, log }, job, observer)
+}
+
+// Makes the turns of a run to its end, or to its first fault.
+fn run<O: Outside, W: Observer<Report>>(
+    alloc: Global,
+    out: &mut O,
+    job: Job,
+    observer: &W,
+) -> Result<Report, Fault>
     ensures run { Migrates job (O.world out.old) (O.world out.new) result }
     ensures same { (n k : ℕ) × O.within n k out.old out.new }
 {
-    job.layout.count();
     let mut mover = Mover::start(alloc, job);
     loop {
         match mover.advance(out) {
-            Ok(Turn::More) => {}
+            Ok(Turn::More) => observer.observe(mover.report()),
             Ok(Turn::Finished) => break Ok(mover.report()),
             Err(fault) => break Err(fault),
         }

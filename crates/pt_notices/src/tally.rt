@@ -1,7 +1,7 @@
 //! How far a run or an audit is.
 
-use pt_audit::{Counting, Counts};
-use pt_move::Report;
+use pt_audit::Counts;
+use pt_move::{Observer, Report};
 use std::cell::Cell;
 
 /// The lines of each kind that were put, and the bytes that were read.
@@ -48,17 +48,20 @@ impl Tally {
     pub fn add_bytes(&self, count: u64) {
         self.bytes.set(self.bytes.get().saturating_add(count));
     }
+}
 
-    /// A run has put so many lines of each kind.
-    pub fn set_lines(&self, report: Report) {
+// A run has put so many lines of each kind.
+impl Observer<Report> for Tally {
+    fn observe(&self, report: Report) {
         self.done.set(report.done);
         self.present.set(report.present);
         self.skipped.set(report.skipped);
     }
 }
 
-impl Counting for Tally {
-    fn counted(&self, counts: Counts) {
+// And so has an audit.
+impl Observer<Counts> for Tally {
+    fn observe(&self, counts: Counts) {
         self.done.set(counts.same);
         self.present
             .set(counts.absent.saturating_add(counts.differs));

@@ -14,7 +14,6 @@ mod running;
 mod saying;
 pub mod status;
 mod telling;
-mod turns;
 
 pub use guarded_audit::{PacedAudit, WantedAudit, audit_guarded, audit_guarded_as};
 pub use guarded_run::{Wanted, run_guarded, run_guarded_as};

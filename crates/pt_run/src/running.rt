@@ -16,10 +16,9 @@ use crate::host::Ground;
 use crate::log::SyncsOutput;
 use crate::saying::tell_fault;
 use crate::status::{DONE, FAILED, TOLD};
-use crate::turns::make_turns;
 use pt_folder::{HostDest, HostSource, System};
 use pt_ignore::Ignoring;
-use pt_move::{Fault, Job, Report};
+use pt_move::{Fault, Job, Report, migrate_observed};
 use pt_notices::{Counted, Progress, Reads, Tally, Terminals, Watched, Watching, Words, reason};
 use pt_rehearsal::Rehearsal;
 use pt_tree::{Log, Source};
@@ -165,12 +164,12 @@ fn made<'a, S: Source, D: System, L: Log>(
 {
     if rehearse {
         let mut rehearsal = Rehearsal::new(alloc, dest);
-        let ran = make_turns(alloc, source, &mut rehearsal, log, job, tally);
+        let ran = migrate_observed(alloc, source, &mut rehearsal, log, job, tally);
         let dest = rehearsal.into_dest();
         return Ran { ran, dest };
     }
     let mut dest = dest;
-    let ran = make_turns(alloc, source, &mut dest, log, job, tally);
+    let ran = migrate_observed(alloc, source, &mut dest, log, job, tally);
     Ran { ran, dest }
 }
 

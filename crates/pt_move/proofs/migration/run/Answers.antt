@@ -8,7 +8,8 @@ use Rattle.pt_move.proofs.migration.run.Goals.{in-Ok-Finished, in-Err}
 -- before the first step nothing was done: Migrating.antt (`new_so_far`)
 pub loop-mover-init : goal.loop-mover-init
 loop-mover-init g c = (
-  new_so_far _ c.start-mover.result _ c.start-mover.ensures.new c.count.ensures.layout (record { source = g.met.O.Outside.proper c.args.out.now; dest = g.met.O.Outside.is_tree c.args.out.now }),
+  new_so_far _ c.start-mover.result _ c.start-mover.ensures.new
+      (c.start-mover.ensures.in_progress _ (record { source = g.met.O.Outside.proper c.args.out.now; dest = g.met.O.Outside.is_tree c.args.out.now })),
   (0, 0, g.met.O.Outside.none c.args.out.now),
 )
 
