@@ -32,7 +32,7 @@ loop-mover-smaller g c = smaller _ _ _ _ c.in-Ok-More.field-0 c.in-Ok-More.field
 -- `run`, where the last turn was made and where a step met a fault: Migrating.antt (`migrates_whole`, `migrates_halted`)
 pub returns-clause-run : goal.returns-clause-run
 returns-clause-run g c = elim c.match-advance.branch [
-  | in-Ok-Finished w ↦ rw w.result-is (migrates_whole _ _ _ _ _ _ c.loop-mover.invariant.0 w.in-Ok-Finished.field-0 w.report.result w.in-Ok-Finished.field-0-is (search rules) (search rules)
+  | in-Ok-Finished w ↦ rw w.result-is (migrates_whole _ _ _ _ _ _ c.loop-mover.invariant.0 w.in-Ok-Finished.field-0 w.report-in-Ok-Finished.result w.in-Ok-Finished.field-0-is (search rules) (search rules)
       (record { keeps = w.in-Ok-Finished.ensures.keeps; steps = w.in-Ok-Finished.ensures.steps }))
   | in-Err w ↦ migrates_halted _ _ _ _ _ _ c.loop-mover.invariant.0 w.in-Err.fault _ (search rules)
       (record { keeps = w.in-Err.ensures.keeps; steps = w.in-Err.ensures.steps })
