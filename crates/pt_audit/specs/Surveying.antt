@@ -34,12 +34,15 @@ use Rattle.pt_state.specs.declared.state.State.{State}
 use Rattle.pt_move.specs.Carried.{IsCarried}
 use Rattle.pt_plan.specs.declared.fault.Fault.{Fault}
 use Rattle.pt_plan.specs.declared.fault.Fault.TheVariants as fault
+use Rattle.pt_audit.specs.Bare.{bare}
 use Rattle.pt_audit.specs.declared.survey.AtHand.{AtHand}
 use Rattle.pt_audit.specs.declared.survey.Sight.{Sight}
 use Rattle.pt_audit.specs.declared.survey.Sight.TheVariants as sight
 use Rattle.pt_tree.specs.Forest.{Forest}
 use Rattle.pt_tree.specs.Path.{Path}
 use Rattle.pt_tree.specs.Source.{Reading}
+use Rattle.pt_tree.specs.declared.log.Log.{Ghosts as OfLog}
+use Rattle.pt_tree.specs.declared.source.Source.{Ghosts as OfSource}
 use Rattle.pt_walk.specs.Left.{bytes_at}
 use Rattle.pt_walk.specs.declared.cause.Cause.{Cause}
 
@@ -51,6 +54,14 @@ no_start = record { dest = None; log = None }
 
 abbrev pub source_alone : Option Reading → World
 source_alone told = world told None None 0 0 0
+
+-- the world of a survey's devices, by the words of their traits: its source and its log, over a bare root that never fails
+abbrev pub bare_world : {S L : Type 0} → OfSource S → OfLog L → S → L → World
+bare_world s l source log = world (s.told source) (Some bare) (l.told log) (s.failed source) 0 (l.failed log)
+
+-- the same with a log that nobody reads
+abbrev pub unlogged_world : {S : Type 0} → OfSource S → S → World
+unlogged_world s source = world (s.told source) (Some bare) None (s.failed source) 0 0
 
 -- what stands in the source is looked at
 abbrev pub is_looking : Phase → Bool

@@ -10,13 +10,11 @@ ghost use Rattle.pt_plan.specs.Answer.{phase_after};
 ghost use Rattle.pt_audit.specs.Growing.{BlamesRightly, KeepsLog, KeepsTree, Leaves};
 ghost use Rattle.pt_plan.specs.World.{source_tree};
 ghost use Rattle.pt_state.specs.Counting.{AtMostCalls};
-ghost use Rattle.pt_state.specs.Outside.{world};
-ghost use Rattle.pt_audit.specs.Bare.{bare};
 ghost use Rattle.pt_move.specs.Turning.{CountedTurn};
 ghost use Rattle.pt_plan.specs.declared.phase.Phase.TheVariants as phase;
 ghost use Rattle.pt_scan.specs.Blocks.{ReadsNext};
 ghost use Rattle.pt_audit.specs.Files.{IsOpened, MakesStep, names_before as names_before_file};
-ghost use Rattle.pt_audit.specs.Surveying.{GoesOn, IsHand, IsReady, IsSurvey, SurveySays, Surveys, is_at_hand as is_at_hand_there, is_looking, passed as passed_phase, sight_at};
+ghost use Rattle.pt_audit.specs.Surveying.{GoesOn, IsHand, IsReady, IsSurvey, SurveySays, Surveys, bare_world, is_at_hand as is_at_hand_there, is_looking, passed as passed_phase, sight_at, unlogged_world};
 ghost use Rattle.pt_tree.specs.Forest.{is_proper};
 ghost use Rattle.pt_tree.specs.Source.{Reading};
 
@@ -252,10 +250,8 @@ fn look<S: Source, L: Log>(
     requires ready { IsReady (S.told source.old) here state.old }
     requires looks { is_looking here ≡ true }
     ensures turn { CountedTurn here state.old state.new
-        (world (S.told source.old) (Some bare) (L.told log.old)
-        (S.failed source.old) 0 (L.failed log.old))
-        (world (S.told source.new) (Some bare) (L.told log.new)
-        (S.failed source.new) 0 (L.failed log.new)) result }
+        (bare_world S.Source L.Log source.old log.old)
+        (bare_world S.Source L.Log source.new log.new) result }
     ensures block { ReadsNext here (S.told source.old) state.new.block.items result }
     ensures source_stays { S.keeps source.old source.new
         × AtMostCalls (most_calls here) (S.called source.old) (S.called source.new) }
@@ -277,8 +273,7 @@ fn pass<S: Source>(state: &mut State, here: Phase, source: &mut S) -> Result<Pha
     requires ready { IsReady (S.told source.old) here state.old }
     requires at_hand { is_at_hand_there here ≡ true }
     ensures turn { CountedTurn here state.old state.new
-        (world (S.told source.old) (Some bare) None (S.failed source.old) 0 0)
-        (world (S.told source.new) (Some bare) None (S.failed source.new) 0 0) result }
+        (unlogged_world S.Source source.old) (unlogged_world S.Source source.new) result }
     ensures source_stays { S.keeps source.old source.new
         × AtMostCalls (most_calls here) (S.called source.old) (S.called source.new) }
 {

@@ -2,10 +2,9 @@
 ghost use Rattle.std.specs.Prelude.{◌≡◌, None};
 ghost use Rattle.pt_begun.specs.Begun.{Start};
 ghost use Rattle.pt_clients.specs.Holding.{GoesOn, IsMost};
-ghost use Rattle.pt_move.specs.Promises.{Keeps};
-ghost use Rattle.pt_move.specs.Running.{HasBegun, IsBegun, IsNew};
-ghost use Rattle.pt_move.specs.Stepping.{Steps};
-ghost use Rattle.pt_state.specs.Outside.{world};
+ghost use Rattle.pt_move.specs.Promises.{TakesStep};
+ghost use Rattle.pt_move.specs.Running.{HasBegun, IsNew};
+ghost use Rattle.pt_state.specs.Outside.{world_of};
 ghost use Rattle.pt_tree.specs.Forest.{Forest};
 
 use pt_move::{Fault, Job, Mover, Turn};
@@ -37,9 +36,7 @@ impl<S: Source, D: Dest, L: Log> Run<S, D, L> {
         ensures source { result.source ≡ source }
         ensures dest { result.dest ≡ dest }
         ensures log { result.log ≡ log }
-        ensures begun { HasBegun
-            (world (S.told source) (D.told dest) (L.told log)
-            (S.failed source) (D.failed dest) (L.failed log)) result.mover }
+        ensures begun { HasBegun (world_of S.Source D.Dest L.Log source dest log) result.mover }
     {
         Run {
             mover: Mover::start(alloc, job),
@@ -53,27 +50,11 @@ impl<S: Source, D: Dest, L: Log> Run<S, D, L> {
     /// What it asks for holds of a new run, and after each step.
     pub fn step(&mut self) -> Result<Turn, Fault>
         requires { HasBegun
-            (world (S.told self.old.source) (D.told self.old.dest) (L.told self.old.log)
-            (S.failed self.old.source) (D.failed self.old.dest) (L.failed self.old.log))
+            (world_of S.Source D.Dest L.Log self.old.source self.old.dest self.old.log)
             self.old.mover }
-        ensures keeps { (start : Start) → IsBegun start
-            (world (S.told self.old.source) (D.told self.old.dest) (L.told self.old.log)
-            (S.failed self.old.source) (D.failed self.old.dest) (L.failed self.old.log))
-            self.old.mover → Keeps start
-            (world (S.told self.old.source) (D.told self.old.dest) (L.told self.old.log)
-            (S.failed self.old.source) (D.failed self.old.dest) (L.failed self.old.log))
-            (world (S.told self.new.source) (D.told self.new.dest) (L.told self.new.log)
-            (S.failed self.new.source) (D.failed self.new.dest) (L.failed self.new.log))
-            self.old.mover self.new.mover result }
-        ensures goes_on { HasBegun
-            (world (S.told self.new.source) (D.told self.new.dest) (L.told self.new.log)
-            (S.failed self.new.source) (D.failed self.new.dest) (L.failed self.new.log))
-            self.new.mover }
-        ensures steps { Steps
-            (world (S.told self.old.source) (D.told self.old.dest) (L.told self.old.log)
-            (S.failed self.old.source) (D.failed self.old.dest) (L.failed self.old.log))
-            (world (S.told self.new.source) (D.told self.new.dest) (L.told self.new.log)
-            (S.failed self.new.source) (D.failed self.new.dest) (L.failed self.new.log))
+        ensures step { TakesStep
+            (world_of S.Source D.Dest L.Log self.old.source self.old.dest self.old.log)
+            (world_of S.Source D.Dest L.Log self.new.source self.new.dest self.new.log)
             self.old.mover self.new.mover result }
     {
         self.mover
@@ -83,12 +64,10 @@ impl<S: Source, D: Dest, L: Log> Run<S, D, L> {
     /// Makes so many turns, unless the run ends before: whether there is more to do.
     pub fn steps(&mut self, most: u64) -> Result<bool, Fault>
         requires { HasBegun
-            (world (S.told self.old.source) (D.told self.old.dest) (L.told self.old.log)
-            (S.failed self.old.source) (D.failed self.old.dest) (L.failed self.old.log))
+            (world_of S.Source D.Dest L.Log self.old.source self.old.dest self.old.log)
             self.old.mover }
         ensures { HasBegun
-            (world (S.told self.new.source) (D.told self.new.dest) (L.told self.new.log)
-            (S.failed self.new.source) (D.failed self.new.dest) (L.failed self.new.log))
+            (world_of S.Source D.Dest L.Log self.new.source self.new.dest self.new.log)
             self.new.mover }
     {
         for _ in 0..most {
@@ -104,12 +83,10 @@ impl<S: Source, D: Dest, L: Log> Run<S, D, L> {
     /// within the work.
     pub fn most(&mut self, turns: u64) -> Most
         requires { HasBegun
-            (world (S.told self.old.source) (D.told self.old.dest) (L.told self.old.log)
-            (S.failed self.old.source) (D.failed self.old.dest) (L.failed self.old.log))
+            (world_of S.Source D.Dest L.Log self.old.source self.old.dest self.old.log)
             self.old.mover }
         ensures { (start : Start) (s : Forest) → GoesOn start s self.old.mover.state.job
-            (world (S.told self.old.source) (D.told self.old.dest) (L.told self.old.log)
-            (S.failed self.old.source) (D.failed self.old.dest) (L.failed self.old.log))
+            (world_of S.Source D.Dest L.Log self.old.source self.old.dest self.old.log)
             self.old.mover → IsMost self.old.mover.state.job start s result.records result.turns }
     {
         let mut most = Most {
@@ -134,13 +111,12 @@ impl<S: Source, D: Dest, L: Log> Run<S, D, L> {
     /// The run with another log, and the one that it had, where neither tells what it holds: it is in progress as before, however often the two
     /// failed.
     pub fn with_log<M: Log>(self, log: M) -> (Run<S, D, M>, L)
-        requires begun { HasBegun (world (S.told self.source) (D.told self.dest) (L.told self.log)
-            (S.failed self.source) (D.failed self.dest) (L.failed self.log)) self.mover }
+        requires begun { HasBegun (world_of S.Source D.Dest L.Log self.source self.dest self.log)
+            self.mover }
         requires silent { L.told self.log ≡ None }
         requires other_silent { M.told log ≡ None }
         ensures { HasBegun
-            (world (S.told result.0.source) (D.told result.0.dest) (M.told result.0.log)
-            (S.failed result.0.source) (D.failed result.0.dest) (M.failed result.0.log))
+            (world_of S.Source D.Dest M.Log result.0.source result.0.dest result.0.log)
             result.0.mover }
     {
         let run = Run {

@@ -7,7 +7,7 @@ ghost use Rattle.pt_plan.specs.declared.phase.Part.TheVariants as part;
 ghost use Rattle.pt_plan.specs.declared.phase.Phase.TheVariants as phase;
 ghost use Rattle.pt_plan.specs.declared.phase.Stage.TheVariants as stage;
 ghost use Rattle.pt_state.specs.States.{held_of};
-ghost use Rattle.pt_state.specs.Outside.{TakesTurn};
+ghost use Rattle.pt_state.specs.Turns.{TakesTurn};
 ghost use Rattle.pt_tree.specs.Dest.{MayMake};
 ghost use Rattle.pt_tree.specs.Source.{CanOpen};
 ghost use Rattle.pt_make.specs.Making.{IsNextCopy, IsNextFolder, IsStep};
@@ -47,9 +47,9 @@ pub(crate) fn make_content<O: Outside>(
     requires row { position.row < length state.old.rows }
     requires may { MayMakeContent (O.world out.old).source (O.world out.old).dest object
         (held_of state.old []) position }
-    ensures turn { TakesTurn O.world (O.within 1 0)
-        (phase.Carrying object (stage.Make (part.Content position))) state.old state.new
-        out.old out.new result }
+    ensures turn { TakesTurn O.Outside (1, 0)
+        (phase.Carrying object (stage.Make (part.Content position)))
+        (state.old, out.old) (state.new, out.new) result }
 {
     match next_step(state, &object, position)? {
         Step::Pass(next) => Ok(Phase::Carrying(object, Stage::Make(next))),
@@ -114,9 +114,9 @@ fn make_folder<O: Outside>(
 ) -> Result<Phase, Fault>
     requires next { IsNextFolder state.now position path.now }
     requires may { MayMake (O.world out.old).dest path.now }
-    ensures turn { TakesTurn O.world (O.within 0 0)
-        (phase.Carrying object (stage.Make (part.Content position))) state.now state.now
-        out.old out.new result }
+    ensures turn { TakesTurn O.Outside (0, 0)
+        (phase.Carrying object (stage.Make (part.Content position)))
+        (state.now, out.old) (state.now, out.new) result }
 {
     out.mkdir(path)?;
     let directories = position.directories + 1;
@@ -138,9 +138,9 @@ fn open_copy<O: Outside>(
     requires next { IsNextCopy state.old object position copied.now }
     requires may { MayMake (O.world out.old).dest copied.now.to
         × CanOpen (O.world out.old).source copied.now.from }
-    ensures turn { TakesTurn O.world (O.within 1 0)
-        (phase.Carrying object (stage.Make (part.Content position))) state.old state.new
-        out.old out.new result }
+    ensures turn { TakesTurn O.Outside (1, 0)
+        (phase.Carrying object (stage.Make (part.Content position)))
+        (state.old, out.old) (state.new, out.new) result }
 {
     out.create(&copied.to)?;
     out.open(&copied.from)?;

@@ -7,7 +7,7 @@ ghost use Rattle.pt_object.specs.Object.{inventory_name, sidecar_name as sidecar
 ghost use Rattle.pt_plan.specs.TurnMake.{after_last};
 ghost use Rattle.pt_plan.specs.declared.phase.Phase.TheVariants as phase;
 ghost use Rattle.pt_plan.specs.declared.phase.Stage.TheVariants as stage;
-ghost use Rattle.pt_state.specs.Outside.{TakesTurn, Wrote};
+ghost use Rattle.pt_state.specs.Turns.{TakesTurn, WroteBy};
 ghost use Rattle.pt_state.specs.States.{job_of};
 ghost use Rattle.pt_tree.specs.Dest.{MayMake};
 ghost use Rattle.pt_tree.specs.Known.{known_text};
@@ -40,9 +40,9 @@ pub(crate) fn make_inventory<O: Outside>(
     requires contents { HasContentsOfRows state.old }
     requires fed { IsFedFor folder state.old object }
     requires may { MayMake (O.world out.old).dest (in_folder folder (inventory_name ∷ [])) }
-    ensures turn { TakesTurn O.world (O.within 0 0)
-        (phase.Carrying object (stage.Make (inventory_part folder))) state.old state.new
-        out.old out.new result }
+    ensures turn { TakesTurn O.Outside (0, 0)
+        (phase.Carrying object (stage.Make (inventory_part folder)))
+        (state.old, out.old) (state.new, out.new) result }
 {
     let path = path_in(state.alloc, folder, Known::Inventory)?;
     let mut hasher = hasher_for(folder, state.job.algorithm);
@@ -90,7 +90,7 @@ fn put_text<O: Outside>(
     out: &mut O,
 ) -> Result<(), Fault>
     requires { MayMake (O.world out.old).dest path.now }
-    ensures wrote { Wrote O.world (O.within 0 0) (makes_file path.now text.entry.rest)
+    ensures wrote { WroteBy O.Outside (makes_file path.now text.entry.rest)
         out.old out.new result }
     ensures fed { OnOk result (IsFedMore hasher.old hasher.new text.entry.rest) }
 {
@@ -122,9 +122,9 @@ pub(crate) fn make_sidecar<O: Outside>(
     requires fed { HasFedInventory state.old object }
     requires may { MayMake (O.world out.old).dest
         (in_folder folder (sidecar_name_of state.old.job.algorithm ∷ [])) }
-    ensures turn { TakesTurn O.world (O.within 0 0)
-        (phase.Carrying object (stage.Make (sidecar_part folder))) state.old state.new
-        out.old out.new result }
+    ensures turn { TakesTurn O.Outside (0, 0)
+        (phase.Carrying object (stage.Make (sidecar_part folder)))
+        (state.old, out.old) (state.new, out.new) result }
 {
     let path = sidecar_path(state.alloc, folder, state.job.algorithm)?;
     put_sidecar(state, &object, &path, out)?;
@@ -157,7 +157,7 @@ fn put_sidecar<O: Outside>(
 ) -> Result<(), Fault>
     requires fed { HasFedInventory state.now object.now }
     requires may { MayMake (O.world out.old).dest path.now }
-    ensures { Wrote O.world (O.within 0 0) (makes_file path.now
+    ensures { WroteBy O.Outside (makes_file path.now
         (sidecar_text state.now.job.algorithm (inventory_held state.now object.now)))
         out.old out.new result }
 {

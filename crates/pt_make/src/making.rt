@@ -8,7 +8,7 @@ ghost use Rattle.pt_plan.specs.declared.phase.Part.TheVariants as part;
 ghost use Rattle.pt_plan.specs.declared.phase.Phase.TheVariants as phase;
 ghost use Rattle.pt_plan.specs.declared.phase.Stage.TheVariants as stage;
 ghost use Rattle.pt_state.specs.States.{held_of, job_of};
-ghost use Rattle.pt_state.specs.Outside.{TakesTurn};
+ghost use Rattle.pt_state.specs.Turns.{TakesTurn};
 ghost use Rattle.pt_tree.specs.Dest.{MayMake};
 ghost use Rattle.pt_make.specs.Making.{IsReadyFor};
 
@@ -32,8 +32,8 @@ pub fn make<O: Outside>(
     requires may { MayMakePart (job_of state.old.job) object part (held_of state.old [])
         (O.world out.old).source (O.world out.old).dest }
     requires ready { IsReadyFor part object state.old }
-    ensures turn { TakesTurn O.world (O.within 1 0) (phase.Carrying object (stage.Make part))
-        state.old state.new out.old out.new result }
+    ensures turn { TakesTurn O.Outside (1, 0) (phase.Carrying object (stage.Make part))
+        (state.old, out.old) (state.new, out.new) result }
 {
     match part {
         Part::Staging => make_staging(state, object, out),
@@ -50,8 +50,8 @@ pub fn make<O: Outside>(
 // Makes `staging`.
 fn make_staging<O: Outside>(state: &State, object: Object, out: &mut O) -> Result<Phase, Fault>
     requires may { MayMake (O.world out.old).dest staging }
-    ensures turn { TakesTurn O.world (O.within 0 0) (phase.Carrying object (stage.Make part.Staging))
-        state.now state.now out.old out.new result }
+    ensures turn { TakesTurn O.Outside (0, 0) (phase.Carrying object (stage.Make part.Staging))
+        (state.now, out.old) (state.now, out.new) result }
 {
     let path = NamePath::of_known(state.alloc, &[Known::Staging])?;
     out.mkdir(&path)?;
@@ -61,9 +61,8 @@ fn make_staging<O: Outside>(state: &State, object: Object, out: &mut O) -> Resul
 // Makes the object's declaration (OCFL 1.1, "Object Conformance Declaration").
 fn make_declaration<O: Outside>(state: &State, object: Object, out: &mut O) -> Result<Phase, Fault>
     requires may { MayMake (O.world out.old).dest (staging ++ object_declaration_name ∷ []) }
-    ensures turn { TakesTurn O.world (O.within 0 0)
-        (phase.Carrying object (stage.Make part.Declaration)) state.now state.now
-        out.old out.new result }
+    ensures turn { TakesTurn O.Outside (0, 0) (phase.Carrying object (stage.Make part.Declaration))
+        (state.now, out.old) (state.now, out.new) result }
 {
     let path = NamePath::of_known(state.alloc, &[Known::Staging, Known::Declaration])?;
     put_file(out, &path, object_declaration())?;
@@ -73,8 +72,8 @@ fn make_declaration<O: Outside>(state: &State, object: Object, out: &mut O) -> R
 // Makes the version's folder (OCFL 1.1, "Version Directories").
 fn make_version<O: Outside>(state: &State, object: Object, out: &mut O) -> Result<Phase, Fault>
     requires may { MayMake (O.world out.old).dest (in_version []) }
-    ensures turn { TakesTurn O.world (O.within 0 0) (phase.Carrying object (stage.Make part.Version))
-        state.now state.now out.old out.new result }
+    ensures turn { TakesTurn O.Outside (0, 0) (phase.Carrying object (stage.Make part.Version))
+        (state.now, out.old) (state.now, out.new) result }
 {
     let path = NamePath::of_known(state.alloc, &[Known::Staging, Known::Version])?;
     out.mkdir(&path)?;

@@ -7,7 +7,7 @@ ghost use Rattle.pt_plan.specs.TurnWalk.{in_root};
 ghost use Rattle.pt_plan.specs.declared.phase.Phase.TheVariants as phase;
 ghost use Rattle.pt_plan.specs.declared.phase.Stage.TheVariants as stage;
 ghost use Rattle.pt_state.specs.States.{job_of};
-ghost use Rattle.pt_state.specs.Outside.{TakesTurn};
+ghost use Rattle.pt_state.specs.Turns.{TakesTurn};
 ghost use Rattle.pt_tree.specs.Dest.{MayMove};
 
 use pt_plan::{Fault, Object, Phase, Stage};
@@ -24,8 +24,8 @@ pub fn make_tuple<O: Outside>(
 ) -> Result<Phase, Fault>
     requires few { index < state.now.job.layout.count }
     requires may { HasParent (O.world out.old).dest (tuple_folder object index) }
-    ensures turn { TakesTurn O.world (O.within 0 1) (phase.Carrying object (stage.Tuples index))
-        state.now state.now out.old out.new result }
+    ensures turn { TakesTurn O.Outside (0, 1) (phase.Carrying object (stage.Tuples index))
+        (state.now, out.old) (state.now, out.new) result }
 {
     let _tuples = state.job.layout.count();
     let path = front_in_storage_root(state.alloc, &object.place, index + 1)?;
@@ -43,8 +43,8 @@ fn enter_tuple<O: Outside>(
     requires few { index < state.now.job.layout.count }
     requires path { path.now ≡ tuple_folder object index }
     requires may { HasParent (O.world out.old).dest path.now }
-    ensures turn { TakesTurn O.world (O.within 0 1) (phase.Carrying object (stage.Tuples index))
-        state.now state.now out.old out.new result }
+    ensures turn { TakesTurn O.Outside (0, 1) (phase.Carrying object (stage.Tuples index))
+        (state.now, out.old) (state.now, out.new) result }
 {
     match out.kind(path)? {
         None => {
@@ -72,8 +72,8 @@ fn after_tuple(state: &State, object: Object, index: usize) -> Phase
 /// Renames `staging` to an object's place.
 pub fn rename<O: Outside>(state: &State, object: Object, out: &mut O) -> Result<Phase, Fault>
     requires may { MayMove (O.world out.old).dest staging (in_root object.place) }
-    ensures turn { TakesTurn O.world (O.within 0 0) (phase.Carrying object stage.Rename)
-        state.now state.now out.old out.new result }
+    ensures turn { TakesTurn O.Outside (0, 0) (phase.Carrying object stage.Rename)
+        (state.now, out.old) (state.now, out.new) result }
 {
     let from = NamePath::of_known(state.alloc, &[Known::Staging])?;
     let to = in_storage_root(state.alloc, &object.place)?;
@@ -90,8 +90,8 @@ fn move_object<O: Outside>(
 ) -> Result<Phase, Fault>
     requires may { MayMove (O.world out.old).dest from.now to.now }
     requires paths { (from.now ≡ staging) × (to.now ≡ in_root object.place) }
-    ensures turn { TakesTurn O.world (O.within 0 0) (phase.Carrying object stage.Rename)
-        state.now state.now out.old out.new result }
+    ensures turn { TakesTurn O.Outside (0, 0) (phase.Carrying object stage.Rename)
+        (state.now, out.old) (state.now, out.new) result }
 {
     out.rename(from, to)?;
     Ok(Phase::Carrying(object, Stage::Line))

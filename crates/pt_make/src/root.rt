@@ -11,7 +11,7 @@ ghost use Rattle.pt_plan.specs.TurnStart.{after_file as after_file_of, after_ite
 ghost use Rattle.pt_plan.specs.declared.phase.Opening.TheVariants as opening;
 ghost use Rattle.pt_plan.specs.declared.phase.Phase.TheVariants as phase;
 ghost use Rattle.pt_tree.specs.Dest.{MayMake, MayMove};
-ghost use Rattle.pt_state.specs.Outside.{TakesTurn};
+ghost use Rattle.pt_state.specs.Turns.{TakesTurn};
 ghost use Rattle.pt_make.specs.Root.{IsFileAt, IsItemAt, IsRootItem};
 
 use pt_object::root_files;
@@ -25,8 +25,8 @@ use std::alloc::Global;
 
 /// Asks whether `staging` is there.
 pub fn staging<O: Outside>(state: &State, out: &mut O) -> Result<Phase, Fault>
-    ensures turn { TakesTurn O.world (O.within 0 1) (phase.Opening opening.Staging)
-        state.now state.now out.old out.new result }
+    ensures turn { TakesTurn O.Outside (0, 1) (phase.Opening opening.Staging)
+        (state.now, out.old) (state.now, out.new) result }
 {
     let path = NamePath::of_known(state.alloc, &[Known::Staging])?;
     match out.kind(&path)? {
@@ -37,8 +37,8 @@ pub fn staging<O: Outside>(state: &State, out: &mut O) -> Result<Phase, Fault>
 
 /// Asks whether the storage root is there.
 pub fn root<O: Outside>(state: &State, out: &mut O) -> Result<Phase, Fault>
-    ensures turn { TakesTurn O.world (O.within 0 1) (phase.Opening opening.Root) state.now state.now
-        out.old out.new result }
+    ensures turn { TakesTurn O.Outside (0, 1) (phase.Opening opening.Root)
+        (state.now, out.old) (state.now, out.new) result }
 {
     let path = NamePath::of_known(state.alloc, &[Known::StorageRoot])?;
     match out.kind(&path)? {
@@ -53,8 +53,8 @@ pub fn root<O: Outside>(state: &State, out: &mut O) -> Result<Phase, Fault>
 pub fn make_root<O: Outside>(state: &State, item: u8, out: &mut O) -> Result<Phase, Fault>
     requires may { MayMakeRootItem (O.world out.old).dest state.now.job.layout item }
     requires item { item < 6 }
-    ensures turn { TakesTurn O.world (O.within 0 0) (phase.Opening (opening.RootMake item))
-        state.now state.now out.old out.new result }
+    ensures turn { TakesTurn O.Outside (0, 0) (phase.Opening (opening.RootMake item))
+        (state.now, out.old) (state.now, out.new) result }
 {
     if item < 3 {
         let path = root_folder(state.alloc, item)?;
@@ -76,8 +76,8 @@ fn make_folder<O: Outside>(
 ) -> Result<Phase, Fault>
     requires may { MayMake (O.world out.old).dest path.now }
     requires here { IsItemAt state.now.job.layout item (MakeFolder path.now) }
-    ensures turn { TakesTurn O.world (O.within 0 0) (phase.Opening (opening.RootMake item))
-        state.now state.now out.old out.new result }
+    ensures turn { TakesTurn O.Outside (0, 0) (phase.Opening (opening.RootMake item))
+        (state.now, out.old) (state.now, out.new) result }
 {
     out.mkdir(path)?;
     Ok(after_item(item))
@@ -92,8 +92,8 @@ fn make_file<O: Outside>(
 ) -> Result<Phase, Fault>
     requires may { MayMake (O.world out.old).dest path.now }
     requires here { IsItemAt state.now.job.layout item (MakeFile path.now bytes.now) }
-    ensures turn { TakesTurn O.world (O.within 0 0) (phase.Opening (opening.RootMake item))
-        state.now state.now out.old out.new result }
+    ensures turn { TakesTurn O.Outside (0, 0) (phase.Opening (opening.RootMake item))
+        (state.now, out.old) (state.now, out.new) result }
 {
     put_file(out, path, bytes)?;
     Ok(after_item(item))
@@ -131,8 +131,8 @@ fn after_item(item: u8) -> Phase
 /// Renames `staging` to the storage root.
 pub fn rename_root<O: Outside>(state: &State, out: &mut O) -> Result<Phase, Fault>
     requires { MayMove (O.world out.old).dest staging_path storage_root }
-    ensures turn { TakesTurn O.world (O.within 0 0) (phase.Opening opening.RootRename)
-        state.now state.now out.old out.new result }
+    ensures turn { TakesTurn O.Outside (0, 0) (phase.Opening opening.RootRename)
+        (state.now, out.old) (state.now, out.new) result }
 {
     let from = NamePath::of_known(state.alloc, &[Known::Staging])?;
     let to = NamePath::of_known(state.alloc, &[Known::StorageRoot])?;
@@ -147,8 +147,8 @@ fn move_root<O: Outside>(
 ) -> Result<Phase, Fault>
     requires may { MayMove (O.world out.old).dest from.now to.now }
     requires paths { (from.now ≡ staging_path) × (to.now ≡ storage_root) }
-    ensures turn { TakesTurn O.world (O.within 0 0) (phase.Opening opening.RootRename)
-        state.now state.now out.old out.new result }
+    ensures turn { TakesTurn O.Outside (0, 0) (phase.Opening opening.RootRename)
+        (state.now, out.old) (state.now, out.new) result }
 {
     out.rename(from, to)?;
     Ok(Phase::Opening(Opening::OpenRoot))
@@ -157,8 +157,8 @@ fn move_root<O: Outside>(
 /// Compares one of the three files of the storage root that stands with what this program writes.
 pub fn check_root<O: Outside>(state: &mut State, file: usize, out: &mut O) -> Result<Phase, Fault>
     requires { file < 3 }
-    ensures turn { TakesTurn O.world (O.within 0 2) (phase.Opening (opening.RootCheck file))
-        state.old state.new out.old out.new result }
+    ensures turn { TakesTurn O.Outside (0, 2) (phase.Opening (opening.RootCheck file))
+        (state.old, out.old) (state.new, out.new) result }
 {
     let files = root_files(state.alloc, state.job.layout)?;
     let Some((path, bytes)) = files.get(file) else {
@@ -176,8 +176,8 @@ fn compare<O: Outside>(
     out: &mut O,
 ) -> Result<Phase, Fault>
     requires here { IsFileAt state.old.job.layout file path.now bytes.now }
-    ensures turn { TakesTurn O.world (O.within 0 2) (phase.Opening (opening.RootCheck file))
-        state.old state.new out.old out.new result }
+    ensures turn { TakesTurn O.Outside (0, 2) (phase.Opening (opening.RootCheck file))
+        (state.old, out.old) (state.new, out.new) result }
 {
     let here = out.kind(path)?;
     if !is_file(here) {

@@ -3,7 +3,7 @@ ghost use Rattle.std.specs.Prelude.{◌≡◌, ◌<◌, ◌^◌};
 ghost use Rattle.pt_plan.specs.TurnPlace.{bytes_in_rows as bytes_in_rows_of};
 ghost use Rattle.pt_plan.specs.declared.phase.Phase.TheVariants as phase;
 ghost use Rattle.pt_plan.specs.declared.phase.Stage.TheVariants as stage;
-ghost use Rattle.pt_state.specs.Outside.{TakesTurn};
+ghost use Rattle.pt_state.specs.Turns.{TakesTurn};
 ghost use Rattle.pt_make.specs.Making.{CanTellDone};
 
 use pt_object::Rows;
@@ -16,8 +16,8 @@ use pt_state::{Outside, State};
 /// Tells that an object is done, and walks on from its site.
 pub fn tell_done<O: Outside>(state: &mut State, object: Object, out: &mut O) -> Result<Phase, Fault>
     requires { CanTellDone state.old }
-    ensures turn { TakesTurn O.world (O.within 0 0) (phase.Carrying object stage.Line)
-        state.old state.new out.old out.new result }
+    ensures turn { TakesTurn O.Outside (0, 0) (phase.Carrying object stage.Line)
+        (state.old, out.old) (state.new, out.new) result }
 {
     let at = object_path(&object, &state.trail)?;
     let line = Done {
@@ -35,8 +35,8 @@ pub fn tell_done<O: Outside>(state: &mut State, object: Object, out: &mut O) -> 
 
 /// Tells that the run is done.
 pub fn tell_end<O: Outside>(state: &State, out: &mut O) -> Result<Phase, Fault>
-    ensures turn { TakesTurn O.world (O.within 0 0) phase.End state.now state.now
-        out.old out.new result }
+    ensures turn { TakesTurn O.Outside (0, 0) phase.End
+        (state.now, out.old) (state.now, out.new) result }
 {
     put_end(state.alloc, out, &state.counts)?;
     Ok(Phase::Ended)

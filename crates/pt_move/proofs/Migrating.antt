@@ -1,7 +1,7 @@
 -- What a whole run promises, from its steps.
 use Rattle.std.proofs.Common.{◌≡◌, ◌≢◌, refl, ◌∙◌}
 use Rattle.std.specs.Prelude.{IsErrAnd, Ok, Err, Result}
-use Rattle.pt_begun.specs.Begun.{Start, start_of}
+use Rattle.pt_begun.specs.Begun.{start_of}
 use Rattle.pt_state.proofs.Words.{World, source_tree}
 use Rattle.pt_state.proofs.Words.phase
 use Rattle.pt_state.specs.declared.job.Report.{Report}
@@ -9,9 +9,9 @@ use Rattle.pt_state.specs.declared.job.Job.{Job}
 use Rattle.pt_move.specs.Lines.{HasTold}
 use Rattle.pt_move.specs.Migrates.{Migrates}
 use Rattle.pt_move.specs.Outcome.{IfEarly, IfLog, LeavesAll, LeavesNoStaging, SaysRightly, WantsMemory}
-use Rattle.pt_move.specs.Promises.{IfHalted, Keeps}
+use Rattle.pt_move.specs.Promises.{IfHalted, Keeps, TakesStep}
 use Rattle.pt_move.specs.Running.{IsBegun, IsNew, IsWell, Running}
-use Rattle.pt_move.specs.Stepping.{Blamed, BlamesRightly, EndsAs, StepLeaves, Steps}
+use Rattle.pt_move.specs.Stepping.{Blamed, BlamesRightly, EndsAs, StepLeaves}
 use Rattle.pt_plan.specs.declared.fault.Fault.{Fault}
 use Rattle.pt_plan.specs.declared.fault.Fault.TheVariants as fault
 use Rattle.pt_move.specs.declared.mover.Turn.{Turn}
@@ -43,11 +43,6 @@ new_so_far job r w new begun = record {
   ran = ran_nothing job w r new;
 }
 
--- what a step says
-pub record Stepped (old new : World) (a b : Running) (answer : Result Turn Fault) : Type 0 where
-  pub keeps : (start : Start) → IsBegun start old a → Keeps start old new a b answer
-  pub steps : Steps old new a b answer
-
 -- a fault that isn't that of an ended run
 if_halted : (P : Fault → Type 0) (f : Fault) → f ≢ fault.Ended → IfHalted (Err f) P → P f
 if_halted P fault.Ended going p = absurd (going refl)
@@ -55,7 +50,7 @@ if_halted _ _ _ p = p
 
 module _ (job : Job) (first old new : World) (a b : Running) (so_far : SoFar job first old a) where
   -- it goes on
-  pub so_far_on : (t : Turn) → t ≡ turn.More → Stepped old new a b (Ok t) → SoFar job first new b
+  pub so_far_on : (t : Turn) → t ≡ turn.More → TakesStep old new a b (Ok t) → SoFar job first new b
   unfolding Keeps StepLeaves
   so_far_on t is step = record {
     begun = (step.keeps (start_of first) so_far.begun).begun;
@@ -71,7 +66,7 @@ module _ (job : Job) (first old new : World) (a b : Running) (so_far : SoFar job
       more = rw is at step.steps.answer
 
   -- it comes to its end
-  pub migrates_whole : (t : Turn) (report : Report) → t ≡ turn.Finished → report ≡ b.state.counts → IsWell b → Stepped old new a b (Ok t) → Migrates job first new (Ok report)
+  pub migrates_whole : (t : Turn) (report : Report) → t ≡ turn.Finished → report ≡ b.state.counts → IsWell b → TakesStep old new a b (Ok t) → Migrates job first new (Ok report)
   unfolding BlamesRightly Keeps StepLeaves
   migrates_whole t report is counts well step =
       let blames : Blamed {T = Report} first new (Ok report) = blames_ok first old new t report so_far.failures step.steps.blames in
@@ -99,7 +94,7 @@ module _ (job : Job) (first old new : World) (a b : Running) (so_far : SoFar job
         lines = rw counts well.bounded.lines;
       }
 
-  halted : {f : Fault} → Stepped old new a b (Err f) → Migrates job first new (Err f)
+  halted : {f : Fault} → TakesStep old new a b (Err f) → Migrates job first new (Err f)
   unfolding BlamesRightly Keeps StepLeaves
   halted {f} step =
       let blames : Blamed {T = Report} first new (Err f) = blames_err first old new f so_far.failures step.steps.blames in
@@ -133,6 +128,6 @@ module _ (job : Job) (first old new : World) (a b : Running) (so_far : SoFar job
       going = not_ended f a b so_far.going step.steps.answer
 
   -- or it is halted
-  pub migrates_halted : (f : Fault) (result : Result Report Fault) → IsErrAnd result (λ g. g ≡ f) → Stepped old new a b (Err f) → Migrates job first new result
+  pub migrates_halted : (f : Fault) (result : Result Report Fault) → IsErrAnd result (λ g. g ≡ f) → TakesStep old new a b (Err f) → Migrates job first new result
   migrates_halted f (Ok report) is step = absurd is
   migrates_halted f (Err g) is step = rw is (halted step)

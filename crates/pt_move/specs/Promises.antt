@@ -7,7 +7,8 @@ use Rattle.pt_begun.specs.Begun.{Start}
 use Rattle.pt_state.specs.Fields.{HoldsNothingElse}
 use Rattle.pt_state.specs.declared.state.State.{State}
 use Rattle.pt_move.specs.Outcome.{EndsWhole, FaultLeaves, HoldsWithinBound, IfEarly, IfLog, LeavesAll, LeavesNoStaging, MadeWithinWork, SaysRightly, StandsStillIn, StatesAreFiles, WantsMemory}
-use Rattle.pt_move.specs.Running.{IsBegun, LeavesBehind, Running}
+use Rattle.pt_move.specs.Running.{HasBegun, IsBegun, LeavesBehind, Running}
+use Rattle.pt_move.specs.Stepping.{Steps}
 use Rattle.pt_plan.specs.declared.fault.Fault.{Fault}
 use Rattle.pt_plan.specs.declared.fault.Fault.TheVariants as fault
 use Rattle.pt_move.specs.declared.mover.Turn.{Turn}
@@ -71,6 +72,15 @@ pub record StepPromises (start : Start) (old new : World) (before after : Runnin
 -- the run keeps its promises in this step
 unfoldable pub Keeps : Start → World → World → Running → Running → Result Turn Fault → Type 0
 Keeps start old new before after answer = StepPromises start old new before after answer
+
+-- a step of a run in progress, or of one that is to begin
+pub record TakesStep (old new : World) (before after : Running) (answer : Result Turn Fault) : Type 0 where
+  -- it keeps the promises of the run so far, against whatever start that began at
+  pub keeps : (start : Start) → IsBegun start old before → Keeps start old new before after answer
+  -- the run is in progress still, or has ended
+  pub goes_on : HasBegun new after
+  -- when each answer comes, which device it blames, what one step leaves, and the turn that it made
+  pub steps : Steps old new before after answer
 
 -- ---- the turn in it
 

@@ -7,6 +7,7 @@ use Rattle.pt_plan.specs.declared.fault.Fault.{Fault}
 use Rattle.pt_plan.specs.declared.phase.Phase.{Phase}
 use Rattle.pt_plan.specs.declared.phase.Phase.TheVariants as phase
 use Rattle.pt_state.specs.States.{counts_of}
+use Rattle.pt_state.specs.declared.outside.Outside.{Ghosts as OfOutside}
 use Rattle.pt_state.specs.declared.state.State.{State}
 use Rattle.pt_move.specs.Bounds.{lines_put}
 use Rattle.pt_move.specs.Turning.{CountedTurn}
@@ -105,14 +106,15 @@ StepLeaves old new before after result = Left old new before after result
 -- ---- the turn of a step
 
 -- a turn at this phase, over all devices as one: it was counted, and this is what it leaves
-pub record Made {O : Type 0} (world : O → World) (within : O → O → Type 0) (here : Phase) (s s' : State)
-    (old new : O) (answer : Answer) : Type 0 where
-  pub tree : source_tree (world new).source ≡ source_tree (world old).source
-  pub turn : CountedTurn here s s' (world old) (world new) answer
+pub record Made {O : Type 0} (of : OfOutside O) (most : ℕ × ℕ) (here : Phase) (old new : State × O)
+    (answer : Answer) : Type 0 where
+  pub tree : source_tree (of.world new.1).source ≡ source_tree (of.world old.1).source
+  pub turn : CountedTurn here old.0 new.0 (of.world old.1) (of.world new.1) answer
   pub own : IfErr answer IsOfTurn
-  pub well : IsWell (record { phase = phase_after answer; state = s' })
-  pub leaves : TurnLeaves s s' (world old).log (world new).log (world old).failures (world new).failures answer
-  pub few : within old new
+  pub well : IsWell (record { phase = phase_after answer; state = new.0 })
+  pub leaves : TurnLeaves old.0 new.0 (of.world old.1).log (of.world new.1).log
+      (of.world old.1).failures (of.world new.1).failures answer
+  pub few : of.within most.0 most.1 old.1 new.1
 
 -- ---- a step over three devices
 

@@ -14,6 +14,7 @@ use Rattle.pt_plan.specs.declared.phase.Phase.{Phase}
 use Rattle.pt_scan.specs.Blocks.{ReadsNext}
 use Rattle.pt_state.specs.Outside.{FedAfter}
 use Rattle.pt_state.specs.States.{job_of, kept_of}
+use Rattle.pt_state.specs.declared.outside.Outside.{Ghosts as OfOutside}
 use Rattle.pt_state.specs.declared.state.State.{State}
 
 -- of what was held at a phase, and what is held after it, over the world of the devices. The turn is counted as it begins; the job stays
@@ -26,12 +27,12 @@ CountedTurn here s s' old new answer =
     × Turn (job_of s.job) here (turning (kept_of s fed)) (kept_of s' fed') old new answer))
 
 -- so it is over all devices as one. The faults that are the run's own are no answers; where a file is read, the block that is held is its next one; and the source is called no more often than this
-pub record TakesCounted {O : Type 0} (world : O → World) (within : O → O → Type 0) (here : Phase) (s s' : State)
-    (old new : O) (answer : Answer) : Type 0 where
-  pub turn : CountedTurn here s s' (world old) (world new) answer
+pub record TakesCounted {O : Type 0} (of : OfOutside O) (most : ℕ × ℕ) (here : Phase)
+    (old new : State × O) (answer : Answer) : Type 0 where
+  pub turn : CountedTurn here old.0 new.0 (of.world old.1) (of.world new.1) answer
   pub own : IfErr answer IsOfTurn
-  pub block : ReadsNext here (world old).source s'.block.items answer
-  pub few : within old new
+  pub block : ReadsNext here (of.world old.1).source new.0.block.items answer
+  pub few : of.within most.0 most.1 old.1 new.1
 
 -- until a run has ended, its hasher has been fed something
 abbrev pub HasFed : Phase → Algorithm → Hasher → Type 0

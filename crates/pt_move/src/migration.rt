@@ -1,6 +1,6 @@
 // A whole run.
 ghost use Rattle.std.specs.Prelude.{ℕ};
-ghost use Rattle.pt_state.specs.Outside.{world};
+ghost use Rattle.pt_state.specs.Outside.{world_of};
 ghost use Rattle.pt_move.specs.Migrates.{Migrates};
 
 use crate::{Fault, Mover, Observer, Turn, Unobserved};
@@ -27,12 +27,8 @@ pub fn migrate<S: Source, D: Dest, L: Log>(
     log: &mut L,
     job: Job,
 ) -> Result<Report, Fault>
-    ensures promises { Migrates job
-        (world (S.told source.old) (D.told dest.old) (L.told log.old)
-        (S.failed source.old) (D.failed dest.old) (L.failed log.old))
-        (world (S.told source.new) (D.told dest.new) (L.told log.new)
-        (S.failed source.new) (D.failed dest.new) (L.failed log.new))
-        result }
+    ensures promises { Migrates job (world_of S.Source D.Dest L.Log source.old dest.old log.old)
+        (world_of S.Source D.Dest L.Log source.new dest.new log.new) result }
     ensures source_stays { S.keeps source.old source.new }
     ensures dest_stays { D.keeps dest.old dest.new }
     ensures log_stays { L.keeps log.old log.new }
@@ -50,12 +46,8 @@ pub fn migrate_observed<S: Source, D: Dest, L: Log, O: Observer<Report>>(
     job: Job,
     observer: &O,
 ) -> Result<Report, Fault>
-    ensures promises { Migrates job
-        (world (S.told source.old) (D.told dest.old) (L.told log.old)
-        (S.failed source.old) (D.failed dest.old) (L.failed log.old))
-        (world (S.told source.new) (D.told dest.new) (L.told log.new)
-        (S.failed source.new) (D.failed dest.new) (L.failed log.new))
-        result }
+    ensures promises { Migrates job (world_of S.Source D.Dest L.Log source.old dest.old log.old)
+        (world_of S.Source D.Dest L.Log source.new dest.new log.new) result }
     ensures source_stays { S.keeps source.old source.new }
     ensures dest_stays { D.keeps dest.old dest.new }
     ensures log_stays { L.keeps log.old log.new }

@@ -3,12 +3,12 @@ ghost use Rattle.std.specs.Prelude.{◌≡◌, ◌+◌, length};
 ghost use Rattle.pt_begun.specs.Begun.{IsWorld, Start, start_of};
 ghost use Rattle.pt_plan.specs.World.{World};
 ghost use Rattle.pt_state.specs.Counting.{AtMostCalls};
-ghost use Rattle.pt_state.specs.Outside.{world};
+ghost use Rattle.pt_state.specs.Outside.{world_of};
 ghost use Rattle.pt_walk.specs.Trail.{entries_held};
 ghost use Rattle.pt_move.specs.Bounds.{most_looks};
-ghost use Rattle.pt_move.specs.Promises.{Keeps, TurnKeeps};
+ghost use Rattle.pt_move.specs.Promises.{TakesStep, TurnKeeps};
 ghost use Rattle.pt_move.specs.Running.{BeganSomewhere, HasBegun, IsBegun, IsNew, IsWell};
-ghost use Rattle.pt_move.specs.Stepping.{Any, IsReady, Made, Stays, Steps, most_calls_at};
+ghost use Rattle.pt_move.specs.Stepping.{Any, IsReady, Made, Stays, most_calls_at};
 
 use crate::turning::{new_state, turn};
 use pt_plan::{Fault, Opening, Phase};
@@ -58,6 +58,7 @@ impl Mover {
         ensures in_progress { (world : World) → IsWorld world
             → IsBegun (start_of world) world result }
     {
+        // (`count` says for the proof what holds of each layout, a type of another crate)
         job.layout.count();
         Mover::fresh(alloc, job)
     }
@@ -86,31 +87,9 @@ impl Mover {
         dest: &mut D,
         log: &mut L,
     ) -> Result<Turn, Fault>
-        requires { HasBegun
-            (world (S.told source.old) (D.told dest.old) (L.told log.old)
-            (S.failed source.old) (D.failed dest.old) (L.failed log.old))
-            self.old }
-        // The promises of the run so far, against the start at which it began.
-        ensures keeps { (start : Start) → IsBegun start
-            (world (S.told source.old) (D.told dest.old) (L.told log.old)
-            (S.failed source.old) (D.failed dest.old) (L.failed log.old))
-            self.old → Keeps start
-            (world (S.told source.old) (D.told dest.old) (L.told log.old)
-            (S.failed source.old) (D.failed dest.old) (L.failed log.old))
-            (world (S.told source.new) (D.told dest.new) (L.told log.new)
-            (S.failed source.new) (D.failed dest.new) (L.failed log.new))
-            self.old self.new result }
-        ensures goes_on { HasBegun
-            (world (S.told source.new) (D.told dest.new) (L.told log.new)
-            (S.failed source.new) (D.failed dest.new) (L.failed log.new))
-            self.new }
-        // When each answer comes, which device it blames, what one step leaves, and the turn that it made.
-        ensures steps { Steps
-            (world (S.told source.old) (D.told dest.old) (L.told log.old)
-            (S.failed source.old) (D.failed dest.old) (L.failed log.old))
-            (world (S.told source.new) (D.told dest.new) (L.told log.new)
-            (S.failed source.new) (D.failed dest.new) (L.failed log.new))
-            self.old self.new result }
+        requires { HasBegun (world_of S.Source D.Dest L.Log source.old dest.old log.old) self.old }
+        ensures step { TakesStep (world_of S.Source D.Dest L.Log source.old dest.old log.old)
+            (world_of S.Source D.Dest L.Log source.new dest.new log.new) self.old self.new result }
         ensures calls { AtMostCalls (most_calls_at self.old)
             (S.called source.old) (S.called source.new)
             × AtMostCalls (most_looks self.old.phase) (D.looked dest.old) (D.looked dest.new) }
@@ -124,10 +103,7 @@ impl Mover {
     // Makes one turn over the devices as one.
     pub(crate) fn advance<O: Outside>(&mut self, out: &mut O) -> Result<Turn, Fault>
         requires { HasBegun (O.world out.old) self.old }
-        ensures keeps { (start : Start) → IsBegun start (O.world out.old) self.old
-            → Keeps start (O.world out.old) (O.world out.new) self.old self.new result }
-        ensures goes_on { HasBegun (O.world out.new) self.new }
-        ensures steps { Steps (O.world out.old) (O.world out.new) self.old self.new result }
+        ensures step { TakesStep (O.world out.old) (O.world out.new) self.old self.new result }
         ensures calls { O.within (most_calls_at self.old) (most_looks self.old.phase)
             out.old out.new }
         ensures stays { Stays Any result out.old out.new }
@@ -149,7 +125,8 @@ impl Mover {
         }
     }
 
-    // Where the run is to begin, it begins at these devices as they stand.
+    // Where the run is to begin, it begins at these devices as they stand. The proof of that needs what `count` says of the
+    // job's layout.
     fn begun<O: Outside>(&self, out: &O)
         requires { HasBegun (O.world out.now) self.now }
         ensures { BeganSomewhere (O.world out.now) self.now }
@@ -176,15 +153,16 @@ impl Mover {
     }
 }
 
-// Makes the turn of a phase, and gives the next one.
+// Makes the turn of a phase, and gives the next one. `turn` is promised of every state that permits it, a survey's too; here it
+// is said what it comes to for a run in progress, so that `advance` isn't proved by what each turn does.
 fn made_turn<O: Outside>(state: &mut State, here: Phase, out: &mut O) -> Result<Phase, Fault>
     requires { IsReady (O.world out.old) (record { phase = here; state = state.old }) }
     ensures keeps { (start : Start)
         → IsBegun start (O.world out.old) (record { phase = here; state = state.old })
         → TurnKeeps start (O.world out.old) (O.world out.new) state.old state.new result }
-    ensures made { Made O.world
-        (O.within (most_calls_at (record { phase = here; state = state.old })) (most_looks here))
-        here state.old state.new out.old out.new result }
+    ensures made { Made O.Outside
+        (most_calls_at (record { phase = here; state = state.old }), most_looks here) here
+        (state.old, out.old) (state.new, out.new) result }
 {
     turn(state, here, out)
 }

@@ -5,7 +5,7 @@ ghost use Rattle.pt_plan.specs.declared.phase.Phase.TheVariants as phase;
 ghost use Rattle.pt_move.specs.Running.{IsNew};
 ghost use Rattle.pt_plan.specs.Permits.{Permits};
 ghost use Rattle.pt_scan.specs.Blocks.{ReadsNext};
-ghost use Rattle.pt_state.specs.Outside.{TakesTurn};
+ghost use Rattle.pt_state.specs.Turns.{TakesTurn};
 ghost use Rattle.pt_state.specs.States.{held_of, job_of, kept_of};
 ghost use Rattle.pt_move.specs.Bounds.{IsBounded, most_calls, most_looks};
 ghost use Rattle.pt_move.specs.Stands.{CanAdd, Stands};
@@ -53,9 +53,10 @@ pub fn turn<O: Outside>(state: &mut State, phase: Phase, out: &mut O) -> Result<
     requires fed { HasFed phase state.old.job.algorithm state.old.hasher }
     requires bounded { IsBounded (job_of state.old.job) phase (kept_of state.old []) }
     requires within { state.old.counts.turns < state.old.job.limits.turns }
-    ensures turn { TakesCounted O.world (O.within (most_calls phase) (most_looks phase)) phase
-        state.old state.new out.old out.new result }
+    ensures turn { TakesCounted O.Outside (most_calls phase, most_looks phase) phase
+        (state.old, out.old) (state.new, out.new) result }
 {
+    // (it says for the proof that the limit is at most 2^40, so that one turn more can be counted)
     let _most = state.job.limits.turns();
     state.counts.turns += 1;
     turn_at(state, phase, out)
@@ -67,8 +68,8 @@ fn turn_at<O: Outside>(state: &mut State, phase: Phase, out: &mut O) -> Result<P
         (O.world out.old).source (O.world out.old).dest }
     requires stands { Stands phase state.old }
     requires adds { CanAdd phase state.old }
-    ensures turn { TakesTurn O.world (O.within (most_calls phase) (most_looks phase)) phase
-        state.old state.new out.old out.new result }
+    ensures turn { TakesTurn O.Outside (most_calls phase, most_looks phase) phase
+        (state.old, out.old) (state.new, out.new) result }
     ensures block { ReadsNext phase (O.world out.old).source state.new.block.items result }
 {
     match phase {

@@ -2,7 +2,7 @@
 #![tactic(auto)]
 
 ghost use Rattle.pt_move.specs.Running.{HasBegun};
-ghost use Rattle.pt_state.specs.Outside.{world};
+ghost use Rattle.pt_state.specs.Outside.{world_of};
 
 use pt_memory::texts::store;
 use pt_memory::{MemDest, MemLog, MemSource};
@@ -95,10 +95,8 @@ pub fn go_on<S: Source, D: Dest, L: Log>(
     log: &mut L,
     steps: u64,
 ) -> (u64, u128)
-    requires { HasBegun (world (S.told source.old) (D.told dest.old) (L.told log.old)
-        (S.failed source.old) (D.failed dest.old) (L.failed log.old)) mover.old }
-    ensures { HasBegun (world (S.told source.new) (D.told dest.new) (L.told log.new)
-        (S.failed source.new) (D.failed dest.new) (L.failed log.new)) mover.new }
+    requires { HasBegun (world_of S.Source D.Dest L.Log source.old dest.old log.old) mover.old }
+    ensures { HasBegun (world_of S.Source D.Dest L.Log source.new dest.new log.new) mover.new }
 {
     let mut most = 0;
     'turns: for made in 0..steps {

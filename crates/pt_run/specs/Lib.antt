@@ -1,4 +1,5 @@
 pub mod Audits
+pub mod Devices
 pub mod Durable
 pub mod Ends
 pub mod Made

@@ -1,19 +1,16 @@
 //! A run over its devices, and what it came to.
-ghost use Rattle.std.specs.Prelude.{◌≡◌, Bool, None};
-ghost use Rattle.pt_folder.specs.DestHeld.{told_with as dest_told};
-ghost use Rattle.pt_folder.specs.Reading.{unread_open};
-ghost use Rattle.pt_folder.specs.SourceHeld.{told_of as source_told};
-ghost use Rattle.pt_ignore.specs.Ignoring.{told_without};
+ghost use Rattle.std.specs.Prelude.{◌≡◌, Bool};
+ghost use Rattle.pt_run.specs.Devices.{dest_path, kept_by, seen_without, store_path, told_at_rest};
 ghost use Rattle.pt_run.specs.Durable.{IsLogged};
 ghost use Rattle.pt_run.specs.Ends.{run_status};
 ghost use Rattle.pt_run.specs.Made.{IsRun, IsStuckBy, LeavesKept, RunsFrom};
 ghost use Rattle.pt_run.specs.Served.{IsServed, ServesTo};
-ghost use Rattle.pt_state.specs.Outside.{world};
+ghost use Rattle.pt_state.specs.Outside.{world_of};
 
 use crate::Wanted;
 use crate::devices::Devices;
 use crate::host::Ground;
-use crate::log::SyncsOutput;
+use crate::log::{DurableLog, SyncsOutput};
 use crate::saying::tell_fault;
 use crate::status::{DONE, FAILED, TOLD};
 use pt_folder::{HostDest, HostSource, System};
@@ -21,7 +18,7 @@ use pt_ignore::Ignoring;
 use pt_move::{Fault, Job, Report, migrate_observed};
 use pt_notices::{Counted, Progress, Reads, Tally, Terminals, Watched, Watching, Words, reason};
 use pt_rehearsal::Rehearsal;
-use pt_tree::{Log, Source};
+use pt_tree::{Dest, Log, Source};
 use std::alloc::{AllocGlobal, Global};
 use std::io::Write;
 use std::rt::Clock;
@@ -73,19 +70,15 @@ where
     R: Reads + Clock + Eprint + AllocGlobal + Terminals,
     ensures runs { RunsFrom S.forest D.kept W.contents shown.lenient wanted
         (record {
-          store = devices.entry.source.folder.path.now;
-          folder = devices.entry.dest.folder.path.now;
+          store = store_path devices.entry.source;
+          folder = dest_path devices.entry.dest;
           ignored = wanted.ignored;
           synced = devices.entry.dest.synced;
         })
-        (world (told_without wanted.ignored (source_told
-        (S.forest devices.entry.source.desk.system devices.entry.source.folder.path.now)
-        (unread_open S.File.Input.bytes devices.entry.source.reading)))
-        (dest_told (D.kept devices.entry.dest.desk.system devices.entry.dest.folder.path.now)
-        devices.entry.dest.stuck devices.entry.dest.writing)
-        (W.contents devices.entry.log.writer)
-        devices.entry.source.failures devices.entry.dest.failures devices.entry.log.failures)
-        (D.kept devices.entry.dest.desk.system devices.entry.dest.folder.path.now)
+        (seen_without wanted.ignored (world_of ⟦<HostSource<'static, S> as Source>⟧
+        ⟦<HostDest<'static, D> as Dest>⟧ ⟦<DurableLog<W, F> as Log>⟧
+        devices.entry.source devices.entry.dest devices.entry.log))
+        (kept_by devices.entry.dest)
         result.ground result.status }
     ensures logged { devices.entry.log.failures ≡ 0
         → IsLogged F.puts devices.entry.log.file devices.entry.log.writer
@@ -141,16 +134,9 @@ fn made<'a, S: Source, D: System, L: Log>(
     job: Job,
     tally: &Tally,
 ) -> Ran<'a, D>
-    ensures promises { IsRun job rehearse
-        (dest_told (D.kept dest.entry.desk.system dest.entry.folder.path.now) None None)
-        (world (S.told source.old)
-        (dest_told (D.kept dest.entry.desk.system dest.entry.folder.path.now)
-        dest.entry.stuck dest.entry.writing)
-        (L.told log.old) (S.failed source.old) dest.entry.failures (L.failed log.old))
-        (world (S.told source.new)
-        (dest_told (D.kept result.dest.desk.system dest.entry.folder.path.now)
-        result.dest.stuck result.dest.writing)
-        (L.told log.new) (S.failed source.new) result.dest.failures (L.failed log.new))
+    ensures promises { IsRun job rehearse (told_at_rest dest.entry)
+        (world_of S.Source ⟦<HostDest<'a, D> as Dest>⟧ L.Log source.old dest.entry log.old)
+        (world_of S.Source ⟦<HostDest<'a, D> as Dest>⟧ L.Log source.new result.dest log.new)
         result.ran }
     ensures source { S.keeps source.old source.new }
     ensures log { L.keeps log.old log.new }
@@ -158,9 +144,7 @@ fn made<'a, S: Source, D: System, L: Log>(
     ensures served { IsServed rehearse dest.entry result.dest }
     ensures stuck { (present_ok : Bool) → IsStuckBy dest.entry.synced dest.entry.failures
         (run_status present_ok result.ran) result.dest.stuck }
-    ensures rehearsed { LeavesKept rehearse
-        (D.kept dest.entry.desk.system dest.entry.folder.path.now)
-        (D.kept result.dest.desk.system dest.entry.folder.path.now) }
+    ensures rehearsed { LeavesKept rehearse (kept_by dest.entry) (kept_by result.dest) }
 {
     if rehearse {
         let mut rehearsal = Rehearsal::new(alloc, dest);

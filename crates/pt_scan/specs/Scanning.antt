@@ -23,6 +23,7 @@ use Rattle.pt_plan.specs.declared.phase.Stage.TheVariants as stage
 use Rattle.pt_state.specs.Lines.{with_skipped}
 use Rattle.pt_state.specs.States.{KeepsAll, held_of, job_of}
 use Rattle.pt_state.specs.declared.job.Report.{Report}
+use Rattle.pt_state.specs.declared.outside.Outside.{Ghosts as OfOutside}
 use Rattle.pt_state.specs.declared.state.State.{State}
 
 -- the object's site is on the trail
@@ -120,19 +121,20 @@ pub record Enters (s s' : State) (old new : World) (is_empty : Bool) : Type 0 wh
   pub moved : Moved (entered items s.trail) s.counts s s'
 
 -- that it was entered, or failed to be listed, and all that is held is as it was
-pub record Entered {O : Type 0} (world : O → World) (within : O → O → Type 0) (s s' : State) (old new : O)
+pub record Entered {O : Type 0} (of : OfOutside O) (old new : State × O)
     (result : Result Bool Fault) : Type 0 where
-  pub did : IfOk result (Enters s s' (world old) (world new))
-  pub failed : IfErr result (λ why. Stays why (world old) (world new))
-  pub same : OnErr result (KeepsAll s s')
-  pub few : within old new
+  pub did : IfOk result (Enters old.0 new.0 (of.world old.1) (of.world new.1))
+  pub failed : IfErr result (λ why. Stays why (of.world old.1) (of.world new.1))
+  pub same : OnErr result (KeepsAll old.0 new.0)
+  pub few : of.within 1 0 old.1 new.1
 
 -- that the object was passed over for this cause, or a front of its line was put, and all that is held is as it was
-pub record GaveUp {O T : Type 0} (world : O → World) (within : O → O → Type 0) (object : Object) (why : Cause)
-    (s s' : State) (old new : O) (result : Result T Fault) : Type 0 where
-  pub did : OnOk result (Did (tells (Skipped (trail_path (to_site object s.trail)) why)) (world old) (world new))
-  pub back : OnOk result (IsBackAtSite object s s')
-  pub left : IfErr result (λ f. LeavesSome (tells (Skipped (trail_path (to_site object s.trail)) why)) f
-      (world old) (world new))
-  pub same : OnErr result (KeepsAll s s')
-  pub few : within old new
+pub record GaveUp {O T : Type 0} (of : OfOutside O) (object : Object) (why : Cause)
+    (old new : State × O) (result : Result T Fault) : Type 0 where
+  pub did : OnOk result (Did (tells (Skipped (trail_path (to_site object old.0.trail)) why))
+      (of.world old.1) (of.world new.1))
+  pub back : OnOk result (IsBackAtSite object old.0 new.0)
+  pub left : IfErr result (λ f. LeavesSome (tells (Skipped (trail_path (to_site object old.0.trail)) why)) f
+      (of.world old.1) (of.world new.1))
+  pub same : OnErr result (KeepsAll old.0 new.0)
+  pub few : of.within 0 0 old.1 new.1

@@ -8,7 +8,8 @@ ghost use Rattle.pt_plan.specs.declared.phase.Stage.TheVariants as stage;
 ghost use Rattle.pt_tree.specs.Path.{same_path};
 ghost use Rattle.pt_walk.specs.Trail.{has_place, trail_path};
 ghost use Rattle.pt_walk.specs.declared.site.Form.TheVariants as form;
-ghost use Rattle.pt_state.specs.Outside.{Found, TakesTurn};
+ghost use Rattle.pt_state.specs.Outside.{Found};
+ghost use Rattle.pt_state.specs.Turns.{TakesTurn};
 ghost use Rattle.pt_state.specs.States.{job_of};
 ghost use Rattle.pt_scan.specs.Judging.{CanPass, IsJudging, IsNamed, IsOurs, IsPassedAt, IsPlaced, is_own_place};
 
@@ -30,8 +31,8 @@ use std::alloc::Global;
 /// growth is refused; what is held stays then.
 pub fn judge<O: Outside>(state: &mut State, out: &mut O) -> Result<Phase, Fault>
     requires { CanPass state.old }
-    ensures turn { TakesTurn O.world (O.within 0 1) phase.Judge state.old state.new
-        out.old out.new result }
+    ensures turn { TakesTurn O.Outside (0, 1) phase.Judge
+        (state.old, out.old) (state.new, out.new) result }
 {
     match finding(state) {
         Finding::Interior => Ok(Phase::Walk),
@@ -76,8 +77,8 @@ fn pass_over<O: Outside>(
 ) -> Result<Phase, Fault>
     requires line { IsPassedAt state.old site.now cause }
     requires few { state.old.counts.skipped < 2 ^ 40 }
-    ensures turn { TakesTurn O.world (O.within 0 0) phase.Judge state.old state.new
-        out.old out.new result }
+    ensures turn { TakesTurn O.Outside (0, 0) phase.Judge
+        (state.old, out.old) (state.new, out.new) result }
 {
     if !state.job.share.is_first() {
         return Ok(Phase::Walk);
@@ -96,8 +97,8 @@ fn judge_object<O: Outside>(
 ) -> Result<Phase, Fault>
     requires judges { IsJudging state.old site.now index }
     requires passes { CanPass state.old }
-    ensures turn { TakesTurn O.world (O.within 0 1) phase.Judge state.old state.new
-        out.old out.new result }
+    ensures turn { TakesTurn O.Outside (0, 1) phase.Judge
+        (state.old, out.old) (state.new, out.new) result }
 {
     match named(state, site)? {
         Verdict::Carry(candidate) => {
@@ -135,8 +136,8 @@ fn find_place<O: Outside>(
     requires judges { IsJudging state.old site.now index }
     requires ours { IsOurs state.old candidate }
     requires present { state.old.counts.present < 2 ^ 40 }
-    ensures turn { TakesTurn O.world (O.within 0 1) phase.Judge state.old state.new
-        out.old out.new result }
+    ensures turn { TakesTurn O.Outside (0, 1) phase.Judge
+        (state.old, out.old) (state.new, out.new) result }
 {
     match kind_at(state.alloc, &candidate.place, out)? {
         None => {

@@ -5,7 +5,8 @@ ghost use Rattle.pt_plan.specs.World.{World, Reads, asks};
 ghost use Rattle.pt_plan.specs.declared.phase.Phase.TheVariants as phase;
 ghost use Rattle.pt_plan.specs.declared.phase.Stage.TheVariants as stage;
 ghost use Rattle.pt_tree.specs.Source.{CanRead};
-ghost use Rattle.pt_state.specs.Outside.{EndsTurn, TakesTurn, Turned};
+ghost use Rattle.pt_state.specs.Outside.{Turned};
+ghost use Rattle.pt_state.specs.Turns.{EndsTurn, TakesTurn};
 ghost use Rattle.pt_scan.specs.Blocks.{IsNextBlock, KeepsBlock};
 ghost use Rattle.pt_scan.specs.Scanning.{CanPassOver, CanReadOn};
 
@@ -33,8 +34,8 @@ pub fn read<O: Outside>(
 ) -> Result<Phase, Fault>
     requires may { CanRead (O.world out.old).source }
     requires reads { CanReadOn object bytes state.old }
-    ensures turn { TakesTurn O.world (O.within 1 0) (phase.Carrying object (stage.Read bytes))
-        state.old state.new out.old out.new result }
+    ensures turn { TakesTurn O.Outside (1, 0) (phase.Carrying object (stage.Read bytes))
+        (state.old, out.old) (state.new, out.new) result }
     ensures block { IfOk result (IsNextBlock (O.world out.old).source state.new.block.items) }
 {
     out.next(&mut state.block)?;
@@ -49,8 +50,9 @@ fn take_block<O: Outside>(
     out: &mut O,
 ) -> Result<Phase, Fault>
     requires { CanReadOn object bytes state.old }
-    ensures turn { EndsTurn O.world (O.within 0 0) (asks (Reads state.old.block.items))
-        (phase.Carrying object (stage.Read bytes)) state.old state.new out.old out.new result }
+    ensures turn { EndsTurn O.Outside
+        (asks (Reads state.old.block.items)) (phase.Carrying object (stage.Read bytes))
+        (state.old, out.old) (state.new, out.new) result }
     ensures block { IfOk result (KeepsBlock state.old.block.items state.new.block.items) }
 {
     if state.block.is_empty() {
@@ -92,8 +94,9 @@ fn pass_object<O: Outside>(
     requires long { (0 < length state.old.block.items)
         × (state.old.job.limits.file_bytes < bytes + length state.old.block.items) }
     requires passes { CanPassOver object state.old }
-    ensures turn { EndsTurn O.world (O.within 0 0) (asks (Reads state.old.block.items))
-        (phase.Carrying object (stage.Read bytes)) state.old state.new out.old out.new result }
+    ensures turn { EndsTurn O.Outside
+        (asks (Reads state.old.block.items)) (phase.Carrying object (stage.Read bytes))
+        (state.old, out.old) (state.new, out.new) result }
     ensures walks { IfOk result (λ next. next ≡ phase.Walk) }
 {
     give_up(state, &object, Cause::Limit, out)?;

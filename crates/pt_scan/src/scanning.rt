@@ -9,7 +9,8 @@ ghost use Rattle.pt_plan.specs.declared.phase.Stage.TheVariants as stage;
 ghost use Rattle.pt_tree.specs.Path.{joined};
 ghost use Rattle.pt_walk.specs.Site.{is_shorty as is_shorty_entry};
 ghost use Rattle.pt_walk.specs.Trail.{current_entry, is_dir_entry, names_to, trail_path};
-ghost use Rattle.pt_state.specs.Outside.{TakesTurn, TakesTurnAt, Turned};
+ghost use Rattle.pt_state.specs.Outside.{Turned};
+ghost use Rattle.pt_state.specs.Turns.{TakesTurn, TakesTurnAt};
 ghost use Rattle.pt_scan.specs.Scanning.{CanEnter, CanPassOver, CanScan, Entered, GaveUp, GivesUp, IsAtEntry, IsAtFile, IsInObject, IsSite, MeetsDirectory};
 
 use crate::walking::listed_path;
@@ -39,8 +40,8 @@ pub fn open_object<O: Outside>(
         → IsTrue (is_dir_entry (current_entry state.old.trail)) }
     requires passes { CanPassOver object state.old }
     requires empty { object.empty < 2 ^ 40 }
-    ensures turn { TakesTurn O.world (O.within 1 0) (phase.Carrying object stage.Open)
-        state.old state.new out.old out.new result }
+    ensures turn { TakesTurn O.Outside (1, 0) (phase.Carrying object stage.Open)
+        (state.old, out.old) (state.new, out.new) result }
 {
     if object.gathered {
         state.trail.seek(0);
@@ -60,8 +61,8 @@ pub fn scan<O: Outside>(state: &mut State, object: Object, out: &mut O) -> Resul
     requires open { MayOpen (O.world out.old).source state.old.trail }
     requires scans { CanScan object state.old }
     requires empty { object.empty < 2 ^ 40 }
-    ensures turn { TakesTurn O.world (O.within 1 0) (phase.Carrying object stage.Scan)
-        state.old state.new out.old out.new result }
+    ensures turn { TakesTurn O.Outside (1, 0) (phase.Carrying object stage.Scan)
+        (state.old, out.old) (state.new, out.new) result }
 {
     let in_site = is_in_site(&object, &state.trail);
     match state.trail.current() {
@@ -102,8 +103,8 @@ fn pass_object<O: Outside>(
     out: &mut O,
 ) -> Result<Phase, Fault>
     requires { CanPassOver object state.old }
-    ensures turn { TakesTurnAt O.world (O.within 0 0) (λ here. GivesUp here object cause state.old)
-        state.old state.new out.old out.new result }
+    ensures turn { TakesTurnAt O.Outside (0, 0) (λ here. GivesUp here object cause state.old)
+        (state.old, out.old) (state.new, out.new) result }
 {
     give_up(state, &object, cause, out)?;
     Ok(Phase::Walk)
@@ -118,8 +119,8 @@ fn enter_directory<O: Outside>(
     requires enter { CanEnter (O.world out.old).source state.old.trail }
     requires passes { CanPassOver object state.old }
     requires empty { object.empty < 2 ^ 40 }
-    ensures turn { TakesTurnAt O.world (O.within 1 0) (λ here. MeetsDirectory here object state.old)
-        state.old state.new out.old out.new result }
+    ensures turn { TakesTurnAt O.Outside (1, 0) (λ here. MeetsDirectory here object state.old)
+        (state.old, out.old) (state.new, out.new) result }
 {
     if state.trail.len() as u64 > state.job.limits.depth() {
         return pass_object(state, object, Cause::Limit, out);
@@ -131,7 +132,7 @@ fn enter_directory<O: Outside>(
 // Lists the directory at the trail's place and enters it; gives whether it has no entries.
 fn enter<O: Outside>(state: &mut State, out: &mut O) -> Result<bool, Fault>
     requires enter { CanEnter (O.world out.old).source state.old.trail }
-    ensures { Entered O.world (O.within 1 0) state.old state.new out.old out.new result }
+    ensures { Entered O.Outside (state.old, out.old) (state.new, out.new) result }
 {
     let path = listed_path(state)?;
     let listing = out.list(&path)?;
@@ -156,8 +157,8 @@ fn meet_file<O: Outside>(state: &mut State, object: Object, out: &mut O) -> Resu
     requires file { IsAtFile state.old.trail }
     requires may { MayOpen (O.world out.old).source state.old.trail }
     requires scans { CanScan object state.old }
-    ensures turn { TakesTurn O.world (O.within 1 0) (phase.Carrying object stage.Scan)
-        state.old state.new out.old out.new result }
+    ensures turn { TakesTurn O.Outside (1, 0) (phase.Carrying object stage.Scan)
+        (state.old, out.old) (state.new, out.new) result }
 {
     if state.rows.len() as u64 >= state.job.limits.files() {
         return pass_object(state, object, Cause::Limit, out);
@@ -244,8 +245,7 @@ pub(crate) fn give_up<O: Outside>(
     out: &mut O,
 ) -> Result<(), Fault>
     requires { CanPassOver object.now state.old }
-    ensures { GaveUp O.world (O.within 0 0) object.now cause state.old state.new
-        out.old out.new result }
+    ensures { GaveUp O.Outside object.now cause (state.old, out.old) (state.new, out.new) result }
 {
     let path = site_path(state.alloc, object, &state.trail)?;
     put_skip(state.alloc, out, &path, cause, &mut state.counts)?;

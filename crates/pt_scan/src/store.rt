@@ -9,7 +9,7 @@ ghost use Rattle.pt_plan.specs.TurnStart.{kind_in as kind_in_of, lists_store};
 ghost use Rattle.pt_plan.specs.declared.phase.Opening.TheVariants as opening;
 ghost use Rattle.pt_plan.specs.declared.phase.Phase.TheVariants as phase;
 ghost use Rattle.pt_tree.specs.Source.{CanList};
-ghost use Rattle.pt_state.specs.Outside.{TakesTurn};
+ghost use Rattle.pt_state.specs.Turns.{TakesTurn};
 ghost use Rattle.pt_scan.specs.Store.{PrefixFails, kind_if_named};
 
 use pt_name::{PrefixFault, read_prefix};
@@ -23,8 +23,8 @@ use std::alloc::Global;
 /// Lists the top.
 pub fn begin<O: Outside>(state: &State, out: &mut O) -> Result<Phase, Fault>
     requires { CanList (O.world out.old).source [] }
-    ensures turn { TakesTurn O.world (O.within 1 0) (phase.Opening opening.Begin) state.now state.now
-        out.old out.new result }
+    ensures turn { TakesTurn O.Outside (1, 0) (phase.Opening opening.Begin)
+        (state.now, out.old) (state.now, out.new) result }
 {
     let top = NamePath::new(state.alloc);
     let listing = out.list(&top)?;
@@ -77,8 +77,8 @@ pub fn prefix<O: Outside>(
     out: &mut O,
 ) -> Result<Phase, Fault>
     requires { MayOpenPrefix (O.world out.old).source here }
-    ensures turn { TakesTurn O.world (O.within 2 0) (phase.Opening (opening.Prefix here))
-        state.old state.new out.old out.new result }
+    ensures turn { TakesTurn O.Outside (2, 0) (phase.Opening (opening.Prefix here))
+        (state.old, out.old) (state.new, out.new) result }
 {
     match here {
         None => return Ok(Phase::Opening(Opening::Staging)),

@@ -7,7 +7,7 @@ ghost use Rattle.pt_plan.specs.declared.phase.Phase.TheVariants as phase;
 ghost use Rattle.pt_tree.specs.Source.{CanList};
 ghost use Rattle.pt_walk.specs.Sites.{at_of, is_last as is_last_of};
 ghost use Rattle.pt_walk.specs.Trail.{names_to, trail_path};
-ghost use Rattle.pt_state.specs.Outside.{TakesTurn};
+ghost use Rattle.pt_state.specs.Turns.{TakesTurn};
 ghost use Rattle.pt_scan.specs.Walking.{CanPassShorty, EntersSite, IsAtShorty, PassesShorty};
 
 use pt_plan::{Fault, Phase};
@@ -23,8 +23,8 @@ use pt_walk::{At, Cause, Trail, is_shorty};
 pub fn open_root<O: Outside>(state: &mut State, out: &mut O) -> Result<Phase, Fault>
     requires may { CanList (O.world out.old).source (in_pairtree_of []) }
     requires trail { state.old.trail ≡ [] }
-    ensures turn { TakesTurn O.world (O.within 1 0) (phase.Opening opening.OpenRoot)
-        state.old state.new out.old out.new result }
+    ensures turn { TakesTurn O.Outside (1, 0) (phase.Opening opening.OpenRoot)
+        (state.old, out.old) (state.new, out.new) result }
 {
     let path = NamePath::of_known(state.alloc, &[Known::PairtreeRoot])?;
     let listing = out.list(&path)?;
@@ -41,8 +41,8 @@ pub fn open_root<O: Outside>(state: &mut State, out: &mut O) -> Result<Phase, Fa
 pub fn walk<O: Outside>(state: &mut State, out: &mut O) -> Result<Phase, Fault>
     requires may { MayEnter (O.world out.old).source state.old.trail }
     requires few { state.old.counts.skipped < 2 ^ 40 }
-    ensures turn { TakesTurn O.world (O.within 1 0) phase.Walk state.old state.new
-        out.old out.new result }
+    ensures turn { TakesTurn O.Outside (1, 0) phase.Walk
+        (state.old, out.old) (state.new, out.new) result }
 {
     match state.trail.current() {
         Some((name, kind)) => {
@@ -67,8 +67,8 @@ pub fn walk<O: Outside>(state: &mut State, out: &mut O) -> Result<Phase, Fault>
 fn meet_shorty<O: Outside>(state: &mut State, out: &mut O) -> Result<Phase, Fault>
     requires may { MayEnter (O.world out.old).source state.old.trail }
     requires passes { CanPassShorty state.old }
-    ensures turn { TakesTurn O.world (O.within 1 0) phase.Walk state.old state.new
-        out.old out.new result }
+    ensures turn { TakesTurn O.Outside (1, 0) phase.Walk
+        (state.old, out.old) (state.new, out.new) result }
 {
     if is_last(&state.trail) {
         return pass_shorty(state, Cause::Past, out);
@@ -83,8 +83,8 @@ fn meet_shorty<O: Outside>(state: &mut State, out: &mut O) -> Result<Phase, Faul
 fn pass_shorty<O: Outside>(state: &mut State, cause: Cause, out: &mut O) -> Result<Phase, Fault>
     requires line { PassesShorty state.old cause }
     requires passes { CanPassShorty state.old }
-    ensures turn { TakesTurn O.world (O.within 0 0) phase.Walk state.old state.new
-        out.old out.new result }
+    ensures turn { TakesTurn O.Outside (0, 0) phase.Walk
+        (state.old, out.old) (state.new, out.new) result }
 {
     if !state.job.share.is_first() {
         state.trail.advance();
@@ -101,8 +101,8 @@ fn enter_site<O: Outside>(state: &mut State, out: &mut O) -> Result<Phase, Fault
     requires line { EntersSite state.old }
     requires may { MayEnter (O.world out.old).source state.old.trail }
     requires shorty { IsAtShorty state.old.trail }
-    ensures turn { TakesTurn O.world (O.within 1 0) phase.Walk state.old state.new
-        out.old out.new result }
+    ensures turn { TakesTurn O.Outside (1, 0) phase.Walk
+        (state.old, out.old) (state.new, out.new) result }
 {
     let path = listed_path(state)?;
     let listing = out.list(&path)?;

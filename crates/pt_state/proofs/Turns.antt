@@ -6,7 +6,8 @@ use Rattle.pt_state.proofs.Words.{HasBeenFed, Content, Row, Answer, Line, Held, 
 use Rattle.pt_state.specs.declared.state.State.{State}
 use Rattle.pt_state.proofs.Words.fault
 use Rattle.pt_state.proofs.Together.{asked_stays}
-use Rattle.pt_state.specs.Outside.{TakesTurn, TakesTurnAt}
+use Rattle.pt_state.specs.Turns.{TakesTurn, TakesTurnAt}
+use Rattle.pt_state.specs.declared.outside.Outside.{Ghosts as OfOutside}
 
 -- ---- what is kept
 
@@ -95,13 +96,13 @@ turned_read here s s' block w w' result turned = turned
 
 -- ---- turns over all devices as one
 
-module _ {O : Type 0} {world : O → World} {within within' : O → O → Type 0} {At : Phase → Type 0} {s s' : State} {old new : O} {answer : Answer} where
+module _ {O : Type 0} {of : OfOutside O} {most most' : ℕ × ℕ} {At : Phase → Type 0} {s s' : State} {old new : O} {answer : Answer} where
   -- at a phase of which what is asked holds
-  pub taken_at : {here : Phase} → TakesTurnAt world within At s s' old new answer → At here → within' old new → TakesTurn world within' here s s' old new answer
+  pub taken_at : {here : Phase} → TakesTurnAt of most At (s, old) (s', new) answer → At here → of.within most'.0 most'.1 old new → TakesTurn of most' here (s, old) (s', new) answer
   taken_at {here} takes at few = record { turn = takes.turn here at; few = few }
 
   -- at each phase of which more holds
-  pub taken_where : {At' : Phase → Type 0} → TakesTurnAt world within At s s' old new answer → ((here : Phase) → At' here → At here) → within' old new → TakesTurnAt world within' At' s s' old new answer
+  pub taken_where : {At' : Phase → Type 0} → TakesTurnAt of most At (s, old) (s', new) answer → ((here : Phase) → At' here → At here) → of.within most'.0 most'.1 old new → TakesTurnAt of most' At' (s, old) (s', new) answer
   taken_where takes at few = record { turn = λ here more. takes.turn here (at here more); few = few }
 
 pub ruleset turns = (keeps_all, stayed, short, taken_at, taken_where)

@@ -3,3 +3,4 @@ pub mod Fields
 pub mod Lines
 pub mod States
 pub mod Outside
+pub mod Turns

@@ -1,5 +1,5 @@
 -- One turn, as the functions of a run make it: that it is a turn of the run's definitions, over the world of its devices.
-use Rattle.std.specs.Prelude.{◌≡◌, ℕ, List, Option, Result, Ok, Err, IfErr, IfOk, OnErr, OnOk, ⊤}
+use Rattle.std.specs.Prelude.{◌≡◌, ℕ, List, Option, Result, Ok, Err, IfErr, IfOk, OnOk, ⊤}
 use Rattle.pt_object.specs.Hasher.{HasBeenFed}
 use Rattle.pt_object.specs.declared.algorithm.Algorithm.{Algorithm}
 use Rattle.pt_object.specs.declared.hasher.Hasher.{Hasher}
@@ -7,22 +7,27 @@ use Rattle.pt_tree.specs.Dest.{Writing}
 use Rattle.pt_tree.specs.Listing.{Item as Entry}
 use Rattle.pt_tree.specs.Path.{Path}
 use Rattle.pt_tree.specs.Source.{Reading}
+use Rattle.pt_tree.specs.declared.dest.Dest.{Ghosts as OfDest}
 use Rattle.pt_tree.specs.declared.kind.Kind.{Kind}
+use Rattle.pt_tree.specs.declared.log.Log.{Ghosts as OfLog}
+use Rattle.pt_tree.specs.declared.source.Source.{Ghosts as OfSource}
 use Rattle.pt_plan.specs.Answer.{Answer}
-use Rattle.pt_plan.specs.Lines.{Line}
 use Rattle.pt_plan.specs.Turn.{Did, LeavesSome, Stays, Turn}
-use Rattle.pt_plan.specs.World.{Calls, Finds, Lists, World, asks, does, tells}
+use Rattle.pt_plan.specs.World.{Calls, Finds, Lists, World, asks, does}
 use Rattle.pt_plan.specs.declared.fault.Fault.{Fault}
 use Rattle.pt_plan.specs.declared.phase.Phase.{Phase}
-use Rattle.pt_state.specs.Lines.{with_line}
 use Rattle.pt_state.specs.States.{job_of, kept_of}
-use Rattle.pt_state.specs.declared.job.Report.{Report}
 use Rattle.pt_state.specs.declared.state.State.{State}
 
 -- the world of devices that tell this and failed so often
 abbrev pub world : Option Reading → Option Writing → Option (List ℕ) → ℕ → ℕ → ℕ → World
 world source dest log s d l =
     record { source = source; dest = dest; log = log; failures = record { source = s; dest = d; log = l } }
+
+-- the world of three devices, by the words of their traits: what each tells, and how often it failed
+abbrev pub world_of : {S D L : Type 0} → OfSource S → OfDest D → OfLog L → S → D → L → World
+world_of s d l source dest log =
+    world (s.told source) (d.told dest) (l.told log) (s.failed source) (d.failed dest) (l.failed log)
 
 -- where the run goes on the hasher was fed this
 abbrev pub FedAfter : Answer → Algorithm → Hasher → List ℕ → Type 0
@@ -66,31 +71,4 @@ pub record Wrote {O T : Type 0} (world : O → World) (within : O → O → Type
     (result : Result T Fault) : Type 0 where
   pub did : OnOk result (Did calls (world old) (world new))
   pub left : IfErr result (λ why. LeavesSome calls why (world old) (world new))
-  pub few : within old new
-
--- a line: it was put and counted, or a front of it was put, and it isn't counted
-pub record Told {O T : Type 0} (world : O → World) (within : O → O → Type 0) (line : Line) (c c' : Report)
-    (old new : O) (result : Result T Fault) : Type 0 where
-  pub did : OnOk result (Did (tells line) (world old) (world new))
-  pub counted : OnOk result (c' ≡ with_line line c)
-  pub left : IfErr result (λ why. LeavesSome (tells line) why (world old) (world new))
-  pub same : OnErr result (c' ≡ c)
-  pub few : within old new
-
--- a turn at this phase
-pub record TakesTurn {O : Type 0} (world : O → World) (within : O → O → Type 0) (here : Phase) (s s' : State)
-    (old new : O) (answer : Answer) : Type 0 where
-  pub turn : Turned here s s' (world old) (world new) answer
-  pub few : within old new
-
--- a turn at each phase of which this holds
-pub record TakesTurnAt {O : Type 0} (world : O → World) (within : O → O → Type 0) (At : Phase → Type 0)
-    (s s' : State) (old new : O) (answer : Answer) : Type 0 where
-  pub turn : (here : Phase) → At here → Turned here s s' (world old) (world new) answer
-  pub few : within old new
-
--- the rest of a turn at this phase, after these calls
-pub record EndsTurn {O : Type 0} (world : O → World) (within : O → O → Type 0) (calls : Calls) (here : Phase)
-    (s s' : State) (old new : O) (answer : Answer) : Type 0 where
-  pub turn : (before : World) → Did calls before (world old) → Turned here s s' before (world new) answer
   pub few : within old new

@@ -6,7 +6,7 @@ ghost use Rattle.pt_plan.specs.Lines.{Line, Done as DoneLine, Present as Present
 ghost use Rattle.pt_plan.specs.Turn.{Did, LeavesSome};
 ghost use Rattle.pt_plan.specs.World.{tells};
 ghost use Rattle.pt_state.specs.Lines.{IsTreeOf};
-ghost use Rattle.pt_state.specs.Outside.{Told, Wrote};
+ghost use Rattle.pt_state.specs.Turns.{Told, WroteBy};
 
 use crate::paths::text_of;
 use crate::{Outside, Report};
@@ -42,9 +42,9 @@ pub fn put_done<O: Outside>(
     counts: &mut Report,
 ) -> Result<(), Fault>
     requires { counts.old.done < 2 ^ 40 }
-    ensures { Told O.world (O.within 0 0) (DoneLine object.now.at.now object.now.bytes
+    ensures { Told O.Outside (DoneLine object.now.at.now object.now.bytes
         object.now.empty object.now.files object.now.id.now object.now.to.now)
-        counts.old counts.new out.old out.new result }
+        (counts.old, out.old) (counts.new, out.new) result }
 {
     let value = done_line(alloc, object)?;
     put(alloc, out, &value)?;
@@ -79,8 +79,8 @@ pub fn put_present<O: Outside>(
     counts: &mut Report,
 ) -> Result<(), Fault>
     requires { counts.old.present < 2 ^ 40 }
-    ensures { Told O.world (O.within 0 0) (PresentLine at.now id.now to.now)
-        counts.old counts.new out.old out.new result }
+    ensures { Told O.Outside (PresentLine at.now id.now to.now)
+        (counts.old, out.old) (counts.new, out.new) result }
 {
     let value = present_line(alloc, at, id, to)?;
     put(alloc, out, &value)?;
@@ -115,8 +115,8 @@ pub fn put_skip<O: Outside>(
     counts: &mut Report,
 ) -> Result<(), Fault>
     requires { counts.old.skipped < 2 ^ 40 }
-    ensures { Told O.world (O.within 0 0) (SkippedLine at.now cause)
-        counts.old counts.new out.old out.new result }
+    ensures { Told O.Outside (SkippedLine at.now cause)
+        (counts.old, out.old) (counts.new, out.new) result }
 {
     let value = skip_line(alloc, at, cause)?;
     put(alloc, out, &value)?;
@@ -137,7 +137,7 @@ fn skip_line(alloc: Global, at: &NamePath, cause: Cause) -> Result<Value, Memory
 
 /// Tells that the run is done.
 pub fn put_end<O: Outside>(alloc: Global, out: &mut O, counts: &Report) -> Result<(), Fault>
-    ensures { Wrote O.world (O.within 0 0) (tells (EndLine counts.now.done counts.now.present
+    ensures { WroteBy O.Outside (tells (EndLine counts.now.done counts.now.present
         counts.now.skipped)) out.old out.new result }
 {
     let value = end_line(alloc, counts)?;

@@ -10,7 +10,7 @@ ghost use Rattle.pt_tree.specs.Forest.{is_proper};
 ghost use Rattle.pt_tree.specs.Source.{Reading, CanList, CanOpen, CanRead};
 ghost use Rattle.pt_tree.specs.Tree.{IsTree};
 ghost use Rattle.pt_state.specs.Counting.{AtMostCalls, calls_after, calls_more, calls_most, calls_none, calls_still};
-ghost use Rattle.pt_state.specs.Outside.{Called, Found, Listed, Wrote, world as world_of};
+ghost use Rattle.pt_state.specs.Outside.{Called, Found, Listed, Wrote, world_of};
 
 use pt_plan::Fault;
 use pt_tree::{Block, Dest, Kind, Listing, Log, NamePath, Source};
@@ -126,8 +126,7 @@ pub struct Devices<'s, 'd, 'l, S: Source, D: Dest, L: Log> {
 }
 
 impl<'s, 'd, 'l, S: Source, D: Dest, L: Log> Outside for Devices<'s, 'd, 'l, S, D, L> {
-    ghost world = { λ o. world_of (S.told o.source.now) (D.told o.dest.now) (L.told o.log.now)
-        (S.failed o.source.now) (D.failed o.dest.now) (L.failed o.log.now) };
+    ghost world = { λ o. world_of S.Source D.Dest L.Log o.source.now o.dest.now o.log.now };
 
     ghost within = { λ n k a b. (b.source.ghost_name ≡ a.source.ghost_name)
         × (b.dest.ghost_name ≡ a.dest.ghost_name) × (b.log.ghost_name ≡ a.log.ghost_name)

@@ -1,5 +1,5 @@
 use Rattle.std.proofs.Common.{rules, ◌∙◌, refl}
-use Rattle.pt_state.specs.Outside.{world}
+use Rattle.pt_state.specs.Outside.{world_of}
 use Rattle.pt_clients.proofs.Rerun.{again_as, ended_as, told_tree}
 use Rattle.pt_clients.proofs.anew.carry_through.Goals as goal
 
@@ -7,9 +7,9 @@ pub returns-in-Ok : goal.returns-in-Ok
 returns-in-Ok g c s start is _ =
     let at = c.loop in
     let after = c.migrate.new in
-    let old = world (g.S.Source.told at.source) (g.D.Dest.told at.dest) (g.L.Log.told at.log) (g.S.Source.failed at.source) (g.D.Dest.failed at.dest) (g.L.Log.failed at.log) in
+    let old = world_of g.S.Source g.D.Dest g.L.Log at.source at.dest at.log in
     let new =
-    world (g.S.Source.told after.source) (g.D.Dest.told after.dest) (g.L.Log.told after.log) (g.S.Source.failed after.source) (g.D.Dest.failed after.dest) (g.L.Log.failed after.log) in
+    world_of g.S.Source g.D.Dest g.L.Log after.source after.dest after.log in
     ended_as (g.J.Jobs.job c.args.jobs.now) c.in-Some.job s start old new c.in-Ok.field-0 (c.in-Some.ensures.made ∙ at.invariant.same) (at.invariant.ends s start is) c.in-Ok.ensures.promises
 
 pub loop-preserved : goal.loop-preserved
@@ -17,11 +17,11 @@ loop-preserved g c =
     let at = c.loop in
     let after = c.migrate.new in
     let taken = c.take_staging_away.new.self in
-    let old = world (g.S.Source.told at.source) (g.D.Dest.told at.dest) (g.L.Log.told at.log) (g.S.Source.failed at.source) (g.D.Dest.failed at.dest) (g.L.Log.failed at.log) in
+    let old = world_of g.S.Source g.D.Dest g.L.Log at.source at.dest at.log in
     let new =
-    world (g.S.Source.told after.source) (g.D.Dest.told after.dest) (g.L.Log.told after.log) (g.S.Source.failed after.source) (g.D.Dest.failed after.dest) (g.L.Log.failed after.log) in
+    world_of g.S.Source g.D.Dest g.L.Log after.source after.dest after.log in
     let later =
-    world (g.S.Source.told after.source) (g.D.Dest.told taken) (g.L.Log.told after.log) (g.S.Source.failed after.source) (g.D.Dest.failed taken) (g.L.Log.failed after.log) in record {
+    world_of g.S.Source g.D.Dest g.L.Log after.source taken after.log in record {
       same = c.next.ensures.same ∙ at.invariant.same;
       ends =
           λ s start is.

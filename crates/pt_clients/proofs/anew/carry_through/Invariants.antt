@@ -1,6 +1,6 @@
 use Rattle.std.specs.Prelude.{◌≡◌}
 use Rattle.pt_clients.specs.Mending.{MayEndAs}
-use Rattle.pt_state.specs.Outside.{world}
+use Rattle.pt_state.specs.Outside.{world_of}
 use Rattle.pt_tree.specs.Forest.{Forest}
 use Rattle.pt_tree.specs.Tree.{Tree}
 use Rattle.pt_clients.proofs.anew.carry_through.Given as goal
@@ -10,8 +10,8 @@ abbrev pub invariant-loop : goal.invariant-loop
 invariant-loop g l =
     let job = g.J.Jobs.job l.fn.jobs in
     let first =
-    world (g.S.Source.told l.fn.source) (g.D.Dest.told l.fn.dest) (g.L.Log.told l.fn.log) (g.S.Source.failed l.fn.source) (g.D.Dest.failed l.fn.dest) (g.L.Log.failed l.fn.log) in
-    let now = world (g.S.Source.told l.source) (g.D.Dest.told l.dest) (g.L.Log.told l.log) (g.S.Source.failed l.source) (g.D.Dest.failed l.dest) (g.L.Log.failed l.log) in record {
+    world_of g.S.Source g.D.Dest g.L.Log l.fn.source l.fn.dest l.fn.log in
+    let now = world_of g.S.Source g.D.Dest g.L.Log l.source l.dest l.log in record {
       same : g.J.Jobs.job l.jobs ≡ job;
       ends : (s : Forest) (start : Tree) → MayEndAs job s start first → MayEndAs job s start now;
     }

@@ -20,22 +20,19 @@ advance-requires g c = has_begun _ _ _ c.loop-mover.invariant.0.begun
 -- what holds of the run so far holds after a step: Migrating.antt (`so_far_on`); and so do the devices that it is over
 pub loop-mover-preserved : goal.loop-mover-preserved
 loop-mover-preserved g c = (
-  so_far_on _ _ _ _ _ _ c.loop-mover.invariant.0 c.in-Ok-More.field-0 c.in-Ok-More.field-0-is
-      (record { keeps = c.in-Ok-More.ensures.keeps; steps = c.in-Ok-More.ensures.steps }),
+  so_far_on _ _ _ _ _ _ c.loop-mover.invariant.0 c.in-Ok-More.field-0 c.in-Ok-More.field-0-is c.in-Ok-More.ensures.step,
   (_, _, g.met.O.Outside.more _ _ _ _ _ _ _ c.loop-mover.invariant.1.2 c.advance.ensures.calls),
 )
 
 -- the steps come to an end, for each leaves a turn less to make: Ran.antt (`smaller`)
 pub loop-mover-smaller : goal.loop-mover-smaller
-loop-mover-smaller g c = smaller _ _ _ _ c.in-Ok-More.field-0 c.in-Ok-More.field-0-is c.in-Ok-More.ensures.steps.leaves c.in-Ok-More.ensures.steps.answer
+loop-mover-smaller g c = smaller _ _ _ _ c.in-Ok-More.field-0 c.in-Ok-More.field-0-is c.in-Ok-More.ensures.step.steps.leaves c.in-Ok-More.ensures.step.steps.answer
 
 -- `run`, where the last turn was made and where a step met a fault: Migrating.antt (`migrates_whole`, `migrates_halted`)
 pub returns-clause-run : goal.returns-clause-run
 returns-clause-run g c = elim c.match-advance.branch [
-  | in-Ok-Finished w ↦ rw w.result-is (migrates_whole _ _ _ _ _ _ c.loop-mover.invariant.0 w.in-Ok-Finished.field-0 w.report-in-Ok-Finished.result w.in-Ok-Finished.field-0-is (search rules) (search rules)
-      (record { keeps = w.in-Ok-Finished.ensures.keeps; steps = w.in-Ok-Finished.ensures.steps }))
-  | in-Err w ↦ migrates_halted _ _ _ _ _ _ c.loop-mover.invariant.0 w.in-Err.fault _ (search rules)
-      (record { keeps = w.in-Err.ensures.keeps; steps = w.in-Err.ensures.steps })
+  | in-Ok-Finished w ↦ rw w.result-is (migrates_whole _ _ _ _ _ _ c.loop-mover.invariant.0 w.in-Ok-Finished.field-0 w.report-in-Ok-Finished.result w.in-Ok-Finished.field-0-is (search rules) (search rules) w.in-Ok-Finished.ensures.step)
+  | in-Err w ↦ migrates_halted _ _ _ _ _ _ c.loop-mover.invariant.0 w.in-Err.fault _ (search rules) w.in-Err.ensures.step
 ]
 
 -- `same`: the devices allow the calls of one step more

@@ -16,9 +16,8 @@ returns-then-rehearse-clause-promises g c =
 
 pub returns-clause-promises : goal.returns-clause-promises
 returns-clause-promises g c =
-    let stays = c.migrate_observed-ran-2.ensures.dest_stays in
     carried c.args.job (dest_told (g.D.System.kept c.args.dest.desk.system c.args.dest.folder.path.now) None None) _ _ _ _ _ _ _ _ _
-    c.args.rehearse _ _ _ _ c.if-rehearse.false (rw (stays.0.0) at c.migrate_observed-ran-2.ensures.promises)
+    c.args.rehearse _ _ _ _ c.if-rehearse.false c.migrate_observed-ran-2.ensures.promises
 
 pub returns-then-rehearse-clause-served : goal.returns-then-rehearse-clause-served
 returns-then-rehearse-clause-served g c = rw c.if-rehearse.true tt

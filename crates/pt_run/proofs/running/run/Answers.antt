@@ -25,10 +25,10 @@ returns-clause-runs g c =
           ← c.new-ignoring.ensures.names,
           ← c.new-source.ensures,
           ← c.new-log.ensures,
-        ) (rw (made.source.1, made.source.0) at made.promises),
+        ) (rw (made.source.1, made.source.0, made.dest) at made.promises),
         c.status_of-status.ensures,
       ),
-      rw (c.into_system-2.ensures) made.rehearsed,
+      rw (c.into_system-2.ensures) (rw made.dest at made.rehearsed),
       λ s is. let stuck = made.stuck c.args.shown.lenient s is in (stuck.0, λ none. c.status_of-status.ensures ∙ stuck.1 none),
     )
 

@@ -1,6 +1,6 @@
 use Rattle.pt_begun.specs.Begun.{Start}
 use Rattle.pt_move.specs.Running.{HasBegun}
-use Rattle.pt_state.specs.Outside.{world}
+use Rattle.pt_state.specs.Outside.{world_of}
 use Rattle.pt_tree.specs.Forest.{Forest}
 use Rattle.pt_clients.specs.Holding.{GoesOn, IsMost}
 use Rattle.pt_clients.proofs.owning.Run.most.Given as goal
@@ -9,11 +9,9 @@ use Rattle.pt_clients.proofs.owning.Run.most.Given as goal
 abbrev pub invariant-loop : goal.invariant-loop
 invariant-loop g l =
     let now =
-    world (g.S.Source.told l.self.source) (g.D.Dest.told l.self.dest) (g.L.Log.told l.self.log) (g.S.Source.failed l.self.source) (g.D.Dest.failed l.self.dest)
-    (g.L.Log.failed l.self.log) in
+    world_of g.S.Source g.D.Dest g.L.Log l.self.source l.self.dest l.self.log in
     let first =
-    world (g.S.Source.told l.fn.self.source) (g.D.Dest.told l.fn.self.dest) (g.L.Log.told l.fn.self.log) (g.S.Source.failed l.fn.self.source)
-    (g.D.Dest.failed l.fn.self.dest) (g.L.Log.failed l.fn.self.log) in
+    world_of g.S.Source g.D.Dest g.L.Log l.fn.self.source l.fn.self.dest l.fn.self.log in
     let job = l.fn.self.mover.state.job in record {
       begun : HasBegun now l.self.mover;
       held :
