@@ -14,6 +14,24 @@ use Rattle.pt_move.specs.Runs.{IsRun}
 use Rattle.pt_plan.specs.declared.fault.Fault.{Fault}
 use Rattle.pt_plan.specs.declared.fault.Fault.TheVariants as fault
 
+-- Where each promise is proved: a lemma of proofs/ here, by laws of the crates below, with the file of each.
+--   ends: end_whole (Outcomes), by ends_well (Ending)
+--   states: end_states (Outcomes), by ends_with_states (EndStates), carried_have_their_files (WholeObjects)
+--   left: left_after (Outcomes), by stops_leave (TurnEnds), halts_leave (TurnEnds), rerun_leaves_the_same (LaterTrees)
+--   early: leaves_all (Outcomes), by early_leaves_dest (EarlyHalts), early_leaves_log (EarlyHalts)
+--   unstaged: unstaged_after (Outcomes), by failed_log_leaves_no_staging (LogHalts)
+--   leaves: leaves_behind (Answering), by turn_ends_begun (TurnEnds)
+--   stands: stands_after (Outcomes), by left_behind_stands_still (StandingStill), begun_stands_still (StandingStill)
+--   says: halt_says (Outcomes), by refuses_rightly (Refusing), finds_staging (StagingFound), finds_target_of (TargetFound)
+--   good: halt_good (Outcomes), by nothing_is_refused (GoodStarts)
+--   work: work_after (Outcomes), by turns_are_within_work (Within)
+--   source, dest, log: blames_ok (Ran), blames_err (Ran)
+--   told, told_front: told_finished (WholeLog), told_front (WholeLog)
+--   tree: tree_stays (Keeping)
+--   run: ran_whole (Ran), ran_halted (Ran)
+--   turns, lines, never_ended: turn_keeps_bounds (Bounding), not_ended (Ending)
+--
+-- what a run promises, by what its devices told before and after
 pub record Migrates (job : Job) (old new : World) (result : Result Report Fault) : Type 0 where
   -- at its end the root holds all objects that are carried, each whole, nothing else is changed, and the log has all lines
   pub ends : IfOk result (EndsWhole job (source_tree old.source) (start_of old) new.dest new.log)
