@@ -8,7 +8,7 @@ PROGRAM := bin/pairtree2ocfl
 BUILT := crates/pairtree2ocfl/out/pairtree2ocfl
 
 .DEFAULT_GOAL := build
-.PHONY: help build try demo test allocations bench install uninstall dist deb clean toolchain
+.PHONY: help build try demo test allocations bench model wrong install uninstall dist deb clean toolchain
 
 help: ## list the targets
 	@sed -n 's/^\([a-z]*\):.*## \(.*\)/make \1\t\2/p' $(MAKEFILE_LIST)
@@ -32,6 +32,12 @@ allocations: build ## refuse each request for memory of the program in turn, whe
 
 bench: build ## processor time of a run beside sha512sum, cp and, where rustc is, plain Rust over the same stores
 	@$(PYTHON) bench/bench.py $(PROGRAM)
+
+model: ## print each definition that contracts cite, with what it means (WORDS='..' of names that have one of these)
+	@$(PYTHON) tools/index.py model $(WORDS)
+
+wrong: ## print each wrong body that the prover has to refuse (WORDS='..')
+	@$(PYTHON) tools/index.py wrong $(WORDS)
 
 install: ## copy the program, its man page, completions and documents to PREFIX (/usr/local unless given), below DESTDIR
 	@test -n "$(PREFIX)" || { echo "pairtree2ocfl: PREFIX is empty: name the folder to install to, as PREFIX=/usr/local" >&2; exit 1; }

@@ -76,6 +76,7 @@ AreFew b contents = (b.alike ≤ length contents) ⊎ (contents ≡ [])
 abbrev pub IsClosed : Beside → Type 0
 IsClosed b = b.reads ≡ false
 
+-- so far as they were read beside each other, the files of store and root are alike
 abbrev pub PacedAt : Option Reading → Option Reading → Beside → Phase → State → Type 0
 PacedAt source root b (phase.Carrying object stage.Scan) s =
     IsClosed b × AreAlike source root b s.contents × AreFew b s.contents
@@ -102,12 +103,14 @@ pub record IsOpened (source : Option Reading) (object : Object) (s : State) : Ty
   pub logical : drop (names_before object) (names_to s.trail) ≡ logical_path object s.trail
   pub unread : ForSome source (λ r. r.unread ≡ Some (bytes_at r.tree (in_pairtree (names_to s.trail))))
 
+-- the same while a file is read, of which so many bytes were
 abbrev pub ReadBehind : Option Reading → Option Reading → Beside → Object → ℕ → State → Type 0
 ReadBehind source root b object zero s = AreAlike source root b s.contents × IsOpened source object s
 ReadBehind source root b object (suc bytes) s =
     AreAlike source root b s.contents × (b.alike ≤ length s.contents)
     × OnTrue b.reads (ReadBeside source root b object s s.block.items)
 
+-- the same at a phase once the step of the survey is made, before the root is read on
 abbrev pub BehindAt : Option Reading → Option Reading → Beside → Phase → State → Type 0
 BehindAt source root b (phase.Carrying object stage.Scan) s =
     AreAlike source root b s.contents × AreFew b s.contents
@@ -116,11 +119,13 @@ BehindAt source root b (phase.Carrying object (stage.Read bytes)) s = ReadBehind
 BehindAt source root b (phase.Carrying object stage.Line) s = AreAlike source root b s.contents
 BehindAt source root b _ s = ⊤
 
+-- the same of a survey
 abbrev pub IsBehind : Option Reading → Option Reading → Beside → Running → Type 0
 IsBehind source root b r = BehindAt source root b r.phase r.state
 
 -- ---- single ones
 
+-- nothing was read beside
 abbrev pub HasBegun : Beside → Type 0
 HasBegun b = (b.alike ≡ 0) × (b.reads ≡ false) × (b.folder ≡ [])
 

@@ -51,6 +51,7 @@ pub record BlamesRightly {T : Type 0} (old new : Failures) (result : Result T Fa
 
 -- ---- what a fault says
 
+-- what a fault of an audit says of store and root
 pub record AuditSays (job : own.Job) (source root : Option Forest) (f : Fault) : Type 0 where
   -- a store is refused only for what it is
   pub rightly : SaysRightly job source None f

@@ -64,5 +64,6 @@ IsOpenedAt (phase.Carrying object (stage.Read zero)) s (Some file) =
 IsOpenedAt (phase.Carrying object (stage.Read zero)) s None = ⊥
 IsOpenedAt _ s file = file ≡ None
 
+-- this file of the object is open, if one is
 abbrev pub IsOpened : Running → Option Opened → Type 0
 IsOpened r file = IsOpenedAt r.phase r.state file

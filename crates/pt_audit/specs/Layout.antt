@@ -15,6 +15,7 @@ use Rattle.pt_tree.specs.Tree.{Bytes, Folder, Tree, tree_of}
 abbrev pub root_of : Forest → Tree
 root_of standing = root_in (tree_of standing)
 
+-- a folder stands at `ocfl`
 abbrev pub IsFolder : Forest → Type 0
 IsFolder standing = root_of standing [] ≡ Some Folder
 
@@ -31,6 +32,7 @@ abbrev pub IsSo : Job → Bool → Forest → Type 0
 IsSo job true standing = IsOfLayout job standing
 IsSo job false standing = IsOfAnother job standing
 
+-- by the answer the root is of this layout, or of another
 abbrev pub TellsLayout : {T : Type 0} → Job → Result T Fault → Forest → Type 0
 TellsLayout job (Ok x) standing = IsOfLayout job standing
 TellsLayout job (Err fault.Target) standing = IsOfAnother job standing

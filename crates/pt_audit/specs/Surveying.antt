@@ -52,6 +52,7 @@ use Rattle.pt_walk.specs.declared.cause.Cause.{Cause}
 abbrev pub no_start : Start
 no_start = record { dest = None; log = None }
 
+-- a world in which the source alone tells, and nothing failed
 abbrev pub source_alone : Option Reading → World
 source_alone told = world told None None 0 0 0
 
@@ -91,6 +92,7 @@ abbrev pub passed_part : Object → Part → Phase
 passed_part object part.Staging = phase.Carrying object stage.Line
 passed_part object here = phase.Carrying object (stage.Make here)
 
+-- the phase behind those that make something
 abbrev pub passed : Phase → Phase
 passed (phase.Opening opening.Staging) = phase.Opening opening.OpenRoot
 passed (phase.Carrying object (stage.Make here)) = passed_part object here
@@ -158,6 +160,7 @@ abbrev pub is_before_sites : Phase → Bool
 is_before_sites (phase.Opening opening.OpenRoot) = true
 is_before_sites here = is_before_store here
 
+-- a step is counted, within the limit and the work, and no more is held than the bound
 pub record Steps (source : Option Forest) (before after : Running) : Type 0 where
   -- the job stays
   pub job : after.state.job ≡ before.state.job
@@ -189,6 +192,7 @@ abbrev pub MeetsLimit : own.Job → Option Forest → Fault → Type 0
 MeetsLimit job source f =
     f ≡ fault.Turns → ForSome source (λ s. job.limits.turns < work_of_survey (job_of job) s)
 
+-- a fault says so of the store alone
 pub record SurveySays (job : own.Job) (source : Option Forest) (f : Fault) : Type 0 where
   -- a store is refused only for what it is
   pub rightly : SaysRightly job source None f
@@ -259,9 +263,11 @@ abbrev pub IsHandOf : Object → State → Option AtHand → Type 0
 IsHandOf object s None = ⊥
 IsHandOf object s (Some hand) = IsOf object s hand
 
+-- at a phase, this object is at hand, if one is
 abbrev pub IsHandAt : Phase → State → Option AtHand → Type 0
 IsHandAt (phase.Carrying object stage.Line) s hand = IsHandOf object s hand
 IsHandAt _ s hand = hand ≡ None
 
+-- this object is at hand, if one is
 abbrev pub IsHand : Running → Option AtHand → Type 0
 IsHand r hand = IsHandAt r.phase r.state hand

@@ -71,6 +71,7 @@ ArePlaced job source root past phase.Ended = ⊤
 ArePlaced job source root past here =
     past.placed ≡ carried_among job source root (items_placed here past.count)
 
+-- the objects that were placed are those that are carried of the items done, and the place of the one under way is free
 pub record PlacesItems (job : Job) (source : Forest) (root : Tree) (past : Past) (here : Phase) : Type 0 where
   pub placed : ArePlaced job source root past here
   pub next : IsFreeAt here job source root past.count

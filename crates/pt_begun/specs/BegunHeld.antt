@@ -134,12 +134,14 @@ IsFedBefore job object part.Inventory held = held.fed ≡ text_of_inventory job 
 IsFedBefore job object part.Sidecar held = held.fed ≡ text_of_inventory job object held.rows
 IsFedBefore job object _ held = ⊤
 
+-- at a part of an object, what the hasher was fed before it: before a sidecar the inventory's text
 abbrev pub FedAt : Job → Phase → Held → Type 0
 FedAt job (phase.Carrying object (stage.Make here)) held = IsFedBefore job object here held
 FedAt job _ held = ⊤
 
 -- ---- all of it
 
+-- what is held fits the phase: the trail ends where the phase has it, the rows are in order with the digests of their bytes and the contents are theirs, all entries still to come are behind them, the phase's numbers are of those that there are, and the hasher was fed what a sidecar is made of
 pub record HeldAt (job : Job) (past : Past) (here : Phase) (held : Held) : Type 0 where
   pub trail : TrailAt here held
   pub ends : EndsAt job here held.trail

@@ -28,6 +28,7 @@ no_past = record { count = 0; placed = []; bytes = λ path. [] }
 
 -- ---- how many items are done
 
+-- the walk goes on from where the trail stands
 abbrev pub is_walk : Phase → Bool
 is_walk phase.Walk = true
 is_walk _ = false

@@ -17,6 +17,7 @@ abbrev pub IsForNew : Tree → Path → Type 0
 IsForNew start path = (is_some (rest_below storage_root path) ≡ true)
     ⊎ (IsFree start staging × (is_some (rest_below staging path) ≡ true))
 
+-- what stood stands; what is new stands at `ocfl` or below it, or at `staging` or below it where nothing stood there
 pub record StandsStill (start now : Tree) : Type 0 where
   -- what stood stands, with what it held
   pub stays : (path : Path) (entry : Entry) → start path ≡ Some entry → now path ≡ Some entry

@@ -131,7 +131,7 @@ to_copy_at rows _ = 0
 
 -- ---- by the phase
 
--- so many turns are left at a phase, where so many items are done and this is held
+-- the most turns that are left at a phase, where so many items are done and this is held: each turn lowers it
 abbrev pub left : Job → Forest → List Marked → ℕ → Phase → Held → ℕ
 left job source marks count (phase.Opening opening.Begin) held = 13 + items_left job marks count
 left job source marks count (phase.Opening (opening.Prefix here)) held = 12 + items_left job marks count

@@ -154,6 +154,7 @@ migrate_rules words =
 abbrev pub migrate_app : Spelled → App
 migrate_app words = on_top (λ s. record s { rules = migrate_rules words }) (new_app (codes "migrate"))
 
+-- the command `migrate`, whose values are spelled somewhere
 abbrev pub IsMigrateApp : App → Type 0
 IsMigrateApp app = (words : Spelled) × (app ≡ migrate_app words)
 
@@ -168,6 +169,7 @@ audit_rules words =
 abbrev pub audit_app : Spelled → App
 audit_app words = on_top (λ s. record s { rules = audit_rules words }) (new_app (codes "audit"))
 
+-- the command `audit`, whose values are spelled somewhere
 abbrev pub IsAuditApp : App → Type 0
 IsAuditApp app = (words : Spelled) × (app ≡ audit_app words)
 
@@ -182,5 +184,6 @@ program words others =
     with_subcommand (with_subcommand (with_subcommand top_app names_app.top) (migrate_app words).top)
     (audit_app others).top
 
+-- the program, whose values are spelled somewhere
 abbrev pub IsProgram : App → Type 0
 IsProgram app = (words : Spelled) × (others : Spelled) × (app ≡ program words others)

@@ -19,6 +19,7 @@ LeavesWritten fault.Empty old new text = Keeps old new
 LeavesWritten fault.Write old new text = AppendsFront old new text
 LeavesWritten fault.Memory old new text = Keeps old new
 
+-- the number of a refusal
 abbrev pub names_number : NamesFault → ℕ
 names_number fault.Empty = 1
 names_number fault.Write = 2

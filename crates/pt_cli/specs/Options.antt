@@ -64,6 +64,7 @@ number_in id rows = option_and_then number_of (one_of id rows)
 abbrev pub is_set_in : Text → List Row → Bool
 is_set_in id rows = option_map_or (λ text. bytes_eq text (codes "true")) (first_of id rows) false
 
+-- one after another, where each is given
 infixl 10 ◌>>=◌
 abbrev pub ◌>>=◌ : {A B : Type 0} → Option A → (A → Option B) → Option B
 o >>= f = option_and_then f o

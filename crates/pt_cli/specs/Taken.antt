@@ -33,6 +33,7 @@ defaulted_rule id default = record (option_rule id) { defaults = default ∷ [] 
 abbrev pub word_rule : Text → Bor (List (Bor Text)) → Text → Rule
 word_rule id words default = record (defaulted_rule id default) { parser = Some (vp.Names words) }
 
+-- the rule of an argument of this form
 abbrev pub formed_rule : Text → Form → Rule
 formed_rule id form.Place = place_rule id
 formed_rule id (form.Value name) = option_rule id
@@ -44,6 +45,7 @@ formed_rule id (form.Word name words default) = word_rule id words default.now
 formed_rule id form.Flag = flag_rule id
 formed_rule id (form.Letter letter) = record (flag_rule id) { short = Some letter }
 
+-- the rule of an argument that is taken
 abbrev pub rule_of_taken : Taken → Rule
 rule_of_taken taken = formed_rule taken.id.now taken.form
 

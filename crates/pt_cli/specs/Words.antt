@@ -198,6 +198,7 @@ ReadsWords words result =
     (spelled : Spelled) × (others : Spelled)
     × Answers (fault_of (program spelled others) words) (subcommand_of (program spelled others) words) result
 
+-- the number of a refusal
 abbrev pub words_number : WordsFault → ℕ
 words_number (fault.Help text) = 1
 words_number (fault.Words text) = 2

@@ -16,6 +16,7 @@ abbrev pub unless_refused : Option MetaFault → MetaParts → Option MetaParts
 unless_refused None texts = Some (record texts { address = given_address texts.address })
 unless_refused (Some refusal) texts = None
 
+-- a description that a run can be given
 abbrev pub given_by : MetaParts → Option MetaParts
 given_by texts = unless_refused (meta_refusal texts.created texts.name) texts
 
@@ -58,6 +59,7 @@ texts_with (Some created) (Some name) (Some address) (Some message) =
     Some (parts_of created name address message)
 texts_with _ _ _ _ = None
 
+-- the description that these parts of an inventory give, if they are texts
 abbrev pub texts_in : (created message user : Data) → Option MetaParts
 texts_in created message user =
     texts_with (as_str created) (option_and_then as_str (get (codes "name") user))

@@ -116,7 +116,7 @@ IsFirst sought t q why.Kind = StandsUpTo sought t q
 IsFirst sought t q why.Bytes = StandsUpTo sought t q
 IsFirst sought t q why.Extra = AllStands sought t
 
--- what is found, where this stands at the place and below it
+-- what is found, where this stands at the place and below it, is so: nothing stands; just the object; or at a path something is missing, of another kind, has other bytes, or is more
 abbrev pub IsFound : Sought → Tree → Finding → Type 0
 IsFound sought t Absent = t [] ≡ None
 IsFound sought t Same = IsObject sought t

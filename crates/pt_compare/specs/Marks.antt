@@ -14,6 +14,7 @@ use Rattle.pt_tree.specs.declared.kind.Kind.{Kind}
 abbrev pub Marks : Type 0
 Marks = Path → Option Kind
 
+-- the kind that is noted at each path
 abbrev pub marks_of : Noted → Marks
 marks_of entries = λ q. kind_noted q entries
 

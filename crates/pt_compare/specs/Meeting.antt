@@ -88,6 +88,7 @@ MeetsText t p text_with old new (Err (stop.Differs d)) =
     (d.path ≡ p) × IsWrongInventory t old p text_with d.why
 MeetsText t p text_with old new (Err (stop.Fault why)) = ⊤
 
+-- the same in the tree of a root that tells
 unfoldable pub MeetsTextIn : Option Forest → Path → Path → (MetaParts → List ℕ) → Marks → Marks → Result (String Global) Stop → Type 0
 MeetsTextIn tree place p text_with old new result =
     ForSome tree (λ f. MeetsText (inside f place) p text_with old new result)
@@ -113,6 +114,7 @@ RootHasFailed fault.Dest old new = HasRisen old new
 RootHasFailed fault.Memory old new = new ≡ old
 RootHasFailed _ old new = ⊥
 
+-- the root is blamed only where it failed
 abbrev pub FailsInRoot : {T : Type 0} → Result T Stop → ℕ → ℕ → Type 0
 FailsInRoot (Ok x) old new = new ≡ old
 FailsInRoot (Err (stop.Differs d)) old new = new ≡ old

@@ -36,6 +36,7 @@ is_standing (Some f) e = option_map_or (same_kind e.1) (kind_at f e.0) false
 abbrev pub is_dir : Option Kind → Bool
 is_dir here = option_map_or (same_kind kind.Dir) here false
 
+-- this stands there, where the root tells
 abbrev pub Stands : Option Forest → Path × Kind → Type 0
 Stands tree e = is_standing tree e ≡ true
 
@@ -56,5 +57,6 @@ abbrev pub is_reading : Option Reading → Bool
 is_reading None = true
 is_reading (Some s) = is_some s.unread
 
+-- a file is open for reading, where the root tells
 abbrev pub Reads : Option Reading → Type 0
 Reads told = is_reading told ≡ true

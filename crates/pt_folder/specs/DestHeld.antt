@@ -54,6 +54,7 @@ tree_back None from to held t is = absurd (cc)
 tree_back (Some s) from to held t is =
     let same : moved s to from ≡ t = cc in subst IsTree same (held s refl)
 
+-- what is told is a tree, also where something is stuck
 pub tree_with : {F : Type 0} (kept : Kept F) (s : Option Stuck) (w : Option (Open F)) (state : Writing)
     → ((t : Tree) → kept.tree ≡ Some t → IsTree t) → ∥ ForSome s (IsBack kept) ∥₁
     → told_with kept s w ≡ Some state → IsTree state.tree
@@ -76,21 +77,25 @@ untold None w = refl
 untold (Some (stuck.Closed p)) w = refl
 untold (Some (stuck.Moved from to)) w = refl
 
+-- where nothing is told anything may be made
 pub untold_may_make : {F : Type 0} (s : Option Stuck) (w : Option (Open F)) (p : Path)
     → MayMake (told_with no_kept s w) p
 unfolding MayMake
 untold_may_make s w p = λ state is. let none = untold s w in absurd (cc)
 
+-- where nothing is told anything may be moved
 pub untold_may_move : {F : Type 0} (s : Option Stuck) (w : Option (Open F)) (from to : Path)
     → MayMove (told_with no_kept s w) from to
 unfolding MayMove
 untold_may_move s w from to = λ state is. let none = untold s w in absurd (cc)
 
+-- where nothing is told it may be written to
 pub untold_can_write : {F : Type 0} (s : Option Stuck) (w : Option (Open F))
     → CanWrite (told_with no_kept s w)
 unfolding CanWrite
 untold_can_write s w = λ state is. let none = untold s w in absurd (cc)
 
+-- where nothing is told any file may be looked into
 pub untold_can_peek : {F : Type 0} (s : Option Stuck) (w : Option (Open F)) (p : Path)
     → CanPeek (told_with no_kept s w) p
 unfolding CanPeek

@@ -68,6 +68,7 @@ KindLaw {S} {F} kept looks =
     (old new : S) (folder : List ℕ) (p : Path) (reply : Result Kind Error) → IsPath p
     → looks old (entry_text folder p) reply new → Looked (kept old folder) (kept new folder) p reply
 
+-- where nothing stands, in a directory: an empty directory is made, or after an error nothing is changed
 abbrev pub DirLaw : {S F : Type 0} → (S → List ℕ → Kept F)
     → (S → List ℕ → Result (Unit {0}) Error → S → Type 0) → Type 0
 DirLaw {S} {F} kept makes =
@@ -75,6 +76,7 @@ DirLaw {S} {F} kept makes =
     → ForSome (kept old folder).tree (λ t. CanMake t p)
     → makes old (entry_text folder p) reply new → MakesDir (kept old folder) (kept new folder) p reply
 
+-- what stands comes, with all below, to a path where nothing stands, in a directory; or after an error nothing is changed
 abbrev pub MoveLaw : {S F : Type 0} → (S → List ℕ → Kept F)
     → (S → List ℕ → List ℕ → Result (Unit {0}) Error → S → Type 0) → Type 0
 MoveLaw {S} {F} kept renames =
@@ -83,12 +85,14 @@ MoveLaw {S} {F} kept renames =
     → renames old (entry_text folder from) (entry_text folder to) reply new
     → Moves (kept old folder) (kept new folder) from to reply
 
+-- where nothing stands, in a directory: an empty file is made and is open, or after an error nothing is changed
 abbrev pub FileLaw : {S F : Type 0} → (S → List ℕ → Kept F)
     → (S → List ℕ → Result F Error → S → Type 0) → Type 0
 FileLaw {S} {F} kept makes = (old new : S) (folder : List ℕ) (p : Path) (reply : Result F Error)
     → IsPath p → ForSome (kept old folder).tree (λ t. CanMake t p)
     → makes old (entry_text folder p) reply new → MakesFile (kept old folder) (kept new folder) p reply
 
+-- a write adds as many bytes as it says to the open file; after an error none or some of them
 abbrev pub WriteLaw : {S F : Type 0} → (S → List ℕ → Kept F)
     → (S → F → List ℕ → Result ℕ Error → S → F → Type 0) → Type 0
 WriteLaw {S} {F} kept writes = (old new : S) (folder : List ℕ) (q : Path) (file after : F)
@@ -96,6 +100,7 @@ WriteLaw {S} {F} kept writes = (old new : S) (folder : List ℕ) (q : Path) (fil
     → ForSome (kept old folder).tree (λ _. (kept old folder).place file ≡ Some q)
     → writes old file piece reply new after → Adds (kept old folder) (kept new folder) q after piece reply
 
+-- opening for reading changes nothing; where a file stands its bytes are left to read
 abbrev pub PeekLaw : {S F R : Type 0} → (S → List ℕ → Kept F) → (R → Option (List ℕ))
     → (S → List ℕ → Result R Error → S → Type 0) → Type 0
 PeekLaw {S} {F} {R} kept left opens =

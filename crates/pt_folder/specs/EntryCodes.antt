@@ -31,6 +31,7 @@ entry_code = coded_option (code_by Parts (coded⊎ (coded_list coded_ℕ) (coded
 pub entry_once : (a b : Option Entry) (p q : a ≡ b) → p ≡ q
 entry_once = Coded-set entry_code
 
+-- a tree is one in one way
 pub tree_once : (t : Tree) (a b : IsTree t) → a ≡ b
 tree_once t a b = λ i. record {
   top = entry_once (t []) (Some Folder) a.top b.top i;

@@ -26,6 +26,7 @@ pub record Stands {F : Type 0} (bytes left : F → Option (List ℕ)) (r : Readi
   pub at_place : r.lost ≡ false → ForSome (bytes r.file) (λ xs. left r.file ≡ Some (drop r.place xs))
   pub at_end : r.ended ≡ true → ForSome (bytes r.file) (λ xs. drop r.place xs ≡ [])
 
+-- where a file is open, it stands where its place is counted
 abbrev pub StandsOpen : {F : Type 0} → (F → Option (List ℕ)) → (F → Option (List ℕ))
     → Option (Reading F) → Type 0
 StandsOpen bytes left reading = ForSome reading (Stands bytes left)

@@ -48,6 +48,7 @@ LookLaw {S} forest looks =
     → ForSome (forest old folder) (λ f. IsSome (dir_at f (parent p)))
     → looks old (entry_text folder p) reply new → Looked (forest old folder) (forest new folder) p reply
 
+-- where a file stands, opening it changes nothing; it stands at its start, with the tree's bytes
 abbrev pub OpenLaw : {S F : Type 0} → (S → List ℕ → Option Forest) → (F → Option (List ℕ))
     → (F → Option (List ℕ)) → (S → List ℕ → Result F Error → S → Type 0) → Type 0
 OpenLaw {S} {F} forest bytes left opens =
@@ -56,6 +57,7 @@ OpenLaw {S} {F} forest bytes left opens =
     → opens old (entry_text folder p) reply new
     → Opened bytes left (forest old folder) (forest new folder) p reply
 
+-- where a directory stands, opening it changes nothing, and it gives the name of each entry once
 abbrev pub NamesLaw : {S D : Type 0} → (S → List ℕ → Option Forest) → (D → Option (List ℕ))
     → (S → List ℕ → Result D Error → S → Type 0) → Type 0
 NamesLaw {S} {D} forest left opens =

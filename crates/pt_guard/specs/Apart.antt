@@ -53,7 +53,7 @@ abbrev pub IsUnresolved : {S : Type 0} → (S → List ℕ → Result Folder Err
 IsUnresolved identifies path error old new lie = (wanting : Bool) × (IsTrue wanting ↔ IsWanting error)
     × MatchBool wanting (Ends Wanting old new lie) (Stands identifies path old new lie)
 
--- both paths were resolved, and the first is the second or goes on from it, name by name, or its folder or one above it is the second's
+-- both paths were resolved, and the first is the second or goes on from it, name by name, or its folder or one above it, asked for one after another, is the second's; or that can't be known
 abbrev pub LiesIn : {S : Type 0} → (S → List ℕ → Result Place Error → S → Type 0)
     → (S → List ℕ → Result Folder Error → S → Type 0) → List ℕ → List ℕ → S → S → Lie → Type 0
 LiesIn {S} resolves identifies inner outer old new lie = (a : Result Place Error) × (mid : S)

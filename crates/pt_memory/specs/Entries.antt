@@ -14,6 +14,7 @@ use Rattle.pt_tree.specs.declared.kind.Kind.{Kind}
 use Rattle.pt_tree.specs.declared.kind.Kind.TheVariants as kind
 use Rattle.pt_tree.specs.Path.{Path}
 
+-- the tree that these entries make
 abbrev pub forest_of : Entries → Forest
 forest_of End = none
 forest_of (File' name held p after) = file name held.bytes.items (forest_of after)
@@ -29,6 +30,7 @@ open_of (Other' name p after) = open_of after
 open_of (Dir' name p inside q after) =
     option_or (option_map (λ o. (name ∷ o.0, o.1)) (open_of inside)) (open_of after)
 
+-- what was found, as the tree has it
 abbrev pub node_of : Found → Node
 node_of (found.File bytes) = node.File bytes.now
 node_of (found.Dir entries) = node.Dir (forest_of entries.now)
@@ -41,6 +43,7 @@ first_item (file name bytes after) = Some (name, kind.File, after)
 first_item (other name after) = Some (name, kind.Other, after)
 first_item (dir name inside after) = Some (name, kind.Dir, after)
 
+-- the first entry with the tree behind it, which were lent
 abbrev pub head_of : Bor (List ℕ) × Kind × Bor Entries → List ℕ × Kind × Forest
 head_of x = (x.0.now, x.1, forest_of x.2.now)
 
@@ -60,6 +63,7 @@ abbrev pub edited : Edit → List ℕ → List ℕ
 edited (Append piece) bytes = bytes ++ piece.now
 edited (Replace new) bytes = new.items
 
+-- an edit that puts other bytes in place of those of a file
 abbrev pub is_replace : Edit → Bool
 is_replace (Append piece) = false
 is_replace (Replace new) = true

@@ -20,6 +20,7 @@ pub record LooseState : Type 0 where
   pub source : SourceState
   pub swap : Option Swapping
 
+-- what a source that changes holds: a source, and the swap that is still to come
 abbrev pub loose_state : LooseSource → LooseState
 loose_state l = record {
   source = source_state l.source;
@@ -52,10 +53,12 @@ after_swap calls p bytes s =
     cond (calls == 0) (record { source = swapped p bytes s.source; swap = None })
     (record { source = s.source; swap = Some (record { left = calls; path = p; bytes = bytes }) })
 
+-- the number of a refusal
 abbrev pub swap_number : SwapFault → ℕ
 swap_number swap.Absent = 1
 swap_number swap.Memory = 2
 
+-- how often it was called
 abbrev pub loose_called : LooseSource → ℕ → Type 0
 loose_called l n = source_called l.source n
 

@@ -18,9 +18,11 @@ pub record DestState : Type 0 where
   pub told : Writing
   pub fuse : Fuse
 
+-- the tree that it holds
 abbrev pub dest_tree : MemDest → Tree
 dest_tree d = tree_of (forest_of d.entries)
 
+-- what it holds: its tree, which file is open, and its fuse
 abbrev pub dest_state : MemDest → DestState
 dest_state d = record { told = record { tree = dest_tree d; writing = d.writing }; fuse = d.fuse }
 
@@ -28,6 +30,7 @@ dest_state d = record { told = record { tree = dest_tree d; writing = d.writing 
 abbrev pub dest_told : MemDest → Option Writing
 dest_told d = Some (dest_state d).told
 
+-- what a new one holds: nothing
 abbrev pub new_dest : DestState
 new_dest = record
     { told = record { tree = tree_of none; writing = None }; fuse = record { left = None; failures = 0 } }
@@ -88,5 +91,6 @@ with_tree t s = record { told = record { tree = t; writing = s.told.writing }; f
 abbrev pub dest_fused : Option ℕ → DestState → DestState
 dest_fused left s = record { told = s.told; fuse = with_fuse left s.fuse }
 
+-- the number of a refusal
 abbrev pub take_number : TakeFault → ℕ
 take_number take.Absent = 1

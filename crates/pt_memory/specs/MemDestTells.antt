@@ -8,6 +8,7 @@ use Rattle.pt_memory.specs.MemDest.{dest_told, dest_state}
 use Rattle.pt_tree.specs.Tree.{IsTree}
 use Rattle.pt_tree.specs.TreeLaws.{IsTree-tree_of}
 
+-- what is told is a tree
 pub tree_told : (dest : MemDest) (state : Writing) → dest_told dest ≡ Some state → IsTree state.tree
 tree_told dest state is =
     let same : (dest_state dest).told ≡ state = cc in

@@ -12,6 +12,7 @@ pub record LogState : Type 0 where
   pub left : Option ℕ
   pub failures : ℕ
 
+-- what it holds: its bytes, how many more it takes, and its failures
 abbrev pub log_state : MemLog → LogState
 log_state l = record { bytes = l.bytes.items; left = l.left; failures = l.failures }
 

@@ -21,13 +21,16 @@ pub record SourceState : Type 0 where
   pub fuse : Fuse
   pub calls : ℕ
 
+-- what it holds: its tree, which file is open, its fuse, and its calls
 abbrev pub source_state : MemSource → SourceState
 source_state s =
     record { tree = forest_of s.entries; reading = open_of s.entries; fuse = s.fuse; calls = s.calls }
 
+-- the tree that it holds
 abbrev pub source_tree : MemSource → Forest
 source_tree s = forest_of s.entries
 
+-- what a new one holds: nothing
 abbrev pub new_state : SourceState
 new_state = record { tree = none; reading = None; fuse = record { left = None; failures = 0 }; calls = 0 }
 

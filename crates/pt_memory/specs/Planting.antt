@@ -7,6 +7,7 @@ use Rattle.pt_tree.specs.Name.{is_name}
 use Rattle.pt_tree.specs.Path.{Path, parent}
 use Rattle.pt_tree.specs.Tree.{Tree, Entry, Bytes, Folder, Special}
 
+-- a folder stands there
 abbrev pub is_folder : Option Entry → Bool
 is_folder None = false
 is_folder (Some Folder) = true
@@ -38,6 +39,7 @@ pub record IsLeafOf (n : List ℕ) (leaf : Forest) : Type 0 where
   pub alone : leaf ≡ leaf_of n (leaf_entry leaf)
   pub name : is_name n ≡ true
 
+-- the number of a refusal
 abbrev pub plant_number : PlantFault → ℕ
 plant_number fault.NoParent = 1
 plant_number fault.Taken = 2

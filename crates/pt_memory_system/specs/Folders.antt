@@ -36,6 +36,7 @@ told_changed {X} path after folder x y change same made =
     by true at = ap Some (made (same_name path folder at))
     by false at = refl
 
+-- the same is told where the path and what stands there are the same
 pub told_same : {X : Type 0} (path after folder : List ℕ) (x y : X) → after ≡ path → y ≡ x
     → told_at after y folder ≡ told_at path x folder
 told_same path after folder x y same is =

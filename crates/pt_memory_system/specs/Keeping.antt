@@ -20,6 +20,7 @@ use Rattle.pt_memory_system.specs.System.{IsAdded, Looks, MakesDir, MakesFile, M
 use Rattle.pt_memory_system.specs.declared.file.MemFile.{MemFile}
 use Rattle.pt_memory_system.specs.declared.system.MemorySystem.{MemorySystem}
 
+-- a look into the folder that is read
 pub looks_in_source : source.LookLaw forest_in Looks
 looks_in_source old new folder p reply named above by = record {
   same = ap (λ (s : MemorySystem). forest_in s folder) by.same;
@@ -29,6 +30,7 @@ looks_in_source old new folder p reply named above by = record {
       (by.source p named (ap (λ (l : List ℕ). entry_text l p) (sym told.0)));
 }
 
+-- a look into the folder that is written
 pub looks_in_dest : dest.KindLaw kept_in Looks
 looks_in_dest old new folder p reply named by = record {
   same = ap (λ (s : MemorySystem). kept_in s folder) by.same;
@@ -44,6 +46,7 @@ at_start : (reply : Result MemFile Error) → IfOk reply (λ f. f.place ≡ 0)
 at_start (Ok f) is = ap (λ n. Some (drop n f.bytes.items)) is
 at_start (Err e) is = tt
 
+-- an opening of a file of the folder that is read
 pub opens_in_source : source.OpenLaw forest_in bytes_in left_in Opens
 opens_in_source old new folder p reply named can by = record {
   same = ap (λ (s : MemorySystem). forest_in s folder) by.same;
@@ -59,6 +62,7 @@ both : (reply : Result MemFile Error) (o : Option (List ℕ)) → IfOk reply (λ
 both (Ok f) o start is = start ∙ is
 both (Err e) o start is = tt
 
+-- an opening of a file of the folder that is written
 pub opens_in_dest : dest.PeekLaw kept_in left_in Opens
 opens_in_dest old new folder p reply named by = record {
   same = ap (λ (s : MemorySystem). kept_in s folder) by.same;
@@ -69,6 +73,7 @@ opens_in_dest old new folder p reply named by = record {
       (by.dest p named (ap (λ (l : List ℕ). entry_text l p) (sym told.0))));
 }
 
+-- any opening changes nothing
 pub opens_and_stays : dest.StillLaw kept_in Opens
 opens_and_stays old new folder text reply by = ap (λ (s : MemorySystem). kept_in s folder) by.same
 
@@ -89,12 +94,14 @@ keeps old new folder stays same =
     (told_same old.written.now new.written.now folder (dest_tree old.dest) (dest_tree new.dest)
     stays.written same)
 
+-- a directory is made
 pub makes_dirs : dest.DirLaw kept_in MakesDir
 makes_dirs old new folder p (Ok x) named can by =
     ap kept_of (becomes old new folder (λ t. put t p Folder) by.stays
     (λ at. by.made p named (ap (λ (l : List ℕ). entry_text l p) (sym at))))
 makes_dirs old new folder p (Err e) named can by = keeps old new folder by.stays by.made
 
+-- a file is made
 pub makes_files : dest.FileLaw kept_in MakesFile
 makes_files old new folder p (Ok f) named can by = (
   becomes old new folder (λ t. put t p (Bytes [])) by.stays (λ at. (made at).0),
@@ -106,6 +113,7 @@ makes_files old new folder p (Ok f) named can by = (
     made at = by.made p named (ap (λ (l : List ℕ). entry_text l p) (sym at))
 makes_files old new folder p (Err e) named can by = keeps old new folder by.stays by.made
 
+-- something is moved
 pub moves : dest.MoveLaw kept_in Moves
 moves old new folder from to (Ok x) named_from named_to can by = (
   becomes old new folder (λ t. moved t from to) by.stays
@@ -115,6 +123,7 @@ moves old new folder from to (Ok x) named_from named_to can by = (
 )
 moves old new folder from to (Err e) named_from named_to can by = keeps old new folder by.stays by.made
 
+-- something is written
 pub writes : dest.WriteLaw kept_in Writes
 writes old new folder q file after piece reply at by =
     let placed = λ (o : old.written.now ≡ folder). at (dest_tree old.dest) (told_here o) in
@@ -151,16 +160,19 @@ writes old new folder q file after piece reply at by =
             (some.0, part some.0 (λ o. some.1))
         failed false other = (0, part 0 (λ o. absurd (differs other o)))
 
+-- the folder that is written has a tree
 pub trees : dest.TreeLaw kept_in
 trees s folder t is =
     subst IsTree (told_is s.written.now (dest_tree s.dest) folder t is).1
     (IsTree-tree_of (forest_of s.dest.entries))
 
+-- the folder that is read has a proper tree
 pub propers : source.ProperLaw forest_in
 propers s folder f is =
     subst (λ (g : Forest). is_proper g ≡ true) (told_is s.read.now (source_tree s.source) folder f is).1
     s.source.proper
 
+-- a directory is opened, and gives its names
 pub opens_dirs : source.NamesLaw forest_in names_left OpensDir
 opens_dirs old new folder p reply named can by = record {
   same = ap (λ (s : MemorySystem). forest_in s folder) by.same;

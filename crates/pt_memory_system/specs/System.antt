@@ -39,6 +39,7 @@ kept_in s folder = kept_of (told_at s.written.now (dest_tree s.dest) folder)
 abbrev pub bytes_in : MemFile → Option (List ℕ)
 bytes_in f = Some f.bytes.items
 
+-- what is left of an open file behind its place
 abbrev pub left_in : MemFile → Option (List ℕ)
 left_in f = Some (drop f.place f.bytes.items)
 

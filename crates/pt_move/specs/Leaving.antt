@@ -36,10 +36,12 @@ abbrev pub EndsBy : Phase → Option (List ℕ) → Option (List ℕ) → Report
 EndsBy phase.Ended before after old new = TellsEnd before after old new
 EndsBy _ before after old new = ⊤
 
+-- where the run ended, what the log got is its end line
 abbrev pub EndsTold : Answer → Option (List ℕ) → Option (List ℕ) → Report → Report → Type 0
 EndsTold (Ok next) before after old new = EndsBy next before after old new
 EndsTold (Err why) before after old new = ⊤
 
+-- which device is blamed, what the log got, and what changed of what is held
 pub record TurnLeaves (s s' : State) (before after : Option (List ℕ)) (old new : Failures)
     (answer : Answer) : Type 0 where
   pub failures : BlamesBy answer old new

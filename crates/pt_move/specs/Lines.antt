@@ -41,7 +41,7 @@ unfoldable pub TellsFront : Option (List ℕ) → Option (List ℕ) → Report �
 TellsFront before after old new = ((after ≡ before) ⊎ ((line : Line) × GotFront line before after))
     × SameLines old new
 
--- what the log got, by the answer
+-- what the log got in one turn, by the answer: nothing, or one line that is counted; after a fault nothing, or a front of one line
 abbrev pub Tells : {T : Type 0} → Option (List ℕ) → Option (List ℕ) → Report → Report
     → Result T Fault → Type 0
 Tells before after old new (Ok x) = TellsLine before after old new

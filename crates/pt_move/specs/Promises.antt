@@ -36,6 +36,7 @@ UnlessEnded (Err f) P = P
 
 -- ---- a step
 
+-- what holds after a step, whatever it answers
 pub record StepPromises (start : Start) (old new : World) (before after : Running)
     (answer : Result Turn Fault) : Type 0 where
   -- the run is in progress still, or has ended, and began at that start
@@ -96,10 +97,12 @@ pub record HaltPromises (start : Start) (old new : World) (s : State) (f : Fault
   pub says : SaysRightly s.job (source_tree old.source) start.dest f
   pub good : WantsMemory s.job (source_tree old.source) start.dest old.failures new.failures f
 
+-- what holds besides, by the answer: where the run ended, or where it was halted
 abbrev pub AnswerSays : World → Start → World → State → State → Answer → Type 0
 AnswerSays old start new s s' (Ok next) = next ≡ phase.Ended → EndPromises start old new s s'
 AnswerSays old start new s s' (Err why) = HaltPromises start old new s why
 
+-- what holds after a turn
 pub record TurnPromises (start : Start) (old new : World) (s s' : State) (answer : Answer) : Type 0 where
   pub begun : IsBegun start new (record { phase = phase_after answer; state = s' })
   pub leaves : LeavesBehind s.job start.dest new.dest
@@ -109,5 +112,6 @@ pub record TurnPromises (start : Start) (old new : World) (s s' : State) (answer
   pub left : FaultLeaves s.job (source_tree old.source) start new.dest new.log
   pub says : AnswerSays old start new s s' answer
 
+-- the run keeps its promises in this turn
 unfoldable pub TurnKeeps : Start → World → World → State → State → Answer → Type 0
 TurnKeeps start old new s s' answer = TurnPromises start old new s s' answer

@@ -78,6 +78,7 @@ pub record InProgress (start : Start) (world : World) (r : Running) : Type 0 whe
 abbrev pub as_told : World → World
 as_told world = record world { failures = record { source = 0; dest = 0; log = 0 } }
 
+-- this run is in progress, or has ended, and began at this start
 unfoldable pub IsBegun : Start → World → Running → Type 0
 IsBegun start world r = InProgress start (as_told world) r
 

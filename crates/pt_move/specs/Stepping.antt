@@ -77,6 +77,7 @@ MakesTurn old new before after (Err f) =
 
 -- ---- what it leaves
 
+-- each device is blamed only where it failed
 pub record Blamed {T : Type 0} (old new : World) (result : Result T Fault) : Type 0 where
   pub source : Counts 1 old.failures.source new.failures.source result
   pub dest : Counts 2 old.failures.dest new.failures.dest result
@@ -86,6 +87,7 @@ pub record Blamed {T : Type 0} (old new : World) (result : Result T Fault) : Typ
 unfoldable pub BlamesRightly : {T : Type 0} → World → World → Result T Fault → Type 0
 BlamesRightly old new result = Blamed old new result
 
+-- what a step leaves, over any devices
 pub record Left (old new : World) (before after : Running) (result : Result Turn Fault) : Type 0 where
   -- the source's tree stays, and so does the job
   pub tree : source_tree new.source ≡ source_tree old.source

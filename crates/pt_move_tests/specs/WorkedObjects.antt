@@ -12,6 +12,7 @@ use Rattle.pt_object.specs.Script.{Item, MakeFile, MakeFolder, item_path}
 use Rattle.pt_object.specs.Scripts.{script_of, script_of_rows}
 use Rattle.pt_object.specs.declared.algorithm.Algorithm.TheVariants.{Sha256, Sha512}
 
+-- the description of the worked versions
 abbrev pub worked_meta : MetaParts
 worked_meta = record
     { created = codes "2024-05-01T12:00:00Z"; name = codes "Ada"; address = None; message = codes "Migrated from Pairtree" }
@@ -20,10 +21,12 @@ worked_meta = record
 abbrev pub one_file : List File
 one_file = (codes "a.txt" ∷ [], codes "abc") ∷ []
 
+-- the inventory of the object of one file
 abbrev pub one_file_inventory : List ℕ
 one_file_inventory =
     codes "{\"digestAlgorithm\":\"sha512\",\"head\":\"v1\",\"id\":\"abc\",\"manifest\":{\"ddaf35a193617abacc417349ae20413112e6fa4e89a97ea20a9eeee64b55d39a2192992a274fc1a836ba3c23a3feebbd454d4423643ce80e2a9ac94fa54ca49f\":[\"v1/content/a.txt\"]},\"type\":\"https://ocfl.io/1.1/spec/#inventory\",\"versions\":{\"v1\":{\"created\":\"2024-05-01T12:00:00Z\",\"message\":\"Migrated from Pairtree\",\"state\":{\"ddaf35a193617abacc417349ae20413112e6fa4e89a97ea20a9eeee64b55d39a2192992a274fc1a836ba3c23a3feebbd454d4423643ce80e2a9ac94fa54ca49f\":[\"a.txt\"]},\"user\":{\"name\":\"Ada\"}}}}"
 
+-- its sidecar
 abbrev pub one_file_sidecar : List ℕ
 one_file_sidecar = codes "1eb21c66539478d2c419e0d996719da1e26c4c3d1ae2836137bbb99f412ba2fa2877b301344d7d7303197c96be4dbc6520706609ea235ea04f41f4f087a2d28c inventory.json\n"
 
@@ -137,5 +140,6 @@ StandsAsRoot root =
     (codes "{\"digestAlgorithm\":\"sha256\",\"extensionName\":\"0003-hash-and-id-n-tuple-storage-layout\",\"numberOfTuples\":3,\"tupleSize\":3}")))
     × (root (codes "staging" ∷ []) ≡ None)
 
+-- a root of three tuples of three digits stands
 abbrev pub RootStands : Type 0
 RootStands = StandsAsRoot (root_of (record { size = 3; count = 3 }))

@@ -75,6 +75,7 @@ frame_of_file name = record { listing = (name, kind.File) ∷ []; place = 0 }
 abbrev pub at_site : Held
 at_site = with_trail nothing_held (frame_of (codes "obj") ∷ frame_of (codes "c") ∷ frame_of (codes "ab") ∷ [])
 
+-- the trail stands at the object's file
 abbrev pub at_file : Held
 at_file = with_trail nothing_held
     (frame_of_file (codes "a.txt") ∷ frame_of (codes "obj") ∷ frame_of (codes "c")

@@ -13,6 +13,7 @@ layout_of size count =
     else if nat_lt 64 (size * count) then Err fault.TooLong
     else Ok (record { size = size; count = count })
 
+-- the number of a refusal
 abbrev pub layout_number : LayoutFault → ℕ
 layout_number fault.OutOfRange = 1
 layout_number fault.OneZero = 2

@@ -30,7 +30,7 @@ abbrev pub shortened : List ℕ → List ℕ → List ℕ
 shortened encoding digits =
     if nat_le (length encoding) 100 then encoding else take 100 encoding ++ 45 ∷ digits
 
--- the last name of an identifier's place
+-- the last name of an identifier's place: the encoded identifier, shortened where it must be
 abbrev pub last_name_of : List ℕ → List ℕ
 last_name_of id = shortened (encoded_of id) (digest_text id)
 
@@ -39,7 +39,7 @@ abbrev pub tuples_from : ℕ → ℕ → List ℕ → Path
 tuples_from size zero digits = []
 tuples_from size (suc count) digits = take size digits ∷ tuples_from size count (drop size digits)
 
--- the names of the place of an identifier: its tuples, then its last name
+-- the names of the place of an identifier: its tuples, cut from the front of its SHA-256 (the `sha2` crate's definition of FIPS 180-4), then its last name
 abbrev pub place_of : Tuples → List ℕ → Path
 place_of tuples id = tuples_from tuples.size tuples.count (digest_text id) ++ last_name_of id ∷ []
 

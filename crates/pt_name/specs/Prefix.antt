@@ -25,6 +25,7 @@ prefix_refusal bytes =
     else if is_utf8 (without_line_ends bytes) then None
     else Some fault.NotUtf8
 
+-- the number of a refusal
 abbrev pub prefix_number : PrefixFault → ℕ
 prefix_number fault.TooLong = 1
 prefix_number fault.NotUtf8 = 2

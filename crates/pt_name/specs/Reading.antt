@@ -73,6 +73,7 @@ GivesReading reading (Err fault.Malformed) = reading ≡ None
 GivesReading reading (Err fault.NotUtf8) = (bytes : List ℕ) × (reading ≡ Some bytes) × ¬ (IsUtf8 bytes)
 GivesReading reading (Err fault.Memory) = ⊤
 
+-- the number of a refusal
 abbrev pub unclean_number : UncleanFault → ℕ
 unclean_number fault.Malformed = 1
 unclean_number fault.NotUtf8 = 2

@@ -24,6 +24,7 @@ share_of index count =
     else if nat_lt count index then Err fault.OutOfRange
     else Ok (record { index = index; count = count })
 
+-- the number of a refusal
 abbrev pub share_number_of_fault : ShareFault → ℕ
 share_number_of_fault fault.Zero = 1
 share_number_of_fault fault.TooMany = 2
@@ -37,7 +38,7 @@ whole = record { index = 1; count = 1 }
 unfoldable pub digest_number : List ℕ → ℕ
 digest_number id = from_be_bytes w32 (sha256 id)
 
--- the number, from 1 on, of the share that an identifier is of: the digests are cut into so many parts of one size
+-- the number, from 1 on, of the share that an identifier is of: `h * count / 2^32 + 1`, rounded down, where h is the first four bytes of its SHA-256 as a number; so the digests are cut into so many parts of one size
 abbrev pub share_number : ℕ → List ℕ → ℕ
 share_number count id = digest_number id * count / 2 ^ 32 + 1
 

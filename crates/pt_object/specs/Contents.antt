@@ -18,6 +18,7 @@ is_noted items digest = list_any (has_digest digest) items
 abbrev pub first_path : List Content → List ℕ → Option Path
 first_path items digest = option_map (λ c. c.path) (find (has_digest digest) items)
 
+-- the content of this digest, first at this path
 abbrev pub content_of : List ℕ → Path → Content
 content_of digest path = record { digest = digest; path = path }
 

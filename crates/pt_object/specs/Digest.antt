@@ -10,6 +10,7 @@ use Rattle.pt_object.specs.declared.digest.Bytes.TheVariants.{Short, Long}
 abbrev pub digest_cmp : List ℕ → List ℕ → Ordering
 digest_cmp = slice_cmp nat_cmp
 
+-- the bytes, of either number
 abbrev pub bytes_of : Bytes → List ℕ
 bytes_of (Short bytes) = bytes
 bytes_of (Long bytes) = bytes
@@ -23,6 +24,7 @@ size_of (Long bytes) = 64
 abbrev pub with_bytes : List ℕ → Bytes
 with_bytes bytes = cond (length bytes == 32) (Short bytes) (Long bytes)
 
+-- a digest is that of its bytes
 pub with_bytes-bytes_of : (b : Bytes) → length (bytes_of b) ≡ size_of b → with_bytes (bytes_of b) ≡ b
 with_bytes-bytes_of (Short bytes) h = rw h refl
 with_bytes-bytes_of (Long bytes) h = rw h refl

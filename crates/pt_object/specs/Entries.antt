@@ -29,6 +29,7 @@ at_positions items positions = map (λ p. get_or items p no_content) positions
 abbrev pub stored : Content → Data
 stored content = array (texts (content_path content.path ∷ []))
 
+-- what the state has of a content's digest: the paths of all its files
 abbrev pub grouped : List Row → Content → Data
 grouped rows content = array (texts (map joined (paths_with rows content.digest)))
 

@@ -11,9 +11,11 @@ use Rattle.pt_object.specs.declared.rows.Row.{Row}
 abbrev pub File : Type 0
 File = Path × List ℕ
 
+-- the paths of these files
 abbrev pub paths_of : List File → List Path
 paths_of files = map (λ file. file.0) files
 
+-- the paths of these rows
 abbrev pub row_paths : List Row → List Path
 row_paths rows = map (λ row. row.path) rows
 

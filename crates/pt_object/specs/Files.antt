@@ -4,9 +4,11 @@ use Rattle.hex.specs.Hex.{encode_lower}
 use Rattle.pt_object.specs.Algorithm.{digest_of}
 use Rattle.pt_object.specs.declared.algorithm.Algorithm.{Algorithm}
 
+-- an object's declaration (OCFL 1.1, "Object Conformance Declaration")
 abbrev pub object_declaration_bytes : List ℕ
 object_declaration_bytes = codes "ocfl_object_1.1\n"
 
+-- a storage root's declaration (OCFL 1.1, "Root Conformance Declaration")
 abbrev pub root_declaration_bytes : List ℕ
 root_declaration_bytes = codes "ocfl_1.1\n"
 

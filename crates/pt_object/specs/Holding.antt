@@ -24,6 +24,7 @@ file_or_folder None false = None
 abbrev pub holding : List File → Tree
 holding files = λ p. file_or_folder (held_at files p) (leads_to files p)
 
+-- what stands within the tree that is put there, or else what stands already
 abbrev pub placed_at : Tree → Option Path → Option Entry → Option Entry
 placed_at inside (Some rest) here = inside rest
 placed_at inside None here = here

@@ -85,18 +85,22 @@ bracket false = begin_array
 
 -- ---- steps
 
+-- it makes what stands before the manifest
 abbrev pub is_head : Step → Bool
 is_head step.Head = true
 is_head _ = false
 
+-- it makes entries of the manifest
 abbrev pub is_in_manifest : Step → Bool
 is_in_manifest (step.Manifest place) = true
 is_in_manifest _ = false
 
+-- it makes entries of the state
 abbrev pub is_in_state : Step → Bool
 is_in_state (step.State place) = true
 is_in_state _ = false
 
+-- something is still to be made
 abbrev pub is_before_end : Step → Bool
 is_before_end step.End = false
 is_before_end _ = true

@@ -50,6 +50,7 @@ user_tree (Some address) name =
     object (member (codes "address") (string address)
     (member (codes "name") (string name) no_members))
 
+-- the one version: moment, message, state and user (OCFL 1.1, "Version Block")
 abbrev pub version_tree : MetaParts → Data → Data
 version_tree meta state = object
     (member (codes "created") (string meta.created)
@@ -57,6 +58,7 @@ version_tree meta state = object
     (member (codes "state") state
     (member (codes "user") (user_tree meta.address meta.name) no_members))))
 
+-- the inventory of an identifier, a manifest and a version (OCFL 1.1, "Inventory")
 abbrev pub document_tree : List ℕ → Data → Data → Algorithm → Data
 document_tree id manifest version algorithm = object
     (member (codes "digestAlgorithm") (string (algorithm_word algorithm))

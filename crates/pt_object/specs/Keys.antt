@@ -8,9 +8,11 @@ abbrev pub number_of : List ℕ → ℕ
 number_of [] = 0
 number_of (b ∷ bytes) = b * 256 ^ length bytes + number_of bytes
 
+-- the number that the first eight bytes of a digest are, the first the highest
 abbrev pub key_of : List ℕ → ℕ
 key_of digest = number_of (take 8 digest)
 
+-- the keys of these contents
 abbrev pub keys_of : List Content → List ℕ
 keys_of items = map (λ c. key_of c.digest) items
 

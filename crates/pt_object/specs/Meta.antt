@@ -17,10 +17,12 @@ given_address None = None
 given_address (Some []) = None
 given_address (Some (x ∷ xs)) = Some (x ∷ xs)
 
+-- the description of these parts
 abbrev pub parts_of : List ℕ → List ℕ → Option (List ℕ) → List ℕ → MetaParts
 parts_of created name address message =
     record { created = created; name = name; address = address; message = message }
 
+-- the number of a refusal
 abbrev pub meta_number : MetaFault → ℕ
 meta_number fault.Created = 1
 meta_number fault.EmptyName = 2

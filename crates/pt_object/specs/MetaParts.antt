@@ -2,6 +2,7 @@
 use Rattle.std.specs.Prelude.{ℕ, IfSome, List, Option}
 use Rattle.std.specs.Str.{IsUtf8}
 
+-- the moment, the name and address of the user, and the message
 pub record MetaParts : Type 0 where
   pub created : List ℕ
   pub name : List ℕ

@@ -10,6 +10,7 @@ two_digits (tens ∷ ones ∷ []) =
     cond (is_ascii_digit tens && is_ascii_digit ones) (Some ((tens - 48) * 10 + (ones - 48))) None
 two_digits _ = None
 
+-- it is a number below the limit
 abbrev pub is_some_below : ℕ → Option ℕ → Bool
 is_some_below limit None = false
 is_some_below limit (Some n) = nat_lt n limit
@@ -23,6 +24,7 @@ abbrev pub is_day : ℕ → ℕ → ℕ → Bool
 is_day year month day =
     nat_le 1 month && nat_le month 12 && nat_le 1 day && nat_le day (days_in_month (pos year) month)
 
+-- these numbers are a day of the calendar
 abbrev pub is_day_written : Option ℕ → Option ℕ → Option ℕ → Option ℕ → Bool
 is_day_written (Some century) (Some year) (Some month) (Some day) = is_day (century * 100 + year) month day
 is_day_written _ _ _ _ = false

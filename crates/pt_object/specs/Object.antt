@@ -18,6 +18,7 @@ use Rattle.pt_object.specs.declared.rows.Row.{Row}
 abbrev pub row_of_file : Algorithm → File → Row
 row_of_file algorithm file = row_of file.0 (digest_of algorithm file.1) (length file.1)
 
+-- the rows of these files
 abbrev pub rows_of : Algorithm → List File → List Row
 rows_of algorithm files = map (row_of_file algorithm) files
 
@@ -29,12 +30,15 @@ bytes_in files path = unwrap_or (held_at files path) []
 abbrev pub stored_files : List Row → (Path → List ℕ) → List File
 stored_files rows held = map (λ row. (row.path, held row.path)) (distinct rows)
 
+-- an inventory's name
 abbrev pub inventory_name : List ℕ
 inventory_name = codes "inventory.json"
 
+-- the name of its sidecar (OCFL 1.1, "Inventory Digest")
 abbrev pub sidecar_name : Algorithm → List ℕ
 sidecar_name algorithm = codes "inventory.json." ++ algorithm_word algorithm
 
+-- the name of an object's declaration
 abbrev pub object_declaration_name : List ℕ
 object_declaration_name = codes "0=ocfl_object_1.1"
 
@@ -68,7 +72,7 @@ object_of_rows id rows held meta algorithm =
     holding (object_files algorithm (inventory_text id rows meta algorithm)
     (stored_files rows held))
 
--- the object with this identifier and these files
+-- the object with this identifier and these files: its declaration, each distinct file at `v1/content/` and its path, the inventory and its sidecar in `v1` and at the top, and the folders above them (OCFL 1.1, "Object Structure", "Content Directory")
 abbrev pub object_of : List ℕ → List File → MetaParts → Algorithm → Tree
 object_of id files meta algorithm =
     object_of_rows id (rows_of algorithm files) (bytes_in files) meta algorithm

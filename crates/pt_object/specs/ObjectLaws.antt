@@ -38,6 +38,7 @@ ScriptCanBeMade =
     → part_in_order (paths_of files) ≡ true → IsFresh start
     → CanBeMadeInTurn (script_of id files meta algorithm) start
 
+-- carried out to its end a script makes the object in `staging`, and changes nothing else
 abbrev pub ScriptMakesTheObject : Type 0
 ScriptMakesTheObject =
     (id : List ℕ) (files : List File) (meta : MetaParts) (algorithm : Algorithm) (start : Tree)

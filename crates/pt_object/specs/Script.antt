@@ -10,10 +10,12 @@ pub data Item : Type 0 where
   MakeFolder : (path : Path) → Item
   MakeFile : (path : Path) → (bytes : List ℕ) → Item
 
+-- where an item is made
 abbrev pub item_path : Item → Path
 item_path (MakeFolder path) = path
 item_path (MakeFile path bytes) = path
 
+-- what stands once an item is made
 abbrev pub item_entry : Item → Entry
 item_entry (MakeFolder path) = Folder
 item_entry (MakeFile path bytes) = Bytes bytes

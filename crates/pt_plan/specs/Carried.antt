@@ -30,7 +30,7 @@ abbrev pub is_taken_place : Job → Tree → List Item → Path → Bool
 is_taken_place job root earlier place =
     is_some (root place) || list_any (λ item. has_place job place item.verdict) earlier
 
--- the item is named, and its place is taken
+-- the item is named, and its place is taken: something stands there in the root, or an earlier item against whose object there is no cause has it
 abbrev pub is_taken : Job → Tree → List Item → Verdict → Bool
 is_taken job root earlier Interior = false
 is_taken job root earlier (Skip why) = false
@@ -72,7 +72,7 @@ carried_by job taken (Named id object) = cond taken [] (carried_by_outcome id (o
 abbrev pub carried : Job → List Marked → List Carried
 carried job = flat_map (λ m. carried_by job m.1 m.0.verdict)
 
--- of a source, those of the first k items
+-- of a source, the objects of the first k items against which there is no cause and whose place isn't taken
 abbrev pub carried_among : Job → Forest → Tree → ℕ → List Carried
 carried_among job source root k = carried job (take k (marked job source root))
 
@@ -137,7 +137,7 @@ is_way_free job root object =
     list_all (λ folder. is_folder_or_free (root folder))
     (folders_above (place_of_carried job object))
 
--- the root has the layout's three files with their bytes, and the way to the place of each object that is carried is free
+-- the root has the layout's three files with their bytes, and nothing but folders is on the way to the place of each object that is carried
 pub record IsUsable (job : Job) (source : Forest) (root : Tree) : Type 0 where
   pub files : All (λ file. root file.0 ≡ Some (Bytes file.1)) (root_files_of job.tuples)
   pub ways : list_all (is_way_free job root) (all_carried job source root) ≡ true

@@ -13,6 +13,7 @@ is_verdict_passed_over job taken Interior = false
 is_verdict_passed_over job taken (Skip why) = true
 is_verdict_passed_over job taken (Named id object) = not taken && is_some (cause_of job.limits object)
 
+-- the item has a line of what was passed over
 abbrev pub is_passed_over : Job → Marked → Bool
 is_passed_over job m = is_verdict_passed_over job m.1 m.0.verdict
 

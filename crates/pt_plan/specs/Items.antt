@@ -56,7 +56,7 @@ is_ours share Interior = true
 is_ours share (Skip why) = is_first share
 is_ours share (Named id object) = holds share id
 
--- what isn't of the share only leads on in it
+-- what isn't of the share only leads on in it, and has no line
 abbrev pub ours : {A : Type 0} → Portion → VerdictOn A → VerdictOn A
 ours share verdict = cond (is_ours share verdict) verdict Interior
 
@@ -147,6 +147,6 @@ abbrev pub item_of : Job → List ℕ → Site → Item
 item_of job prefix site =
     record { path = site.0; visit = site.1; verdict = verdict_of job prefix site.0 site.1 }
 
--- the directories on the way, in the order of the walk, each with its verdict
+-- the directories that shorties lead to, in the order of the walk, each with how it is met and its verdict
 abbrev pub items : Job → Forest → List Item
 items job source = map (item_of job (prefix_of source)) (sites_of job.limits.depth source)

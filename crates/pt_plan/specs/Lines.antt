@@ -46,7 +46,7 @@ line_by_verdict job path taken Interior = []
 line_by_verdict job path taken (Skip why) = Skipped path why ∷ []
 line_by_verdict job path taken (Named id object) = line_of_object job path id object taken ∷ []
 
--- the line of an item: none, if it only leads on
+-- the line of an item: none, if it only leads on; a taken place is told before any cause
 abbrev pub line_of : Job → Marked → List Line
 line_of job m = line_by_verdict job m.0.path m.1 m.0.verdict
 
@@ -128,7 +128,7 @@ line_text line = compact_text (line_tree line) ++ 10 ∷ []
 abbrev pub text : Job → Forest → Tree → ℕ → List ℕ
 text job source root k = flat_map line_text (lines job source root k)
 
--- the log of a whole run: the lines of all items, and the end line
+-- the log of a whole run: the lines of all items, and the end line, which counts them by kind
 abbrev pub log_of : Job → Forest → Tree → List ℕ
 log_of job source root =
     flat_map line_text (all_lines job source root)

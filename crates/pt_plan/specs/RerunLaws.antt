@@ -15,7 +15,7 @@ use Rattle.pt_plan.specs.Roots.{root_in, with_root}
 abbrev pub IsTarget : Job → Forest → Tree → Type 0
 IsTarget job source root = IsFree root [] ⊎ IsUsable job source root
 
--- a root that a run can end with where one over the first root can, and with the same root
+-- over the later root a run can end where one over the first can, and leaves what it leaves over the first
 pub record EndsAlike (job : Job) (source : Forest) (first later : Tree) : Type 0 where
   pub rooted : IsRooted later
   pub target : IsTarget job source later

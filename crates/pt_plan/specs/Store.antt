@@ -27,7 +27,7 @@ is_prefix (Some (File bytes)) = is_none (prefix_refusal bytes)
 is_prefix (Some (Dir inside)) = false
 is_prefix (Some Other) = false
 
--- the prefix of the store is good
+-- the prefix of the store is good: nothing stands at `pairtree_prefix`, or a file whose bytes are a prefix
 abbrev pub has_prefix : Forest → Bool
 has_prefix source = is_prefix (find source prefix_file)
 
@@ -38,7 +38,7 @@ prefix_in (Some (File bytes)) = cond (is_none (prefix_refusal bytes)) (without_l
 prefix_in (Some (Dir inside)) = []
 prefix_in (Some Other) = []
 
--- what each identifier of the store begins with
+-- what each identifier of the store begins with; empty where there is no prefix file
 abbrev pub prefix_of : Forest → List ℕ
 prefix_of source = prefix_in (find source prefix_file)
 

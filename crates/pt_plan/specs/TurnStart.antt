@@ -25,12 +25,14 @@ abbrev pub kind_in : List Entry → List ℕ → Option Kind
 kind_in [] name = None
 kind_in (entry ∷ entries) name = cond (bytes_eq entry.0 name) (Some entry.1) (kind_in entries name)
 
+-- a file stands there
 abbrev pub is_file_kind : Option Kind → Bool
 is_file_kind None = false
 is_file_kind (Some kind.File) = true
 is_file_kind (Some kind.Dir) = false
 is_file_kind (Some kind.Other) = false
 
+-- a directory stands there
 abbrev pub is_dir_kind : Option Kind → Bool
 is_dir_kind None = false
 is_dir_kind (Some kind.File) = false

@@ -48,6 +48,7 @@ has_object None = finding.Gathered
 abbrev pub unless_reserved : Job → List ℕ → Result (List ℕ) Cause
 unless_reserved job id = cond (is_reserved job id) (Err cause.Reserved) (Ok id)
 
+-- by what the names read: the identifier, or the cause against it
 abbrev pub identifier_by : Job → List ℕ → Option (List ℕ) → Result (List ℕ) Cause
 identifier_by job prefix None = Err cause.Name
 identifier_by job prefix (Some read) =

@@ -55,15 +55,19 @@ pub record Calls : Type 0 where
   pub change : Change
   pub line : Option Line
 
+-- no call is made
 abbrev pub no_calls : Calls
 no_calls = record { asked = AsksNothing; change = ChangesNothing; line = None }
 
+-- the source alone is asked
 abbrev pub asks : Asked → Calls
 asks asked = record { asked = asked; change = ChangesNothing; line = None }
 
+-- the destination alone is changed
 abbrev pub does : Change → Calls
 does change = record { asked = AsksNothing; change = change; line = None }
 
+-- a line alone is told
 abbrev pub tells : Line → Calls
 tells line = record { asked = AsksNothing; change = ChangesNothing; line = Some line }
 

@@ -22,9 +22,11 @@ pub record View : Type 0 where
   pub filled : Option Within
   pub least : ℕ
 
+-- the directory that is filled, as seen: its name, and which names were made in it
 abbrev pub inner_of : Inner → Within
 inner_of inner = record { name = inner.name; made = has inner.names }
 
+-- what is remembered, as seen
 abbrev pub view : Remembered → View
 view r = record {
   folder = has r.folders;
@@ -60,22 +62,27 @@ is_met (Some w) [] = false
 is_met (Some w) (n ∷ []) = false
 is_met (Some w) (n ∷ m ∷ rest) = cond (bytes_eq n w.name) (w.made m) false
 
+-- it is remembered as a directory that was made
 abbrev pub is_folder : View → Path → Bool
 is_folder v p = v.folder (joined p) || is_itself v.filling p
 
+-- what stands there now would be another than in the folder, and it is not known what
 abbrev pub is_hidden : View → Path → Bool
 is_hidden v p = is_inside v.filling p || (is_met v.filled p || nat_lt v.least (length p))
 
+-- a directory, something hidden, or what stands in the folder
 abbrev pub seen_by : Bool → Bool → Seen
 seen_by true hidden = seen.Folder
 seen_by false true = seen.Hidden
 seen_by false false = seen.Standing
 
+-- what is said of a path by what is remembered
 abbrev pub seen_at : View → Path → Seen
 seen_at v p = seen_by (is_folder v p) (is_hidden v p)
 
 -- ---- what is remembered after a call, where it can be
 
+-- with this directory
 abbrev pub with_folder : Path → View → View
 with_folder p v = record v { folder = with_text (joined p) v.folder }
 
@@ -86,6 +93,7 @@ met_in (n ∷ []) w = w
 met_in (n ∷ m ∷ []) w = cond (bytes_eq n w.name) (record w { made = with_text m w.made }) w
 met_in (n ∷ m ∷ k ∷ rest) w = w
 
+-- with this name in the directory that is filled
 abbrev pub with_met : Path → View → View
 with_met p v = record v { filling = option_map (met_in p) v.filling }
 
@@ -94,6 +102,7 @@ abbrev pub begun_at : List ℕ → Option Within → View → Option View
 begun_at n None v = Some (record v { filling = Some (record { name = n; made = λ _. false }) })
 begun_at n (Some w) v = None
 
+-- what is remembered once a directory is made where the folder is as it was
 abbrev pub made_known : View → Path → Option View
 made_known v [] = None
 made_known v (n ∷ []) = begun_at n v.filling v
@@ -103,19 +112,23 @@ made_known v (n ∷ m ∷ rest) = Some (with_folder (n ∷ m ∷ rest) v)
 abbrev pub made_inside : View → Path → Option View
 made_inside v p = cond (is_inside v.filling p) (Some (with_met p v)) None
 
+-- the same by what is said of the path
 abbrev pub made_dir_as : Seen → View → Path → Option View
 made_dir_as seen.Folder v p = None
 made_dir_as seen.Hidden v p = made_inside v p
 made_dir_as seen.Standing v p = made_known v p
 
+-- what is remembered once a directory is made, where it can be
 abbrev pub made_dir : View → Path → Option View
 made_dir v p = made_dir_as (seen_at v p) v p
 
+-- what is remembered once a file is made, by what is said of the path
 abbrev pub made_file_as : Seen → View → Path → Option View
 made_file_as seen.Folder v p = None
 made_file_as seen.Hidden v p = made_inside v p
 made_file_as seen.Standing v p = None
 
+-- what is remembered once a file is made, where it can be
 abbrev pub made_file : View → Path → Option View
 made_file v p = made_file_as (seen_at v p) v p
 
@@ -124,6 +137,7 @@ abbrev pub renamed_to : List ℕ → Option Within → Option Within
 renamed_to n None = None
 renamed_to n (Some w) = Some (record w { name = n })
 
+-- the lesser of two numbers
 abbrev pub lesser : ℕ → ℕ → ℕ
 lesser m n = cond (nat_lt n m) n m
 
@@ -137,6 +151,7 @@ moved_at_top n None v = Some (record {
 })
 moved_at_top n (Some w) v = None
 
+-- what is remembered once the directory that was filled is moved to where the folder is as it was
 abbrev pub moved_known : View → Path → Option View
 moved_known v [] = None
 moved_known v (n ∷ []) = moved_at_top n v.filled v
@@ -147,11 +162,13 @@ moved_known v (n ∷ m ∷ rest) = Some (record {
   least = lesser v.least (length (n ∷ m ∷ rest));
 })
 
+-- the same by what is said of the path
 abbrev pub moved_as : Seen → View → Path → Option View
 moved_as seen.Folder v to = None
 moved_as seen.Hidden v to = None
 moved_as seen.Standing v to = moved_known v to
 
+-- what is remembered once something is moved, where it can be: the directory that is filled, and nothing else
 abbrev pub moved_to : View → Path → Path → Option View
 moved_to v from to = cond (is_itself v.filling from) (moved_as (seen_at v to) v to) None
 

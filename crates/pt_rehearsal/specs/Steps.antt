@@ -7,6 +7,7 @@ use Rattle.pt_tree.specs.Dest.{Writing, after_append, after_create, after_finish
 use Rattle.pt_tree.specs.Path.{Path}
 use Rattle.pt_tree.specs.Tree.{Tree}
 
+-- a step: a directory or a file was made, a piece added to the open file, that closed, or something moved
 pub data Step : Type 0 where
   MadeDir : (path : Path) → Step
   MadeFile : (path : Path) → Step
@@ -29,9 +30,11 @@ played (step ∷ steps) t = after_step step (played steps t)
 
 -- ---- how the logic stores a step
 
+-- a step as a choice of its parts
 abbrev pub Parts : Type 0
 Parts = (Path ⊎ Path) ⊎ (List ℕ ⊎ (Unit {0} ⊎ (Path × Path)))
 
+-- a step, as its parts
 abbrev pub to_parts : Step → Parts
 to_parts (MadeDir path) = inl (inl path)
 to_parts (MadeFile path) = inl (inr path)
@@ -39,6 +42,7 @@ to_parts (Added piece) = inr (inl piece)
 to_parts Closed = inr (inr (inl tt))
 to_parts (Moved from to) = inr (inr (inr (from, to)))
 
+-- a step of its parts
 abbrev pub from_parts : Parts → Step
 from_parts (inl (inl path)) = MadeDir path
 from_parts (inl (inr path)) = MadeFile path
@@ -46,6 +50,7 @@ from_parts (inr (inl piece)) = Added piece
 from_parts (inr (inr (inl _))) = Closed
 from_parts (inr (inr (inr p))) = Moved p.0 p.1
 
+-- taking a step apart and putting it together gives it again
 pub from_parts-to_parts : (step : Step) → from_parts (to_parts step) ≡ step
 from_parts-to_parts (MadeDir path) = refl
 from_parts-to_parts (MadeFile path) = refl
@@ -53,9 +58,11 @@ from_parts-to_parts (Added piece) = refl
 from_parts-to_parts Closed = refl
 from_parts-to_parts (Moved from to) = refl
 
+-- paths can be coded
 abbrev pub path_code : Coded Path
 path_code = coded_list (coded_list coded_ℕ)
 
+-- lists of steps can be coded
 abbrev pub steps_code : Coded (List Step)
 steps_code = coded_list (code_by Parts
     (coded⊎ (coded⊎ path_code path_code)

@@ -6,6 +6,7 @@ use Rattle.std.specs.Global.{Vec}
 use Rattle.std.specs.Ordering.{nat_cmp}
 use Rattle.std.specs.Str.{bytes_eq}
 
+-- the set has this text
 abbrev pub has : BTreeSet (Vec ℕ) → List ℕ → Bool
 has set = λ text. contains_by (λ k. slice_cmp nat_cmp text k.items) set
 

@@ -9,6 +9,7 @@ use Rattle.pt_folder.specs.EntryCodes.{tree_once}
 use Rattle.pt_rehearsal.specs.Fitting.{FitsTold, told_over}
 use Rattle.pt_rehearsal.specs.Seeing.{View}
 
+-- what a rehearsal tells is a tree
 pub tree_of_rehearsal : (told : Option Writing) (v : View) (steps : List Step) (state : Writing)
     → ∥ FitsTold told v steps ∥₁ → told_over told steps ≡ Some state → IsTree state.tree
 tree_of_rehearsal told v steps state fits is = ∥∥₁_elim fits (tree_once state.tree) (λ f. by told f is)

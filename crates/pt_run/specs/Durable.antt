@@ -23,10 +23,12 @@ pub record LogStays {W E : Type 0} (puts : E → W → Result (Unit {0}) Error �
   pub failures : new.failures ≡ 0 → old.failures ≡ 0
   pub there : new.failures ≡ 0 → (new ≡ old) ⊎ IfSome new.file (IsOnDisk puts new.writer)
 
+-- a log stays as it is where nothing is called
 pub stays_itself : {W E : Type 0} (puts : E → W → Result (Unit {0}) Error → E → Type 0)
     (log : DurableLog W E) → LogStays puts log log
 stays_itself puts log = record { file = λ is. is; failures = λ is. is; there = λ is. inl refl }
 
+-- and so it goes on from call to call
 pub stays_on : {W E : Type 0} (puts : E → W → Result (Unit {0}) Error → E → Type 0)
     (a b c : DurableLog W E) → LogStays puts a b → LogStays puts b c → LogStays puts a c
 stays_on {W} {E} puts a b c p q = record {

@@ -28,6 +28,6 @@ run_status present_ok (Err fault) = 3
 abbrev pub RunEnds : Bool → ℕ → Type 0
 RunEnds present_ok status = (result : Result Report Fault) × (status ≡ run_status present_ok result)
 
--- it may not begin, or it came to this
+-- it may not begin, or it came to this, and ends with this status, whether present lines are well or not
 abbrev pub Ends : Bool → ℕ → Type 0
 Ends present_ok status = ((fault : GuardFault) × (status ≡ guard_status fault)) ⊎ RunEnds present_ok status

@@ -10,6 +10,7 @@ use Rattle.pt_state.specs.declared.job.Job.{Job}
 use Rattle.pt_state.specs.declared.job.Report.{Report}
 use Rattle.pt_state.specs.declared.state.State.{State}
 
+-- one content, the block that was read last; one text, the prefix; the records that the bound counts; a digest that is not ended; numbers
 pub record Fields : Type 0 where
   -- where memory is asked for
   pub alloc : Global

@@ -21,6 +21,7 @@ pub data Node : Type 0 where
   Dir : (inside : Forest) → Node
   Other : Node
 
+-- the kind of what stands
 abbrev pub kind_of : Node → Kind
 kind_of (File bytes) = kind.File
 kind_of (Dir inside) = kind.Dir
@@ -47,11 +48,13 @@ node_at (File bytes) (n ∷ path) = None
 node_at Other (n ∷ path) = None
 node_at (Dir inside) (n ∷ path) = option_and_then (λ node. node_at node path) (find inside n)
 
+-- what stands below it, if it is a directory
 abbrev pub as_dir : Node → Option Forest
 as_dir (File bytes) = None
 as_dir (Dir inside) = Some inside
 as_dir Other = None
 
+-- its bytes, if it is a file
 abbrev pub as_file : Node → Option (List ℕ)
 as_file (File bytes) = Some bytes
 as_file (Dir inside) = None
@@ -99,6 +102,7 @@ first_name (file name bytes after) = name
 first_name (other name after) = name
 first_name (dir name inside after) = name
 
+-- what stands as the first entry, if there is one
 abbrev pub first_node : Forest → Option Node
 first_node none = None
 first_node (file name bytes after) = Some (File bytes)
@@ -139,6 +143,7 @@ picked n (file name bytes after) = cond (bytes_eq name n) (file name bytes none)
 picked n (other name after) = cond (bytes_eq name n) (other name none) (picked n after)
 picked n (dir name inside after) = cond (bytes_eq name n) (dir name inside none) (picked n after)
 
+-- the forest with the entries of this name taken out of the directory at a path
 abbrev pub picked_at : Forest → Path → List ℕ → Forest
 picked_at f [] n = picked n f
 picked_at none (d ∷ path) n = none
@@ -151,6 +156,7 @@ picked_at (dir name inside after) (d ∷ path) n =
 abbrev pub first_alone : Forest → Forest
 first_alone f = in_front f none
 
+-- the entries behind the first one
 abbrev pub without_first : Forest → Forest
 without_first none = none
 without_first (file name bytes after) = after

@@ -3,6 +3,7 @@ use Rattle.std.specs.Prelude.{ℕ, List, codes}
 use Rattle.pt_tree.specs.declared.known.Known.{Known}
 use Rattle.pt_tree.specs.declared.known.Known.TheVariants as known
 
+-- the text of a name that is known beforehand
 abbrev pub known_text : Known → List ℕ
 known_text known.VersionFile = codes "pairtree_version0_1"
 known_text known.PrefixFile = codes "pairtree_prefix"

@@ -47,6 +47,7 @@ is_among names name = list_any (λ other. bytes_eq other name) names
 abbrev pub left_in : List (List ℕ) → List Item → List Item
 left_in names items = filter (λ (item : Item). not (is_among names item.0)) items
 
+-- the number of a refusal
 abbrev pub listing_number : ListingFault → ℕ
 listing_number fault.NotRising = 1
 listing_number fault.Memory = 2

@@ -26,6 +26,7 @@ is_name bytes = is_none (name_refusal bytes)
 abbrev pub AreNames : List (List ℕ) → Type 0
 AreNames names = All (λ n. is_name n ≡ true) names
 
+-- the number of a refusal
 abbrev pub name_number : NameFault → ℕ
 name_number fault.Empty = 1
 name_number fault.TooLong = 2

@@ -5,6 +5,7 @@ use Rattle.pt_tree.specs.Short.{short_bytes}
 use Rattle.pt_tree.specs.declared.name.Text.{Text}
 use Rattle.pt_tree.specs.declared.name.Text.TheVariants as text
 
+-- the bytes of a name's text, however it is held
 abbrev pub text_bytes : Text → List ℕ
 text_bytes (text.Known known) = known_text known
 text_bytes (text.Short short) = short_bytes short

@@ -40,6 +40,7 @@ abbrev pub split_path : Path → Option (Path × List ℕ)
 split_path [] = None
 split_path (x ∷ p) = Some (parent (x ∷ p), last_name (x ∷ p))
 
+-- a path and a name behind it, which were lent
 abbrev pub split_lent : Bor Path × Bor (List ℕ) → Path × List ℕ
 split_lent s = (s.0.now, s.1.now)
 

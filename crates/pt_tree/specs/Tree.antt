@@ -17,6 +17,7 @@ pub data Entry : Type 0 where
 abbrev pub Tree : Type 0
 Tree = Path → Option Entry
 
+-- what stands, as an entry of a destination's tree
 abbrev pub entry_of : Node → Entry
 entry_of (node.File bytes) = Bytes bytes
 entry_of (node.Dir inside) = Folder
@@ -26,11 +27,13 @@ entry_of node.Other = Special
 abbrev pub tree_of : Forest → Tree
 tree_of forest = λ path. option_map entry_of (node_at (node.Dir forest) path)
 
+-- the kind of an entry
 abbrev pub kind_of_entry : Entry → Kind
 kind_of_entry (Bytes bytes) = kind.File
 kind_of_entry Folder = kind.Dir
 kind_of_entry Special = kind.Other
 
+-- the bytes of a file that stands
 abbrev pub bytes_of : Option Entry → Option (List ℕ)
 bytes_of None = None
 bytes_of (Some (Bytes bytes)) = Some bytes
@@ -67,6 +70,7 @@ abbrev pub without_at : Option Path → Option Entry → Option Entry
 without_at (Some rest) here = None
 without_at None here = here
 
+-- the tree without what stands at a path and below it
 abbrev pub without : Tree → Path → Tree
 without t p = λ q. without_at (rest_below p q) (t q)
 

@@ -9,6 +9,7 @@ use Rattle.pt_tree.specs.Tree.{Entry, Folder, IsTree, entry_of, tree_of}
 abbrev pub entry_below : Node → Path → Option Entry
 entry_below node path = option_map entry_of (node_at node path)
 
+-- what stands below a path has a folder there
 pub in_folder : (x : Node) (p : Path) (n : List ℕ) → IsSome (entry_below x (p ++ n ∷ []))
     → entry_below x p ≡ Some Folder
 in_folder (File b) [] n h = absurd (cc)

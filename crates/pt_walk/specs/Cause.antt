@@ -3,6 +3,7 @@ use Rattle.std.specs.Prelude.{ℕ, List, codes}
 use Rattle.pt_walk.specs.declared.cause.Cause.{Cause}
 use Rattle.pt_walk.specs.declared.cause.Cause.TheVariants as cause
 
+-- the number of a cause
 abbrev pub cause_number : Cause → ℕ
 cause_number cause.Root = 1
 cause_number cause.Empty = 2
@@ -14,6 +15,7 @@ cause_number cause.Other = 7
 cause_number cause.Limit = 8
 cause_number cause.Reserved = 9
 
+-- the word of a cause, as the log has it
 abbrev pub cause_word : Cause → List ℕ
 cause_word cause.Root = codes "root"
 cause_word cause.Empty = codes "empty"

@@ -22,6 +22,7 @@ is_too_large bounds =
     nat_lt 1000000 bounds.files || nat_lt 4000 bounds.path_bytes || nat_lt 600 bounds.depth
     || nat_lt (2 ^ 43) bounds.file_bytes || nat_lt (2 ^ 40) bounds.turns
 
+-- the limits are in range: none is zero, and none over its greatest value
 abbrev pub are_limits : Bounds → Bool
 are_limits bounds = not (has_zero bounds) && not (is_too_large bounds)
 
@@ -31,6 +32,7 @@ limits_of bounds =
     cond (has_zero bounds) (Err fault.Zero)
     (cond (is_too_large bounds) (Err fault.TooLarge) (Ok bounds))
 
+-- the number of a refusal
 abbrev pub limits_number : LimitsFault → ℕ
 limits_number fault.Zero = 1
 limits_number fault.TooLarge = 2

@@ -6,6 +6,7 @@ use Rattle.pt_walk.specs.Site.{is_shorty}
 use Rattle.pt_walk.specs.declared.site.NonShorties.{NonShorties}
 use Rattle.pt_walk.specs.declared.site.NonShorties.TheVariants.{None, One, Several}
 
+-- none, one with its place and kind, or several
 abbrev pub summary : List (ℕ × Kind) → NonShorties
 summary [] = None
 summary (x ∷ []) = One x.0 x.1

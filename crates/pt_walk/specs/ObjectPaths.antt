@@ -8,6 +8,7 @@ use Rattle.pt_tree.specs.Name.{is_name}
 use Rattle.pt_tree.specs.Path.{Path}
 use Rattle.pt_walk.specs.Object.{entries, files, without_shorties}
 
+-- the paths of these files
 abbrev pub paths_of : List (Path × List ℕ) → List Path
 paths_of [] = []
 paths_of (held ∷ others) = held.0 ∷ paths_of others

@@ -11,6 +11,7 @@ use Rattle.pt_walk.specs.declared.site.Form.TheVariants as form
 use Rattle.pt_walk.specs.declared.site.Finding.{Finding}
 use Rattle.pt_walk.specs.declared.site.Finding.TheVariants as finding
 
+-- it is a directory
 abbrev pub is_dir : Kind → Bool
 is_dir kind.File = false
 is_dir kind.Dir = true
@@ -31,6 +32,7 @@ non_shorties_from i (item ∷ items) =
     cond (is_shorty item) (non_shorties_from (i + 1) items)
     ((i, item.1) ∷ non_shorties_from (i + 1) items)
 
+-- the entries that are no shorties, each with its place and kind
 abbrev pub non_shorties : List Item → List (ℕ × Kind)
 non_shorties = non_shorties_from 0
 

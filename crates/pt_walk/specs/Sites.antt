@@ -22,6 +22,7 @@ at_of [] = at.Root
 at_of (name ∷ []) = cond (length name == 1) at.Last at.Pair
 at_of (name ∷ next ∷ path) = at_of (next ∷ path)
 
+-- its name has one byte, so that no site is below it
 abbrev pub is_last : At → Bool
 is_last at.Root = false
 is_last at.Pair = false
@@ -32,6 +33,7 @@ abbrev pub visit_of : ℕ → Path → Forest → Visit
 visit_of depth path inside =
     cond (is_last (at_of path)) Past (cond (nat_lt depth (length path + 1)) Deep (Listed inside))
 
+-- the shorty is listed, and walked
 abbrev pub is_listed : Visit → Bool
 is_listed (Listed inside) = true
 is_listed Past = false

@@ -13,6 +13,7 @@ abbrev pub FitsWhenEntered : Type 0
 FitsWhenEntered = (top : Forest) (frames : List Frame) (items : List Item) → Fits top frames
     → listing_at top (names_to frames) ≡ Some items → Fits top (entered items frames)
 
+-- a trail through a tree is one still when it seeks, advances or leaves
 abbrev pub FitsWhenMoved : Type 0
 FitsWhenMoved = (top : Forest) (frames : List Frame) (place : ℕ) → Fits top frames
     → Fits top (sought place frames) × Fits top (advanced frames) × Fits top (parent frames)
