@@ -1,4 +1,24 @@
 //! The program `pairtree2ocfl`: its words, its commands and its statuses.
+//!
+//! What it promises, on a machine of pt_run:
+//!
+//! - `answer` says what words lead to, of which the first is the program's name (`EndsWith`). They are answered as `read_words` has it, and
+//!   that is done (`Obeys`, `Declines`). `names` writes the two names, by `names_to`, to the output that the machine lends, and the status is
+//!   by the answer (`TellsNames`). `migrate` makes the run of `pt_run::run_guarded_as`, from SOURCE to DEST, lenient where `--present-ok` was
+//!   given, and the status is its status; `audit` makes the audit of `pt_run::audit_guarded_as` likewise, lenient where `--skips-ok` was given.
+//!   Help and the version are written to the machine's output: 0 where they were, or nobody may read them any more, and else 3 (`TellsText`).
+//!   Refused words (2) and want of memory (3) ask nothing of the machine.
+//! - The options that have a part in what is said of a run or an audit: those of the job, `--ignore`, `--sync`, `--dry-run`, `--present-ok`,
+//!   `--skips-ok`, and `--expect`, whose log is asked for its end. `--verbose`, `--progress` and `--interval` are taken from the words into
+//!   what is wanted (`wanted_of`, a field for each), and `--quiet` beside it; what they then show is tested.
+//! - `run` asks for the words that it was started with (`Started`), and ends with the status of `answer` to just these (`Ends`); where they
+//!   aren't text that is refused (2), and want of memory is 3.
+//! - `names_to`, for every layout and prefix, over every output that tells what it holds: where it answers Ok, exactly the two lines were
+//!   added; after `Write` a front of them was; after the other refusals nothing was. `Empty` is answered exactly for the empty identifier.
+//! - `read_words`: the words are read exactly as `clap` reads them, for the grammar that the contract spells out (`ReadsWords`). What the
+//!   parser accepts always has an answer: `names` gives its identifier, prefix and layout, or `EmptyId` for the empty one, or `Tuples`.
+//!   `migrate` gives the values of its options with their defaults and its two paths, or, in this order, `Created`, `EmptyName`, `Tuples`,
+//!   `Share` or `Ignored`. Help, the version and `Words` come only where the parser's rules give them.
 #![tactic(auto)]
 
 mod asked_audit;

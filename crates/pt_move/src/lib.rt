@@ -1,4 +1,23 @@
 //! The run: a store is walked, and each object is carried, turn by turn.
+//!
+//! What it promises, over any source, destination and log; docs/GUARANTEES.md has it clause by clause:
+//!
+//! - `migrate` asks for nothing. `Migrates` is what it promises, each clause by its name, and which devices have to tell.
+//! - `Mover::step` asks that the devices are those of the earlier steps, as those left them. It promises the same after each answer, against
+//!   the start at which the run began (`Keeps`), and besides that what is held is within the bound, that it is the fields that are listed and
+//!   nothing else (`HoldsNothingElse` of pt_state), and that the turns made are within the work.
+//! - A step says which turn of the definitions it made (`MakesTurn`), and `migrate` of which turns the run was made (`IsRun`). `Turns` is
+//!   answered exactly where the limit of turns was made before the end, `Ended` exactly after the end or a fault; at both the three devices are
+//!   the very values that they were.
+//! - In one turn the trail enters at most one listing or leaves inner ones (`Moves`), rows and contents gain at most one record or are emptied
+//!   (`Gains`), and at most one line is counted. The source is called at most once, or twice where the prefix is read. What stands in the
+//!   destination is asked at most once, twice where a file of the root is compared, and in most turns never (`most_looks`).
+//! - What one turn puts into the log, if anything, is one line, byte for byte, which is counted under its kind where it was put whole. After a
+//!   `put` that failed the log got a front of one line, and nothing is counted (`Tells`).
+//! - `turn`: makes, for every phase and over any devices, a turn of pt_plan's definitions, with the same answer, and never answers `Turns` or
+//!   `Ended`.
+//! - `records`: the entries of the trail's listings, the rows and the contents, together. `report`: the counts; each turn is counted, a faulty
+//!   one too, and they never overflow.
 #![tactic(auto, using(crate::proofs::MoveRules::move_rules))]
 
 mod carried;

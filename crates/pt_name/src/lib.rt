@@ -1,5 +1,24 @@
 //! The names of Pairtree 0.1 and of OCFL places: an identifier cleaned and cut into a pairpath, and its place in a
 //! storage root by extension 0003-hash-and-id-n-tuple-storage-layout.
+//!
+//! Names of identifiers, for any bytes.
+//!
+//! - `clean`: exactly the cleaned text, by cases on each byte. `pairpath`: that text in pieces of two with `/` between.
+//! - `encoded`: exactly the encoded identifier. `last_name`: the same, or its first 100 characters, `-` and the SHA-256 where it is longer than
+//!   100.
+//! - `Layout::of`: accepts exactly the numbers that the extension allows, and refuses each other pair by the first rule that it breaks. `size`,
+//!   `count`: the numbers. `default_form`: three by three.
+//! - `Layout::place`: exactly the place of the identifier, as a path: the tuples from the front of its SHA-256, then its last name.
+//!   `Layout::place_text`: its names with `/` between.
+//! - `Share::of`: accepts exactly the shares 1 to N of up to 4,096, and refuses each other pair by the first rule that it breaks. `whole`: the
+//!   one share of one. `holds`: exactly whether the number of the share that the identifier's SHA-256 gives (`share_number`) is its own;
+//!   `is_first`: whether it is 1.
+//! - `unclean`: reads a cleaned text back: gives an identifier exactly where the text reads it and it is UTF-8, and says of each other text
+//!   exactly whether it reads nothing or bytes that aren't UTF-8. `concatenated`: joins the names of a pairpath for it.
+//! - `read_prefix`: exactly the prefix of a store, refused exactly where it is too long or not UTF-8.
+//! - Laws: a text reads at most one list of bytes (`one_reading`); what was cleaned reads back (`cleaned_reads_back`); reading as a relation
+//!   and as a function say the same (`reading_is_computed`); two different identifiers share a place only where both encodings are shortened,
+//!   agree in their first 100 characters, and have one SHA-256 (`one_place`).
 #![tactic(auto)]
 
 mod cleaning;

@@ -1,4 +1,31 @@
 //! Names, paths and listings; what a source, a destination and a log are; and a log over a writer.
+//!
+//! A source's tree is a `Forest`: the entries of a directory in the order of their names, each a file with its bytes, a directory with its own
+//! entries, or something else. A destination's tree is a function (`Tree`): at each path a file's bytes, a folder, something else, or nothing.
+//! A change is one equation: `put`, `added`, `moved`, `without`. `IsTree` says that a folder is above each entry; `tree_of` shows a forest as
+//! such a function.
+//!
+//! A device says by a ghost member, `told`, what it holds: a source its tree and what is left of the open file (`Reading`), a destination its
+//! tree and which file is open (`Writing`), a log its bytes. It is `Some` of that, or `None`, which claims nothing. No call of a source or
+//! destination changes whether it tells, and no call changes a source's tree; a log that tells goes on telling. A failed call leaves what was
+//! told as it was, but that a failed `append` or `put` leaves a part of its piece, from its start. Each device counts its failures up to 2^64 -
+//! 1 (`IsCounted`), a source its calls (`IsOneMoreCall`), and a destination, where it keeps that, how often it was asked what stands
+//! (`AreAsManyCalls`): `kind` and `peek` raise that, and every other call leaves it.
+//!
+//! What it promises:
+//!
+//! - `Name::of`: accepts exactly 1 to 255 bytes of UTF-8 without `/` and NUL that are neither `.` nor `..`, and refuses the rest in a fixed
+//!   order.
+//! - `Known`: the names that a run knows beforehand are names, with these texts. A name that is made of one or copied is that name.
+//! - `NamePath`: is the list of its names (`push`, `join`, `get`). `of_text` cuts out of a text what `join` writes, and refuses it exactly as
+//!   the first piece that is no name is refused. `Listing`: the list of its names and kinds, which rise (`add`, `get`); `leave_out` takes away
+//!   exactly the entries with some names.
+//! - `Source`, `Dest`, `Log`: the contracts say exactly what each call gives and leaves, as one equation; told or not, `Device` comes only
+//!   where the count of failures rose or stood at its greatest value. Two clauses are promises of the traits themselves: in a told source's
+//!   tree the names rise in each directory, and a told destination has a folder above each entry. Each call also keeps what a device says of
+//!   itself that none changes (`keeps`).
+//! - `WriterLog`: a log over any writer, which tells what the writer tells. `write_out`: where it answers Ok all bytes were written, else a
+//!   front of them.
 #![tactic(auto)]
 
 mod dest;
