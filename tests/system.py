@@ -1,4 +1,4 @@
-"""Random sequences of the calls that folders make of the system, held against the laws of docs/SYSTEM.md.
+"""Random sequences of the calls that folders make of the system, held against the laws of docs/GUARANTEES.md.
 
 Usage: system.py [SEED [SEQUENCES]]. For each place, a memory file system and the disk's own, it says the seed and how many
 sequences and calls were made. A sequence is one case, and passes where it keeps the laws at each place. The last line is 'N passed, M failed'.

@@ -1,14 +1,16 @@
-"""Tests of the documents: each file and each word of code that they name is where they say it is.
+"""Tests of the documents: each file and each word of code that they name is where they say it is, and they can be read.
 
+- There are eight, of at most 1,800 lines and 160 kB in all; no line has over 160 characters and no sentence over 40 words.
 - A link leads to a file and a heading that are there. Where its text is a word of code and it leads into crates/, the file declares the
-  word. A path below a folder of the repository is there (NAME stands for any name).
+  word. A path below a folder of the repository is there (NAME stands for any name). A document that other files name is there.
 - A file of code is one of a crate that its paragraph, or its row of a table, names; of any crate where it names none.
-- A table or a text that says `crate, file.rt and Module` names files of src/ and of specs/ of that crate. The words of the first column of
-  the definitions in docs/MODEL.md are declared in the files of the last.
-- In docs/PROVED.md the words of code below a crate's heading are declared in that crate, or where `crate::word` says.
-- Each crate of crates.txt has its row in docs/ARCHITECTURE.md and its heading in docs/PROVED.md.
+- A text that says `crate, file.rt and Module` names files of src/ and of specs/ of that crate.
 - Any other word of code, which has a `_`, a `::` or a capital inside small letters, stands somewhere in the code.
-- Each edit of crates/*/must-fail that the prover has to refuse can be applied to the code as it stands.
+- Each crate of crates.txt is on the map of docs/DESIGN.md, behind those that it stands on.
+- The words of code at the head of a crate's lib.rt are declared in that crate, or where `crate::word` or `word` of crate says.
+- Each public definition of crates/*/specs has a comment, and each edit of crates/*/must-fail one that says what the wrong body does: `make model` and
+  `make wrong` print all of them. Each edit can be applied to the code as it stands. The lemmas that Migrates.antt names are there.
+- docs/REFERENCE.md has each cause and each fault with its number and text, docs/GUIDE.md what to do at each, docs/DESIGN.md where each cause is decided.
 """
 
 import functools
@@ -16,11 +18,19 @@ import glob
 import os
 import re
 import subprocess
+import sys
 
 from alone import Alone
 
 TOP = os.path.dirname(os.path.dirname(os.path.dirname(os.path.abspath(__file__))))
-DOCUMENTS = ("README.md", "CONTRIBUTING.md", *sorted(f"docs/{name}" for name in os.listdir(f"{TOP}/docs")))
+sys.path.append(f"{TOP}/tools")
+
+import index
+
+DOCUMENTS = ("README.md", "CONTRIBUTING.md", "CHANGELOG.md", *sorted(f"docs/{name}" for name in os.listdir(f"{TOP}/docs")))
+EIGHT = {"README.md", "CONTRIBUTING.md", "CHANGELOG.md", *(f"docs/{name}.md" for name in ("GUIDE", "REFERENCE", "GUARANTEES", "DESIGN", "PERF"))}
+MOST_LINES, MOST_BYTES, LONGEST_LINE, LONGEST_SENTENCE, README_LINES = 1800, 160000, 160, 40, 120
+START = re.compile(r"[0-9a-f]{40} is the start: the last commit that had landed before the work on speed began\.\n")
 LINK = re.compile(r"\[([^\]]*)\]\(([^)\s]+)\)")
 PATH = re.compile(r"(?<![\w/.-])(?:completions|crates|demo|docs|tests|tools|bench|man|LICENSES)/[\w./*-]*\w")
 CODE_FILE = re.compile(r"(?<![\w/.<*])(\w+\.(?:rt|antt|edit))\b")
@@ -135,48 +145,124 @@ def modules(text):
             yield crate, f"crates/{crate}/src/{name}" if name.endswith(".rt") else f"crates/{crate}/specs/{name}.antt"
 
 
-def definitions(program, folder):
-    """The words of the definitions in docs/MODEL.md are declared in the files that their row names."""
-    faults = []
-    table = text_of("docs/MODEL.md").split("\n## Definitions\n", 1)[1].split("\n## ", 1)[0]
-    for row in table.splitlines():
-        cells = re.split(r" (?<!\\)\| ", row.strip("| "))
-        if len(cells) != 3 or not cells[0].startswith("`"):
+def items(path):
+    """The paragraphs, items, headings and cells of tables of a document, each as one line without links; blocks of commands and comments left out."""
+    text = LINK.sub(r"\1", re.sub(r"<!--.*?-->", "\n\n", prose(path), flags=re.DOTALL))
+    found, goes_on = [], False
+    for line in text.splitlines():
+        if line.startswith("|"):
+            found += re.split(r"(?<!\\)\|", line)
+            goes_on = False
             continue
-        there = [path for _, path in modules(cells[2]) if os.path.isfile(f"{TOP}/{path}")]
-        for text in backticked(cells[0]):
-            if not any(is_declared(text.split()[0], path) for path in there):
-                faults.append(f"docs/MODEL.md: {text} isn't declared in {cells[2]}")
+        begins = re.match(r" *(?:[-*]|\d+\.|#+) ", line)
+        if begins or not goes_on:
+            found.append(line[begins.end() :] if begins else line)
+        else:
+            found[-1] += f" {line}"
+        goes_on = bool(line.strip()) and not line.startswith("#")
+    return found
+
+
+def sentences(item):
+    """The sentences of a paragraph, a text between backticks as one word."""
+    return re.split(r"(?<=[.?!])[)*]* +(?=[\[(\"*A-Z0-9])", re.sub(r"`[^`]+`", "Code", item))
+
+
+def sizes(program, folder):
+    """There are eight documents, of so many lines and bytes at most; each line and each sentence can be read; PERF begins as it always did."""
+    faults = [] if set(DOCUMENTS) == EIGHT else [f"the documents are {sorted(DOCUMENTS)}"]
+    lines, size = (sum(measure(text_of(path)) for path in DOCUMENTS) for measure in (lambda it: it.count("\n"), lambda it: len(it.encode())))
+    faults += [f"the documents have {number} {what}" for number, most, what in ((lines, MOST_LINES, "lines"), (size, MOST_BYTES, "bytes")) if number > most]
+    faults += [f"README.md has {count} lines" for count in (text_of("README.md").count("\n"),) if count > README_LINES]
+    for path in DOCUMENTS:
+        faults += [f"{path}:{number} has {len(line)} characters" for number, line in enumerate(text_of(path).splitlines(), 1) if len(line) > LONGEST_LINE]
+        faults += [f"{path}: a sentence of {len(it.split())} words: {it[:60]}" for item in items(path) for it in sentences(item) if len(it.split()) > LONGEST_SENTENCE]
+    faults += [f"{size} words are taken for one sentence" for size in [len(it.split()) for it in sentences("One. `two` three. *Four*? five")] if size > 3]
+    return faults + ([] if START.match(text_of("docs/PERF.md")) else ["docs/PERF.md doesn't begin with its first line"])
+
+
+def mentions(program, folder):
+    """Each document that a file of the repository names is there."""
+    files = subprocess.run(["git", "-C", TOP, "ls-files", "--cached", "--others", "--exclude-standard"], capture_output=True, timeout=60).stdout.decode().split("\n")
+    faults = []
+    for path in files or ():
+        if re.search(r"\.(?:rt|antt|edit|py|sh|1|fish|bash)$|(?:^|/)(?:Makefile|run|_pairtree2ocfl)$", path) and os.path.isfile(f"{TOP}/{path}"):
+            named = set(re.findall(r"\bdocs/[A-Z]+\.md\b", text_of(path))) | {f"docs/{name}" for name in re.findall(r"(?<![\w/.])[A-Z]{4,}\.md\b", text_of(path))}
+            there = {name for name in named if os.path.isfile(f"{TOP}/{name}") or os.path.isfile(f"{TOP}/{os.path.basename(name)}")}
+            faults += [f"{path} names {name}" for name in sorted(named - there)]
     return faults
 
 
-def promises(program, folder):
-    """The words of code below a crate's heading of docs/PROVED.md, and all that begin a line, are declared in that crate."""
+def explained(program, folder):
+    """Each public definition has a comment, and each edit one that says what the wrong body does; make model and make wrong print all of them."""
     faults = []
-    for section in text_of("docs/PROVED.md").split("\n## ")[1:]:
-        crates = [name for name in re.findall(r"\w+", section.splitlines()[0]) if name in code_files()]
-        heads = {word for line in re.findall(r"^- (`.*)$", section, re.MULTILINE) for word in backticked(line.split(":", 1)[0] if ": " in line else line)}
-        for text in sorted({text for text in backticked(section) if crates and (text in heads or is_word_of_code(text)) and WORD.fullmatch(text)}):
-            crate, *words = text.split("::") if text.startswith("pt_") else ("", *text.split("::"))
-            if text not in code_files() and not any(declares(name, words) for name in ([crate] if crate else crates)):
-                faults.append(f"docs/PROVED.md: {text} isn't declared in {crate or ', '.join(crates)}")
+    shown = {kind: subprocess.run([sys.executable, f"{TOP}/tools/index.py", kind], capture_output=True, check=True, timeout=60).stdout.decode() for kind in ("model", "wrong")}
+    for crate in index.crates():
+        for path in index.specs(crate):
+            faults += [f"{path}: {name} has no comment" for name, text in index.definitions(path) if not text]
+            faults += [f"make model doesn't print {name}" for name, text in index.definitions(path) if f"  {name}: {text}\n" not in f"{shown['model']}\n"]
+        for name, text in index.edits(crate):
+            faults += [] if text else [f"{name} of {crate} doesn't say what the wrong body does"]
+            faults += [] if f"  {text} ({name})\n" in f"{shown['wrong']}\n" else [f"make wrong doesn't print {name}"]
+    listed = {path for paths_of in code_files().values() for path in paths_of if "/must-fail/" in path}
+    return faults + ([] if len(listed) == shown["wrong"].count(".edit)") else ["make wrong prints too few"])
+
+
+def heads(program, folder):
+    """The words of code at the head of a crate's lib.rt are declared in that crate, or in the crate that is named with them."""
+    faults = []
+    for crate in code_files():
+        root = next((path for path in (f"crates/{crate}/src/lib.rt", f"crates/{crate}/src/main.rt") if os.path.isfile(f"{TOP}/{path}")), None)
+        head = " ".join(re.findall(r"^//! ?(.*)$", text_of(root), re.MULTILINE)) if root else ""
+        faults += [] if head else [f"{crate} has no head"]
+        for text, of in re.findall(r"`([^`]+)`(?: of (pt_\w+))?", head):
+            if is_word_of_code(text) and text not in code_files():
+                there, *words = text.split("::") if text.startswith("pt_") else (of or crate, *text.split("::"))
+                faults += [] if declares(there, words) else [f"{root}: {text} isn't declared in {there}"]
     return faults
 
 
 def crates(program, folder):
-    """Each crate has its row in docs/ARCHITECTURE.md, with what it stands on, and its heading in docs/PROVED.md, or stands there among those of tests."""
-    table = text_of("docs/ARCHITECTURE.md").split("\n## Crates\n", 1)[1].split("\n## ", 1)[0]
-    rows = {name: stands for name, stands in re.findall(r"^\| `(\w+)` \|.*\| ([^|]*) \|$", table, re.MULTILINE)}
-    proved = text_of("docs/PROVED.md")
-    told = re.findall(r"\w+", " ".join(re.findall(r"^## .*$", proved, re.MULTILINE)))
-    told += re.findall(r"\w+", proved.split("\n## The crates of tests\n", 1)[1].split("\n## ", 1)[0])
-    faults = []
-    for name, below in re.findall(r"^(\w+):(.*)$", text_of("crates.txt"), re.MULTILINE):
-        if rows.pop(name, None) != ", ".join(below.split()):
-            faults.append(f"docs/ARCHITECTURE.md doesn't say what {name} stands on")
-        if name not in told:
-            faults.append(f"docs/PROVED.md has no heading for {name}")
-    return faults + [f"docs/ARCHITECTURE.md has a crate {name}" for name in rows]
+    """Each crate is on the map of docs/DESIGN.md, behind those that it stands on."""
+    map_of = text_of("docs/DESIGN.md").split("\n## The map\n", 1)[1].split("\n## ", 1)[0]
+    rows = re.findall(r"^\| `(\w+)` \|", map_of, re.MULTILINE)
+    stands = {name: below.split() for name, below in re.findall(r"^(\w+):(.*)$", text_of("crates.txt"), re.MULTILINE)}
+    faults = [f"docs/DESIGN.md doesn't have {name} on its map" for name in stands if f"`{name}`" not in map_of]
+    faults += [f"docs/DESIGN.md has {name} on its map, which is no crate" for name in rows if name not in stands]
+    for place, name in enumerate(rows):
+        faults += [f"docs/DESIGN.md has {name} before {below}, on which it stands" for below in stands.get(name, ()) if below in rows[place:]]
+    on = {below for belows in stands.values() for below in belows}
+    return faults + [f"docs/DESIGN.md says that no code stands on {name}" for name in rows[rows.index("pt_clients") :] if name in on]
+
+
+def proofs(program, folder):
+    """The lemmas that Migrates.antt names for each promise are declared in the files of proofs that it says, and each promise is named."""
+    text = text_of("crates/pt_move/specs/Migrates.antt")
+    block = re.search(r"-- Where each promise is proved.*?\n--\n", text, re.DOTALL)[0]
+    named = re.findall(r"(\w+) \((\w+)\)", block)
+    proved = {(word, module) for paths_of in code_files().values() for path in paths_of if "/proofs/" in path and path.endswith(".antt")
+        for module in (os.path.basename(path)[:-5],) for word, wanted in named if wanted == module and re.search(rf"^ *(?:pub )?{word} :", text_of(path), re.MULTILINE)}
+    told = set(re.findall(r"\w+", " ".join(re.findall(r"^--   ([\w, ]+):", block, re.MULTILINE))))
+    promises = set(re.findall(r"^  pub (\w+) :", text, re.MULTILINE))
+    return [f"Migrates.antt names {word} of {module}" for word, module in named if (word, module) not in proved] + [f"Migrates.antt says of {name} not where it is proved" for name in sorted(promises ^ told)]
+
+
+def causes(program, folder):
+    """Each cause stands in the reference with its number and word, in the guide in that order, and on the design's table; each fault in reference and guide."""
+    numbers = dict(re.findall(r"^cause_number cause\.(\w+) = (\d+)", text_of("crates/pt_walk/specs/Cause.antt"), re.MULTILINE))
+    spelled = dict(re.findall(r"^cause_word cause\.(\w+) = codes \"(\w+)\"", text_of("crates/pt_walk/specs/Cause.antt"), re.MULTILINE))
+    wanted = sorted((int(number), spelled[cause]) for cause, number in numbers.items())
+    told = [(int(number), word) for number, word in re.findall(r"^\| (\d+) \| `(\w+)` \|", text_of("docs/REFERENCE.md"), re.MULTILINE)]
+    faults = [] if told == wanted and len(wanted) == 9 else [f"docs/REFERENCE.md tells the causes {told}"]
+    guide = re.findall(r"^### `(\w+)`$", text_of("docs/GUIDE.md"), re.MULTILINE)
+    faults += [f"docs/GUIDE.md doesn't say what to do at {word}" for _, word in wanted if word not in guide]
+    table = text_of("docs/DESIGN.md").split("\n## Where each cause is decided\n", 1)[1].split("\n## ", 1)[0]
+    faults += [f"docs/DESIGN.md doesn't say where {word} is decided" for _, word in wanted if not re.search(rf"^\|[^|]*`{word}`", table, re.MULTILINE)]
+    texts = re.findall(r'#\[error\("(.*)"\)\]', text_of("crates/pt_plan/src/fault.rt"))
+    for number, text in enumerate(texts, 1):
+        faults += [] if f"| `fault {number}: {text}` | 3 |" in text_of("docs/REFERENCE.md") else [f"docs/REFERENCE.md doesn't tell fault {number}: {text}"]
+        faults += [] if f"**{number} {text}" in text_of("docs/GUIDE.md") else [f"docs/GUIDE.md doesn't say what to do at fault {number}: {text}"]
+    return faults + ([] if len(texts) == 11 else [f"there are {len(texts)} faults"])
 
 
 def words(program, folder):
@@ -228,18 +314,18 @@ def edits(program, folder):
 
 
 def shown(program, folder):
-    """The lines of a log in docs/THEOREM.md are those of the run that the demonstration shows."""
+    """The lines of a log in docs/GUARANTEES.md are those of the run that the demonstration shows."""
     done = subprocess.run(["sh", f"{TOP}/demo/run", program], capture_output=True, check=True, timeout=120)
     log = done.stdout.decode().split("The first run", 1)[1].split("status", 1)[0]
-    told = [text for text in backticked(text_of("docs/THEOREM.md")) if text.startswith('{"as"')]
-    return [f"docs/THEOREM.md shows {line}" for line in told if line not in log.splitlines()] + ([] if told else ["no line is shown"])
+    told = [text for text in backticked(text_of("docs/GUARANTEES.md")) if text.startswith('{"as"')]
+    return [f"docs/GUARANTEES.md shows {line}" for line in told if line not in log.splitlines()] + ([] if told else ["no line is shown"])
 
 
 def gathering(program, folder):
     """What `--gather` does is said in the same sentence everywhere."""
     helped = subprocess.run([program, "migrate", "--help"], capture_output=True, check=True, timeout=120).stdout.decode()
     sentence = re.search(r"--gather\s+Carry (.*?) \[default", " ".join(helped.split()))[1]
-    places = ("README.md", "docs/GUIDE.md", "man/pairtree2ocfl.1", *(f"completions/{name}" for name in ("_pairtree2ocfl", "pairtree2ocfl.fish")))
+    places = ("docs/REFERENCE.md", "docs/GUIDE.md", "man/pairtree2ocfl.1", *(f"completions/{name}" for name in ("_pairtree2ocfl", "pairtree2ocfl.fish")))
     return [f"{path} doesn't say of --gather: {sentence}" for path in places if sentence not in re.sub(r"\s+", " ", text_of(path)).replace("'\\''", "'")]
 
 
@@ -247,11 +333,15 @@ CASES = [
     Alone("the documents' links", links),
     Alone("the documents' paths", paths),
     Alone("the documents' files of code", files),
-    Alone("the model's definitions", definitions),
-    Alone("the promises of each crate", promises),
+    Alone("the documents' sizes", sizes),
+    Alone("the documents that other files name", mentions),
+    Alone("each definition and each edit is explained", explained),
+    Alone("the promises of each crate", heads),
     Alone("the documents' crates", crates),
+    Alone("the proofs of a run's promises", proofs),
+    Alone("the causes and faults are told", causes),
     Alone("the documents' words of code", words),
     Alone("the edits that must be refused", edits),
-    Alone("the theorem's lines are the demonstration's", shown),
+    Alone("the guarantees' lines are the demonstration's", shown),
     Alone("what --gather does", gathering),
 ]

@@ -52,21 +52,30 @@ def every_option(program):
 
 
 def documented(program, folder):
-    """Each option of the help stands in the README, the guide or the man page, and the completions of all three shells."""
+    """Each option of the help stands in the reference, the guide and the man page, and the completions of all three shells."""
     page = text_of("man/pairtree2ocfl.1").replace("\\-", "-")
     zsh, fish = text_of("completions/_pairtree2ocfl"), text_of("completions/pairtree2ocfl.fish")
-    readme, faults = text_of("README.md"), []
+    reference, faults = text_of("docs/REFERENCE.md").split("\n## Options\n", 1)[1].split("\n## ", 1)[0], []
     for command, option in every_option(program):
         spelled = re.escape(option) + r"(?![\w-])"
         long = option.startswith("--")
         in_fish = rf"-l {option[2:]}\b(?!-)" if long else rf"-s {option[1]}\b"
-        places = {"README": (readme, rf"`[^`]*{spelled}"), "the man page": (page, spelled), "zsh": (zsh, spelled), "fish": (fish, in_fish)}
-        faults += [f"{option} isn't in {name}" for name, (text, form) in places.items() if not re.search(form, text)]
+        places = {"REFERENCE": (reference, rf"^\|.*`[^`]*{spelled}"), "the man page": (page, spelled), "zsh": (zsh, spelled), "fish": (fish, in_fish)}
+        faults += [f"{option} isn't in {name}" for name, (text, form) in places.items() if not re.search(form, text, re.MULTILINE)]
         if option not in completed(*command, option):
             faults.append(f"bash doesn't complete {' '.join(command)} {option}")
     guide = text_of("docs/GUIDE.md")
     seen = {option for _, option in every_option(program) if option.startswith("--")} - {"--help", "--version"}
+    told = set(re.findall(r"(?<![\w-])--?[a-zA-Z][\w-]*", " ".join(re.findall(r"^\| (`-.*?) \|", reference, re.MULTILINE))))
+    faults += [f"REFERENCE tells {option}, which isn't there" for option in sorted(told - {option for _, option in every_option(program)})]
+    faults += [f"REFERENCE doesn't say that {option} is one of {command[0]}" for command, option in every_option(program) if command and not of(reference, option, command[0])]
     return faults + [f"{option} isn't in GUIDE" for option in sorted(seen) if option not in guide]
+
+
+def of(reference, option, command):
+    """Whether the reference's row of an option says that it is one of a command."""
+    rows = re.findall(r"^\| (`-.*?) \| (.*?) \|", reference, re.MULTILINE)
+    return any(re.search(rf"`{re.escape(option)}(?![\w-])", names) and (commands == "all" or command in commands.split(", ")) for names, commands in rows)
 
 
 def known(program, folder):
@@ -126,9 +135,9 @@ def read_by(tool):
 
 
 def statuses(program, folder):
-    """The README, the man page and docs/FORMATS.md tell each status of a run and of an audit; the program gives them."""
-    readme, page, formats = text_of("README.md"), text_of("man/pairtree2ocfl.1"), text_of("docs/FORMATS.md")
-    rows = {name: dict(re.findall(r"^\| ([0-3]) \| (.*) \|$", text, re.MULTILINE)) for name, text in {"README": readme, "FORMATS": formats}.items()}
+    """The guide, the man page and docs/REFERENCE.md tell each status of a run and of an audit; the program gives them."""
+    guide, page, reference = text_of("docs/GUIDE.md").split("\n## Stopping it\n", 1)[0], text_of("man/pairtree2ocfl.1"), text_of("docs/REFERENCE.md")
+    rows = {name: dict(re.findall(r"^\| ([0-3]) \| (.*) \|$", text, re.MULTILINE)) for name, text in {"GUIDE": guide, "REFERENCE": reference}.items()}
     rows["the man page"] = dict(re.findall(r"^\.B ([0-3])\n(.*?)(?=^\.TP|^\.SH)", page.split(".SH EXIT STATUS")[1], re.MULTILINE | re.DOTALL))
     words = {"0": "audit", "1": "audit", "2": "lie in one another", "3": "fault"}
     told = [(name, number, word, of.get(number, "")) for name, of in rows.items() for number, word in words.items()]

@@ -65,14 +65,14 @@ def with_sync(folder, *command):
 
 
 def made_again():
-    """The calls that docs/SYSTEM.md says are made again where a signal interrupts them."""
-    with open(f"{TOP}/docs/SYSTEM.md", encoding="utf-8") as file:
+    """The calls that docs/GUARANTEES.md says are made again where a signal interrupts them."""
+    with open(f"{TOP}/docs/GUARANTEES.md", encoding="utf-8") as file:
         told = file.read().split("**Interrupted calls.**", 1)[1].split("The program itself", 1)[0]
     return set(re.findall(r"`(\w+)`", told))
 
 
 def interrupted(program, folder):
-    """Of the calls that a signal interrupts, as docs/SYSTEM.md says, the opening of a file, fsync and flock are made again, and the run is as if
+    """Of the calls that a signal interrupts, as docs/GUARANTEES.md says, the opening of a file, fsync and flock are made again, and the run is as if
     nothing had been; of the others each is a failure."""
     needs("strace")
     whole, trace, tried = with_sync(folder, program), f"{folder}/trace", set()
@@ -241,7 +241,7 @@ def put_deep(folder, top, length, kind):
 
 def system_limit(program, folder):
     """Whatever it is, an entry whose path, SOURCE as it was given in front, has 4,095 bytes is read, and one of 4,096 is fault 1; so says a
-    rehearsal, a run and an audit. docs/FORMATS.md tells the length of an object's path by that."""
+    rehearsal, a run and an audit. docs/REFERENCE.md tells the length of an object's path by that."""
     lines = {"file": b'{"as":"skip","at":"ab/c","cause":"limit"}\n', "link": b'{"as":"skip","at":"ab/c","cause":"other"}\n', "folder": b'"empty":1'}
     faults, top, at = [], "s/pairtree_root/ab/c/obj", "ab/c/obj"
     for source, kind in (("s", "file"), ("s", "folder"), ("s", "link"), ("./s", "file"), ("s/", "file")):

@@ -3,7 +3,7 @@
 //! What it promises, over any system (`System`, `Handle`, `Input`):
 //!
 //! - `System`: a system may keep the tree of a folder that is read (`forest`), and of one that is written (`kept`). Its calls keep a law each
-//!   then, as POSIX has them (`SourceLaws`, `DestLaws`). The runtime's own keeps none, and so tells nothing.
+//!   then, as POSIX has them (SourceLaws.antt and DestLaws.antt of specs/). The runtime's own keeps none, and so tells nothing.
 //! - `HostSource` tells the system's tree, and what isn't read of the open file. It meets `Source`: a listing is what stands there, in order; a
 //!   file is read as it was at its opening; a failed call changes nothing of it.
 //! - `HostDest` tells the system's tree and the path of the open file. It meets `Dest`: what is made, moved and written is what the tree

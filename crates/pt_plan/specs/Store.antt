@@ -38,7 +38,7 @@ prefix_in (Some (File bytes)) = cond (is_none (prefix_refusal bytes)) (without_l
 prefix_in (Some (Dir inside)) = []
 prefix_in (Some Other) = []
 
--- what each identifier of the store begins with; empty where there is no prefix file
+-- what each identifier of the store begins with; empty where there is no prefix, or a bad one, with which no run gets that far
 abbrev pub prefix_of : Forest → List ℕ
 prefix_of source = prefix_in (find source prefix_file)
 
