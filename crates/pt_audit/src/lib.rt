@@ -1,5 +1,4 @@
-//! An audit: the objects of a store are held against the storage root that stands. It is made by steps of a survey, which looks at sites and
-//! objects as a run does, and makes nothing of them.
+//! An audit: the objects of a store are held against the storage root that stands.
 //!
 //! What it promises, over any store, root and log:
 //!
@@ -23,8 +22,9 @@
 //! - `what_was_carried_is_the_same`, `audit_after_run_is_sound`, on an audit after a run (`HasRun`): of each object that the run carried
 //!   nothing is found but that it stands. So an audit's log has only what stands and what is passed over, where the run found no place taken.
 //! - The lines (`object_line`, `end_line`) are the JSON of what they tell, byte for byte; of an object's bytes up to 2^64 - 1.
+//! - Not proved: of two entries that are more than an object has, that the one is told whose path has the lower bytes, which is tested.
 //!
-//! Of a survey:
+//! Of a survey, by whose steps it is made:
 //!
 //! - `Survey`: a run's own turns over a destination in which nothing stands, without those that make something. After each step so many items
 //!   of the store were seen as the definitions have (`IsSurvey`); where the store tells, a step sees nothing more, or the next item: it only
@@ -37,8 +37,6 @@
 //!   (`work_of_survey`: as many as a run over no root makes turns at most, where no identifier comes twice), so the limit is met only where it
 //!   is less; and no more is held after a step than a run's bound (`Steps`), and beside its phase the fields of a run's state and nothing else:
 //!   a survey is its phase and that state (`survey_of`).
-//!
-//! - Not proved: of two entries that are more than an object has, that the one is told whose path has the lower bytes, which is tested.
 #![tactic(auto, using(crate::proofs::AuditRules::audit_rules))]
 
 mod auditing;

@@ -5,8 +5,6 @@
 //! - Where the folder tells its tree, a rehearsal tells the tree that the folder would hold after the calls (`told`), and with that meets
 //!   `Dest`, all calls: what it answers to a look is what stands in that tree, and so are the first bytes of a file. It is the folder's own
 //!   tree with each step played over it (`played`); no bytes are kept for that, the steps exist in proofs alone.
-//! - `Played`: the steps that a destination was asked for, the last one first, in proofs alone: it takes no memory, and no code reads it.
-//!   `then` adds the step that it is given (`noted`).
 //! - What it remembers is a text for each directory that it would have made and each place that it would have moved something to, and the names
 //!   that it would have made in one directory at a time (`View`); after each call by an equation (`Remembers`). It fits the tree (`Fits`): what
 //!   is remembered as a directory is one, all that isn't hidden is as in the folder.
@@ -14,6 +12,8 @@
 //!   whose making, and a move whose effect, can't be remembered (`made_dir`, `made_file`, `moved_to`); beside that a path that is too long,
 //!   and, where an entry right in the folder is made, a failed look at the folder. That a run asks for none of these isn't proved:
 //!   tests/cases/options.py rehearses every run of the other tests.
+//! - `Played`: the steps that a destination was asked for, the last one first, in proofs alone: it takes no memory, and no code reads it.
+//!   `then` adds the step that it is given (`noted`).
 #![tactic(auto)]
 
 mod played;
