@@ -1,4 +1,5 @@
-//! An audit: the objects of a store are held against the storage root that stands.
+//! An audit: the objects of a store are held against the storage root that stands. It is made by steps of a survey, which looks
+//! at sites and objects as a run does, and makes nothing of them.
 //!
 //! What it promises, over any store, root and log:
 //!

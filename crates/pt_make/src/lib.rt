@@ -1,4 +1,5 @@
-//! The turns that make an object in `staging` and bring it to its place, and those that tell of it and of the end.
+//! The turns that look at a storage root or make one, those that make an object in `staging` and bring it to its place, and
+//! those that tell of it and of the end.
 //!
 //! What it promises: each function makes a turn of the definitions of pt_plan, from the phase that it is named for, with the same answer, and
 //! calls the source and looks at the destination at most as often as they say (`TakesTurn` of pt_state). An inventory is written piece by
