@@ -20,7 +20,6 @@
 //!   which makes nothing there, that isn't said.
 //! - `equipped` and `both_sides` make the devices, each field by an equation. `longest_made`: exactly 4,095 less what the longest place is
 //!   longer than `staging`.
-//! - `make_turns` makes a run turn by turn, over any devices: it asks for nothing, and promises of it all that `Migrates` has.
 //! - `made`: a run is one over the destination's folder, and a rehearsal one over a destination that at first tells what the folder holds, and
 //!   at the end the tree that it plays (`IsRun`). Its devices stay at the folders that they were made for (`RunsFrom`). After any answer a
 //!   rehearsal leaves all that the system keeps of DEST (`LeavesKept`). Something is stuck at the end only where syncing was wanted and a fault
