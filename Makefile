@@ -8,7 +8,7 @@ PROGRAM := bin/pairtree2ocfl
 BUILT := crates/pairtree2ocfl/out/pairtree2ocfl
 
 .DEFAULT_GOAL := build
-.PHONY: help build try demo test allocations bench model wrong install uninstall dist deb clean toolchain
+.PHONY: help build try demo test allocations bench install uninstall dist deb clean toolchain
 
 help: ## list the targets
 	@sed -n 's/^\([a-z]*\):.*## \(.*\)/make \1\t\2/p' $(MAKEFILE_LIST)
@@ -33,6 +33,8 @@ allocations: build ## refuse each request for memory of the program in turn, whe
 bench: build ## processor time of a run beside sha512sum, cp and, where rustc is, plain Rust over the same stores
 	@$(PYTHON) bench/bench.py $(PROGRAM)
 
+# What the documents don't list, since the code has it.
+.PHONY: model wrong
 model: ## print each definition that contracts cite, with what it means (WORDS='..' of names that have one of these)
 	@$(PYTHON) tools/index.py model $(WORDS)
 
