@@ -20,7 +20,7 @@ import re
 import subprocess
 import sys
 
-from alone import Alone
+from alone import Alone, differs
 
 TOP = os.path.dirname(os.path.dirname(os.path.dirname(os.path.abspath(__file__))))
 sys.path.append(f"{TOP}/tools")
@@ -169,43 +169,62 @@ def sentences(item):
 
 
 def sizes(program, folder):
-    """There are eight documents, of so many lines and bytes at most; each line and each sentence can be read; PERF begins as it always did."""
-    faults = [] if set(DOCUMENTS) == EIGHT else [f"the documents are {sorted(DOCUMENTS)}"]
-    lines, size = (sum(measure(text_of(path)) for path in DOCUMENTS) for measure in (lambda it: it.count("\n"), lambda it: len(it.encode())))
-    faults += [f"the documents have {number} {what}" for number, most, what in ((lines, MOST_LINES, "lines"), (size, MOST_BYTES, "bytes")) if number > most]
-    faults += [f"README.md has {count} lines" for count in (text_of("README.md").count("\n"),) if count > README_LINES]
+    """There are eight documents, of so many lines and bytes at most, and README is short; PERF begins as it always did."""
+    lines, size = (sum(measured(text_of(path)) for path in DOCUMENTS) for measured in (lambda text: text.count("\n"), lambda text: len(text.encode())))
+    faults = differs(documents=(set(DOCUMENTS), EIGHT), start=(bool(START.match(text_of("docs/PERF.md"))), True))
+    counts = {"lines": (lines, MOST_LINES), "bytes": (size, MOST_BYTES), "lines of README.md": (text_of("README.md").count("\n"), README_LINES)}
+    return faults + [f"there are {number} {what}, more than {most}" for what, (number, most) in counts.items() if number > most]
+
+
+def readable(program, folder):
+    """No line and no sentence of a document is too long."""
+    faults = differs(sentences=(sentences("One. `two` three. *Four*? five"), ["One.", "Code three.", "*Four*? five"]))
     for path in DOCUMENTS:
-        faults += [f"{path}:{number} has {len(line)} characters" for number, line in enumerate(text_of(path).splitlines(), 1) if len(line) > LONGEST_LINE]
-        faults += [f"{path}: a sentence of {len(it.split())} words: {it[:60]}" for item in items(path) for it in sentences(item) if len(it.split()) > LONGEST_SENTENCE]
-    faults += [f"{size} words are taken for one sentence" for size in [len(it.split()) for it in sentences("One. `two` three. *Four*? five")] if size > 3]
-    return faults + ([] if START.match(text_of("docs/PERF.md")) else ["docs/PERF.md doesn't begin with its first line"])
+        lines = enumerate(text_of(path).splitlines(), 1)
+        faults += [f"{path}:{number} has {len(line)} characters" for number, line in lines if len(line) > LONGEST_LINE]
+        long = [text for item in items(path) for text in sentences(item) if len(text.split()) > LONGEST_SENTENCE]
+        faults += [f"{path}: a sentence of {len(text.split())} words: {text.strip()[:60]}" for text in long]
+    return faults
+
+
+def sources():
+    """The files beside the documents that may name one."""
+    found = [path for paths_of in code_files().values() for path in paths_of]
+    for name in ("tests", "tests/cases", "tests/harness", "tools", "bench", "man", "completions", "demo", "examples", ".ci", "."):
+        found += [path for path in glob.glob(f"{name}/*", root_dir=TOP) if os.path.isfile(f"{TOP}/{path}") and not path.endswith((".md", ".gz"))]
+    return found
 
 
 def mentions(program, folder):
     """Each document that a file of the repository names is there."""
-    files = subprocess.run(["git", "-C", TOP, "ls-files", "--cached", "--others", "--exclude-standard"], capture_output=True, timeout=60).stdout.decode().split("\n")
-    faults = []
-    for path in files or ():
-        if re.search(r"\.(?:rt|antt|edit|py|sh|1|fish|bash)$|(?:^|/)(?:Makefile|run|_pairtree2ocfl)$", path) and os.path.isfile(f"{TOP}/{path}"):
-            named = set(re.findall(r"\bdocs/[A-Z]+\.md\b", text_of(path))) | {f"docs/{name}" for name in re.findall(r"(?<![\w/.])[A-Z]{4,}\.md\b", text_of(path))}
-            there = {name for name in named if os.path.isfile(f"{TOP}/{name}") or os.path.isfile(f"{TOP}/{os.path.basename(name)}")}
-            faults += [f"{path} names {name}" for name in sorted(named - there)]
+    faults = differs(read=(len(sources()) > 1000, True))
+    for path in sources():
+        named = set(re.findall(r"(?<![\w/.])(?:docs/)?[A-Z]{4,}\.md\b", text_of(path)))
+        there = {name for name in named if any(os.path.isfile(f"{TOP}/{above}{name}") for above in ("", "docs/"))}
+        faults += [f"{path} names {name}" for name in sorted(named - there)]
     return faults
+
+
+def printed(kind):
+    """The lines that tools/index.py prints."""
+    done = subprocess.run([sys.executable, f"{TOP}/tools/index.py", kind], capture_output=True, check=True, timeout=60)
+    return done.stdout.decode().splitlines()
 
 
 def explained(program, folder):
     """Each public definition has a comment, and each edit one that says what the wrong body does; make model and make wrong print all of them."""
-    faults = []
-    shown = {kind: subprocess.run([sys.executable, f"{TOP}/tools/index.py", kind], capture_output=True, check=True, timeout=60).stdout.decode() for kind in ("model", "wrong")}
+    faults, model, wrong = [], printed("model"), printed("wrong")
     for crate in index.crates():
         for path in index.specs(crate):
             faults += [f"{path}: {name} has no comment" for name, text in index.definitions(path) if not text]
-            faults += [f"make model doesn't print {name}" for name, text in index.definitions(path) if f"  {name}: {text}\n" not in f"{shown['model']}\n"]
+            faults += [f"make model doesn't print {name}" for name, text in index.definitions(path) if f"  {name}: {text}" not in model]
         for name, text in index.edits(crate):
             faults += [] if text else [f"{name} of {crate} doesn't say what the wrong body does"]
-            faults += [] if f"  {text} ({name})\n" in f"{shown['wrong']}\n" else [f"make wrong doesn't print {name}"]
-    listed = {path for paths_of in code_files().values() for path in paths_of if "/must-fail/" in path}
-    return faults + ([] if len(listed) == shown["wrong"].count(".edit)") else ["make wrong prints too few"])
+            faults += [] if f"  {text} ({name})" in wrong else [f"make wrong doesn't print {name}"]
+    listed = [path for paths_of in code_files().values() for path in paths_of if path.endswith(".edit")]
+    declared = [path for paths_of in code_files().values() for path in paths_of if "/specs/" in path and not path.endswith("/Lib.antt")]
+    faults += differs(edits=(sum(line.endswith(".edit)") for line in wrong), len(listed)))
+    return faults + [f"make model passes over {path}" for path in declared if index.definitions(path) and not any(line.startswith(f"{path}: ") for line in model)]
 
 
 def heads(program, folder):
@@ -239,12 +258,14 @@ def proofs(program, folder):
     """The lemmas that Migrates.antt names for each promise are declared in the files of proofs that it says, and each promise is named."""
     text = text_of("crates/pt_move/specs/Migrates.antt")
     block = re.search(r"-- Where each promise is proved.*?\n--\n", text, re.DOTALL)[0]
-    named = re.findall(r"(\w+) \((\w+)\)", block)
-    proved = {(word, module) for paths_of in code_files().values() for path in paths_of if "/proofs/" in path and path.endswith(".antt")
-        for module in (os.path.basename(path)[:-5],) for word, wanted in named if wanted == module and re.search(rf"^ *(?:pub )?{word} :", text_of(path), re.MULTILINE)}
+    files = [path for paths_of in code_files().values() for path in paths_of if "/proofs/" in path]
+    faults = []
+    for word, module in re.findall(r"(\w+) \((\w+)\)", block):
+        there = [path for path in files if path.endswith(f"/{module}.antt")]
+        if not any(re.search(rf"^ *(?:pub )?{word} :", text_of(path), re.MULTILINE) for path in there):
+            faults.append(f"Migrates.antt names {word} of {module}")
     told = set(re.findall(r"\w+", " ".join(re.findall(r"^--   ([\w, ]+):", block, re.MULTILINE))))
-    promises = set(re.findall(r"^  pub (\w+) :", text, re.MULTILINE))
-    return [f"Migrates.antt names {word} of {module}" for word, module in named if (word, module) not in proved] + [f"Migrates.antt says of {name} not where it is proved" for name in sorted(promises ^ told)]
+    return faults + differs(promises=(told, set(re.findall(r"^  pub (\w+) :", text, re.MULTILINE))))
 
 
 def causes(program, folder):
@@ -334,6 +355,7 @@ CASES = [
     Alone("the documents' paths", paths),
     Alone("the documents' files of code", files),
     Alone("the documents' sizes", sizes),
+    Alone("the documents' lines and sentences", readable),
     Alone("the documents that other files name", mentions),
     Alone("each definition and each edit is explained", explained),
     Alone("the promises of each crate", heads),
