@@ -3,14 +3,13 @@
 //! What it promises, on a machine of pt_run:
 //!
 //! - `answer` says what words lead to, of which the first is the program's name (`EndsWith`). They are answered as `read_words` has it, and
-//!   that is done (`Obeys`, `Declines`). `names` writes the two names, by `names_to`, to the output that the machine lends, and the status is
-//!   by the answer (`TellsNames`). `migrate` makes the run of `pt_run::run_guarded_as`, from SOURCE to DEST, lenient where `--present-ok` was
-//!   given, and the status is its status; `audit` makes the audit of `pt_run::audit_guarded_as` likewise, lenient where `--skips-ok` was given.
-//!   Help and the version are written to the machine's output: 0 where they were, or nobody may read them any more, and else 3 (`TellsText`).
-//!   Refused words (2) and want of memory (3) ask nothing of the machine.
-//! - The options that have a part in what is said of a run or an audit: those of the job, `--ignore`, `--sync`, `--dry-run`, `--present-ok`,
-//!   `--skips-ok`, and `--expect`, whose log is asked for its end. `--verbose`, `--progress` and `--interval` are taken from the words into
-//!   what is wanted (`wanted_of`, a field for each), and `--quiet` beside it; what they then show is tested.
+//!   that is done (`Obeys`, `Declines`). `names` writes the two names, by `names_to`, to the output that the machine lends, and the status
+//!   is by the answer (`TellsNames`). `migrate` makes the run of pt_run from SOURCE to DEST, with all that its options say, and the status
+//!   is its status; `audit` makes the audit likewise. Help and the version are written to the machine's output: 0 where they were, or
+//!   nobody may read them any more, and else 3 (`TellsText`). Refused words (2) and want of memory (3) ask nothing of the machine.
+//! - The options that have a part in what is said of a run or an audit: those of the job, `--ignore`, `--sync`, `--dry-run`,
+//!   `--present-ok`, `--skips-ok`, and `--expect`, whose log is asked for its end. `--verbose`, `--progress`, `--interval` and `--quiet`
+//!   are taken from the words too; what they then show is tested.
 //! - `run` asks for the words that it was started with (`Started`), and ends with the status of `answer` to just these (`Ends`); where they
 //!   aren't text that is refused (2), and want of memory is 3.
 //! - `names_to`, for every layout and prefix, over every output that tells what it holds: where it answers Ok, exactly the two lines were
