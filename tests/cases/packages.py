@@ -33,6 +33,11 @@ def text_of(path):
         return file.read()
 
 
+def section(path, heading):
+    """What stands in a document below a heading, up to the next one."""
+    return text_of(path).split(f"\n## {heading}\n", 1)[1].split("\n## ", 1)[0]
+
+
 def done(*command, **options):
     """What a command wrote; an error where it failed."""
     return subprocess.run(command, capture_output=True, check=True, timeout=120, **options).stdout.decode()
@@ -55,7 +60,7 @@ def documented(program, folder):
     """Each option of the help stands in the reference, the guide and the man page, and the completions of all three shells."""
     page = text_of("man/pairtree2ocfl.1").replace("\\-", "-")
     zsh, fish = text_of("completions/_pairtree2ocfl"), text_of("completions/pairtree2ocfl.fish")
-    reference, faults = text_of("docs/REFERENCE.md").split("\n## Options\n", 1)[1].split("\n## ", 1)[0], []
+    reference, faults = section("docs/REFERENCE.md", "Options"), []
     for command, option in every_option(program):
         spelled = re.escape(option) + r"(?![\w-])"
         long = option.startswith("--")
@@ -136,7 +141,7 @@ def read_by(tool):
 
 def statuses(program, folder):
     """The guide, the man page and docs/REFERENCE.md tell each status of a run and of an audit; the program gives them."""
-    guide, page, reference = text_of("docs/GUIDE.md").split("\n## Stopping it\n", 1)[0], text_of("man/pairtree2ocfl.1"), text_of("docs/REFERENCE.md")
+    guide, page, reference = section("docs/GUIDE.md", "The run"), text_of("man/pairtree2ocfl.1"), section("docs/REFERENCE.md", "Statuses")
     rows = {name: dict(re.findall(r"^\| ([0-3]) \| (.*) \|$", text, re.MULTILINE)) for name, text in {"GUIDE": guide, "REFERENCE": reference}.items()}
     rows["the man page"] = dict(re.findall(r"^\.B ([0-3])\n(.*?)(?=^\.TP|^\.SH)", page.split(".SH EXIT STATUS")[1], re.MULTILINE | re.DOTALL))
     words = {"0": "audit", "1": "audit", "2": "lie in one another", "3": "fault"}
