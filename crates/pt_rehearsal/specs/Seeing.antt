@@ -66,7 +66,7 @@ is_met (Some w) (n ∷ m ∷ rest) = cond (bytes_eq n w.name) (w.made m) false
 abbrev pub is_folder : View → Path → Bool
 is_folder v p = v.folder (joined p) || is_itself v.filling p
 
--- what stands there now would be another than in the folder, and it is not known what
+-- what stands there may be another than in the folder, and it is not known what
 abbrev pub is_hidden : View → Path → Bool
 is_hidden v p = is_inside v.filling p || (is_met v.filled p || nat_lt v.least (length p))
 

@@ -143,7 +143,7 @@ picked n (file name bytes after) = cond (bytes_eq name n) (file name bytes none)
 picked n (other name after) = cond (bytes_eq name n) (other name none) (picked n after)
 picked n (dir name inside after) = cond (bytes_eq name n) (dir name inside none) (picked n after)
 
--- the forest with the entries of this name taken out of the directory at a path
+-- the entry of this name in the directory at a path, alone
 abbrev pub picked_at : Forest → Path → List ℕ → Forest
 picked_at f [] n = picked n f
 picked_at none (d ∷ path) n = none
