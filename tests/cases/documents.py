@@ -10,6 +10,7 @@
 - The words of code at the head of a crate's lib.rt are declared in that crate, or where `crate::word` or `word` of crate says.
 - Each public definition of crates/*/specs has a comment, and each edit of crates/*/must-fail one that says what the wrong body does: `make model` and
   `make wrong` print all of them. Each edit can be applied to the code as it stands. The lemmas that Migrates.antt names are there.
+- docs/GUARANTEES.md has each promise of a run, and README's ten guarantees lead there.
 - docs/REFERENCE.md has each cause and each fault with its number and text, docs/GUIDE.md what to do at each, docs/DESIGN.md where each cause is decided.
 """
 
@@ -268,6 +269,17 @@ def proofs(program, folder):
     return faults + differs(promises=(told, set(re.findall(r"^  pub (\w+) :", text, re.MULTILINE))))
 
 
+def guarantees(program, folder):
+    """Each promise of a run has its section in docs/GUARANTEES.md, and each of README's ten guarantees leads to a section there."""
+    promises = set(re.findall(r"^  pub (\w+) :", text_of("crates/pt_move/specs/Migrates.antt"), re.MULTILINE))
+    sections = {word for heading in re.findall(r"^### (.*)$", text_of("docs/GUARANTEES.md"), re.MULTILINE) for word in backticked(heading)}
+    ten = text_of("README.md").split("\n## Ten guarantees\n", 1)[1].split("\n## ", 1)[0]
+    told = re.findall(r"^\d+\. \*\*.*?(?=^\d+\. |^$)", ten, re.MULTILINE | re.DOTALL)
+    faults = [f"docs/GUARANTEES.md has no section for {name}" for name in sorted(promises - sections)]
+    faults += [f"a guarantee leads nowhere: {text[:40]}" for text in told if "](docs/GUARANTEES.md#" not in text]
+    return faults + differs(guarantees=(len(told), 10), promises=(len(promises) > 15, True))
+
+
 def causes(program, folder):
     """Each cause stands in the reference with its number and word, in the guide in that order, and on the design's table; each fault in reference and guide."""
     numbers = dict(re.findall(r"^cause_number cause\.(\w+) = (\d+)", text_of("crates/pt_walk/specs/Cause.antt"), re.MULTILINE))
@@ -361,6 +373,7 @@ CASES = [
     Alone("the promises of each crate", heads),
     Alone("the documents' crates", crates),
     Alone("the proofs of a run's promises", proofs),
+    Alone("the guarantees are told", guarantees),
     Alone("the causes and faults are told", causes),
     Alone("the documents' words of code", words),
     Alone("the edits that must be refused", edits),
