@@ -1,8 +1,8 @@
 use crate::Text;
-use pt_ignore::Ignored;
 use pt_name::{Layout, Share};
 use pt_object::{Algorithm, Meta};
 use pt_run::Progress;
+use pt_tree::Ignored;
 
 /// What the words ask the program to do.
 #[derive(Debug, Drop)]

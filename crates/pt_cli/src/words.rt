@@ -17,11 +17,10 @@ use crate::grammar::{
 use crate::{Command, Migrate, Named, Text};
 use clap::error::ErrorKind;
 use clap::{ArgMatches, Error};
-use pt_ignore::Ignored;
 use pt_name::{Layout, LayoutFault, Share};
 use pt_object::{Algorithm, Meta, MetaFault};
 use pt_run::Progress;
-use pt_tree::{MemoryFault, Name, NameFault};
+use pt_tree::{Ignored, MemoryFault, Name, NameFault};
 use std::alloc::{AllocError, Global};
 use std::convert::AsStr;
 use std::marker::Model;

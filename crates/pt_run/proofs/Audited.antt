@@ -6,7 +6,7 @@ use Rattle.pt_audit.specs.Failing.{AuditSays}
 use Rattle.pt_audit.specs.declared.counts.Counts.{Counts}
 use Rattle.pt_compare.specs.Root.{tree_in}
 use Rattle.pt_folder.specs.SourceHeld.{told_of as source_told}
-use Rattle.pt_ignore.specs.Ignoring.{told_without}
+use Rattle.pt_tree.specs.Ignoring.{told_without}
 use Rattle.pt_plan.specs.declared.fault.Fault.{Fault}
 use Rattle.pt_plan.specs.Job.{Job}
 use Rattle.pt_run.specs.Audits.{root_tree, store_tree}

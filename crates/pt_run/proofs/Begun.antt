@@ -7,7 +7,7 @@ use Rattle.pt_folder.specs.SourceHeld.{told_of as source_told}
 use Rattle.pt_folder.specs.declared.reading.Reading.{Reading}
 use Rattle.pt_folder.specs.declared.stuck.Stuck.{Stuck}
 use Rattle.pt_folder.specs.declared.writing.Writing.{Writing as Open}
-use Rattle.pt_ignore.specs.Ignoring.{told_without}
+use Rattle.pt_tree.specs.Ignoring.{told_without}
 use Rattle.pt_run.specs.Made.{RunsFrom, RunsOver}
 use Rattle.pt_run.specs.declared.host.Ground.{Ground}
 use Rattle.pt_run.specs.declared.guarded_run.Wanted.{Wanted}

@@ -14,7 +14,7 @@ use Rattle.pt_guard.specs.declared.places.Claim.{Claim}
 use Rattle.pt_guard.specs.declared.places.Claim.TheVariants.{Shared}
 use Rattle.pt_guard.specs.declared.places.Folder.{Folder}
 use Rattle.pt_guard.specs.declared.places.Hold.{Hold}
-use Rattle.pt_ignore.specs.Ignoring.{told_without}
+use Rattle.pt_tree.specs.Ignoring.{told_without}
 use Rattle.pt_plan.specs.declared.fault.Fault.{Fault}
 use Rattle.pt_run.specs.Made.{Guarded}
 use Rattle.pt_run.specs.declared.guarded_audit.WantedAudit.{WantedAudit}

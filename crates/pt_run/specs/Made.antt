@@ -9,7 +9,7 @@ use Rattle.pt_folder.specs.DestLaws.{Kept}
 use Rattle.pt_folder.specs.SourceHeld.{told_of as source_told}
 use Rattle.pt_folder.specs.declared.stuck.Stuck.{Stuck}
 use Rattle.pt_folder.specs.declared.writing.Writing.{Writing as Open}
-use Rattle.pt_ignore.specs.Ignoring.{told_without}
+use Rattle.pt_tree.specs.Ignoring.{told_without}
 use Rattle.pt_guard.specs.Guard.{Begins}
 use Rattle.pt_guard.specs.Paths.{Place}
 use Rattle.pt_guard.specs.declared.guard.GuardFault.{GuardFault}

@@ -7,7 +7,7 @@ use crate::host::Ground;
 use crate::log::{DurableLog, SyncsOutput};
 use crate::room::longest_made;
 use pt_folder::{HostDest, HostSource, System};
-use pt_ignore::{Ignored, Ignoring};
+use pt_tree::{Ignored, Ignoring};
 use std::alloc::Global;
 use std::io::Write;
 

@@ -14,11 +14,11 @@ use crate::telling::Telling;
 use pt_audit::Counts;
 use pt_folder::{HostSource, System};
 use pt_guard::Claim;
-use pt_ignore::Ignored;
 use pt_move::{Fault, Job};
 use pt_notices::{
     Counted, Progress, Reads, Tally, Terminals, Watched, Words, lines_expected, reason,
 };
+use pt_tree::Ignored;
 use std::alloc::AllocGlobal;
 use std::io::Write;
 use std::rt::Clock;

@@ -2,13 +2,13 @@
 ghost use Rattle.std.specs.Prelude.{⊤};
 
 use pt_guard::{Claim, Folder, Hold, Places};
-use pt_ignore::Ignored;
 use pt_memory::{MemDest, MemSource};
 use pt_memory_system::{Faults, MemorySystem};
 use pt_move::Job;
 use pt_name::{Layout, Share};
 use pt_object::{Algorithm, Meta};
 use pt_run::{Ground, Host, Progress, Syncs, Wanted, run_guarded};
+use pt_tree::Ignored;
 use pt_walk::Limits;
 use std::alloc::{AllocGlobal, Global};
 use std::io::ErrorKind;

@@ -3,28 +3,12 @@ use Rattle.std.proofs.Common.{◌≡◌, ℕ, List, ◌∷◌, true, false, refl
 use Rattle.std.specs.Prelude.{Bool, cond, Option, None, Some}
 use Rattle.std.specs.Option.{option_map}
 use Rattle.std.specs.Str.{bytes_eq}
-use Rattle.std.proofs.lemmas.Bool.{true≢false, false≢true, cases_Bool, and_parts, cond-true, cond-false}
+use Rattle.std.proofs.lemmas.Bool.{true≢false, false≢true, cases_Bool, cond-true, cond-false}
 use Rattle.pt_tree.specs.Listing.{is_before}
-use Rattle.pt_tree.specs.Name.{is_name}
 use Rattle.pt_tree.specs.Path.{Path}
 use Rattle.pt_tree.specs.Forest.{Forest, none, file, other, dir, Node, File, Dir, Other, find, comes_before, is_proper, first_name, first_node, in_front, inserted, removed, rewritten, changed}
-use Rattle.pt_tree.proofs.Names.{same_name, bytes_eq-sym, differ, before-trans, before_differs, cond-swap, cond_same}
-
-pub comes_before-trans : (n m : List ℕ) (f : Forest) → is_before n m ≡ true → comes_before m f ≡ true → comes_before n f ≡ true
-comes_before-trans n m none a b = refl
-comes_before-trans n m (file k bytes f) a b = before-trans n m k a b
-comes_before-trans n m (other k f) a b = before-trans n m k a b
-comes_before-trans n m (dir k d f) a b = before-trans n m k a b
-
--- the parts of a proper directory: the first name, the order, and the rest
-pub proper_file : (n b : List ℕ) (f : Forest) → is_proper (file n b f) ≡ true → (is_name n ≡ true) × (comes_before n f ≡ true) × (is_proper f ≡ true)
-proper_file n b f h = let p = and_parts _ _ h in let q = and_parts _ _ p.1 in (p.0, q.0, q.1)
-
-pub proper_other : (n : List ℕ) (f : Forest) → is_proper (other n f) ≡ true → (is_name n ≡ true) × (comes_before n f ≡ true) × (is_proper f ≡ true)
-proper_other n f h = let p = and_parts _ _ h in let q = and_parts _ _ p.1 in (p.0, q.0, q.1)
-
-pub proper_dir : (n : List ℕ) (d f : Forest) → is_proper (dir n d f) ≡ true → (is_name n ≡ true) × (comes_before n f ≡ true) × (is_proper f ≡ true) × (is_proper d ≡ true)
-proper_dir n d f h = let p = and_parts _ _ h in let q = and_parts _ _ p.1 in let r = and_parts _ _ q.1 in (p.0, q.0, r.1, r.0)
+pub use Rattle.pt_tree.specs.ProperParts.{comes_before-trans, proper_file, proper_other, proper_dir}
+use Rattle.pt_tree.proofs.Names.{same_name, bytes_eq-sym, differ, before_differs, cond-swap, cond_same}
 
 -- what comes before all of them isn't among them
 pub find_absent : (n : List ℕ) (f : Forest) → comes_before n f ≡ true → is_proper f ≡ true → find f n ≡ None

@@ -16,3 +16,5 @@ pub mod Renamed
 pub mod Rising
 pub mod Trees
 pub mod Written
+mod TreesWithout
+mod ToldWithout

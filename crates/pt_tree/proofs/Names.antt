@@ -8,8 +8,9 @@ use Rattle.std.specs.Cmp.Lexicographic.{slice_cmp, nat_list_cmp_total}
 use Rattle.std.specs.Str.{bytes_eq}
 use Rattle.std.proofs.lemmas.Slice.Eq.{bytes_eq-Decides}
 use Rattle.std.proofs.lemmas.Map.Text.{is_eq-slice_cmp}
-use Rattle.std.proofs.lemmas.Bool.{true≢false, false≢true, false_from_ne_true}
+use Rattle.std.proofs.lemmas.Bool.{true≢false, false_from_ne_true}
 use Rattle.pt_tree.specs.Listing.{is_before}
+pub use Rattle.pt_tree.specs.ProperParts.{before_Less, before-trans}
 
 pub same_name : (x y : List ℕ) → bytes_eq x y ≡ true → x ≡ y
 same_name x y = (bytes_eq-Decides x y).0
@@ -24,17 +25,6 @@ bytes_eq-sym x y false h = false_from_ne_true (bytes_eq y x) (λ t. true≢false
 -- one name isn't two
 pub differ : (k n m : List ℕ) → bytes_eq k n ≡ false → bytes_eq k m ≡ true → bytes_eq n m ≡ true → ⊥
 differ k n m apart km nm = true≢false (sym ((bytes_eq-Decides k n).1 (same_name k m km ∙ sym (same_name n m nm))) ∙ apart)
-
-Less-from_is_lt : (o : Ordering) → is_lt o ≡ true → o ≡ Less
-Less-from_is_lt Less h = refl
-Less-from_is_lt Equal h = absurd (false≢true h)
-Less-from_is_lt Greater h = absurd (false≢true h)
-
-pub before_Less : (x y : List ℕ) → is_before x y ≡ true → slice_cmp nat_cmp x y ≡ Less
-before_Less x y = Less-from_is_lt (slice_cmp nat_cmp x y)
-
-pub before-trans : (x y z : List ℕ) → is_before x y ≡ true → is_before y z ≡ true → is_before x z ≡ true
-before-trans x y z a b = ap is_lt (nat_list_cmp_total.trans x y z (before_Less x y a) (before_Less y z b))
 
 pub before_differs : (x y : List ℕ) → is_before x y ≡ true → bytes_eq x y ≡ false
 before_differs x y a = sym (is_eq-slice_cmp x y) ∙ ap is_eq (before_Less x y a)

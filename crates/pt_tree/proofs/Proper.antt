@@ -8,6 +8,7 @@ use Rattle.pt_tree.specs.Listing.{is_before}
 use Rattle.pt_tree.specs.Name.{is_name}
 use Rattle.pt_tree.specs.Path.{Path}
 use Rattle.pt_tree.specs.Forest.{Forest, none, file, other, dir, Node, File, Dir, Other, find, node_at, as_dir, dir_at, comes_before, is_proper, first_name, first_node, first_alone, in_front, inserted, removed, rewritten, changed, picked}
+use Rattle.pt_tree.specs.ProperParts.{cond_before, cond_proper}
 use Rattle.pt_tree.proofs.Names.{same_name, before_other}
 use Rattle.pt_tree.proofs.Finding.{comes_before-trans, proper_file, proper_other, proper_dir, find_absent, not_first}
 
@@ -136,14 +137,6 @@ proper-inserted leaf (dir k d f) x is alone absent proper =
     (λ not_before. proper-in_front leaf (dir k d f) alone (before_other k (first_name leaf) not_before q.0) proper)
 
 -- ---- a removal
-
-pub cond_proper : (t : Bool) (here there : Forest) → is_proper here ≡ true → is_proper there ≡ true → is_proper (cond t here there) ≡ true
-cond_proper true here there a b = a
-cond_proper false here there a b = b
-
-pub cond_before : (k : List ℕ) (t : Bool) (here there : Forest) → comes_before k here ≡ true → comes_before k there ≡ true → comes_before k (cond t here there) ≡ true
-cond_before k true here there a b = a
-cond_before k false here there a b = b
 
 comes_before-removed : (k n : List ℕ) (f : Forest) → is_proper f ≡ true → comes_before k f ≡ true → comes_before k (removed n f) ≡ true
 comes_before-removed k n none proper before = refl

@@ -3,6 +3,7 @@ pub mod Dest
 pub mod Failures
 pub mod Faults
 pub mod Forest
+pub mod Ignoring
 pub mod Known
 pub mod Listing
 pub mod Log
@@ -11,6 +12,8 @@ pub mod NameList
 pub mod NameText
 pub mod Path
 pub mod Pieces
+pub mod ProperLeft
+pub mod ProperParts
 pub mod Refusal
 pub mod Short
 pub mod Source

@@ -1,4 +1,5 @@
-//! Names, paths and listings; what a source, a destination and a log are; and a log over a writer.
+//! Names, paths and listings; what a source, a destination and a log are; a log over a writer; and a source without the entries of some
+//! names.
 //!
 //! A source's tree is a `Forest`: the entries of a directory in the order of their names, each a file with its bytes, a directory with its own
 //! entries, or something else. A destination's tree is a function (`Tree`): at each path a file's bytes, a folder, something else, or nothing.
@@ -26,10 +27,19 @@
 //!   itself that none changes (`keeps`).
 //! - `WriterLog`: a log over any writer, which tells what the writer tells. `write_out`: where it answers Ok all bytes were written, else a
 //!   front of them.
+//! - `Ignoring`: over any source, it tells the source's tree without the entries that have one of its names (`Ignored`), in every directory
+//!   and whatever they are and hold (`without`), and with that meets `Source`, all calls: a listing is the source's without them, in its order,
+//!   and a file that is read is the source's. Each of its calls is one of the source's, and fails where that fails. So all that `migrate`
+//!   promises of a run over it is said of the store without them.
+//! - `left_out`: none at first; a listing that is answered adds as many as were left out of the source's, up to 2^64 - 1, and each other call
+//!   none (`LeavesOut`). What a source lists that doesn't tell isn't said, so that of such a one no clause of `list` says how many they were; a
+//!   function of its own counts them there too, exactly.
 #![tactic(auto)]
 
 mod dest;
 mod faults;
+mod ignored;
+mod ignoring;
 mod kind;
 mod known;
 mod listing;
@@ -45,6 +55,8 @@ mod writer_log;
 use arrayvec::ArrayVec;
 pub use dest::Dest;
 pub use faults::{MemoryFault, TreeFault};
+pub use ignored::Ignored;
+pub use ignoring::Ignoring;
 pub use kind::Kind;
 pub use known::Known;
 pub use listing::{Listing, ListingFault};

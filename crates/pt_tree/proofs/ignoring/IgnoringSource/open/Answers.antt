@@ -1,8 +1,8 @@
 use Rattle.std.proofs.Common.{◌∙◌, ap}
 use Rattle.std.proofs.lemmas.Result.{on_ok_weaker}
-use Rattle.pt_ignore.specs.Ignoring.{told_without}
-use Rattle.pt_ignore.proofs.Told.{can_open, is_opened}
-use Rattle.pt_ignore.proofs.ignoring.IgnoringSource.open.Goals as goal
+use Rattle.pt_tree.specs.Ignoring.{told_without}
+use Rattle.pt_tree.proofs.ToldWithout.{can_open, is_opened}
+use Rattle.pt_tree.proofs.ignoring.IgnoringSource.open.Goals as goal
 
 pub open-requires : goal.open-requires
 open-requires g c = can_open _ _ _ c.requires

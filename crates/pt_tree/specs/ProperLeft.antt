@@ -5,9 +5,8 @@ use Rattle.std.proofs.lemmas.Bool.{and_from}
 use Rattle.pt_tree.specs.Forest.{Forest, none, file, other, dir, comes_before, is_proper}
 use Rattle.pt_tree.specs.Listing.{is_among}
 use Rattle.pt_tree.specs.Source.{Reading}
-use Rattle.pt_tree.proofs.Finding.{comes_before-trans, proper_file, proper_other, proper_dir}
-use Rattle.pt_tree.proofs.Proper.{cond_before, cond_proper}
-use Rattle.pt_ignore.specs.Ignoring.{reading_without, told_without, without}
+use Rattle.pt_tree.specs.ProperParts.{comes_before-trans, cond_before, cond_proper, proper_file, proper_other, proper_dir}
+use Rattle.pt_tree.specs.Ignoring.{reading_without, told_without, without}
 
 -- what comes before all entries comes before those that are left
 before-without : (names : List (List ℕ)) (n : List ℕ) (f : Forest) → is_proper f ≡ true

@@ -1,5 +1,5 @@
-use Rattle.pt_ignore.proofs.Told.{can_list, is_listed}
-use Rattle.pt_ignore.proofs.ignoring.IgnoringSource.list.Goals as goal
+use Rattle.pt_tree.proofs.ToldWithout.{can_list, is_listed}
+use Rattle.pt_tree.proofs.ignoring.IgnoringSource.list.Goals as goal
 
 pub list-requires : goal.list-requires
 list-requires g c = can_list _ _ _ c.requires

@@ -9,7 +9,7 @@ use Rattle.pt_tree.specs.Forest.{Forest, none, file, other, dir, Node, File, Dir
 use Rattle.pt_tree.specs.Listing.{Item, is_among, left_in}
 use Rattle.pt_tree.specs.Path.{Path}
 use Rattle.pt_tree.proofs.Names.{same_name}
-use Rattle.pt_ignore.specs.Ignoring.{without}
+use Rattle.pt_tree.specs.Ignoring.{without}
 
 -- what stands at an entry that is left
 abbrev pub node_without : List (List ℕ) → Node → Node

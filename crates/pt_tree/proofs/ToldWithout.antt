@@ -6,8 +6,8 @@ use Rattle.pt_tree.specs.Forest.{dir_at, file_at, listing_at, listing_of}
 use Rattle.pt_tree.specs.Listing.{Item, left_in}
 use Rattle.pt_tree.specs.Path.{Path}
 use Rattle.pt_tree.specs.Source.{CanList, CanOpen, CanRead, IsListed, IsRead, Reading, after_next, after_open}
-use Rattle.pt_ignore.specs.Ignoring.{reading_without, told_without, without}
-use Rattle.pt_ignore.proofs.Trees.{dir_found, file_found, listing-without}
+use Rattle.pt_tree.specs.Ignoring.{reading_without, told_without, without}
+use Rattle.pt_tree.proofs.TreesWithout.{dir_found, file_found, listing-without}
 
 some_of : {A : Type 0} (o : Option A) → IsSome o → (x : A) × (o ≡ Some x)
 some_of None is = absurd (cc)

@@ -1,6 +1,9 @@
+//! The names of entries that a source is to be without.
+#![tactic(auto, using(crate::proofs::ToldWithout::ignoring))]
+
 ghost use Rattle.std.specs.Prelude.{◌≡◌, ◌++◌, [], ◌∷◌, OnErr, OnOk};
 
-use pt_tree::{MemoryFault, Name};
+use crate::{MemoryFault, Name};
 use std::alloc::Global;
 use std::marker::Model;
 

@@ -1,6 +1,6 @@
 use Rattle.std.proofs.lemmas.Result.{on_ok_weaker}
-use Rattle.pt_ignore.proofs.Told.{can_read, is_read}
-use Rattle.pt_ignore.proofs.ignoring.IgnoringSource.next.Goals as goal
+use Rattle.pt_tree.proofs.ToldWithout.{can_read, is_read}
+use Rattle.pt_tree.proofs.ignoring.IgnoringSource.next.Goals as goal
 
 pub next-requires : goal.next-requires
 next-requires g c = can_read _ _ c.requires

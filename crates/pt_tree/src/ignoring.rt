@@ -1,14 +1,16 @@
+//! A source as if the entries with some names weren't there.
+#![tactic(auto, using(crate::proofs::ToldWithout::ignoring))]
+
 ghost use Rattle.std.proofs.Common.{◌∙◌, refl};
 ghost use Rattle.std.specs.Prelude.{◌≡◌, ◌+◌, ◌-◌, [], IfOk, OnErr, OnOk, length, min};
 ghost use Rattle.pt_tree.specs.Failures.{IsCounted, IsOneMoreCall, greatest_count};
 ghost use Rattle.pt_tree.specs.Listing.{left_in};
 ghost use Rattle.std.specs.Option.{option_map};
 ghost use Rattle.pt_tree.specs.Source.{CanList, CanOpen, CanRead, IsListed, IsRead, after_next, after_open};
-ghost use Rattle.pt_ignore.specs.Ignoring.{LeavesOut, told_without};
-ghost use Rattle.pt_ignore.specs.Proper.{proper_left};
+ghost use Rattle.pt_tree.specs.Ignoring.{LeavesOut, told_without};
+ghost use Rattle.pt_tree.specs.ProperLeft.{proper_left};
 
-use crate::Ignored;
-use pt_tree::{Block, Listing, NamePath, Source, TreeFault};
+use crate::{Block, Ignored, Listing, NamePath, Source, TreeFault};
 
 /// A source as if the entries with some names weren't there, whatever they are and hold.
 ///

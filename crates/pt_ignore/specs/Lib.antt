@@ -1,2 +1,0 @@
-pub mod Ignoring
-pub mod Proper
