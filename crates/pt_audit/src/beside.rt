@@ -13,8 +13,9 @@ ghost use Rattle.pt_tree.specs.Source.{Reading};
 
 use crate::survey::{Sight, Survey};
 use pt_compare::{Root, come_next, has_ended, open_standing};
+use pt_object::WellKnownName;
 use pt_plan::Fault;
-use pt_tree::{Block, Known, MemoryFault, Name, NamePath};
+use pt_tree::{Block, MemoryFault, Name, NamePath};
 use std::alloc::Global;
 
 /// What is read of the root beside the object that is scanned.
@@ -182,8 +183,8 @@ impl Beside {
 fn stored_at(alloc: Global, place: &NamePath, path: &[Name]) -> Result<NamePath, MemoryFault>
     ensures { IfOk result (λ whole. whole ≡ in_root place.now ++ in_content path.now) }
 {
-    let root = NamePath::of_known(alloc, &[Known::StorageRoot])?;
+    let root = NamePath::of_known(alloc, &[WellKnownName::StorageRoot])?;
     let place = root.followed_by(place.names())?;
-    let content = NamePath::of_known(alloc, &[Known::Version, Known::Content])?;
+    let content = NamePath::of_known(alloc, &[WellKnownName::Version, WellKnownName::Content])?;
     place.followed_by(content.names())?.followed_by(path)
 }

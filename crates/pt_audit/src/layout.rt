@@ -10,11 +10,11 @@ ghost use Rattle.pt_state.specs.States.{job_of};
 
 use pt_compare::{Root, standing};
 use pt_move::Job;
-use pt_object::root_files;
+use pt_object::{WellKnownName, root_files};
 use pt_plan::Fault;
 use pt_state::kinds::{is_dir, is_file};
 use pt_state::paths::in_storage_root;
-use pt_tree::{Block, Known, NamePath, TreeFault};
+use pt_tree::{Block, NamePath, TreeFault};
 use std::alloc::Global;
 
 /// Whether a run could go on with the root that stands: nothing stands at `ocfl`, or a directory with the three files of this
@@ -39,7 +39,7 @@ fn is_of_layout<R: Root>(alloc: Global, root: &mut R, job: &Job) -> Result<bool,
     ensures failures { IsCounted (R.failed root.old) (R.failed root.new) result }
 {
     let _entries = root.list(&NamePath::new(alloc))?;
-    let top = NamePath::of_known(alloc, &[Known::StorageRoot])?;
+    let top = NamePath::of_known(alloc, &[WellKnownName::StorageRoot])?;
     let here = standing(alloc, root, &top)?;
     if here.is_none() {
         return Ok(true);

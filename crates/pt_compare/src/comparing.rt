@@ -20,9 +20,9 @@ use crate::names::alike_names;
 use crate::paths::{content_path, joined};
 use crate::stop::Stop;
 use crate::{Difference, Finding, Root, Scanned, Why, standing};
-use pt_object::{object_declaration, sidecar};
+use pt_object::{WellKnownName, object_declaration, sidecar};
 use pt_plan::Fault;
-use pt_tree::{Kind, Known, NamePath, Source, TreeFault};
+use pt_tree::{Kind, NamePath, Source, TreeFault};
 use std::alloc::Global;
 
 /// Holds an object against what stands at its place, in the order in which a run makes it (OCFL 1.1, "Object Structure"): the
@@ -141,9 +141,9 @@ fn meet_first<R: Root>(
         (marks_of entries.old) (marks_of entries.new) result }
 {
     meet_folder(root, place, entries, NamePath::new(alloc))?;
-    let declaration = NamePath::of_known(alloc, &[Known::Declaration])?;
+    let declaration = NamePath::of_known(alloc, &[WellKnownName::Declaration])?;
     meet_bytes(root, place, entries, declaration, object_declaration())?;
-    let version = NamePath::of_known(alloc, &[Known::Version])?;
+    let version = NamePath::of_known(alloc, &[WellKnownName::Version])?;
     meet_folder(root, place, entries, version)
 }
 
@@ -244,7 +244,7 @@ fn meet_inventories<R: Root>(
         (λ r. MeetsInventories object.now.algorithm (texts_of_object object.now)
         (inside r object.now.to.now) (marks_of entries.old) (marks_of entries.new) result) }
 {
-    let path = NamePath::of_known(alloc, &[Known::Version, Known::Inventory])?;
+    let path = NamePath::of_known(alloc, &[WellKnownName::Version, WellKnownName::Inventory])?;
     let stands = meet_inventory(alloc, root, object, entries, path)?;
     meet_copies(alloc, root, object, entries, stands.as_str())
 }
@@ -267,9 +267,9 @@ fn meet_copies<R: Root>(
 {
     let line = sidecar(alloc, text, object.algorithm)?;
     let name = object.algorithm.sidecar_name();
-    let path = NamePath::of_known(alloc, &[Known::Version, name])?;
+    let path = NamePath::of_known(alloc, &[WellKnownName::Version, name])?;
     meet_bytes(root, object.to, entries, path, line.as_bytes())?;
-    let path = NamePath::of_known(alloc, &[Known::Inventory])?;
+    let path = NamePath::of_known(alloc, &[WellKnownName::Inventory])?;
     meet_bytes(root, object.to, entries, path, text.as_bytes())?;
     let path = NamePath::of_known(alloc, &[name])?;
     meet_bytes(root, object.to, entries, path, line.as_bytes())

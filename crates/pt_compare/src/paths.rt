@@ -2,7 +2,8 @@
 ghost use Rattle.std.specs.Prelude.{◌≡◌, ◌++◌, ◌≤◌, IfOk, length, take};
 ghost use Rattle.pt_compare.specs.Parts.{in_content};
 
-use pt_tree::{Known, MemoryFault, NamePath};
+use pt_object::WellKnownName;
+use pt_tree::{MemoryFault, NamePath};
 use std::alloc::Global;
 
 /// A path with another behind it. `Memory` where a growth was refused.
@@ -22,7 +23,10 @@ pub(crate) fn content_path(
     requires { names ≤ length path.now }
     ensures { IfOk result (λ whole. whole ≡ in_content (take names path.now)) }
 {
-    NamePath::of_known_with_room(alloc, &[Known::Version, Known::Content], names)?.followed_by(
-        &path.names()[..names],
-    )
+    NamePath::of_known_with_room(
+        alloc,
+        &[WellKnownName::Version, WellKnownName::Content],
+        names,
+    )?
+    .followed_by(&path.names()[..names])
 }

@@ -10,14 +10,14 @@ ghost use Rattle.pt_plan.specs.declared.phase.Stage.TheVariants as stage;
 ghost use Rattle.pt_state.specs.Turns.{TakesTurn, WroteBy};
 ghost use Rattle.pt_state.specs.States.{job_of};
 ghost use Rattle.pt_tree.specs.Dest.{MayMake};
-ghost use Rattle.pt_tree.specs.Known.{known_text};
+ghost use Rattle.pt_object.specs.WellKnown.{known_text};
 ghost use Rattle.pt_make.specs.Making.{HasContentsOfRows, HasFedAt, HasFedInventory, IsFedFor, IsFedMore, in_folder, inventory_held, inventory_part, makes_file, sidecar_part};
 
-use pt_object::{Algorithm, Digest, Hasher, InventoryPieces, sidecar_of};
+use pt_object::{Algorithm, Digest, Hasher, InventoryPieces, WellKnownName, sidecar_of};
 use pt_plan::{Fault, Object, Part, Phase, Stage};
 use pt_state::files::put_file;
 use pt_state::{Outside, State};
-use pt_tree::{Known, MemoryFault, NamePath};
+use pt_tree::{MemoryFault, NamePath};
 use std::alloc::Global;
 
 // A folder of an object that holds an inventory.
@@ -44,7 +44,7 @@ pub(crate) fn make_inventory<O: Outside>(
         (phase.Carrying object (stage.Make (inventory_part folder)))
         (state.old, out.old) (state.new, out.new) result }
 {
-    let path = path_in(state.alloc, folder, Known::Inventory)?;
+    let path = path_in(state.alloc, folder, WellKnownName::Inventory)?;
     let mut hasher = hasher_for(folder, state.job.algorithm);
     put_text(&path, text_of(state, &object)?, &mut hasher, out)?;
     match hasher {
@@ -187,11 +187,14 @@ fn sidecar_path(
 }
 
 // The path of what has this name in a folder.
-fn path_in(alloc: Global, folder: Folder, name: Known) -> Result<NamePath, MemoryFault>
+fn path_in(alloc: Global, folder: Folder, name: WellKnownName) -> Result<NamePath, MemoryFault>
     ensures { IfOk result (λ path. path ≡ in_folder folder (known_text name ∷ [])) }
 {
     match folder {
-        Folder::Version => NamePath::of_known(alloc, &[Known::Staging, Known::Version, name]),
-        Folder::Top => NamePath::of_known(alloc, &[Known::Staging, name]),
+        Folder::Version => NamePath::of_known(
+            alloc,
+            &[WellKnownName::Staging, WellKnownName::Version, name],
+        ),
+        Folder::Top => NamePath::of_known(alloc, &[WellKnownName::Staging, name]),
     }
 }

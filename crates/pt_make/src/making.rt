@@ -14,11 +14,11 @@ ghost use Rattle.pt_make.specs.Making.{IsReadyFor};
 
 use crate::contents::{make_content, next_content};
 use crate::inventories::{Folder, make_inventory, make_sidecar};
-use pt_object::object_declaration;
+use pt_object::{WellKnownName, object_declaration};
 use pt_plan::{Fault, Object, Part, Phase, Position, Stage};
 use pt_state::files::put_file;
 use pt_state::{Outside, State};
-use pt_tree::{Known, NamePath};
+use pt_tree::NamePath;
 
 /// Makes a part of an object: its folder in `staging`, the declaration, the version's folder, the contents one after
 /// another, and the inventory with its sidecar, first in the version's folder and then at the top (OCFL 1.1, "Object
@@ -53,7 +53,7 @@ fn make_staging<O: Outside>(state: &State, object: Object, out: &mut O) -> Resul
     ensures turn { TakesTurn O.Outside (0, 0) (phase.Carrying object (stage.Make part.Staging))
         (state.now, out.old) (state.now, out.new) result }
 {
-    let path = NamePath::of_known(state.alloc, &[Known::Staging])?;
+    let path = NamePath::of_known(state.alloc, &[WellKnownName::Staging])?;
     out.mkdir(&path)?;
     Ok(Phase::Carrying(object, Stage::Make(Part::Declaration)))
 }
@@ -64,7 +64,10 @@ fn make_declaration<O: Outside>(state: &State, object: Object, out: &mut O) -> R
     ensures turn { TakesTurn O.Outside (0, 0) (phase.Carrying object (stage.Make part.Declaration))
         (state.now, out.old) (state.now, out.new) result }
 {
-    let path = NamePath::of_known(state.alloc, &[Known::Staging, Known::Declaration])?;
+    let path = NamePath::of_known(
+        state.alloc,
+        &[WellKnownName::Staging, WellKnownName::Declaration],
+    )?;
     put_file(out, &path, object_declaration())?;
     Ok(Phase::Carrying(object, Stage::Make(Part::Version)))
 }
@@ -75,7 +78,10 @@ fn make_version<O: Outside>(state: &State, object: Object, out: &mut O) -> Resul
     ensures turn { TakesTurn O.Outside (0, 0) (phase.Carrying object (stage.Make part.Version))
         (state.now, out.old) (state.now, out.new) result }
 {
-    let path = NamePath::of_known(state.alloc, &[Known::Staging, Known::Version])?;
+    let path = NamePath::of_known(
+        state.alloc,
+        &[WellKnownName::Staging, WellKnownName::Version],
+    )?;
     out.mkdir(&path)?;
     let first = Position {
         row: 0,

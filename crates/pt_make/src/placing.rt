@@ -10,10 +10,11 @@ ghost use Rattle.pt_state.specs.States.{job_of};
 ghost use Rattle.pt_state.specs.Turns.{TakesTurn};
 ghost use Rattle.pt_tree.specs.Dest.{MayMove};
 
+use pt_object::WellKnownName;
 use pt_plan::{Fault, Object, Phase, Stage};
 use pt_state::paths::{front_in_storage_root, in_storage_root};
 use pt_state::{Outside, State};
-use pt_tree::{Kind, Known, NamePath};
+use pt_tree::{Kind, NamePath};
 
 /// Makes a tuple directory on the way to an object's place, where it is absent (extension 0003).
 pub fn make_tuple<O: Outside>(
@@ -75,7 +76,7 @@ pub fn rename<O: Outside>(state: &State, object: Object, out: &mut O) -> Result<
     ensures turn { TakesTurn O.Outside (0, 0) (phase.Carrying object stage.Rename)
         (state.now, out.old) (state.now, out.new) result }
 {
-    let from = NamePath::of_known(state.alloc, &[Known::Staging])?;
+    let from = NamePath::of_known(state.alloc, &[WellKnownName::Staging])?;
     let to = in_storage_root(state.alloc, &object.place)?;
     move_object(state, object, &from, &to, out)
 }

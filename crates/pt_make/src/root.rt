@@ -14,13 +14,13 @@ ghost use Rattle.pt_tree.specs.Dest.{MayMake, MayMove};
 ghost use Rattle.pt_state.specs.Turns.{TakesTurn};
 ghost use Rattle.pt_make.specs.Root.{IsFileAt, IsItemAt, IsRootItem};
 
-use pt_object::root_files;
+use pt_object::{WellKnownName, root_files};
 use pt_plan::{Fault, Opening, Phase};
 use pt_state::files::put_file;
 use pt_state::kinds::is_file;
 use pt_state::paths::{in_staging, in_storage_root};
 use pt_state::{Outside, State};
-use pt_tree::{Kind, Known, MemoryFault, NamePath};
+use pt_tree::{Kind, MemoryFault, NamePath};
 use std::alloc::Global;
 
 /// Asks whether `staging` is there.
@@ -28,7 +28,7 @@ pub fn staging<O: Outside>(state: &State, out: &mut O) -> Result<Phase, Fault>
     ensures turn { TakesTurn O.Outside (0, 1) (phase.Opening opening.Staging)
         (state.now, out.old) (state.now, out.new) result }
 {
-    let path = NamePath::of_known(state.alloc, &[Known::Staging])?;
+    let path = NamePath::of_known(state.alloc, &[WellKnownName::Staging])?;
     match out.kind(&path)? {
         None => Ok(Phase::Opening(Opening::Root)),
         Some(_) => Err(Fault::StagingLeft),
@@ -40,7 +40,7 @@ pub fn root<O: Outside>(state: &State, out: &mut O) -> Result<Phase, Fault>
     ensures turn { TakesTurn O.Outside (0, 1) (phase.Opening opening.Root)
         (state.now, out.old) (state.now, out.new) result }
 {
-    let path = NamePath::of_known(state.alloc, &[Known::StorageRoot])?;
+    let path = NamePath::of_known(state.alloc, &[WellKnownName::StorageRoot])?;
     match out.kind(&path)? {
         None => Ok(Phase::Opening(Opening::RootMake(0))),
         Some(Kind::Dir) => Ok(Phase::Opening(Opening::RootCheck(0))),
@@ -105,13 +105,17 @@ fn root_folder(alloc: Global, item: u8) -> Result<NamePath, MemoryFault>
     ensures { (tuples : Tuples) → IfOk result (λ path. IsRootItem tuples item (MakeFolder path)) }
 {
     if item == 0 {
-        NamePath::of_known(alloc, &[Known::Staging])
+        NamePath::of_known(alloc, &[WellKnownName::Staging])
     } else if item == 1 {
-        NamePath::of_known(alloc, &[Known::Staging, Known::Extensions])
+        NamePath::of_known(alloc, &[WellKnownName::Staging, WellKnownName::Extensions])
     } else {
         NamePath::of_known(
             alloc,
-            &[Known::Staging, Known::Extensions, Known::Extension],
+            &[
+                WellKnownName::Staging,
+                WellKnownName::Extensions,
+                WellKnownName::Extension,
+            ],
         )
     }
 }
@@ -134,8 +138,8 @@ pub fn rename_root<O: Outside>(state: &State, out: &mut O) -> Result<Phase, Faul
     ensures turn { TakesTurn O.Outside (0, 0) (phase.Opening opening.RootRename)
         (state.now, out.old) (state.now, out.new) result }
 {
-    let from = NamePath::of_known(state.alloc, &[Known::Staging])?;
-    let to = NamePath::of_known(state.alloc, &[Known::StorageRoot])?;
+    let from = NamePath::of_known(state.alloc, &[WellKnownName::Staging])?;
+    let to = NamePath::of_known(state.alloc, &[WellKnownName::StorageRoot])?;
     move_root(state, &from, &to, out)
 }
 

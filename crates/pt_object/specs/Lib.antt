@@ -28,3 +28,4 @@ pub mod Tables
 pub mod Tokens
 pub mod VersionLaws
 pub mod VersionState
+pub mod WellKnown

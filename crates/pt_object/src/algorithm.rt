@@ -1,9 +1,9 @@
 ghost use Rattle.std.specs.Prelude.{◌≡◌};
 ghost use Rattle.pt_object.specs.Algorithm.{algorithm_word};
 ghost use Rattle.pt_object.specs.Object.{sidecar_name};
-ghost use Rattle.pt_tree.specs.Known.{known_text};
+ghost use Rattle.pt_object.specs.WellKnown.{known_text};
 
-use pt_tree::Known;
+use crate::WellKnownName;
 
 /// The digest algorithms that an inventory may name (OCFL 1.1, "Digests").
 #[derive(Clone, Copy, Debug, PartialEq, Eq)]
@@ -24,12 +24,12 @@ impl Algorithm {
     }
 
     /// The name of an inventory's sidecar (OCFL 1.1, "Inventory Digest").
-    pub fn sidecar_name(self) -> Known
+    pub fn sidecar_name(self) -> WellKnownName
         ensures { known_text result ≡ sidecar_name self }
     {
         match self {
-            Algorithm::Sha512 => Known::Sha512Sidecar,
-            Algorithm::Sha256 => Known::Sha256Sidecar,
+            Algorithm::Sha512 => WellKnownName::Sha512Sidecar,
+            Algorithm::Sha256 => WellKnownName::Sha256Sidecar,
         }
     }
 }

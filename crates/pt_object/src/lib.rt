@@ -4,6 +4,7 @@
 //!
 //! - `Hasher` (`feed`, `feed_bytes`, `end`): the digest of the blocks and pieces joined. It is its core, and nothing else (`IsItsCore`).
 //!   `Digest`: its bytes, with their order and their hex.
+//! - `WellKnownName`: the names of a store's, a root's and an object's own entries are names, with these texts.
 //! - `Rows`, `Contents`: the lists that they say. `note`: adds a digest exactly where no earlier one is equal, and leaves all as before where
 //!   memory runs out. `first_counted`: finds it with at most as many comparisons as the length has binary digits.
 //! - `Meta::of`: accepts exactly the moments of RFC 3339 to the second with a date of the calendar, and a name that isn't empty.
@@ -41,6 +42,7 @@ mod ring;
 mod root;
 mod rows;
 mod state;
+mod well_known;
 
 pub use algorithm::Algorithm;
 pub use contents::{Content, Contents};
@@ -51,3 +53,4 @@ pub use inventories::{InventoryPieces, inventory};
 pub use meta::{Meta, MetaFault};
 pub use root::{RootFiles, root_files};
 pub use rows::{Row, Rows};
+pub use well_known::WellKnownName;

@@ -3,10 +3,11 @@ ghost use Rattle.std.specs.String.{string_bytes};
 ghost use Rattle.serde_json.specs.View.{view};
 ghost use Rattle.pt_object.specs.RootFiles.{config_text, config_tree, files_lent, layout_text, root_files_of};
 
+use crate::WellKnownName;
 use crate::files::ROOT_DECLARATION;
 use crate::members::put_text;
 use pt_name::Layout;
-use pt_tree::{Known, MemoryFault, NamePath};
+use pt_tree::{KnownName, MemoryFault, NamePath};
 use serde_json::{Map, Value, json};
 use std::alloc::{AllocError, Global};
 use std::marker::Model;
@@ -46,11 +47,15 @@ pub fn root_files(alloc: Global, layout: Layout) -> Result<RootFiles, MemoryFaul
 {
     let mut files = Vec::with_capacity(alloc, 3)?;
     let declaration = String::from_str(alloc, ROOT_DECLARATION)?;
-    let path = NamePath::of_known(alloc, &[Known::RootDeclaration])?;
+    let path = NamePath::of_known(alloc, &[WellKnownName::RootDeclaration])?;
     files.push((path, declaration))?;
-    let path = NamePath::of_known(alloc, &[Known::LayoutFile])?;
+    let path = NamePath::of_known(alloc, &[WellKnownName::LayoutFile])?;
     files.push((path, layout_file(alloc)?))?;
-    let configuration = [Known::Extensions, Known::Extension, Known::Configuration];
+    let configuration = [
+        WellKnownName::Extensions,
+        WellKnownName::Extension,
+        WellKnownName::Configuration,
+    ];
     let path = NamePath::of_known(alloc, &configuration)?;
     files.push((path, config_file(alloc, layout.size(), layout.count())?))?;
     Ok(RootFiles { files })
@@ -59,7 +64,7 @@ pub fn root_files(alloc: Global, layout: Layout) -> Result<RootFiles, MemoryFaul
 fn layout_file(alloc: Global) -> Result<String, MemoryFault>
     ensures { IfOk result (λ text. string_bytes text ≡ layout_text) }
 {
-    let extension = Known::Extension.text();
+    let extension = WellKnownName::Extension.text();
     let value = json!(in alloc; {"description": DESCRIPTION, "extension": extension})?;
     Ok(value.to_string(alloc)?)
 }
@@ -81,7 +86,7 @@ fn config(alloc: Global, size: u32, count: u32) -> Result<Value, AllocError>
         &mut members,
         alloc,
         "extensionName",
-        Known::Extension.text(),
+        WellKnownName::Extension.text(),
     )?;
     serde_json::put(&mut members, alloc, "numberOfTuples", Value::from(count))?;
     serde_json::put(&mut members, alloc, "tupleSize", Value::from(size))?;

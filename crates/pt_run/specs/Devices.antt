@@ -7,7 +7,7 @@ use Rattle.pt_folder.specs.declared.source.HostSource.{HostSource}
 use Rattle.pt_folder.specs.declared.system.Handle.{Ghosts as OfHandle}
 use Rattle.pt_folder.specs.declared.system.Input.{Ghosts as OfInput}
 use Rattle.pt_folder.specs.declared.system.System.{Ghosts as OfSystem}
-use Rattle.pt_ignore.specs.Ignoring.{told_without}
+use Rattle.pt_tree.specs.Ignoring.{told_without}
 use Rattle.pt_plan.specs.World.{World}
 use Rattle.pt_tree.specs.Dest.{Writing}
 

@@ -13,11 +13,12 @@ ghost use Rattle.pt_state.specs.Turns.{TakesTurn};
 ghost use Rattle.pt_scan.specs.Store.{PrefixFails, kind_if_named};
 
 use pt_name::{PrefixFault, read_prefix};
+use pt_object::WellKnownName;
 use pt_plan::{Fault, Opening, Phase};
 use pt_state::files::read_first;
 use pt_state::kinds::{is_dir, is_file};
 use pt_state::{Outside, State};
-use pt_tree::{Block, Kind, Known, Listing, NamePath};
+use pt_tree::{Block, Kind, KnownName, Listing, NamePath};
 use std::alloc::Global;
 
 /// Lists the top.
@@ -31,15 +32,15 @@ pub fn begin<O: Outside>(state: &State, out: &mut O) -> Result<Phase, Fault>
     if !is_store(&listing) {
         return Err(Fault::NotPairtree);
     }
-    Ok(Phase::Opening(Opening::Prefix(kind_in(&listing, Known::PrefixFile.text()))))
+    Ok(Phase::Opening(Opening::Prefix(kind_in(&listing, WellKnownName::PrefixFile.text()))))
 }
 
 // Whether a top lists what a store has.
 fn is_store(listing: &Listing) -> bool
     ensures { result ≡ lists_store listing.now }
 {
-    is_file(kind_in(listing, Known::VersionFile.text()))
-        && is_dir(kind_in(listing, Known::PairtreeRoot.text()))
+    is_file(kind_in(listing, WellKnownName::VersionFile.text()))
+        && is_dir(kind_in(listing, WellKnownName::PairtreeRoot.text()))
 }
 
 // The kind of the entry of this name.
@@ -85,7 +86,7 @@ pub fn prefix<O: Outside>(
         Some(Kind::File) => {}
         Some(_) => return Err(Fault::Prefix),
     }
-    let path = NamePath::of_known(state.alloc, &[Known::PrefixFile])?;
+    let path = NamePath::of_known(state.alloc, &[WellKnownName::PrefixFile])?;
     read_first(out, &path, &mut state.block)?;
     state.prefix = prefix_of(state.alloc, &state.block)?;
     Ok(Phase::Opening(Opening::Staging))

@@ -10,11 +10,12 @@ ghost use Rattle.pt_walk.specs.Trail.{names_to, trail_path};
 ghost use Rattle.pt_state.specs.Turns.{TakesTurn};
 ghost use Rattle.pt_scan.specs.Walking.{CanPassShorty, EntersSite, IsAtShorty, PassesShorty};
 
+use pt_object::WellKnownName;
 use pt_plan::{Fault, Phase};
 use pt_state::lines::put_skip;
 use pt_state::paths::{entry_path, in_pairtree};
 use pt_state::{Outside, State};
-use pt_tree::{Known, MemoryFault, NamePath};
+use pt_tree::{MemoryFault, NamePath};
 use pt_walk::{At, Cause, Trail, is_shorty};
 
 /// Lists `pairtree_root` and enters it; nothing is entered yet. Gives the phase that judges it.
@@ -26,7 +27,7 @@ pub fn open_root<O: Outside>(state: &mut State, out: &mut O) -> Result<Phase, Fa
     ensures turn { TakesTurn O.Outside (1, 0) (phase.Opening opening.OpenRoot)
         (state.old, out.old) (state.new, out.new) result }
 {
-    let path = NamePath::of_known(state.alloc, &[Known::PairtreeRoot])?;
+    let path = NamePath::of_known(state.alloc, &[WellKnownName::PairtreeRoot])?;
     let listing = out.list(&path)?;
     state.trail.enter(listing)?;
     Ok(Phase::Judge)

@@ -7,8 +7,9 @@ ghost use Rattle.pt_plan.specs.TurnWalk.{in_pairtree as in_pairtree_of, in_root}
 ghost use Rattle.pt_tree.specs.Path.{joined};
 ghost use Rattle.pt_walk.specs.Trail.{names_to};
 
+use pt_object::WellKnownName;
 use pt_plan::Object;
-use pt_tree::{Known, MemoryFault, Name, NamePath};
+use pt_tree::{MemoryFault, Name, NamePath};
 use pt_walk::Trail;
 use std::alloc::Global;
 
@@ -16,7 +17,7 @@ use std::alloc::Global;
 pub fn in_pairtree(mut path: NamePath) -> Result<NamePath, MemoryFault>
     ensures { IfOk result (λ whole. whole ≡ in_pairtree_of path) }
 {
-    path.push_front(Name::from(Known::PairtreeRoot))?;
+    path.push_front(Name::of_known(WellKnownName::PairtreeRoot))?;
     Ok(path)
 }
 
@@ -24,7 +25,7 @@ pub fn in_pairtree(mut path: NamePath) -> Result<NamePath, MemoryFault>
 pub fn in_storage_root(alloc: Global, path: &NamePath) -> Result<NamePath, MemoryFault>
     ensures { IfOk result (λ whole. whole ≡ in_root path.now) }
 {
-    NamePath::of_known_with_room(alloc, &[Known::StorageRoot], path.len())?.followed_by(
+    NamePath::of_known_with_room(alloc, &[WellKnownName::StorageRoot], path.len())?.followed_by(
         path.names(),
     )
 }
@@ -38,7 +39,7 @@ pub fn front_in_storage_root(
     ensures { IfOk result (λ whole. whole ≡ in_root (take names path.now)) }
 {
     let most = names.min(path.len());
-    NamePath::of_known_with_room(alloc, &[Known::StorageRoot], most)?.followed_by(
+    NamePath::of_known_with_room(alloc, &[WellKnownName::StorageRoot], most)?.followed_by(
         &path.names()[..most],
     )
 }
@@ -47,7 +48,9 @@ pub fn front_in_storage_root(
 pub fn in_staging(alloc: Global, path: &NamePath) -> Result<NamePath, MemoryFault>
     ensures { IfOk result (λ whole. whole ≡ staging ++ path.now) }
 {
-    NamePath::of_known_with_room(alloc, &[Known::Staging], path.len())?.followed_by(path.names())
+    NamePath::of_known_with_room(alloc, &[WellKnownName::Staging], path.len())?.followed_by(
+        path.names(),
+    )
 }
 
 /// The path of the entry at a trail's place, from below `pairtree_root` on; the innermost listing's at its end.
@@ -86,7 +89,11 @@ pub fn content_path(alloc: Global, path: &NamePath, names: usize) -> Result<Name
     requires { names ≤ length path.now }
     ensures { IfOk result (λ whole. whole ≡ in_content (take names path.now)) }
 {
-    let above = [Known::Staging, Known::Version, Known::Content];
+    let above = [
+        WellKnownName::Staging,
+        WellKnownName::Version,
+        WellKnownName::Content,
+    ];
     NamePath::of_known_with_room(alloc, &above, names)?.followed_by(&path.names()[..names])
 }
 

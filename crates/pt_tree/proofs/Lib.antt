@@ -5,7 +5,6 @@ pub mod Below
 pub mod Canonical
 pub mod Finding
 pub mod Held
-pub mod KnownNames
 pub mod Leaving
 pub mod Names
 pub mod Paths

@@ -4,7 +4,6 @@ pub mod Failures
 pub mod Faults
 pub mod Forest
 pub mod Ignoring
-pub mod Known
 pub mod Listing
 pub mod Log
 pub mod Name

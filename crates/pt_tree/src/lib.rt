@@ -17,7 +17,7 @@
 //!
 //! - `Name::of`: accepts exactly 1 to 255 bytes of UTF-8 without `/` and NUL that are neither `.` nor `..`, and refuses the rest in a fixed
 //!   order.
-//! - `Known`: the names that a run knows beforehand are names, with these texts. A name that is made of one or copied is that name.
+//! - `KnownName`: each name of an enum of names that a program knows beforehand is a name. One that is made of it or copied is that name.
 //! - `NamePath`: is the list of its names (`push`, `join`, `get`). `of_text` cuts out of a text what `join` writes, and refuses it exactly as
 //!   the first piece that is no name is refused. `Listing`: the list of its names and kinds, which rise (`add`, `get`); `leave_out` takes away
 //!   exactly the entries with some names.
@@ -58,7 +58,7 @@ pub use faults::{MemoryFault, TreeFault};
 pub use ignored::Ignored;
 pub use ignoring::Ignoring;
 pub use kind::Kind;
-pub use known::Known;
+pub use known::KnownName;
 pub use listing::{Listing, ListingFault};
 pub use log::Log;
 pub use name::{Name, NameFault};

@@ -5,13 +5,12 @@ ghost use Rattle.std.specs.Cmp.Lexicographic.{slice_cmp, nat_list_eq_equiv, nat_
 ghost use Rattle.std.specs.Ordering.{nat_cmp};
 ghost use Rattle.std.proofs.Common.{rules};
 ghost use Rattle.pt_tree.specs.Name.{name_refusal, is_forbidden_name, is_name, name_number};
-ghost use Rattle.pt_tree.specs.Known.{known_text};
 ghost use Rattle.pt_tree.specs.NameText.{text_bytes};
 ghost use Rattle.pt_tree.specs.Short.{short_bytes};
 ghost use Rattle.pt_tree.specs.Refusal.{Answers};
 
 use crate::short::Short;
-use crate::{Known, MemoryFault};
+use crate::{KnownName, MemoryFault};
 use std::alloc::{AllocError, Global};
 use std::cmp::Ordering;
 use std::fmt;
@@ -63,7 +62,7 @@ pub struct Name {
 // The text of a name. Most names of a store are short, and take no memory of their own then.
 #[derive(Drop)]
 enum Text {
-    Known(Known),
+    Known(&'static str),
     Short(Short),
     Shared(Rc<Vec<u8>>),
 }
@@ -109,13 +108,22 @@ impl Name {
         }
     }
 
+    /// A name that is known beforehand. It takes no memory.
+    pub fn of_known<K: KnownName>(known: K) -> Name
+        ensures { result ≡ K.known_text known }
+    {
+        Name {
+            text: Text::Known(known.text()),
+        }
+    }
+
     /// The bytes.
     pub fn bytes(&self) -> &[u8]
         ensures bytes { result.now ≡ self.now }
         ensures name { IsTrue (is_name self.now) }
     {
         match &self.text {
-            Text::Known(known) => known.text().as_bytes(),
+            Text::Known(known) => known.as_bytes(),
             Text::Short(short) => short.bytes(),
             Text::Shared(bytes) => bytes.as_slice(),
         }
@@ -138,7 +146,7 @@ impl Name {
     {
         match &self.text {
             Text::Short(short) => short.add_to(text),
-            Text::Known(known) => Ok(text.extend_from_slice(known.text().as_bytes())?),
+            Text::Known(known) => Ok(text.extend_from_slice(known.as_bytes())?),
             Text::Shared(bytes) => Ok(text.extend_from_slice(bytes.as_slice())?),
         }
     }
@@ -182,17 +190,6 @@ impl Clone for Name {
             Text::Shared(bytes) => Text::Shared(bytes.clone()?),
         };
         Ok(Name { text })
-    }
-}
-
-impl From<Known> for Name {
-    ghost from_gives = { λ known name. name ≡ known_text known };
-
-    #[tactic(auto, using(crate::proofs::KnownNames::known_is_name))]
-    fn from(known: Known) -> Name {
-        Name {
-            text: Text::Known(known),
-        }
     }
 }
 

@@ -4,7 +4,6 @@ ghost use Rattle.std.specs.Cmp.{partial_equiv_from_equiv};
 ghost use Rattle.std.specs.Cmp.Lexicographic.{nat_list_eq_equiv, lists_equiv};
 ghost use Rattle.std.specs.Option.{option_copied};
 ghost use Rattle.std.specs.Option.{option_map};
-ghost use Rattle.pt_tree.specs.Known.{known_text};
 ghost use Rattle.pt_tree.specs.Name.{AreNames, is_name};
 ghost use Rattle.pt_tree.specs.NameList.{held_names};
 ghost use Rattle.pt_tree.specs.Pieces.{IsRefusal, names_in};
@@ -13,7 +12,7 @@ ghost use Rattle.pt_tree.specs.Path.{joined, rest_below, same_path, split_path, 
 use crate::name_list::NameList;
 use crate::pieces::add_pieces;
 use crate::short::{ROOM, add_zeros};
-use crate::{Known, MemoryFault, Name, NameFault};
+use crate::{KnownName, MemoryFault, Name, NameFault};
 use std::alloc::Global;
 use std::fmt;
 use std::marker::Model;
@@ -54,6 +53,15 @@ impl NamePath {
         }
     }
 
+    /// The empty path, with room for so many names. `Memory` where that was refused.
+    pub fn with_room(alloc: Global, room: usize) -> Result<NamePath, MemoryFault>
+        ensures { IfOk result (λ path. path ≡ []) }
+    {
+        Ok(NamePath {
+            names: NameList::Own(Vec::with_capacity(alloc, room)?),
+        })
+    }
+
     /// The path of these names, for keeping: of one name, and of more than eight, a copy takes no memory. `Memory` where a growth was refused.
     pub fn shared(alloc: Global, names: &[Name]) -> Result<NamePath, MemoryFault>
         ensures { IfOk result (λ path. path ≡ names.now) }
@@ -64,23 +72,23 @@ impl NamePath {
     }
 
     /// The path of these names. `Memory` where a growth was refused.
-    pub fn of_known(alloc: Global, names: &[Known]) -> Result<NamePath, MemoryFault>
-        ensures { IfOk result (λ path. path ≡ map known_text names.now) }
+    pub fn of_known<K: KnownName>(alloc: Global, names: &[K]) -> Result<NamePath, MemoryFault>
+        ensures { IfOk result (λ path. path ≡ map K.known_text names.now) }
     {
         NamePath::of_known_with_room(alloc, names, 0)
     }
 
     /// The path of these names, with room for so many more. `Memory` where a growth was refused.
-    pub fn of_known_with_room(
+    pub fn of_known_with_room<K: KnownName>(
         alloc: Global,
-        names: &[Known],
+        names: &[K],
         room: usize,
     ) -> Result<NamePath, MemoryFault>
-        ensures { IfOk result (λ path. path ≡ map known_text names.now) }
+        ensures { IfOk result (λ path. path ≡ map K.known_text names.now) }
     {
         let mut list = Vec::with_capacity(alloc, names.len().saturating_add(room))?;
         for name in names {
-            list.push(Name::from(*name))?;
+            list.push(Name::of_known(*name))?;
         }
         Ok(NamePath {
             names: NameList::Own(list),

@@ -113,7 +113,7 @@ impl Trail {
         let outer = self.frames.len().saturating_sub(1);
         // There is room for the entry and for what stands above the trail too.
         let room = outer.saturating_add(2);
-        let mut path = NamePath::of_known_with_room(*self.frames.allocator(), &[], room)?;
+        let mut path = NamePath::with_room(*self.frames.allocator(), room)?;
         for frame in &self.frames[..outer] {
             frame.add_name(&mut path)?;
         }
