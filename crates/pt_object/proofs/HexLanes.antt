@@ -1,9 +1,13 @@
 -- Sixteen bytes in hex, as the lanes of two vectors.
-use Rattle.std.proofs.Common.{◌≡◌, ℕ, ◌+◌, ◌*◌, ◌/◌, ◌%◌, ◌^◌, ◌<◌, ◌≤◌, List, [], ◌∷◌, ◌++◌, map, length, get_or, take, drop, replicate, slice_index, bit_and, refl, sym, append_assoc, take-add, length-append, length-drop, length-take-le, ap, subst, ◌∙◌, arith, w8, Fits}
+use Rattle.std.proofs.Common.{◌≡◌, ℕ, zero-add, Bool, cond, ltb, ◌-◌, ◌+◌, ◌*◌, ◌/◌, ◌%◌, ◌^◌, ◌<◌, ◌≤◌, List, [], ◌∷◌, ◌++◌, map, length, get_or, take, drop, replicate, slice_index, bit_and, refl, sym, append_assoc, take-add, length-append, length-drop, length-take-le, ap, subst, ◌∙◌, arith, w8, Fits}
+use Rattle.std.specs.List.{All, range_with_len}
 use Rattle.std.proofs.lemmas.List.{get_or-map, length-map, ext_get_or, take_at}
+use Rattle.std.proofs.lemmas.List.Elements.{All-from_get_or, All-get_or}
+use Rattle.std.proofs.lemmas.List.FromFn.{get_or-map-range_with_len}
 use Rattle.std.proofs.lemmas.Nat.{and_le_r, and_mask}
-use Rattle.std.proofs.lemmas.Simd.{Each1-all, Each1-get_or, Each1-weaker, Each1-zip2, Each2-splat, below_from_Fits, get_or-swz_l_below, length-chunk, length-swz_l, length-zip2, put_chunk_is, pick_l_whole, swz_l, SwzOk, SwzOk-from_below, zip2_splat}
-use lib.Lanes.{chunk, zip2, pick_l, put_chunk, Each1}
+use Rattle.std.proofs.lemmas.Simd.{Each1-all, Each1-get_or, Each1-weaker, Each1-zip2, Each2-splat, below_from_Fits, length-chunk, map-map, put_chunk_is, pick_l_whole, tops_compared, zip2_splat, zip2_splat_left}
+use lib.Lanes.{chunk, zip2, pick_l, put_chunk, sel_l, top, Each1}
+use mir.Val.{bits, hbits}
 use borrow.Rule.Slice.PartMut.{mid_of, post_of, put_mid}
 use Rattle.hex.proofs.HexLemmas.{length-encode_with}
 use Rattle.hex.specs.Hex.{encode_lower, encode_with, lower_digits}
@@ -16,39 +20,67 @@ AreSixteen v = (length v ≡ 16) × Each1 (Fits w8) v
 abbrev pub down : ℕ → ℕ → ℕ
 down a b = a / 2 ^ b
 
--- the halves of bytes are places in a table of sixteen
-pub high_ok : (v : List ℕ) → AreSixteen v → SwzOk w8 16 16 0 (zip2 down v (replicate 16 4))
+-- the halves of bytes are below sixteen
+all_below : (v : List ℕ) → Each1 (λ n. n < 16) v → All (λ n. n < 16) v
+all_below v each = All-from_get_or (λ n. n < 16) v 0 (λ i within. Each1-get_or (λ n. n < 16) v i 0 within each)
+
+pub high_ok : (v : List ℕ) → AreSixteen v → All (λ n. n < 16) (zip2 down v (replicate 16 4))
 high_ok v fits =
     let small = Each1-weaker (λ a. a < 256) (λ a. a / 16 < 16) (λ a h. omega arith) v (below_from_Fits w8 v fits.1) in
-    SwzOk-from_below w8 16 1 16 0 (zip2 down v (replicate 16 4)) refl (omega (arith, length-zip2 down v (replicate 16 4) fits.0))
-    (Each1-zip2 down (λ j. j < 16) v (replicate 16 4) (Each2-splat (λ a b. down a b < 16) v 16 4 small))
+    all_below (zip2 down v (replicate 16 4)) (Each1-zip2 down (λ j. j < 16) v (replicate 16 4) (Each2-splat (λ a b. down a b < 16) v 16 4 small))
 
-pub low_ok : (v : List ℕ) → AreSixteen v → SwzOk w8 16 16 0 (zip2 bit_and v (replicate 16 15))
+pub low_ok : (v : List ℕ) → AreSixteen v → All (λ n. n < 16) (zip2 bit_and v (replicate 16 15))
 low_ok v fits =
     let small = Each1-all (λ a. bit_and a 15 < 16) (λ a. omega (arith, and_le_r a 15)) v in
-    SwzOk-from_below w8 16 1 16 0 (zip2 bit_and v (replicate 16 15)) refl (omega (arith, length-zip2 bit_and v (replicate 16 15) fits.0))
-    (Each1-zip2 bit_and (λ j. j < 16) v (replicate 16 15) (Each2-splat (λ a b. bit_and a b < 16) v 16 15 small))
+    all_below (zip2 bit_and v (replicate 16 15)) (Each1-zip2 bit_and (λ j. j < 16) v (replicate 16 15) (Each2-splat (λ a b. bit_and a b < 16) v 16 15 small))
 
--- a table read at places h x below 16
-looked_up : (t : List ℕ) (g h : ℕ → ℕ) (v js : List ℕ) → AreSixteen v → js ≡ map g v → ((x : ℕ) → g x ≡ h x) → ((x : ℕ) → x < 256 → h x < 16) → swz_l w8 16 t 0 js ≡ map (λ x. slice_index t (h x)) v
-looked_up t g h v js fits e same small =
-    let long : length js ≡ 16 = ap length e ∙ length-map v g ∙ fits.0 in
-    ext_get_or 0 _ _ (length-swz_l w8 16 t 0 js ∙ long ∙ sym (length-map v (λ x. slice_index t (h x)) ∙ fits.0)) (λ i l.
-    let lt : i < 16 = omega (arith, length-swz_l w8 16 t 0 js) in
-    let within : i < length v = omega (arith, fits.0) in
-    let byte : get_or v i 0 < 256 = (Each1-get_or (Fits w8) v i 0 within fits.1).fits in
-    let is : get_or js i 0 ≡ h (get_or v i 0) = ap (λ l. get_or l i 0) e ∙ get_or-map g v i 0 0 within ∙ same (get_or v i 0) in
-    let below : get_or js i 0 < 16 = omega (arith, small (get_or v i 0) byte) in
-    let place : 16 * ((0 + i) / 16) + get_or js i 0 ≡ h (get_or v i 0) = omega arith in
-    get_or-swz_l_below w8 16 t 0 js i (omega arith) below
-    ∙ ap (λ k. get_or t k 0) place ∙ sym (get_or-map (λ x. slice_index t (h x)) v i 0 0 within))
+-- a sum of bytes, which wraps
+abbrev pub plus : ℕ → ℕ → ℕ
+plus a b = (a + b) % 2 ^ 8
+
+-- the digit of a number below sixteen, as it is computed
+abbrev digit : ℕ → ℕ
+digit n = plus n (cond (ltb 9 n) 87 48)
+
+all_digits : map digit (range_with_len 0 16) ≡ lower_digits
+all_digits = refl
+
+each_digit : (n : ℕ) → n < 16 → digit n ≡ slice_index lower_digits n
+each_digit n lt =
+    sym (get_or-map-range_with_len digit 0 16 n n 0 lt (zero-add n)) ∙ ap (λ (l : List ℕ). get_or l n 0) all_digits
+
+digits_are : (v : List ℕ) → ((i : ℕ) → i < length v → get_or v i 0 < 16) → map digit v ≡ map (slice_index lower_digits) v
+digits_are v below =
+    ext_get_or 0 _ _ (length-map v digit ∙ sym (length-map v (slice_index lower_digits))) (λ i l.
+    let within : i < length v = omega (arith, length-map v digit) in
+    get_or-map digit v i 0 0 within ∙ each_digit (get_or v i 0) (below i within) ∙ sym (get_or-map (slice_index lower_digits) v i 0 0 within))
+
+-- one of two numbers for each lane, by a test of it
+selected : (p : ℕ → Bool) (a b : ℕ) (v : List ℕ) → sel_l (map p v) (replicate (length v) a) (replicate (length v) b) ≡ map (λ n. cond (p n) a b) v
+selected p a b [] = refl
+selected p a b (x ∷ v) = ap (λ (l : List ℕ). cond (p x) a b ∷ l) (selected p a b v)
+
+added : (f : ℕ → ℕ → ℕ) (h : ℕ → ℕ) (v : List ℕ) → zip2 f v (map h v) ≡ map (λ n. f n (h n)) v
+added f h [] = refl
+added f h (x ∷ v) = ap (λ (l : List ℕ). f x (h x) ∷ l) (added f h v)
+
+pub computed : (v : List ℕ) → length v ≡ 16 → All (λ n. n < 16) v
+    → zip2 plus v (sel_l (map (top (hbits w8)) (zip2 (λ a b. cond (ltb a b) (2 ^ bits w8 - 1) 0) (replicate 16 9) v)) (replicate 16 87) (replicate 16 48)) ≡ map (slice_index lower_digits) v
+computed v long below =
+    let masks = tops_compared w8 ltb (replicate 16 9) v ∙ zip2_splat_left ltb 9 16 v long in
+    let chosen = ap (λ k. sel_l (map (λ n. ltb 9 n) v) (replicate k 87) (replicate k 48)) (sym long) ∙ selected (λ n. ltb 9 n) 87 48 v in
+    ap (λ (ms : List Bool). zip2 plus v (sel_l ms (replicate 16 87) (replicate 16 48))) masks
+    ∙ ap (zip2 plus v) chosen
+    ∙ added plus (λ n. cond (ltb 9 n) 87 48) v
+    ∙ digits_are v (λ i within. All-get_or (λ n. n < 16) v i 0 within below)
 
 -- the digits of the upper halves, and of the lower ones
-pub high_digits : (t v : List ℕ) → AreSixteen v → swz_l w8 16 t 0 (zip2 down v (replicate 16 4)) ≡ map (λ x. slice_index t (x / 16)) v
-high_digits t v fits = looked_up t (λ x. x / 16) (λ x. x / 16) v _ fits (zip2_splat down v 16 4 fits.0) (λ x. refl) (λ x h. omega arith)
+high_digits : (t v : List ℕ) → AreSixteen v → map (slice_index t) (zip2 down v (replicate 16 4)) ≡ map (λ x. slice_index t (x / 16)) v
+high_digits t v fits = ap (map (slice_index t)) (zip2_splat down v 16 4 fits.0) ∙ map-map (slice_index t) (λ x. down x 4) v
 
-pub low_digits : (t v : List ℕ) → AreSixteen v → swz_l w8 16 t 0 (zip2 bit_and v (replicate 16 15)) ≡ map (λ x. slice_index t (x % 16)) v
-low_digits t v fits = looked_up t (λ x. bit_and x 15) (λ x. x % 16) v _ fits (zip2_splat bit_and v 16 15 fits.0) (λ x. and_mask x 4) (λ x h. omega arith)
+low_digits : (t v : List ℕ) → AreSixteen v → map (slice_index t) (zip2 bit_and v (replicate 16 15)) ≡ map (λ x. slice_index t (x % 16)) v
+low_digits t v fits =
+    ap (map (slice_index t)) (zip2_splat bit_and v 16 15 fits.0) ∙ map-map (slice_index t) (λ x. bit_and x 15) v ∙ (λ i. map (λ x. slice_index t (and_mask x 4 i)) v)
 
 -- a lane of the first vector and a lane of the second, by turns
 abbrev pub by_turns : List ℕ
@@ -62,9 +94,13 @@ turns t v long =
     subst (λ (w : List ℕ). pick_l 0 (map (λ x. slice_index t (x / 16)) w ++ map (λ x. slice_index t (x % 16)) w) by_turns ≡ encode_with t w)
     (pick_l_whole 0 v 16 long) refl
 
-pub sixteen_in_hex : (t v : List ℕ) → AreSixteen v
-    → pick_l 0 (swz_l w8 16 t 0 (zip2 down v (replicate 16 4)) ++ swz_l w8 16 t 0 (zip2 bit_and v (replicate 16 15))) by_turns ≡ encode_with t v
-sixteen_in_hex t v fits = rw (high_digits t v fits, low_digits t v fits) (turns t v fits.0)
+pub sixteen_in_hex : (v upper lower : List ℕ) → AreSixteen v
+    → upper ≡ map (slice_index lower_digits) (zip2 down v (replicate 16 4)) → lower ≡ map (slice_index lower_digits) (zip2 bit_and v (replicate 16 15))
+    → pick_l 0 (upper ++ lower) by_turns ≡ encode_lower v
+sixteen_in_hex v upper lower fits above below =
+    ap (λ (l : List ℕ). pick_l 0 (l ++ lower) by_turns) (above ∙ high_digits lower_digits v fits)
+    ∙ ap (λ (l : List ℕ). pick_l 0 (map (λ x. slice_index lower_digits (x / 16)) v ++ l) by_turns) (below ∙ low_digits lower_digits v fits)
+    ∙ turns lower_digits v fits.0
 
 -- bytes one behind another
 pub encode_with-append : (t xs ys : List ℕ) → encode_with t (xs ++ ys) ≡ encode_with t xs ++ encode_with t ys
@@ -99,8 +135,3 @@ one_more t bytes room d i k long whole le within so_far more =
     ∙ ap (λ (l : List ℕ). encode_with t (take (16 * i) bytes) ++ l) more
     ∙ sym (encode_with-append t (take (16 * i) bytes) piece)
     ∙ ap (λ (l : List ℕ). encode_with t l) (sym (take-add (16 * i) 16 bytes) ∙ ap (λ n. take n bytes) last)
-
--- the bytes that have each number once, in hex
-pub sixteen_digits : encode_lower (1 ∷ 35 ∷ 69 ∷ 103 ∷ 137 ∷ 171 ∷ 205 ∷ 239 ∷ []) ≡ lower_digits
-unfolding encode_with
-sixteen_digits = refl

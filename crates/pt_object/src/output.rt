@@ -9,7 +9,7 @@ ghost use Rattle.pt_object.specs.InPieces.{bracket};
 ghost use Rattle.pt_object.specs.Inventory.{content_path};
 
 use crate::Digest;
-use crate::digits::{Digits, MOST};
+use crate::digits::{MOST, write_hex};
 use json::Writer;
 use pt_tree::{MemoryFault, NamePath};
 use std::alloc::{AllocError, Global};
@@ -24,7 +24,6 @@ pub(crate) struct Output {
     writer: Writer,
     // Where each path is put together before it is written.
     path: Vec<u8>,
-    digits: Digits,
 }
 
 impl Model for Output {
@@ -54,7 +53,6 @@ impl Output {
         let mut out = Output {
             writer: Writer::new(room),
             path: Vec::with_capacity(alloc, ROOM)?,
-            digits: Digits::of_hex(),
         };
         if is_behind_value {
             out.end_array()?;
@@ -108,7 +106,7 @@ impl Output {
         ensures { OnOk result (self.new ≡ self.old ++ key (encode_lower digest.now) ∷ []) }
     {
         let mut room = [0; MOST];
-        let digits = self.digits.write(digest.bytes(), &mut room);
+        let digits = write_hex(digest.bytes(), &mut room);
         let text = unsafe { str::from_utf8_unchecked(digits) };
         Ok(self.writer.key(text)?)
     }

@@ -1,7 +1,7 @@
 use Rattle.std.proofs.Common.{arith, refl}
 use Rattle.hex.specs.Hex.{encode_with, lower_digits}
 use Rattle.pt_object.proofs.HexLanes.{one_more}
-use Rattle.pt_object.proofs.digits.Digits.write.Goals as goal
+use Rattle.pt_object.proofs.digits.write_hex.Goals as goal
 
 pub loop-i-init : goal.loop-i-init
 unfolding encode_with
