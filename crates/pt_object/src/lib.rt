@@ -21,6 +21,7 @@
 //!   bytes differ have one digest (`state_is_the_files`).
 #![tactic(auto)]
 
+mod ahead;
 mod algorithm;
 mod contents;
 mod digest;

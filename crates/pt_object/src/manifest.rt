@@ -27,6 +27,7 @@ pub(crate) fn put_stored(
 {
     let items = parts.items;
     for i in 0..count {
+        parts.read_ahead(out, from + i)?;
         let position = parts.index.get(from + i);
         put_content(out, &items[position])?;
     }

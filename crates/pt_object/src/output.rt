@@ -119,6 +119,14 @@ impl Output {
         self.writer.string(text)
     }
 
+    // Makes room for a path of so many bytes.
+    pub(crate) fn make_room(&mut self, bytes: usize) -> Result<(), AllocError>
+        ensures { OnOk result (self.new ≡ self.old) }
+    {
+        self.path.clear();
+        self.path.reserve(bytes)
+    }
+
     // A text: the names of the path with `/` between.
     pub(crate) fn path(&mut self, path: &NamePath) -> Result<(), MemoryFault>
         ensures { OnOk result (self.new ≡ self.old ++ string (joined path.now) ∷ []) }

@@ -20,7 +20,7 @@ use std::alloc::{AllocError, Global};
 #[derive(Drop)]
 pub(crate) struct Group<'a> {
     is_met: bool,
-    later: Vec<&'a NamePath>,
+    pub(crate) later: Vec<&'a NamePath>,
 }
 
 impl<'a> Group<'a> {
@@ -51,6 +51,8 @@ pub(crate) fn put_grouped(
 {
     let items = parts.items;
     for i in 0..count {
+        parts.read_ahead(out, from + i)?;
+        parts.read_later_ahead(out, from + i)?;
         let position = parts.index.get(from + i);
         put_paths(out, &items[position], &parts.groups[position].later)?;
     }

@@ -25,5 +25,5 @@ loop-i-preserved c =
     c.index-items-position.is c.index.ensures c.deref.ensures.value
     in
     one_more (grouped rows) items index c.args.from c.loop-i.i c.args.count position x _ _ _ c.requires.parts.ordered c.loop-i-test.true c.requires.within c.get-position.ensures
-    c.index-items-position.is c.loop-i.invariant
-    (c.in_ok-put_paths.ensures ∙ ap (λ (l : List (List ℕ)). c.loop-i.out ++ key (encode_lower x.digest) ∷ tokens_of (array (texts l))) list)
+    c.index-items-position.is (c.in_ok-read_later_ahead.ensures ∙ c.in_ok-read_ahead.ensures ∙ c.loop-i.invariant)
+    (c.in_ok-put_paths.ensures ∙ ap (λ (l : List (List ℕ)). c.read_later_ahead.new.out ++ key (encode_lower x.digest) ∷ tokens_of (array (texts l))) list)
