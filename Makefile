@@ -3,18 +3,21 @@
 RT ?= rt
 PYTHON ?= python3
 PREFIX ?= /usr/local
+# What the program is built for: x86-64-v2, which the toolchain takes unless told otherwise, or x86-64-v3.
+CPU ?= $(shell sh tools/choose.sh)
 
 PROGRAM := bin/pairtree2ocfl
+PROGRAMS := bin/static
 BUILT := crates/pairtree2ocfl/out/pairtree2ocfl
 
 .DEFAULT_GOAL := build
-.PHONY: help build try demo test allocations bench install uninstall dist deb clean toolchain
+.PHONY: help build try demo test allocations bench install uninstall programs dist deb rpm clean toolchain
 
 help: ## list the targets
 	@sed -n 's/^\([a-z]*\):.*## \(.*\)/make \1\t\2/p' $(MAKEFILE_LIST)
 
-build: toolchain ## prove and build the program, at bin/pairtree2ocfl (the default)
-	cd crates/pairtree2ocfl && $(RT) run -- --help > /dev/null
+build: toolchain ## prove and build the program, at bin/pairtree2ocfl (the default), for this machine (CPU=x86-64-v2, CPU=x86-64-v3)
+	cd crates/pairtree2ocfl && $(RT) run $(addprefix --cpu=,$(filter-out x86-64-v2,$(CPU))) -- --help > /dev/null
 	@mkdir -p bin
 	@cp $(BUILT) $(PROGRAM).new && mv $(PROGRAM).new $(PROGRAM)
 
@@ -50,11 +53,17 @@ uninstall: ## take away what install copied
 	@test -n "$(PREFIX)" || { echo "pairtree2ocfl: PREFIX is empty: name the folder that it was installed to" >&2; exit 1; }
 	sh tools/install.sh --remove "$(DESTDIR)$(PREFIX)"
 
-dist: build ## make an archive of the program with its documents and licences, in dist/
-	@sh tools/dist.sh $(PROGRAM) dist
+programs: build ## build what is shipped, in bin/static: the program for x86-64-v2 and for x86-64-v3, with the C library in it
+	@$(PYTHON) tools/programs.py $(RT) $(PROGRAMS)
 
-deb: build ## make a Debian package, in dist/
-	@sh tools/deb.sh $(PROGRAM) dist
+dist: programs ## make an archive of the programs with their documents and licences, in dist/
+	@sh tools/dist.sh $(PROGRAMS) dist
+
+deb: programs ## make a Debian package, in dist/
+	@sh tools/deb.sh $(PROGRAMS) dist
+
+rpm: programs ## make an RPM package, in dist/, where rpmbuild is
+	@sh tools/rpm.sh $(PROGRAMS) dist
 
 clean: ## remove what was built and what the checks keep
 	rm -rf bin dist crates/*/out

@@ -1,0 +1,35 @@
+#!/bin/sh
+# Says which of the programs that are shipped this machine is to run: x86-64-v3 where all processors are Intel's and have what that is built for,
+# and x86-64-v2 elsewhere and where that is in doubt. (AMD's have it too, but take longer over SHA-256 so.) With --link it also makes
+# PREFIX/bin/pairtree2ocfl a link to that program, and says nothing.
+#   choose.sh [--link PREFIX] [CPUINFO]
+set -eu
+prefix=
+if [ "${1-}" = --link ]; then
+    prefix=$2
+    shift 2
+fi
+cpuinfo=${1:-/proc/cpuinfo}
+
+# The values of a line of all processors, each that differs once, between spaces.
+values() {
+    sed -n "s/^$1[[:space:]]*:[[:space:]]*\(.*\)/ \1 /p" "$cpuinfo" 2> /dev/null | LC_ALL=C sort -u
+}
+
+cpu=x86-64-v3
+[ "$(values vendor_id)" = ' GenuineIntel ' ] || cpu=x86-64-v2
+flags=$(values flags)
+[ "$(printf '%s\n' "$flags" | wc -l)" -eq 1 ] || cpu=x86-64-v2
+# abm is the name of LZCNT here; the system tells avx only where it keeps its registers.
+for flag in abm avx avx2 bmi1 bmi2 f16c fma movbe; do
+    case $flags in
+        *" $flag "*) ;;
+        *) cpu=x86-64-v2 ;;
+    esac
+done
+
+if [ -n "$prefix" ]; then
+    ln -sfn "../lib/pairtree2ocfl/$cpu/pairtree2ocfl" "$prefix/bin/pairtree2ocfl"
+else
+    printf '%s\n' "$cpu"
+fi
