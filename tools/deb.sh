@@ -1,25 +1,17 @@
 #!/bin/sh
-# Makes a Debian package of the program given, in the folder given.
-#   deb.sh PROGRAM FOLDER
-set -eu
-umask 022
-program=$1
-folder=$2
-top=$(dirname "$0")/..
-version=$("$program" --version | sed -n '1s/^pairtree2ocfl //p')
+# Makes a Debian package of the programs given, in the folder given.
+#   deb.sh PROGRAMS FOLDER
+. "$(dirname "$0")/packing.sh"
 machine=$(dpkg --print-architecture)
-work=$(mktemp -d)
-trap 'rm -rf "$work"' EXIT
 root=$work/root
 doc=$root/usr/share/doc/pairtree2ocfl
 
-mkdir -p "$root/DEBIAN" "$doc" "$folder"
-chmod 755 "$work" "$root"
-# lintian: unstripped-binary-or-object: the program is shipped byte for byte as the toolchain built it.
+mkdir -p "$root/DEBIAN" "$doc"
+# lintian: unstripped-binary-or-object: the programs are shipped byte for byte as the toolchain built them.
+# lintian: statically-linked-binary: they are to run on any Linux; the object files are here to link them again.
 cp "$top/CHANGELOG.md" "$doc"
-sh "$top/tools/install.sh" "$program" "$root/usr"
+sh "$top/tools/install.sh" "$programs" "$root/usr"
 gzip -9n "$root/usr/share/man/man1/pairtree2ocfl.1"
-day=$(sed -n "s/^## \[$version\] - //p" "$top/CHANGELOG.md")
 {
     printf 'pairtree2ocfl (%s) unstable; urgency=medium\n\n  * What this version brought is in CHANGELOG.md.\n\n' "$version"
     printf ' -- the pairtree2ocfl authors <noreply@example.org>  %s\n' "$(LC_ALL=C date -u -R -d "$day")"
@@ -29,10 +21,12 @@ day=$(sed -n "s/^## \[$version\] - //p" "$top/CHANGELOG.md")
     cat "$top/LICENSE-MIT"
     printf '\n\nThe Apache License 2.0 is /usr/share/common-licenses/Apache-2.0.\n'
     for crate in "$top"/LICENSES/*; do
-        printf '\n\nThe crate %s, which the program holds:\n\n' "$(basename "$crate")"
-        # A package names the full text of the Apache License, and doesn't hold it.
+        printf '\n\n%s, which the program holds:\n\n' "$(basename "$crate")"
+        # A package names the full text of these two licences, and doesn't hold it.
         for licence in "$crate"/*; do
-            if grep -q 'Apache License' "$licence"; then
+            if grep -q 'GNU LESSER GENERAL PUBLIC LICENSE' "$licence"; then
+                printf 'The GNU Lesser General Public License 2.1 is /usr/share/common-licenses/LGPL-2.1.\n\n'
+            elif grep -q 'Apache License' "$licence"; then
                 [ -f "$crate/LICENSE-MIT" ] || printf 'The Apache License 2.0 is /usr/share/common-licenses/Apache-2.0.\n'
             else
                 cat "$licence"
@@ -40,19 +34,29 @@ day=$(sed -n "s/^## \[$version\] - //p" "$top/CHANGELOG.md")
         done
     done
 } > "$doc/copyright"
-cat > "$root/DEBIAN/control" <<EOF
+cat > "$root/DEBIAN/control" <<EOT
 Package: pairtree2ocfl
 Version: $version
 Section: utils
 Priority: optional
 Architecture: $machine
-Depends: libc6 (>= 2.34), python3
+Depends: python3
 Maintainer: the pairtree2ocfl authors <noreply@example.org>
-Installed-Size: $(du -ks "$root/usr" | cut -f1)
+Installed-Size: $(find "$root/usr" -type f -exec stat -c %s {} + | awk '{ sum += int(($1 + 1023) / 1024) } END { print sum }')
 Description: carry a Pairtree 0.1 store into an OCFL 1.1 storage root
  A migration for libraries and archives that want to move from Pairtree
  to OCFL without losing an object or a byte. Each function of the
  program is proved to meet its contract.
-EOF
-chmod -R u=rwX,go=rX "$root"
-dpkg-deb --root-owner-group -b "$root" "$folder/pairtree2ocfl_${version}_$machine.deb"
+EOT
+cat > "$root/DEBIAN/postinst" <<'EOT'
+#!/bin/sh
+set -e
+if [ "$1" = configure ]; then
+    sh "${DPKG_ROOT:-}/usr/lib/pairtree2ocfl/choose.sh" --link "${DPKG_ROOT:-}/usr"
+fi
+EOT
+settle "$root"
+chmod 755 "$root/DEBIAN/postinst"
+name=pairtree2ocfl_${version}_$machine.deb
+dpkg-deb --root-owner-group -Zxz -b "$root" "$folder/$name" > /dev/null
+sum "$name"

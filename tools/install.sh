@@ -1,7 +1,8 @@
 #!/bin/sh
 # Installs the program given, with its man page, completions and documents, below a folder; `--remove` in place of the program takes them
-# away. The documents go to DOCUMENTS below it, share/doc/pairtree2ocfl unless given.
-#   install.sh PROGRAM|--remove PREFIX [DOCUMENTS]
+# away. The documents go to DOCUMENTS below it, share/doc/pairtree2ocfl unless given. Of a folder that tools/programs.py made all is installed
+# that a package holds, and the program is that which runs on any processor, until choose.sh chooses.
+#   install.sh PROGRAM|PROGRAMS|--remove PREFIX [DOCUMENTS]
 set -eu
 umask 022
 program=$1
@@ -18,7 +19,19 @@ put() {
     fi
 }
 
-put 755 "$program" bin/pairtree2ocfl
+if [ -d "$program" ]; then
+    for name in README libos_c.a liblibc_c.a x86-64-v2/pairtree2ocfl.o x86-64-v3/pairtree2ocfl.o; do
+        put 644 "$program/$name" "lib/pairtree2ocfl/$name"
+    done
+    for cpu in x86-64-v2 x86-64-v3; do
+        put 755 "$program/$cpu/pairtree2ocfl" "lib/pairtree2ocfl/$cpu/pairtree2ocfl"
+    done
+    put 755 "$top/tools/choose.sh" lib/pairtree2ocfl/choose.sh
+    mkdir -p "$prefix/bin"
+    sh "$top/tools/choose.sh" --link "$prefix" /dev/null
+else
+    put 755 "$program" bin/pairtree2ocfl
+fi
 put 644 "$top/man/pairtree2ocfl.1" share/man/man1/pairtree2ocfl.1
 put 644 "$top/completions/pairtree2ocfl.bash" share/bash-completion/completions/pairtree2ocfl
 put 644 "$top/completions/_pairtree2ocfl" share/zsh/site-functions/_pairtree2ocfl
