@@ -1,4 +1,5 @@
-"""Every test of the repository: the toolchain's gate, then the tests of the program that the gate built.
+"""Every test of the repository: the toolchain's gate, then the tests of the program that the gate built, and of those that are shipped, which
+are built here over what the gate proved.
 
 Usage: all.py RT PROGRAM. Every few minutes it says how far the gate is, and at the gate's end how long each crate
 took. That, what the gate and the program's tests said of a failure, and which cases were skipped and why, is said again
@@ -9,6 +10,7 @@ import collections
 import contextlib
 import os
 import re
+import shutil
 import subprocess
 import sys
 import textwrap
@@ -21,6 +23,7 @@ import allocations
 import migration
 import program
 import progress
+import static
 import system
 from tally import Tally
 
@@ -33,6 +36,9 @@ BAD_EDIT = re.compile(r": BAD EDIT: ")
 
 # The memory that a proof takes at most, in bytes.
 PROOF = 4 << 30
+
+# How many seconds building the programs that are shipped may take.
+BUILDING = 1200
 
 # What the program's tests say of what went well.
 PASSED = re.compile(r"\.\.\. (ok|skipped: .*)$|^system: .* sequences, .* calls ")
@@ -97,18 +103,29 @@ def run_once(rt):
     return Tally(passed, max(failed, int(gate.returncode != 0))), last, table
 
 
-def run_tests(path):
+def build_programs(rt):
+    """Builds the programs that are shipped, as a case, which is left out where no C compiler is; the cases over them are then skipped."""
+    shutil.rmtree(static.FOLDER, ignore_errors=True)
+    if not shutil.which(os.environ.get("CC", "cc")):
+        return Tally(0, 0)
+    command = ["timeout", str(BUILDING), sys.executable, "-B", f"{static.TOP}/tools/programs.py", rt, static.FOLDER]
+    done = subprocess.run(command, stdin=subprocess.DEVNULL, stdout=subprocess.PIPE, stderr=subprocess.STDOUT, text=True, errors="replace")
+    print(f"{done.stdout[-4000:] if done.returncode else ''}building what is shipped ... {'FAILED' if done.returncode else 'ok'}", flush=True)
+    return Tally(int(not done.returncode), int(bool(done.returncode)))
+
+
+def run_tests(rt, path):
     """Runs the tests of the program that stands at a path; gives what became of its cases, and what to say again."""
     if not os.path.exists(path):
         return Tally(0, 1), [f"{path} was not built, so its tests did not run"]
     with contextlib.redirect_stdout(Heard(sys.stdout)) as heard:
-        counts = [program.run_cases(path), migration.run_cases(path), allocations.run_cases(path), system.run_cases()]
+        counts = [build_programs(rt), program.run_cases(path), migration.run_cases(path), allocations.run_cases(path), system.run_cases()]
     return Tally.of_all(counts), list(heard.said)
 
 
 def main():
     rt, path = sys.argv[1:]
-    results = [run_gate(rt), run_tests(path)]
+    results = [run_gate(rt), run_tests(rt, path)]
     tally = Tally.of_all([result[0] for result in results])
     if tally.failed:
         print("\n".join(line for result in results if result[0].failed for line in result[1]))

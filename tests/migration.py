@@ -1,6 +1,6 @@
 """The built program's tests over real folders. tests/cases has the cases: carrying, refusing and options those of `migrate`, auditing those of `audit`, watching of progress, sharing of shares,
-peers beside plain Rust, surroundings of what is around a run, packages of what is shipped, guide of the guide's commands, joining of
-tools/roots.py, documents of what the documents name, gate of the gate itself. tests/harness has how they are run, and what must stand.
+peers beside plain Rust, surroundings of what is around a run, packages of what is shipped, anywhere of its programs, guide of the guide's commands,
+joining of tools/roots.py, documents of what the documents name, gate of the gate itself. tests/harness has how they are run, and what must stand.
 
 Usage: migration.py PROGRAM [-k WORDS]. With -k only the cases are run whose file's name, with the case's name behind it, has these words, and those
 of tests/program.py whose names have. The last line is 'N passed, M failed, K skipped', and before it stand the skipped cases with their reasons.
@@ -13,6 +13,7 @@ HERE = os.path.dirname(os.path.abspath(__file__))
 sys.path += [f"{HERE}/cases", f"{HERE}/harness"]
 sys.dont_write_bytecode = True
 
+import anywhere
 import auditing
 import carrying
 import documents
@@ -30,13 +31,13 @@ import surroundings
 import watching
 from tally import Tally
 
-FILES = (carrying, auditing, refusing, options, watching, surroundings, sharing, peers, guide, joining, packages, documents, gate)
+FILES = (carrying, auditing, refusing, options, watching, surroundings, sharing, peers, guide, joining, packages, anywhere, documents, gate)
 CASES = [case for file in FILES for case in file.CASES]
 
 
 def run_cases(path):
     """Runs each case, says what is wrong, and gives what became of them."""
-    return run_these(CASES, path)
+    return run_these([*CASES, *anywhere.over()], path)
 
 
 def run_these(cases, path):
@@ -49,7 +50,8 @@ def run_these(cases, path):
 def run_some(path, words):
     """The same of the cases that have these words, and of those of tests/program.py."""
     some = program.run_cases(path, [case for case in program.CASES if words in case.name])
-    more = run_these([case for file in FILES for case in file.CASES if words in f"{file.__name__} {case.name}"], path)
+    named = [(file.__name__, case) for file in FILES for case in file.CASES] + [("anywhere", case) for case in anywhere.over()]
+    more = run_these([case for name, case in named if words in f"{name} {case.name}"], path)
     return Tally.of_all([some, more])
 
 

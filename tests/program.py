@@ -21,11 +21,11 @@ class Case:
         self.err = err
         self.stdout_file = stdout_file
 
-    def faults(self, program):
-        """What the program does that it should not."""
+    def faults(self, *program):
+        """What the program does that it should not, which these words run."""
         with open(self.stdout_file or os.devnull, "wb") as stdout_file:
             done = subprocess.run(
-                [program, *self.args],
+                [*program, *self.args],
                 stdin=subprocess.DEVNULL,
                 stdout=stdout_file if self.stdout_file else subprocess.PIPE,
                 stderr=subprocess.PIPE,

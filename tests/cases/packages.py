@@ -1,4 +1,4 @@
-"""Tests of what is shipped with the program: man page, completions, licences, installing, the archive and the package.
+"""Tests of what is shipped with the program: man page, completions, licences, installing, the archive and the packages.
 """
 
 import glob
@@ -8,9 +8,11 @@ import re
 import shutil
 import subprocess
 import tarfile
+import time
 
+import static
 from alone import Alone, differs
-from tally import needs
+from tally import Skipped, needs
 
 TOP = os.path.dirname(os.path.dirname(os.path.dirname(os.path.abspath(__file__))))
 COMMANDS = ("migrate", "audit", "names")
@@ -23,6 +25,9 @@ INSTALLED = {
     "share/pairtree2ocfl/roots.py",
     "share/pairtree2ocfl/shares.sh",
 }
+# What is installed of the programs that are shipped, beside what is installed of any.
+OF_PROGRAMS = {f"lib/pairtree2ocfl/{name}" for name in ("README", "choose.sh", "libos_c.a", "liblibc_c.a")}
+OF_PROGRAMS |= {f"lib/pairtree2ocfl/{cpu}/pairtree2ocfl{end}" for cpu in static.CPUS for end in ("", ".o")}
 DOCUMENTS = {"README.md", *(f"docs/{os.path.basename(path)}" for path in glob.glob(f"{TOP}/docs/*.md"))}
 IN_DOC = "share/doc/pairtree2ocfl"
 
@@ -169,12 +174,16 @@ def logic_of(line):
 
 
 def licences(program, folder):
-    """The licences of the crates that the program holds are the toolchain's own files, where that is here."""
+    """The licences of the crates that the program holds are the toolchain's own files, where that is here, and the C library's is the system's."""
     faults = differs(own=(all(os.path.isfile(f"{TOP}/LICENSE-{name}") for name in ("MIT", "APACHE")), True))
+    common = "/usr/share/common-licenses/LGPL-2.1"
+    if os.path.exists(common):
+        with open(common, encoding="utf-8") as file:
+            faults += differs(lgpl=(text_of("LICENSES/glibc/LGPL-2.1") == file.read(), True))
     rt = shutil.which(os.environ.get("RT", "rt"))
     if rt:
         kit = os.path.dirname(done(rt, "doc").strip())
-        for path in glob.glob(f"{TOP}/LICENSES/*/*"):
+        for path in set(glob.glob(f"{TOP}/LICENSES/*/*")) - set(glob.glob(f"{TOP}/LICENSES/glibc/*")):
             name = os.path.relpath(path, f"{TOP}/LICENSES")
             with open(f"{kit}/rattle/{name}", encoding="utf-8") as file:
                 faults += differs(**{name: (text_of(f"LICENSES/{name}") == file.read(), True)})
@@ -227,31 +236,54 @@ def wrong_modes(top):
     return [f"{name} has mode {mode:o}" for name, mode in modes.items() if mode not in (0o644, 0o755)]
 
 
+def chosen(prefix):
+    """What is wrong with the program that is linked below a folder: it isn't the one that this machine is to run, or doesn't run."""
+    cpu = done("sh", f"{TOP}/tools/choose.sh").strip()
+    faults = differs(link=(os.readlink(f"{prefix}/bin/pairtree2ocfl"), f"../lib/pairtree2ocfl/{cpu}/pairtree2ocfl"))
+    return faults + differs(runs=(done(f"{prefix}/bin/pairtree2ocfl", "names", "abc"), "ab/c\nba7/816/bf8/abc\n"))
+
+
+def made(kind, folder, programs=None):
+    """The path of what a script of tools/ makes of the programs, where a new file is nobody's but its maker's."""
+    programs = programs or static.built()
+    return done("sh", "-c", 'umask 077; exec sh "$@"', "sh", f"{TOP}/tools/{kind}.sh", programs, folder).strip()
+
+
+def summed(folder):
+    """What is wrong with the sums in a folder: each of its files below has one, which is right."""
+    sums = dict(reversed(line.split("  ", 1)) for line in open(f"{folder}/SHA256SUMS", encoding="utf-8").read().splitlines())
+    faults = differs(listed=(set(sums), {name for name in text_files(folder) if not os.path.islink(f"{folder}/{name}")} - {"SHA256SUMS"}))
+    for name, digest in sums.items():
+        with open(f"{folder}/{name}", "rb") as file:
+            faults += differs(**{name: (hashlib.sha256(file.read()).hexdigest(), digest)})
+    return faults
+
+
 def archived(program, folder):
-    """The archive has all that its sums name, and its program runs."""
-    path = done("sh", "-c", 'umask 077; exec sh "$@"', "sh", f"{TOP}/tools/dist.sh", program, f"{folder}/dist").strip()
+    """The archive has all that its sums name, its program runs, and its own script installs the one for this machine."""
+    path = made("dist", f"{folder}/dist")
     with tarfile.open(path) as archive:
         archive.extractall(folder)
     top = f"{folder}/{os.path.basename(path).removesuffix('.tar.gz')}"
-    sums = dict(reversed(line.split("  ", 1)) for line in open(f"{top}/SHA256SUMS", encoding="utf-8").read().splitlines())
-    faults = differs(listed=(set(sums), text_files(top) - {"SHA256SUMS"})) + dead_links(top) + wrong_modes(top)
-    for name, digest in sums.items():
-        with open(f"{top}/{name}", "rb") as file:
-            faults += differs(**{name: (hashlib.sha256(file.read()).hexdigest(), digest)})
-    wanted = INSTALLED | DOCUMENTS | {"CHANGELOG.md", "LICENSE-MIT", "LICENSE-APACHE", "LICENSES/clap/LICENSE-MIT"}
-    faults += differs(missing=(wanted - set(sums), set()))
-    return faults + differs(runs=(done(f"{top}/bin/pairtree2ocfl", "-V"), done(program, "-V")))
+    faults = summed(top) + dead_links(top) + wrong_modes(top)
+    licences = {"LICENSE-MIT", "LICENSE-APACHE", "LICENSES/clap/LICENSE-MIT", "LICENSES/glibc/LGPL-2.1"}
+    wanted = INSTALLED | OF_PROGRAMS | DOCUMENTS | licences | {"CHANGELOG.md", "install.sh"}
+    faults += differs(missing=(wanted - text_files(top), set()), runs=(done(f"{top}/bin/pairtree2ocfl", "-V"), done(program, "-V")))
+    root = f"{folder}/root"
+    for _ in range(2):
+        done("sh", f"{top}/install.sh", root)
+        faults += chosen(root) + dead_links(f"{root}/{IN_DOC}") + wrong_modes(root)
+    wanted = INSTALLED | OF_PROGRAMS | {f"{IN_DOC}/{name}" for name in (*DOCUMENTS, *licences, "CHANGELOG.md")}
+    return faults + differs(not_installed=(wanted - text_files(root), set()))
 
 
 def packaged(program, folder):
-    """The Debian package, installed into an empty root, where the program runs."""
+    """The Debian package, installed into an empty root, where the program for this machine runs."""
     needs("dpkg-deb", "dpkg")
-    done("sh", "-c", 'umask 077; exec sh "$@"', "sh", f"{TOP}/tools/deb.sh", program, f"{folder}/deb")
-    (path,) = glob.glob(f"{folder}/deb/*.deb")
+    path = made("deb", f"{folder}/deb")
     fields = done("dpkg-deb", "-f", path, "Package", "Version", "Depends")
     number = done(program, "-V").split()[1]
-    faults = differs(version=(f"Version: {number}\n" in fields, True), depends=("Depends: libc6 (>= 2.34), python3\n" in fields, True))
-    faults += differs(library=(newest_symbol(program) <= (2, 34), True))
+    faults = differs(version=(f"Version: {number}\n" in fields, True), depends=("Depends: python3\n" in fields, True))
     root = f"{folder}/empty"
     for above in ("var/lib/dpkg/info", "var/lib/dpkg/updates", "var/lib/dpkg/triggers"):
         os.makedirs(f"{root}/{above}")
@@ -259,30 +291,114 @@ def packaged(program, folder):
         open(f"{root}/var/lib/dpkg/{name}", "w", encoding="utf-8").close()
     if os.geteuid() != 0:
         done("dpkg-deb", "-x", path, root)
-    command = ["dpkg", f"--root={root}", "--force-not-root", "--force-depends", "--force-script-chrootless", "--log=/dev/null", "-i", path]
+        done("sh", f"{root}/usr/lib/pairtree2ocfl/choose.sh", "--link", f"{root}/usr")
+    command = ["dpkg", f"--root={root}", "--force-not-root", "--force-depends", "--force-script-chrootless", "--log=/dev/null"]
     if os.geteuid() == 0:
-        done(*command, env={**os.environ, "PATH": f"{os.environ['PATH']}:/usr/sbin:/sbin"})
-    faults += differs(runs=(done(f"{root}/usr/bin/pairtree2ocfl", "names", "abc"), "ab/c\nba7/816/bf8/abc\n"))
-    files = {name.removesuffix(".gz") for name in text_files(f"{root}/usr")}
-    faults += dead_links(f"{root}/usr/{IN_DOC}") + wrong_modes(f"{root}/usr")
-    return faults + differs(missing=((INSTALLED | {f"{IN_DOC}/{name}" for name in DOCUMENTS}) - files, set()))
+        done(*command, "-i", path, env={**os.environ, "PATH": f"{os.environ['PATH']}:/usr/sbin:/sbin"})
+    faults += chosen(f"{root}/usr") + missing_of_package(f"{root}/usr")
+    if os.geteuid() == 0:
+        done(*command, "-r", "pairtree2ocfl", env={**os.environ, "PATH": f"{os.environ['PATH']}:/usr/sbin:/sbin"})
+        faults += differs(left=(text_files(f"{root}/usr"), set()))
+    return faults
+
+
+def missing_of_package(root):
+    """What of a package isn't installed below a folder, or isn't as it must be."""
+    files = {name.removesuffix(".gz") for name in text_files(root)}
+    wanted = INSTALLED | OF_PROGRAMS | {f"{IN_DOC}/{name}" for name in (*DOCUMENTS, "CHANGELOG.md")}
+    return differs(missing=(wanted - files, set())) + dead_links(f"{root}/{IN_DOC}") + wrong_modes(root)
+
+
+def packaged_rpm(program, folder):
+    """The RPM package, installed below a folder and taken away, where the program for this machine runs."""
+    needs("rpmbuild", "rpm")
+    path = made("rpm", f"{folder}/rpm")
+    number = done(program, "-V").split()[1]
+    wanted = done("rpm", "-qp", "--requires", path).splitlines()
+    faults = differs(version=(done("rpm", "-qp", "--qf", "%{NAME} %{VERSION}", path), f"pairtree2ocfl {number}"))
+    faults += differs(wants=([it for it in wanted if not it.startswith("rpmlib(")], ["/bin/sh"]))
+    if os.geteuid() != 0:
+        raise Skipped("only root can install an RPM package")
+    database = ("--dbpath", f"{folder}/database")
+    done("rpm", *database, "--prefix", f"{folder}/usr", "--nodeps", "-i", path)
+    faults += chosen(f"{folder}/usr") + missing_of_package(f"{folder}/usr")
+    licences = {f"share/licenses/pairtree2ocfl/{name}" for name in ("LICENSE-MIT", "LICENSE-APACHE", "LICENSES/glibc/LGPL-2.1")}
+    faults += differs(licences=(licences - text_files(f"{folder}/usr"), set()), whole=(done("rpm", *database, "-V", "pairtree2ocfl"), ""))
+    done("rpm", *database, "-e", "pairtree2ocfl")
+    return faults + differs(left=(text_files(f"{folder}/usr"), set()))
+
+
+def twice(kind, *programs):
+    """What is made twice of the same programs, at another time, in another zone and of copies, is the same to the byte, and so are its sums."""
+
+    def test(program, folder):
+        needs(*programs)
+        shutil.copytree(static.built(), f"{folder}/copies", copy_function=shutil.copy)
+        first = made(kind, f"{folder}/1")
+        time.sleep(1.1)
+        again = done("sh", f"{TOP}/tools/{kind}.sh", "copies", "2", cwd=folder, env={**os.environ, "TZ": "Asia/Tokyo", "LC_ALL": "C"}).strip()
+        with open(first, "rb") as one, open(f"{folder}/{again}", "rb") as other:
+            faults = differs(same=(one.read() == other.read(), True))
+        faults += differs(name=(os.path.basename(first), os.path.basename(again)))
+        return faults + summed(f"{folder}/1") + summed(f"{folder}/2")
+
+    return Alone(f"tools/{kind}.sh twice", test)
+
+
+def sums_of_all(program, folder):
+    """Each of what is made in one folder is among its sums."""
+    needs("dpkg", "dpkg-deb", "rpmbuild")
+    for kind in ("dist", "deb", "rpm"):
+        made(kind, f"{folder}/dist")
+    return summed(f"{folder}/dist") + differs(files=(len(text_files(f"{folder}/dist")), 4))
 
 
 def linted(program, folder):
     """lintian says nothing of the package but what is answered in tools/deb.sh."""
     needs("dpkg-deb", "lintian")
-    done("sh", f"{TOP}/tools/deb.sh", program, f"{folder}/deb")
-    (path,) = glob.glob(f"{folder}/deb/*.deb")
+    path = made("deb", f"{folder}/deb")
     said = subprocess.run(["lintian", path], capture_output=True, timeout=300).stdout.decode()
     answered = re.findall(r"^# lintian: ([\w-]+): ", text_of("tools/deb.sh"), re.MULTILINE)
     left = [line for line in said.splitlines() if re.match("[EW]: ", line) and not any(f": {tag} " in f"{line} " for tag in answered)]
     return differs(said=(left, []))
 
 
-def newest_symbol(program):
-    """The newest version of the C library that the program names."""
-    with open(program, "rb") as file:
-        return max((int(major), int(minor)) for major, minor in re.findall(rb"\0GLIBC_(\d+)\.(\d+)", file.read()))
+# What the system tells of a processor that has all of x86-64-v3, without what no program asks for.
+WHOLE = "fpu sse4_2 movbe popcnt xsave avx f16c abm bmi1 avx2 bmi2 fma"
+
+
+def processors(*several):
+    """What the system tells of these processors, each a vendor and flags."""
+    return "\n".join(f"processor\t: {number}\nvendor_id\t: {vendor}\nflags\t\t: {flags}\nbugs\t\t: fma\n" for number, (vendor, flags) in enumerate(several))
+
+
+def choosing(program, folder):
+    """The program for x86-64-v3 is chosen where all processors are Intel's and have all of that; in doubt the one for x86-64-v2."""
+    intel, amd = "GenuineIntel", "AuthenticAMD"
+    lacking = [processors((intel, WHOLE.replace(f" {flag}", ""))) for flag in ("movbe", "avx", "f16c", "abm", "bmi1", "avx2", "bmi2", "fma")]
+    rows = [(processors((intel, WHOLE)), "x86-64-v3"), (processors(*[(intel, WHOLE)] * 4), "x86-64-v3")]
+    rows += [(text, "x86-64-v2") for text in lacking]
+    others = [[(amd, WHOLE)], [("HygonGenuine", WHOLE)], [(intel, WHOLE), (amd, WHOLE)], [(intel, WHOLE), (intel, WHOLE.replace(" bmi2", ""))]]
+    rows += [(processors(*several), "x86-64-v2") for several in others]
+    rows += [("", "x86-64-v2"), (f"flags\t\t: {WHOLE}\n", "x86-64-v2"), (f"vendor_id\t: {intel}\n", "x86-64-v2")]
+    faults, script = [], f"{TOP}/tools/choose.sh"
+    os.mkdir(f"{folder}/bin")
+    for number, (text, cpu) in enumerate(rows):
+        with open(f"{folder}/cpuinfo", "w", encoding="ascii") as file:
+            file.write(text)
+        faults += differs(**{f"row {number}": (done("sh", script, f"{folder}/cpuinfo"), f"{cpu}\n")})
+        said = done("sh", script, "--link", folder, f"{folder}/cpuinfo")
+        faults += differs(**{f"link of row {number}": ((said, os.readlink(f"{folder}/bin/pairtree2ocfl")), ("", f"../lib/pairtree2ocfl/{cpu}/pairtree2ocfl"))})
+    return faults + differs(none=(done("sh", script, f"{folder}/none"), "x86-64-v2\n"))
+
+
+def built_for(program, folder):
+    """make builds the program for what is chosen on this machine, unless CPU says otherwise; the toolchain's own choice is x86-64-v2."""
+    here, faults = done("sh", f"{TOP}/tools/choose.sh").strip(), []
+    for words, cpu in (([], here), *(([f"CPU={cpu}"], cpu) for cpu in static.CPUS)):
+        command = done("make", "-C", TOP, "-n", "build", "RT=true", *words)
+        faults += differs(**{f"{words}": (re.findall(r"true run .*", command), [f"true run {'--cpu=x86-64-v3' if cpu == 'x86-64-v3' else ''} -- --help > /dev/null"])})
+    return faults
 
 
 CASES = [
@@ -297,5 +413,12 @@ CASES = [
     Alone("no PREFIX", no_prefix),
     Alone("the archive", archived),
     Alone("the Debian package", packaged),
+    Alone("the RPM package", packaged_rpm),
+    twice("dist"),
+    twice("deb", "dpkg", "dpkg-deb"),
+    twice("rpm", "rpmbuild"),
+    Alone("the sums of what is made", sums_of_all),
     Alone("what lintian says of the package", linted),
+    Alone("the processor that is chosen", choosing),
+    Alone("the processor that make builds for", built_for),
 ]
