@@ -8,6 +8,7 @@ at the end. The last line is 'N passed, M failed, K skipped', over all of them; 
 
 import collections
 import contextlib
+import glob
 import os
 import re
 import shutil
@@ -103,29 +104,54 @@ def run_once(rt):
     return Tally(passed, max(failed, int(gate.returncode != 0))), last, table
 
 
-def build_programs(rt):
-    """Builds the programs that are shipped, as a case, which is left out where no C compiler is; the cases over them are then skipped."""
+@contextlib.contextmanager
+def libraries_aside(aside="bin/aside"):
+    """Takes the libraries that checks made here out of the way, and gives them back at the end: what is shipped is built over the gate's own."""
+    shutil.rmtree(aside, ignore_errors=True)
+    moved = {path: f"{aside}/{number}" for number, path in enumerate(glob.glob("crates/*/out/rlib"))}
+    os.makedirs(aside)
+    try:
+        for path, place in moved.items():
+            os.rename(path, place)
+        yield
+    finally:
+        for path, place in moved.items():
+            if os.path.exists(place):
+                shutil.rmtree(path, ignore_errors=True)
+                os.makedirs(os.path.dirname(path), exist_ok=True)
+                os.rename(place, path)
+        os.rmdir(aside)
+
+
+def build_programs(rt, path):
+    """Builds the programs that are shipped, as a case, beside the one that the gate built at a path; without a C compiler cases of theirs are skipped."""
+    if not os.path.exists(path):
+        return Tally(0, 0), []
     shutil.rmtree(static.FOLDER, ignore_errors=True)
     if not shutil.which(os.environ.get("CC", "cc")):
-        return Tally(0, 0)
+        return Tally(0, 0), []
     command = ["timeout", str(BUILDING), sys.executable, "-B", f"{static.TOP}/tools/programs.py", rt, static.FOLDER]
     done = subprocess.run(command, stdin=subprocess.DEVNULL, stdout=subprocess.PIPE, stderr=subprocess.STDOUT, text=True, errors="replace")
-    print(f"{done.stdout[-4000:] if done.returncode else ''}building what is shipped ... {'FAILED' if done.returncode else 'ok'}", flush=True)
-    return Tally(int(not done.returncode), int(bool(done.returncode)))
+    said = f"building what is shipped ... {f'FAILED ({done.returncode})' if done.returncode else 'ok'}"
+    last = [*done.stdout.splitlines()[-20:], said] if done.returncode else [said]
+    print("\n".join(last), flush=True)
+    return Tally(int(not done.returncode), int(bool(done.returncode))), last
 
 
-def run_tests(rt, path):
+def run_tests(path):
     """Runs the tests of the program that stands at a path; gives what became of its cases, and what to say again."""
     if not os.path.exists(path):
         return Tally(0, 1), [f"{path} was not built, so its tests did not run"]
     with contextlib.redirect_stdout(Heard(sys.stdout)) as heard:
-        counts = [build_programs(rt), program.run_cases(path), migration.run_cases(path), allocations.run_cases(path), system.run_cases()]
+        counts = [program.run_cases(path), migration.run_cases(path), allocations.run_cases(path), system.run_cases()]
     return Tally.of_all(counts), list(heard.said)
 
 
 def main():
     rt, path = sys.argv[1:]
-    results = [run_gate(rt), run_tests(rt, path)]
+    with libraries_aside():
+        results = [run_gate(rt), build_programs(rt, path)]
+    results.append(run_tests(path))
     tally = Tally.of_all([result[0] for result in results])
     if tally.failed:
         print("\n".join(line for result in results if result[0].failed for line in result[1]))

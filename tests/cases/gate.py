@@ -35,8 +35,14 @@ def gate_over(folder, *lines):
     with open(f"{folder}/rt", "w", encoding="ascii") as file:
         file.write(GATE.format(lines="\n".join(lines)))
     os.chmod(f"{folder}/rt", 0o755)
+    return all_over(folder)
+
+
+def all_over(folder):
+    """The status of the gate over the toolchain in a folder, in that folder, and its lines."""
+    shutil.copy(f"{TOP}/crates.txt", folder)
     command = [sys.executable, "-B", f"{TOP}/tests/all.py", f"{folder}/rt", f"{folder}/none"]
-    done = subprocess.run(command, cwd=TOP, capture_output=True, timeout=120)
+    done = subprocess.run(command, cwd=folder, capture_output=True, timeout=120)
     return done.returncode, done.stdout.decode().splitlines()
 
 
@@ -46,6 +52,18 @@ def bad_edits(program, folder):
     faults = differs(refused=((status, lines[-1]), (1, "3 passed, 1 failed, 0 skipped")))
     status, lines = gate_over(folder, REFUSED, BAD, BAD)
     return faults + differs(bad=((status, lines[-1]), (1, "3 passed, 3 failed, 0 skipped")), said=(lines.count(BAD), 4))
+
+
+def libraries(program, folder):
+    """The libraries that checks made here aren't there for the gate, and stand again at its end."""
+    own = f"{folder}/crates/pt_x/out/rlib"
+    os.makedirs(own)
+    with open(f"{folder}/rt", "w", encoding="ascii") as file:
+        file.write('#!/bin/sh\nls -d crates/pt_x/out/*\nmkdir crates/pt_x/out/rlib\necho "3 passed, 0 failed"\n')
+    os.chmod(f"{folder}/rt", 0o755)
+    open(f"{own}/format", "w", encoding="ascii").close()
+    status, lines = all_over(folder)
+    return differs(seen=("crates/pt_x/out/rlib" in lines, False), left=((os.listdir(own), os.listdir(f"{folder}/bin")), (["format"], [])))
 
 
 def raising(error):
@@ -163,6 +181,7 @@ def sequences(program, folder):
 
 CASES = [
     Alone("edits that can't be read fail the gate", bad_edits),
+    Alone("the libraries that checks made", libraries),
     Alone("cases that are killed or never end", broken_cases),
     Alone("the gate's last lines", last_lines),
     Alone("cases that want a program", wanting_programs),
