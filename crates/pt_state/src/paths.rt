@@ -17,7 +17,8 @@ use std::alloc::Global;
 pub fn in_pairtree(mut path: NamePath) -> Result<NamePath, MemoryFault>
     ensures { IfOk result (λ whole. whole ≡ in_pairtree_of path) }
 {
-    path.push_front(Name::of_known(WellKnownName::PairtreeRoot))?;
+    let root = Name::of_known(path.allocator(), WellKnownName::PairtreeRoot)?;
+    path.push_front(root)?;
     Ok(path)
 }
 

@@ -62,7 +62,6 @@ pub struct Name {
 // The text of a name. Most names of a store are short, and take no memory of their own then.
 #[derive(Drop)]
 enum Text {
-    Known(&'static str),
     Short(Short),
     Shared(Rc<Vec<u8>>),
 }
@@ -71,7 +70,6 @@ enum Text {
 impl fmt::Debug for Text {
     fn fmt<W: fmt::Write>(&self, f: &mut fmt::Formatter<W>) -> fmt::Result {
         match self {
-            Text::Known(known) => f.debug_tuple("Known").field(known).finish(),
             Text::Short(short) => f.debug_tuple("Shared").field(&short.bytes()).finish(),
             Text::Shared(bytes) => f.debug_tuple("Shared").field(bytes).finish(),
         }
@@ -108,13 +106,12 @@ impl Name {
         }
     }
 
-    /// A name that is known beforehand. It takes no memory.
-    pub fn of_known<K: KnownName>(known: K) -> Name
-        ensures { result ≡ K.known_text known }
+    /// A name that is known beforehand, whose bytes aren't looked at again. `Memory` where a growth was refused.
+    pub fn of_known<K: KnownName>(alloc: Global, known: K) -> Result<Name, MemoryFault>
+        ensures { IfOk result (λ name. name ≡ K.known_text known) }
     {
-        Name {
-            text: Text::Known(known.text()),
-        }
+        let text = text_of(alloc, known.text().as_bytes())?;
+        Ok(Name { text })
     }
 
     /// The bytes.
@@ -123,7 +120,6 @@ impl Name {
         ensures name { IsTrue (is_name self.now) }
     {
         match &self.text {
-            Text::Known(known) => known.as_bytes(),
             Text::Short(short) => short.bytes(),
             Text::Shared(bytes) => bytes.as_slice(),
         }
@@ -146,7 +142,6 @@ impl Name {
     {
         match &self.text {
             Text::Short(short) => short.add_to(text),
-            Text::Known(known) => Ok(text.extend_from_slice(known.as_bytes())?),
             Text::Shared(bytes) => Ok(text.extend_from_slice(bytes.as_slice())?),
         }
     }
@@ -158,7 +153,7 @@ impl Name {
     {
         match &self.text {
             Text::Short(short) => Some(short),
-            Text::Known(_) | Text::Shared(_) => None,
+            Text::Shared(_) => None,
         }
     }
 
@@ -186,7 +181,6 @@ impl Clone for Name {
                     text: Text::Short(short.copy()),
                 });
             }
-            Text::Known(known) => Text::Known(*known),
             Text::Shared(bytes) => Text::Shared(bytes.clone()?),
         };
         Ok(Name { text })

@@ -88,7 +88,7 @@ impl NamePath {
     {
         let mut list = Vec::with_capacity(alloc, names.len().saturating_add(room))?;
         for name in names {
-            list.push(Name::of_known(*name))?;
+            list.push(Name::of_known(alloc, *name)?)?;
         }
         Ok(NamePath {
             names: NameList::Own(list),
@@ -168,6 +168,11 @@ impl NamePath {
         list.push(name)?;
         self.names = NameList::Own(list);
         Ok(())
+    }
+
+    /// What it asks for memory.
+    pub fn allocator(&self) -> Global {
+        self.names.allocator()
     }
 
     /// Adds a name at the front. After `Memory` the path is as before.
