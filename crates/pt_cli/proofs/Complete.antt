@@ -1,29 +1,39 @@
 -- What the parser accepts has an answer: no words that it takes ask for nothing that there is.
-use Rattle.std.proofs.Common.{◌≡◌, ◌∙◌, ◌||◌, ℕ, Bool, true, false, cond, not, List, [], ◌∷◌, Option, Some, None, Result, refl, sym, ap, arith, true≢false}
+use Rattle.std.proofs.Common.{◌≡◌, ◌∙◌, ◌||◌, ℕ, Bool, true, false, cond, not, List, [], ◌∷◌, Option, Some, None, Result, Ok, Err, refl, sym, ap, arith, true≢false}
 use Rattle.std.specs.Prelude.{⊤, codes, is_some, option_map}
 use Rattle.std.specs.List.{list_any}
 use Rattle.std.specs.Str.{bytes_eq}
 use Rattle.std.specs.Str.Parse.{ParsesUnsigned}
 use Rattle.std.specs.Borrow.{Bor}
 use Rattle.std.proofs.lemmas.Slice.Eq.{bytes_eq-Decides}
-use Rattle.clap.specs.Words.{App, Row, Text, fault_of, first_of, one_of, subcommand_of, without_minus, built}
+use Rattle.clap.specs.Words.{App, Row, Text, all_of, fault_of, first_of, one_of, subcommand_of, without_minus, built}
 use Rattle.clap.specs.Walk.{answers_to, nothing_held, rows_after, stop_after, walk_from}
-use Rattle.clap.specs.Simple.{Shape, argument_words, built_leaf, entered, help_shape, inherited, label_of, marked_built, names_of, rows_at, with_leaf_noted}
+use Rattle.clap.specs.Simple.{Shape, argument_words, built_leaf, entered, help_shape, inherited, label_of, marked_built, names_of as commands_of, rows_at, with_leaf_noted}
 use Rattle.clap.specs.Faults.{built_fault, check_fault, entered_fault, level_fault}
 use Rattle.clap.specs.ValueTests.{accepts}
 use Rattle.clap.specs.declared.builder.value_parser.ValueParser.TheVariants as vp
 use Rattle.clap.proofs.CallerReads.{signed_reads}
 use Rattle.clap.proofs.ValueTestLemmas.{accepts-Accepts}
 use Rattle.clap.proofs.WalkLemmas.{list_any-map}
+use Rattle.pt_name.specs.Layout.{layout_of}
+use Rattle.pt_name.specs.Share.{Portion}
+use Rattle.pt_name.specs.Tuples.{Tuples}
+use Rattle.pt_name.specs.declared.layout.LayoutFault.{LayoutFault}
+use Rattle.pt_object.specs.Meta.{given_address, meta_refusal, parts_of}
+use Rattle.pt_object.specs.MetaParts.{MetaParts}
+use Rattle.pt_object.specs.declared.meta.MetaFault.{MetaFault}
+use Rattle.pt_object.specs.declared.meta.MetaFault.TheVariants as meta_fault
 use Rattle.pt_object.specs.declared.algorithm.Algorithm.{Algorithm}
 use Rattle.pt_object.specs.declared.algorithm.Algorithm.TheVariants.{Sha512, Sha256}
 use Rattle.pt_notices.specs.declared.watch.Progress.{Progress}
 use Rattle.pt_notices.specs.declared.watch.Progress.TheVariants.{Auto, Always, Never}
 use Rattle.pt_cli.specs.Grammar.{Spelled, SpellsAlgorithms, SpellsTimes, audit_app, migrate_app, names_app, program, u32_parser}
-use Rattle.pt_cli.specs.Options.{algorithm_of, asked_in, audit_in, number_of, options_in, progress_of}
-use Rattle.pt_cli.specs.Words.{OrNone, answer_to, audit_answer, command_answer, migrate_answer, names_answer}
-use Rattle.pt_cli.specs.declared.command.Command.{Command}
-use Rattle.pt_cli.specs.declared.words.WordsFault.{WordsFault}
+use Rattle.pt_cli.specs.Arguments.{◌>>=◌, IsThere, algorithm_of, judged, number_of, progress_of}
+use Rattle.pt_cli.specs.Ignore.{are_names, ignored_in, names_of, names_only}
+use Rattle.pt_cli.specs.Options.{answer_to, audit_in, audit_meta, audit_options_in, command_in, cut, described_by, feedback_in, folders_in, id_only, job_in, layout_in, meta_in, migration_in, names_in, run_options_in}
+use Rattle.pt_cli.specs.Share.{share_asked}
+use Rattle.pt_cli.specs.declared.faults.Unread.{Unread}
+use Rattle.pt_cli.specs.declared.faults.Unread.TheVariants as unread
 use Rattle.pt_cli.proofs.Passing.{Every, Fits}
 use Rattle.pt_cli.proofs.Present.{check_passed, default_value, required_value, walk_passed}
 use Rattle.pt_cli.proofs.Stopping.{NotHelp, walk_goes}
@@ -75,34 +85,89 @@ number_there v e =
 
 -- ---- the answer to a command
 
-all_given : (rows : List Row) (created name message digest source dest : Text) (algorithm : Algorithm) (size_text count_text when interval_text : Text) (size count : ℕ) (progress : Progress) (interval : ℕ)
-    → first_of (codes "created") rows ≡ Some created → first_of (codes "name") rows ≡ Some name → first_of (codes "message") rows ≡ Some message
-    → first_of (codes "digest") rows ≡ Some digest → algorithm_of digest ≡ Some algorithm
-    → one_of (codes "tuple-size") rows ≡ Some size_text → number_of size_text ≡ Some size
-    → one_of (codes "tuples") rows ≡ Some count_text → number_of count_text ≡ Some count
-    → first_of (codes "progress") rows ≡ Some when → progress_of when ≡ Some progress
-    → one_of (codes "interval") rows ≡ Some interval_text → number_of interval_text ≡ Some interval
-    → first_of (codes "SOURCE") rows ≡ Some source → first_of (codes "DEST") rows ≡ Some dest
-    → is_some (option_map migrate_answer (options_in rows)) ≡ true
-all_given rows created name message digest source dest algorithm size_text count_text when interval_text size count progress interval e1 e2 e3 e4 e5 e6 e7 e8 e9 e10 e11 e12 e13 e14 e15 =
-    rw (e1, e2, e3, e4, e5, e6, e7, e8, e9, e10, e11, e12, e13, e14, e15) refl
+-- what needs what is there, and is there itself, is there
+then_there : {A B : Type 0} (r : Result A Unread) (f : A → Result B Unread) → IsThere r → ((x : A) → IsThere (f x)) → IsThere (r >>= f)
+then_there (Ok x) f here on = on x
+then_there (Err unread.Missing) f here on = here
+then_there (Err unread.Created) f here on = tt
+then_there (Err unread.EmptyName) f here on = tt
+then_there (Err unread.EmptyId) f here on = tt
+then_there (Err unread.Memory) f here on = tt
+then_there (Err unread.Tuples) f here on = tt
+then_there (Err unread.Share) f here on = tt
+then_there (Err unread.Ignored) f here on = tt
 
-audit_given : (rows : List Row) (digest source dest : Text) (algorithm : Algorithm) (size_text count_text when interval_text : Text) (size count : ℕ) (progress : Progress) (interval : ℕ)
-    → first_of (codes "digest") rows ≡ Some digest → algorithm_of digest ≡ Some algorithm
-    → one_of (codes "tuple-size") rows ≡ Some size_text → number_of size_text ≡ Some size
-    → one_of (codes "tuples") rows ≡ Some count_text → number_of count_text ≡ Some count
-    → first_of (codes "progress") rows ≡ Some when → progress_of when ≡ Some progress
-    → one_of (codes "interval") rows ≡ Some interval_text → number_of interval_text ≡ Some interval
-    → first_of (codes "SOURCE") rows ≡ Some source → first_of (codes "DEST") rows ≡ Some dest
-    → is_some (option_map audit_answer (audit_in rows)) ≡ true
-audit_given rows digest source dest algorithm size_text count_text when interval_text size count progress interval e1 e2 e3 e4 e5 e6 e7 e8 e9 e10 e11 e12 =
-    rw (e1, e2, e3, e4, e5, e6, e7, e8, e9, e10, e11, e12) refl
+-- what is judged is there
+described_there : (meta : MetaParts) (refusal : Option MetaFault) → IsThere (described_by meta refusal)
+described_there meta None = tt
+described_there meta (Some meta_fault.Created) = tt
+described_there meta (Some meta_fault.EmptyName) = tt
+described_there meta (Some meta_fault.Memory) = tt
 
-id_given : (rows : List Row) (id size_text count_text : Text) (size count : ℕ) → first_of (codes "ID") rows ≡ Some id
-    → one_of (codes "tuple-size") rows ≡ Some size_text → number_of size_text ≡ Some size
-    → one_of (codes "tuples") rows ≡ Some count_text → number_of count_text ≡ Some count
-    → is_some (option_map names_answer (asked_in rows)) ≡ true
-id_given rows id size_text count_text size count e1 e2 e3 e4 e5 = rw (e1, e2, e3, e4, e5) refl
+audit_meta_there : IsThere audit_meta
+unfolding audit_meta
+audit_meta_there =
+    described_there (parts_of (codes "1970-01-01T00:00:00Z") (codes "audit") (given_address None) []) (meta_refusal (codes "1970-01-01T00:00:00Z") (codes "audit"))
+
+cut_there : (layout : Result Tuples LayoutFault) → IsThere (cut layout)
+cut_there (Ok tuples) = tt
+cut_there (Err refusal) = tt
+
+share_there : (share : Option Portion) → IsThere (judged unread.Share share)
+share_there (Some share) = tt
+share_there None = tt
+
+ignored_there : (names : Option (List Text)) → IsThere (names_of names)
+ignored_there None = tt
+ignored_there (Some texts) = go (are_names texts)
+  where
+    go : (b : Bool) → IsThere (names_only b texts)
+    go true = tt
+    go false = tt
+
+id_there : (id : Text) → IsThere (id_only id)
+id_there [] = tt
+id_there (x ∷ xs) = tt
+
+module _ (rows : List Row) where
+  -- the parts of a command, each of what must be there for it
+  layout_there : (size_text count_text : Text) (size count : ℕ)
+      → one_of (codes "tuple-size") rows ≡ Some size_text → number_of size_text ≡ Some size
+      → one_of (codes "tuples") rows ≡ Some count_text → number_of count_text ≡ Some count
+      → IsThere (layout_in rows)
+  layout_there size_text count_text size count e1 e2 e3 e4 = rw (e1, e2, e3, e4) (cut_there (layout_of size count))
+
+  meta_there : (created name message : Text) → first_of (codes "created") rows ≡ Some created → first_of (codes "name") rows ≡ Some name
+      → first_of (codes "message") rows ≡ Some message → IsThere (meta_in rows)
+  meta_there created name message e1 e2 e3 = rw (e1, e2, e3) (described_there _ (meta_refusal created name))
+
+  job_there : (meta : MetaParts) (digest : Text) (algorithm : Algorithm) → first_of (codes "digest") rows ≡ Some digest → algorithm_of digest ≡ Some algorithm
+      → IsThere (layout_in rows) → IsThere (job_in meta rows)
+  job_there meta digest algorithm e1 e2 cuts =
+      rw (e1, e2) (then_there (layout_in rows) _ cuts (λ tuples. then_there (judged unread.Share (share_asked (first_of (codes "share") rows))) _ (share_there _) (λ share. tt)))
+
+  feedback_there : (when interval_text : Text) (progress : Progress) (interval : ℕ) → first_of (codes "progress") rows ≡ Some when → progress_of when ≡ Some progress
+      → one_of (codes "interval") rows ≡ Some interval_text → number_of interval_text ≡ Some interval → IsThere (feedback_in rows)
+  feedback_there when interval_text progress interval e1 e2 e3 e4 = rw (e1, e2, e3, e4) tt
+
+  folders_there : (source dest : Text) → first_of (codes "SOURCE") rows ≡ Some source → first_of (codes "DEST") rows ≡ Some dest → IsThere (folders_in rows)
+  folders_there source dest e1 e2 = rw (e1, e2) tt
+
+  -- the commands, of their parts
+  migration_there : IsThere (meta_in rows) → ((meta : MetaParts) → IsThere (job_in meta rows)) → IsThere (feedback_in rows) → IsThere (folders_in rows) → IsThere (migration_in rows)
+  migration_there meta job feedback folders =
+      then_there (run_options_in rows) _
+      (then_there (meta_in rows) _ meta (λ m. then_there (job_in m rows) _ (job m) (λ j. then_there (ignored_in rows) _ (ignored_there (all_of (codes "ignore") rows)) (λ i. then_there (feedback_in rows) _ feedback (λ f. tt)))))
+      (λ o. then_there (folders_in rows) _ folders (λ f. tt))
+
+  audit_there : ((meta : MetaParts) → IsThere (job_in meta rows)) → IsThere (feedback_in rows) → IsThere (folders_in rows) → IsThere (audit_in rows)
+  audit_there job feedback folders =
+      then_there (audit_options_in rows) _
+      (then_there audit_meta _ audit_meta_there (λ m. then_there (job_in m rows) _ (job m) (λ j. then_there (ignored_in rows) _ (ignored_there (all_of (codes "ignore") rows)) (λ i. then_there (feedback_in rows) _ feedback (λ f. tt)))))
+      (λ o. then_there (folders_in rows) _ folders (λ f. tt))
+
+  names_there : (id : Text) → first_of (codes "ID") rows ≡ Some id → IsThere (layout_in rows) → IsThere (names_in rows)
+  names_there id e1 cuts = rw e1 (then_there (id_only id) _ (id_there id) (λ x. then_there (layout_in rows) _ cuts (λ l. tt)))
 
 -- ---- the program
 
@@ -112,12 +177,12 @@ four top x y w z = record { top = top; subs = x ∷ y ∷ w ∷ z ∷ [] }
 
 -- a level that passes has an answer
 abbrev Answered : Shape → Type 0
-Answered s = (words : List Text) → level_fault s [] nothing_held words false [] ≡ [] → is_some (command_answer (rows_at s words)) ≡ true
+Answered s = (words : List Text) → level_fault s [] nothing_held words false [] ≡ [] → IsThere (command_in (rows_at s words))
 
 module _ (top x y w z : Shape) (names_answered : Answered x) (migrate_answered : Answered y) (audit_answered : Answered w)
     (is_help : (word : Text) → answers_to word (label_of z) ≡ true → bytes_eq word (codes "help") ≡ true) where
   dispatched : (stop : Option (Text × List Text)) → NotHelp stop → entered_fault (four top x y w z) stop ≡ [] → is_some (entered (four top x y w z) stop) ≡ true
-      → is_some (answer_to (entered (four top x y w z) stop)) ≡ true
+      → IsThere (answer_to (entered (four top x y w z) stop))
   dispatched None not passes some = absurd (cc)
   dispatched (Some p) not passes some = go (answers_to p.0 (label_of x)) (answers_to p.0 (label_of y)) (answers_to p.0 (label_of w)) (answers_to p.0 (label_of z)) refl passes some
     where
@@ -127,7 +192,7 @@ module _ (top x y w z : Shape) (names_answered : Answered x) (migrate_answered :
       go : (a b d c : Bool) → answers_to p.0 (label_of z) ≡ c
           → Rattle.std.specs.Option.option_map_or (λ s. level_fault s [] nothing_held p.1 false []) (found a b d c) [] ≡ []
           → is_some (option_map (λ s. rows_at s p.1) (found a b d c)) ≡ true
-          → is_some (answer_to (option_map (λ s. rows_at s p.1) (found a b d c))) ≡ true
+          → IsThere (answer_to (option_map (λ s. rows_at s p.1) (found a b d c)))
       go true b d c is k there = names_answered p.1 k
       go false true d c is k there = migrate_answered p.1 k
       go false false true c is k there = audit_answered p.1 k
@@ -142,9 +207,9 @@ module _ (top x y w z : Shape) (names_answered : Answered x) (migrate_answered :
 
   answered : top.args_override_self ≡ false → Every (Fits top.rules) top.rules → top.disable_help_subcommand ≡ false → top.arg_required_else_help ≡ false
       → top.subcommand_required ≡ true → (words : List Text) → built_fault (four top x y w z) nothing_held words ≡ []
-      → is_some (answer_to (entered (four top x y w z) (stop_after top.rules (names_of (four top x y w z)) words))) ≡ true
+      → IsThere (answer_to (entered (four top x y w z) (stop_after top.rules (commands_of (four top x y w z)) words)))
   answered once fit helps quiet wants words e =
-      let names = names_of (four top x y w z) in
+      let names = commands_of (four top x y w z) in
       let stop = stop_after top.rules names words in
       let walks = walk_passed top once fit names words (is_some (entered (four top x y w z) stop)) (entered_fault (four top x y w z) stop) e in
       let checks = check_passed top once fit names words (is_some (entered (four top x y w z) stop)) (entered_fault (four top x y w z) stop) e in
@@ -193,8 +258,9 @@ module _ (spelled others : Spelled) where
       let digits = number_there size.0 size.3 in
       let number = number_there count.0 count.3 in
       let seconds = number_there interval.0 interval.3 in
-      audit_given (rows_after built_audit.rules [] words) digest.0 source.0 dest.0 algorithm.0 _ _ when.0 _ digits.0 number.0 progress.0 seconds.0
-      digest.1 algorithm.1 size.2 digits.1 count.2 number.1 when.1 progress.1 interval.2 seconds.1 source.1 dest.1
+      let rows = rows_after built_audit.rules [] words in
+      audit_there rows (λ meta. job_there rows meta digest.0 algorithm.0 digest.1 algorithm.1 (layout_there rows _ _ digits.0 number.0 size.2 digits.1 count.2 number.1))
+      (feedback_there rows when.0 _ progress.0 seconds.0 when.1 progress.1 interval.2 seconds.1) (folders_there rows source.0 dest.0 source.1 dest.1)
 
   names_is_answered : Answered built_names
   names_is_answered words e =
@@ -203,7 +269,8 @@ module _ (spelled others : Spelled) where
       let count = default_value built_names refl fit_names [] words false [] e (codes "tuples") _ refl refl in
       let digits = number_there size.0 size.3 in
       let number = number_there count.0 count.3 in
-      id_given (rows_after built_names.rules [] words) id.0 _ _ digits.0 number.0 id.1 size.2 digits.1 count.2 number.1
+      let rows = rows_after built_names.rules [] words in
+      names_there rows id.0 id.1 (layout_there rows _ _ digits.0 number.0 size.2 digits.1 count.2 number.1)
 
   migrate_is_answered : Answered built_migrate
   migrate_is_answered words e =
@@ -222,8 +289,10 @@ module _ (spelled others : Spelled) where
       let digits = number_there size.0 size.3 in
       let number = number_there count.0 count.3 in
       let seconds = number_there interval.0 interval.3 in
-      all_given (rows_after built_migrate.rules [] words) created.0 name.0 message.0 digest.0 source.0 dest.0 algorithm.0 _ _ when.0 _ digits.0 number.0 progress.0 seconds.0
-      created.1 name.1 message.1 digest.1 algorithm.1 size.2 digits.1 count.2 number.1 when.1 progress.1 interval.2 seconds.1 source.1 dest.1
+      let rows = rows_after built_migrate.rules [] words in
+      migration_there rows (meta_there rows created.0 name.0 message.0 created.1 name.1 message.1)
+      (λ meta. job_there rows meta digest.0 algorithm.0 digest.1 algorithm.1 (layout_there rows _ _ digits.0 number.0 size.2 digits.1 count.2 number.1))
+      (feedback_there rows when.0 _ progress.0 seconds.0 when.1 progress.1 interval.2 seconds.1) (folders_there rows source.0 dest.0 source.1 dest.1)
 
   help_is_help : (word : Text) → answers_to word (label_of built_help) ≡ true → bytes_eq word (codes "help") ≡ true
   help_is_help word e = go (bytes_eq (codes "help") word) refl e
@@ -234,17 +303,9 @@ module _ (spelled others : Spelled) where
           (bytes_eq-Decides word (codes "help")).1 (sym same)
       go false is h = absurd (cc)
 
-  -- where the parser accepts, there is an answer
+  -- where the parser accepts, nothing is missing
   pub program_answered : (words : List Text) → fault_of (program spelled others) words ≡ []
-      → is_some (answer_to (subcommand_of (program spelled others) words)) ≡ true
+      → IsThere (answer_to (subcommand_of (program spelled others) words))
   program_answered words e =
       answered (built (program spelled others)).top built_names built_migrate built_audit built_help names_is_answered migrate_is_answered audit_is_answered help_is_help refl fit_top refl refl refl
       (argument_words (program spelled others) words) e
-
--- so an answer that isn't there isn't met
-pub never_none : (found : Option (Text × List Row)) → is_some (answer_to found) ≡ true → OrNone (answer_to found) None → ⊥
-never_none found there h = go (answer_to found) there h
-  where
-    go : (o : Option (Result Command WordsFault)) → is_some o ≡ true → OrNone o None → ⊥
-    go None e k = true≢false (sym e)
-    go (Some x) e k = k

@@ -1,7 +1,5 @@
-pub mod Asking
 pub mod Building
 pub mod Complete
-pub mod Migrating
 pub mod Naming
 mod Parsed
 pub mod Passing

@@ -1,5 +1,5 @@
 -- What is answered to texts of which one is no name.
-use Rattle.std.proofs.Common.{◌≡◌, ◌∙◌, ◌+◌, ◌++◌, ◌∷◌, [], ℕ, ◌<◌, Bool, true, false, List, length, get_or, map, take, inl, inr, Bor, Result, Ok, Err, ap, refl, sym}
+use Rattle.std.proofs.Common.{◌≡◌, ◌∙◌, ◌+◌, ◌++◌, ◌∷◌, [], ℕ, ◌<◌, Bool, true, false, List, length, get_or, map, take, inl, inr, Bor, Option, Some, Result, Ok, Err, ap, refl, sym}
 use Rattle.std.specs.Prelude.{◌&&◌}
 use Rattle.std.proofs.lemmas.List.{map-append, take_more}
 use Rattle.std.specs.Result.{IsErrAnd}
@@ -7,9 +7,10 @@ use Rattle.std.proofs.lemmas.List.Folds.{list_all-append, list_all-map, list_all
 use Rattle.clap.specs.Words.{Text}
 use Rattle.pt_tree.specs.Name.{is_name}
 use Rattle.pt_tree.specs.Refusal.{Answers}
-use Rattle.pt_cli.specs.Words.{AreNamed, are_names, not_a_name}
-use Rattle.pt_cli.specs.declared.words.WordsFault.{WordsFault}
-use Rattle.pt_cli.specs.declared.words.WordsFault.TheVariants as fault
+use Rattle.pt_cli.specs.Arguments.{ReadsAs}
+use Rattle.pt_cli.specs.Ignore.{AreNamed, are_names, names_of, names_only, not_a_name}
+use Rattle.pt_cli.specs.declared.faults.Unread.{Unread}
+use Rattle.pt_cli.specs.declared.faults.Unread.TheVariants as fault
 
 abbrev written : List (Bor Text) → List Text
 written texts = map (λ (t : Bor Text). t.now) texts
@@ -19,7 +20,7 @@ not_all_names : (texts : List (Bor Text)) (i : ℕ) (d : Bor Text) → i < lengt
 not_all_names texts i d here none =
     list_all-map is_name (λ (t : Bor Text). t.now) texts ∙ list_all_at (λ (t : Bor Text). is_name t.now) texts i d here none
 
-pub name_refused : (texts : List (Bor Text)) (i : ℕ) (d : Bor Text) (e : WordsFault) (r : Result (List Text) WordsFault) (P : List ℕ → Type 0) → i < length texts
+pub name_refused : (texts : List (Bor Text)) (i : ℕ) (d : Bor Text) (e : Unread) (r : Result (List Text) Unread) (P : List ℕ → Type 0) → i < length texts
     → Answers {T = List ℕ} (not_a_name (is_name (get_or texts i d).now)) fault.Memory (Err e) P → IsErrAnd r (λ y. y ≡ e) → AreNamed (written texts) r
 name_refused texts i d e (Ok names) P here told is = absurd is
 name_refused texts i d e (Err y) P here told is = go (is_name (get_or texts i d).now) refl told
@@ -46,3 +47,9 @@ name_added texts i d name names added within told (so_far, all) is = go (is_name
       ap are_names is ∙ list_all-append is_name names (name ∷ []) ∙ both (are_names names) (is_name name) all (ap is_name at ∙ named),
     )
     go false none at = absurd (cc)
+
+-- so they are read
+pub names_read : (texts : List Text) (r : Result (List Text) Unread) → AreNamed texts r → ReadsAs (names_of (Some texts)) r
+names_read texts (Ok names) (all, same) = ap (λ b. names_only b texts) all ∙ ap Ok (sym same)
+names_read texts (Err e) (inl memory) = inr memory
+names_read texts (Err e) (inr (none, ignored)) = inl (ap (λ b. names_only b texts) none ∙ ap Err (sym ignored))

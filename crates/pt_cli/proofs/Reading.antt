@@ -8,7 +8,7 @@ use Rattle.std.specs.Str.Parse.{AllDigits, ParsesUnsigned, digits_value, without
 use Rattle.clap.specs.Words.{ReadsOne, Text}
 use Rattle.clap.specs.ValueTests.{is_numeral}
 use Rattle.clap.proofs.WalkLemmas.{both}
-use Rattle.pt_cli.specs.Options.{number_of}
+use Rattle.pt_cli.specs.Arguments.{number_of}
 
 digits_pass : (ds : Text) → AllDigits 10 ds → list_all (λ d. nat_lt (digit_value d) 10) ds ≡ true
 digits_pass [] h = refl

@@ -1,4 +1,4 @@
--- Which call the words of a command lead to, and what it is given.
+-- What is written to the output of a machine, and with which status.
 use Rattle.std.specs.Prelude.{◌≡◌, ◌≢◌, ◌⊎◌, ◌↔◌, ℕ, List, [], Option, Result, Ok, Err, IfErr, IsErrOf, OnErr, OnOk}
 use Rattle.std.specs.Io.KnownBytes.{Appends}
 use Rattle.std.specs.IoError.{error_kind}
@@ -7,51 +7,10 @@ use Rattle.std.specs.declared.io.ErrorKind.TheVariants.{BrokenPipe}
 use Rattle.pt_tree.specs.Log.{AppendsFront}
 use Rattle.pt_name.specs.Tuples.{Tuples}
 use Rattle.pt_cli.specs.Names.{LeavesWritten, names_text}
-use Rattle.pt_object.specs.MetaParts.{MetaParts}
-use Rattle.pt_cli.specs.declared.command.Audit.{Audit as Comparison}
-use Rattle.pt_cli.specs.declared.command.Migrate.{Migrate as Migration}
 use Rattle.pt_cli.specs.declared.command.Named.{Named}
 use Rattle.pt_cli.specs.declared.names.NamesFault.{NamesFault}
 use Rattle.pt_cli.specs.declared.names.NamesFault.TheVariants as names
-use Rattle.pt_run.specs.declared.host.Ground.{Ground}
-use Rattle.pt_run.specs.declared.guarded_audit.WantedAudit.{WantedAudit}
-use Rattle.pt_run.specs.declared.guarded_run.Wanted.{Wanted}
-use Rattle.pt_walk.specs.Limits.{greatest_limits}
-
--- what is wanted of the run that the words of a migration ask for: each field as it was given, and the greatest limits
-abbrev pub wanted_of : Migration → Wanted
-wanted_of words = record {
-  job = record {
-    meta = words.meta;
-    layout = words.layout;
-    algorithm = words.algorithm;
-    limits = greatest_limits;
-    gather = words.gather;
-    share = words.share;
-  };
-  ignored = words.ignored;
-  sync = words.sync;
-  rehearse = words.rehearse;
-  verbose = words.verbose;
-  progress = words.progress;
-  interval = words.interval;
-}
-
--- what is wanted of the audit that words ask for: each field as it was given, and the greatest limits; this is what the run that is compared says of its versions
-abbrev pub wanted_audit : MetaParts → Comparison → WantedAudit
-wanted_audit meta words = record {
-  job = record {
-    meta = meta;
-    layout = words.layout;
-    algorithm = words.algorithm;
-    limits = greatest_limits;
-    gather = words.gather;
-    share = words.share;
-  };
-  ignored = words.ignored;
-  verbose = words.verbose;
-  progress = words.progress;
-}
+use Rattle.pt_run.specs.Machine.{GroundOf, MachineWords}
 
 -- of writing names: 0 where they were written, 2 for the empty identifier, else 3
 abbrev pub names_status : Result (Unit {0}) NamesFault → ℕ
@@ -68,14 +27,13 @@ pub record WritesNames (layout : Tuples) (prefix id : List ℕ) (old new : Optio
   pub err : IfErr written (λ fault. LeavesWritten fault old new (names_text layout prefix id))
 
 -- the names that are asked for are written to the output that a machine lends, which is given back with all else as it was; and the status is by that
-abbrev pub TellsNames : {H S D W : Type 0}
-    → (H → Ground S D W → H → Type 0) → (H → Ground S D W → H → Type 0) → (W → Option (List ℕ))
-    → Named → H → H → ℕ → Type 0
-TellsNames {H} {S} {D} {W} lends takes_back contents asked old new status =
-    (ground : Ground S D W) × (lent : H) × lends old ground lent
-    × (output : W) × (written : Result (Unit {0}) NamesFault)
-    × WritesNames asked.layout asked.prefix asked.id (contents ground.output) (contents output) written
-    × takes_back lent (record ground { output = output }) new
+abbrev pub TellsNames : {H : Type 0} → MachineWords H → Named → H → H → ℕ → Type 0
+TellsNames {H} words asked old new status =
+    (ground : GroundOf words) × (lent : H) × words.lends old ground lent
+    × (output : words.Output) × (written : Result (Unit {0}) NamesFault)
+    × WritesNames asked.layout asked.prefix asked.id (words.written.output ground.output)
+    (words.written.output output) written
+    × words.takes_back lent (record ground { output = output }) new
     × (status ≡ names_status written)
 
 -- of writing a text that was asked for: 0 where it was written, or nobody may read it any more, else 3
@@ -90,19 +48,10 @@ pub record WritesText (text : List ℕ) (old new : Option (List ℕ)) (written :
   pub err : OnErr written (AppendsFront old new text)
 
 -- a text is written to the output that a machine lends, which is given back with all else as it was; and the status is by that
-abbrev pub TellsText : {H S D W : Type 0}
-    → (H → Ground S D W → H → Type 0) → (H → Ground S D W → H → Type 0) → (W → Option (List ℕ))
-    → List ℕ → H → H → ℕ → Type 0
-TellsText {H} {S} {D} {W} lends takes_back contents text old new status =
-    (ground : Ground S D W) × (lent : H) × lends old ground lent
-    × (output : W) × (written : Result (Unit {0}) Error)
-    × WritesText text (contents ground.output) (contents output) written
-    × takes_back lent (record ground { output = output }) new
+abbrev pub TellsText : {H : Type 0} → MachineWords H → List ℕ → H → H → ℕ → Type 0
+TellsText {H} words text old new status =
+    (ground : GroundOf words) × (lent : H) × words.lends old ground lent
+    × (output : words.Output) × (written : Result (Unit {0}) Error)
+    × WritesText text (words.written.output ground.output) (words.written.output output) written
+    × words.takes_back lent (record ground { output = output }) new
     × IsToldAs written status
-
--- the audit that words ask for is made, or memory was wanting before anything was asked of the machine, which is 3
-abbrev pub AuditsFor : {H : Type 0} → (Comparison → WantedAudit → H → H → ℕ → Type 0)
-    → Comparison → H → H → ℕ → Type 0
-AuditsFor audits words old new status =
-    ((meta : MetaParts) × audits words (wanted_audit meta words) old new status)
-    ⊎ ((status ≡ 3) × (new ≡ old))

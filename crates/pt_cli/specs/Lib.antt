@@ -1,8 +1,10 @@
+pub mod Arguments
 pub mod Calls
-pub mod Given
 pub mod Grammar
+pub mod Ignore
 pub mod Names
 pub mod Options
+pub mod Share
 pub mod Statuses
 pub mod Taken
 pub mod Words

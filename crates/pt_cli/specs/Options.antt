@@ -1,181 +1,160 @@
--- What `migrate` and `names` were given.
-use Rattle.std.specs.Prelude.{ℕ, ◌^◌, ◌&&◌, nat_lt, Bool, false, List, [], Option, None, Some, if◌then◌else◌, codes, option_and_then}
-use Rattle.std.specs.Option.{option_map_or, unwrap_or}
+-- Which command the arguments that a parser found ask for, with which values, and why they ask for none: the first of the reasons in
+-- the order of these lines.
+use Rattle.std.specs.Prelude.{ℕ, List, [], ◌∷◌, Option, None, Some, Result, Ok, Err, if◌then◌else◌, codes}
+use Rattle.std.specs.Option.{unwrap_or}
 use Rattle.std.specs.Str.{bytes_eq}
-use Rattle.std.specs.Str.Parse.{digits_value, without_leading_plus}
-use Rattle.clap.specs.Words.{Row, Text, all_of, first_of, one_of}
-use Rattle.clap.specs.ValueTests.{is_numeral}
-use Rattle.pt_object.specs.Algorithm.{algorithm_word}
-use Rattle.pt_object.specs.declared.algorithm.Algorithm.{Algorithm}
-use Rattle.pt_object.specs.declared.algorithm.Algorithm.TheVariants.{Sha512, Sha256}
-use Rattle.pt_notices.specs.declared.watch.Progress.{Progress}
-use Rattle.pt_notices.specs.declared.watch.Progress.TheVariants.{Auto, Always, Never}
+use Rattle.clap.specs.Words.{Row, Text, first_of}
+use Rattle.pt_name.specs.Layout.{layout_of}
+use Rattle.pt_name.specs.Tuples.{Tuples}
+use Rattle.pt_name.specs.declared.layout.LayoutFault.{LayoutFault}
+use Rattle.pt_object.specs.Meta.{given_address, meta_refusal, parts_of}
+use Rattle.pt_object.specs.MetaParts.{MetaParts}
+use Rattle.pt_object.specs.declared.meta.MetaFault.{MetaFault}
+use Rattle.pt_run.specs.declared.options.AuditOptions.{AuditOptions}
+use Rattle.pt_run.specs.declared.options.Feedback.{Feedback}
+use Rattle.pt_run.specs.declared.options.RunOptions.{RunOptions}
+use Rattle.pt_state.specs.declared.job.Job.{Job}
+use Rattle.pt_walk.specs.Limits.{greatest_limits}
+use Rattle.pt_cli.specs.Arguments.{◌>>=◌, algorithm_in, is_set_in, judged, needed, number_in, progress_in, unread_of_meta}
+use Rattle.pt_cli.specs.Ignore.{ignored_in}
+use Rattle.pt_cli.specs.Share.{share_asked}
+use Rattle.pt_cli.specs.declared.command.Command.{Command}
+use Rattle.pt_cli.specs.declared.command.Command.TheVariants.{Audit, Migrate, Names}
+use Rattle.pt_cli.specs.declared.faults.Unread.{Unread}
+use Rattle.pt_cli.specs.declared.faults.Unread.TheVariants as unread
 
--- the values of the options, with their defaults, and the two paths
-pub record Options : Type 0 where
-  pub created : Text
-  pub name : Text
-  pub address : Option Text
-  pub message : Text
-  pub algorithm : Algorithm
-  pub size : ℕ
-  pub count : ℕ
-  pub gather : Bool
-  pub share : Option Text
-  pub ignored : List Text
-  pub sync : Bool
-  pub rehearse : Bool
-  pub present_ok : Bool
-  pub verbose : Bool
-  pub quiet : Bool
-  pub progress : Progress
-  pub interval : ℕ
-  pub expected : Option Text
-  pub source : Text
-  pub dest : Text
+-- the tuples of a layout
+abbrev pub cut : Result Tuples LayoutFault → Result Tuples Unread
+cut (Ok tuples) = Ok tuples
+cut (Err refusal) = Err unread.Tuples
 
--- the algorithm of a word
-abbrev pub algorithm_of : Text → Option Algorithm
-algorithm_of word =
-    if bytes_eq word (algorithm_word Sha512) then Some Sha512
-    else if bytes_eq word (algorithm_word Sha256) then Some Sha256
-    else None
+-- how places are cut
+abbrev pub layout_in : List Row → Result Tuples Unread
+layout_in rows = do
+  size ← needed (number_in (codes "tuple-size") rows)
+  count ← needed (number_in (codes "tuples") rows)
+  cut (layout_of size count)
 
--- when a word says to show progress
-abbrev pub progress_of : Text → Option Progress
-progress_of word =
-    if bytes_eq word (codes "auto") then Some Auto
-    else if bytes_eq word (codes "always") then Some Always
-    else if bytes_eq word (codes "never") then Some Never
-    else None
+-- the description of a version, unless it is refused
+abbrev pub described_by : MetaParts → Option MetaFault → Result MetaParts Unread
+described_by meta None = Ok meta
+described_by meta (Some refusal) = Err (unread_of_meta refusal)
 
--- the number of `u32` that a text writes
-abbrev pub number_of : Text → Option ℕ
-number_of text =
-    let digits = without_leading_plus text in
-    if is_numeral digits
-    && nat_lt (digits_value 10 digits) (2 ^ 32) then Some (digits_value 10 digits) else None
+-- the description of a version with these texts
+abbrev pub described : Text → Text → Option Text → Text → Result MetaParts Unread
+described created name address message =
+    described_by (parts_of created name (given_address address) message) (meta_refusal created name)
 
--- the number that an option was given
-abbrev pub number_in : Text → List Row → Option ℕ
-number_in id rows = option_and_then number_of (one_of id rows)
+-- what the inventories say of their versions
+abbrev pub meta_in : List Row → Result MetaParts Unread
+meta_in rows = do
+  created ← needed (first_of (codes "created") rows)
+  name ← needed (first_of (codes "name") rows)
+  message ← needed (first_of (codes "message") rows)
+  described created name (first_of (codes "address") rows) message
 
--- a flag was given
-abbrev pub is_set_in : Text → List Row → Bool
-is_set_in id rows = option_map_or (λ text. bytes_eq text (codes "true")) (first_of id rows) false
-
--- one after another, where each is given
-infixl 10 ◌>>=◌
-abbrev pub ◌>>=◌ : {A B : Type 0} → Option A → (A → Option B) → Option B
-o >>= f = option_and_then f o
-
--- two values, where both are there
-abbrev pub both_of : {A B : Type 0} → Option A → Option B → Option (A × B)
-both_of first second = do
-  x ← first
-  y ← second
-  Some (x, y)
-
--- how the places are cut, in what a parser found
-abbrev pub tuples_in : List Row → Option (ℕ × ℕ)
-tuples_in rows = both_of (number_in (codes "tuple-size") rows) (number_in (codes "tuples") rows)
-
--- the values that are words of a list, in what a parser found
-abbrev pub choices_in : List Row → Option (Algorithm × Progress)
-choices_in rows =
-    both_of (first_of (codes "digest") rows >>= algorithm_of) (first_of (codes "progress") rows >>= progress_of)
-
--- the options of `migrate` in what its parser found
-abbrev pub options_in : List Row → Option Options
-options_in rows = do
-  created ← first_of (codes "created") rows
-  name ← first_of (codes "name") rows
-  message ← first_of (codes "message") rows
-  algorithm ← first_of (codes "digest") rows >>= algorithm_of
-  size ← number_in (codes "tuple-size") rows
-  count ← number_in (codes "tuples") rows
-  progress ← first_of (codes "progress") rows >>= progress_of
-  interval ← number_in (codes "interval") rows
-  source ← first_of (codes "SOURCE") rows
-  dest ← first_of (codes "DEST") rows
-  Some (record {
-    created = created;
-    name = name;
-    address = first_of (codes "address") rows;
-    message = message;
+-- the run whose versions are described so, with the greatest limits
+abbrev pub job_in : MetaParts → List Row → Result Job Unread
+job_in meta rows = do
+  algorithm ← algorithm_in rows
+  layout ← layout_in rows
+  share ← judged unread.Share (share_asked (first_of (codes "share") rows))
+  Ok (record {
+    meta = meta;
+    layout = layout;
     algorithm = algorithm;
-    size = size;
-    count = count;
+    limits = greatest_limits;
     gather = is_set_in (codes "gather") rows;
-    share = first_of (codes "share") rows;
-    ignored = unwrap_or (all_of (codes "ignore") rows) [];
+    share = share;
+  })
+
+-- what is shown beside the log
+abbrev pub feedback_in : List Row → Result Feedback Unread
+feedback_in rows = do
+  progress ← progress_in rows
+  interval ← needed (number_in (codes "interval") rows)
+  Ok (record {
+    verbose = is_set_in (codes "verbose") rows;
+    quiet = is_set_in (codes "quiet") rows;
+    progress = progress;
+    interval = interval;
+    expected = first_of (codes "expect") rows;
+  })
+
+-- the options of `migrate`
+abbrev pub run_options_in : List Row → Result RunOptions Unread
+run_options_in rows = do
+  meta ← meta_in rows
+  job ← job_in meta rows
+  ignored ← ignored_in rows
+  feedback ← feedback_in rows
+  Ok (record {
+    job = job;
+    ignored = ignored;
     sync = is_set_in (codes "sync") rows;
     rehearse = is_set_in (codes "dry-run") rows;
     present_ok = is_set_in (codes "present-ok") rows;
-    verbose = is_set_in (codes "verbose") rows;
-    quiet = is_set_in (codes "quiet") rows;
-    progress = progress;
-    interval = interval;
-    expected = first_of (codes "expect") rows;
-    source = source;
-    dest = dest;
+    feedback = feedback;
   })
 
--- what `names` was given
-pub record Request : Type 0 where
-  pub id : Text
-  pub prefix : Text
-  pub size : ℕ
-  pub count : ℕ
+-- what the run of an audit says of its versions: always this, which isn't compared
+unfoldable pub audit_meta : Result MetaParts Unread
+audit_meta = described (codes "1970-01-01T00:00:00Z") (codes "audit") None []
 
--- the options of `names` in what its parser found
-abbrev pub asked_in : List Row → Option Request
-asked_in rows = do
-  id ← first_of (codes "ID") rows
-  size ← number_in (codes "tuple-size") rows
-  count ← number_in (codes "tuples") rows
-  Some (record { id = id; prefix = unwrap_or (first_of (codes "prefix") rows) []; size = size; count = count })
-
--- what `audit` was given, with its defaults, and the two paths
-pub record AuditOptions : Type 0 where
-  pub algorithm : Algorithm
-  pub size : ℕ
-  pub count : ℕ
-  pub gather : Bool
-  pub share : Option Text
-  pub ignored : List Text
-  pub skips_ok : Bool
-  pub verbose : Bool
-  pub quiet : Bool
-  pub progress : Progress
-  pub interval : ℕ
-  pub expected : Option Text
-  pub source : Text
-  pub dest : Text
-
--- the options of `audit` in what its parser found
-abbrev pub audit_in : List Row → Option AuditOptions
-audit_in rows = do
-  algorithm ← first_of (codes "digest") rows >>= algorithm_of
-  size ← number_in (codes "tuple-size") rows
-  count ← number_in (codes "tuples") rows
-  progress ← first_of (codes "progress") rows >>= progress_of
-  interval ← number_in (codes "interval") rows
-  source ← first_of (codes "SOURCE") rows
-  dest ← first_of (codes "DEST") rows
-  Some (record {
-    algorithm = algorithm;
-    size = size;
-    count = count;
-    gather = is_set_in (codes "gather") rows;
-    share = first_of (codes "share") rows;
-    ignored = unwrap_or (all_of (codes "ignore") rows) [];
+-- the options of `audit`
+abbrev pub audit_options_in : List Row → Result AuditOptions Unread
+audit_options_in rows = do
+  meta ← audit_meta
+  job ← job_in meta rows
+  ignored ← ignored_in rows
+  feedback ← feedback_in rows
+  Ok (record {
+    job = job;
+    ignored = ignored;
     skips_ok = is_set_in (codes "skips-ok") rows;
-    verbose = is_set_in (codes "verbose") rows;
-    quiet = is_set_in (codes "quiet") rows;
-    progress = progress;
-    interval = interval;
-    expected = first_of (codes "expect") rows;
-    source = source;
-    dest = dest;
+    feedback = feedback;
   })
+
+-- the store and the destination
+abbrev pub folders_in : List Row → Result (Text × Text) Unread
+folders_in rows = do
+  source ← needed (first_of (codes "SOURCE") rows)
+  dest ← needed (first_of (codes "DEST") rows)
+  Ok (source, dest)
+
+abbrev pub migration_in : List Row → Result Command Unread
+migration_in rows = do
+  options ← run_options_in rows
+  folders ← folders_in rows
+  Ok (Migrate (record { options = options; source = folders.0; dest = folders.1 }))
+
+abbrev pub audit_in : List Row → Result Command Unread
+audit_in rows = do
+  options ← audit_options_in rows
+  folders ← folders_in rows
+  Ok (Audit (record { options = options; source = folders.0; dest = folders.1 }))
+
+-- the identifier, which isn't empty
+abbrev pub id_only : Text → Result Text Unread
+id_only [] = Err unread.EmptyId
+id_only (x ∷ xs) = Ok (x ∷ xs)
+
+abbrev pub names_in : List Row → Result Command Unread
+names_in rows = do
+  given ← needed (first_of (codes "ID") rows)
+  id ← id_only given
+  layout ← layout_in rows
+  Ok (Names (record { id = id; prefix = unwrap_or (first_of (codes "prefix") rows) []; layout = layout }))
+
+-- what a command and its arguments ask for
+abbrev pub command_in : Text × List Row → Result Command Unread
+command_in found =
+    if bytes_eq found.0 (codes "names") then names_in found.1
+    else if bytes_eq found.0 (codes "migrate") then migration_in found.1
+    else if bytes_eq found.0 (codes "audit") then audit_in found.1
+    else Err unread.Missing
+
+-- the same of the command that the parser found, if there is one
+abbrev pub answer_to : Option (Text × List Row) → Result Command Unread
+answer_to None = Err unread.Missing
+answer_to (Some found) = command_in found

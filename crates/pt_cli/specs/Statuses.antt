@@ -1,55 +1,55 @@
 -- What the program does by its words, and its exit statuses: 0, 1, 2 and 3.
-use Rattle.std.specs.Prelude.{◌≡◌, ◌≢◌, ◌⊎◌, ℕ, List, Result, Ok, Err}
+use Rattle.std.specs.Prelude.{◌≡◌, ◌≢◌, ◌⊎◌, ℕ, List, Option, Result, Ok, Err}
 use Rattle.std.specs.IoError.{error_kind}
 use Rattle.std.specs.declared.io.Error.{Error}
 use Rattle.std.specs.declared.io.ErrorKind.TheVariants.{OutOfMemory}
 use Rattle.clap.specs.Words.{Text}
+use Rattle.pt_run.specs.Audits.{Audits, audit_call}
+use Rattle.pt_run.specs.Machine.{MachineWords}
+use Rattle.pt_run.specs.Made.{Runs, run_call}
+use Rattle.pt_cli.specs.Calls.{TellsNames, TellsText}
 use Rattle.pt_cli.specs.Words.{ReadsWords}
 use Rattle.pt_cli.specs.declared.command.Command.{Command}
 use Rattle.pt_cli.specs.declared.command.Command.TheVariants.{Audit, Names, Migrate}
-use Rattle.pt_cli.specs.declared.command.Audit.{Audit as Comparison}
-use Rattle.pt_cli.specs.declared.command.Migrate.{Migrate as Migration}
-use Rattle.pt_cli.specs.declared.command.Named.{Named}
-use Rattle.pt_cli.specs.declared.words.WordsFault.{WordsFault}
-use Rattle.pt_cli.specs.declared.words.WordsFault.TheVariants as words
+use Rattle.pt_cli.specs.declared.faults.WordsFault.{WordsFault}
+use Rattle.pt_cli.specs.declared.faults.WordsFault.TheVariants as words
 
 -- nothing is asked of the machine, and the status is this
 abbrev pub Refuses : {H : Type 0} → ℕ → H → H → ℕ → Type 0
 Refuses code old new status = (status ≡ code) × (new ≡ old)
 
 -- what is done where the words are refused so: help and the version are told; refused words are 2, and want of memory is 3
-abbrev pub Declines : {H : Type 0} → (Text → H → H → ℕ → Type 0) → WordsFault → H → H → ℕ → Type 0
-Declines tells (words.Help text) = tells text
-Declines tells (words.Version text) = tells text
-Declines tells (words.Words text) = Refuses 2
-Declines tells words.Created = Refuses 2
-Declines tells words.EmptyName = Refuses 2
-Declines tells words.EmptyId = Refuses 2
-Declines tells words.Memory = Refuses 3
-Declines tells words.Tuples = Refuses 2
-Declines tells words.Share = Refuses 2
-Declines tells words.Ignored = Refuses 2
+abbrev pub Declines : {H : Type 0} → MachineWords H → WordsFault → H → H → ℕ → Type 0
+Declines machine (words.Help text) = TellsText machine text
+Declines machine (words.Version text) = TellsText machine text
+Declines machine (words.Words text) = Refuses 2
+Declines machine words.Created = Refuses 2
+Declines machine words.EmptyName = Refuses 2
+Declines machine words.EmptyId = Refuses 2
+Declines machine words.Memory = Refuses 3
+Declines machine words.Tuples = Refuses 2
+Declines machine words.Share = Refuses 2
+Declines machine words.Ignored = Refuses 2
 
 -- what is done at a command: its call is made, with what its words ask for, and its status is the program's
-abbrev pub Obeys : {H : Type 0}
-    → (Named → H → H → ℕ → Type 0) → (Migration → H → H → ℕ → Type 0) → (Comparison → H → H → ℕ → Type 0)
-    → Command → H → H → ℕ → Type 0
-Obeys names migrates audits (Names asked) = names asked
-Obeys names migrates audits (Migrate migration) = migrates migration
-Obeys names migrates audits (Audit audit) = audits audit
+abbrev pub Obeys : {H : Type 0} → MachineWords H → (Option Text → Type 0) → Command
+    → H → H → ℕ → Type 0
+Obeys machine asks (Names asked) = TellsNames machine asked
+Obeys machine asks (Migrate asked) = Runs machine asks (run_call asked.options asked.source asked.dest)
+Obeys machine asks (Audit asked) = Audits machine asks (audit_call asked.options asked.source asked.dest)
 
--- what is done where the words were answered so, by what is done at a command and at a refusal
-abbrev pub Does : {H : Type 0} → (Command → H → H → ℕ → Type 0) → (WordsFault → H → H → ℕ → Type 0)
+-- what is done where the words were answered so
+abbrev pub Does : {H : Type 0} → MachineWords H → (Option Text → Type 0)
     → Result Command WordsFault → H → H → ℕ → Type 0
-Does obeys declines (Ok command) = obeys command
-Does obeys declines (Err fault) = declines fault
+Does machine asks (Ok command) = Obeys machine asks command
+Does machine asks (Err fault) = Declines machine fault
 
--- these words, the program's name first, are answered, and that is done
-abbrev pub EndsWith : {H : Type 0} → (Command → H → H → ℕ → Type 0) → (WordsFault → H → H → ℕ → Type 0)
+-- these words, the program's name first, are answered, and that is done, with what is asked of a log that is expected
+abbrev pub EndsWith : {H : Type 0} → MachineWords H → (Option Text → Type 0)
     → List Text → H → H → ℕ → Type 0
-EndsWith obeys declines words old new status =
+EndsWith machine asks words old new status =
     (answer : Result Command WordsFault) × ReadsWords words answer
-    × Does obeys declines answer old new status
+    × Does machine asks answer old new status
 
 -- the status where no words can be had: 3 for want of memory, else 2
 abbrev pub IsWordless : Error → ℕ → Type 0

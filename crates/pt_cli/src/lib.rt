@@ -20,20 +20,26 @@
 //!   `Share` or `Ignored`. Help, the version and `Words` come only where the parser's rules give them.
 #![tactic(auto)]
 
-mod asked_audit;
-mod asked_run;
+mod arguments;
 mod audit_words;
 mod command;
+mod faults;
+mod feedback_words;
 mod grammar;
+mod ignore_words;
+mod job_words;
+mod migrate_words;
 mod names;
+mod names_words;
 mod program;
+mod share_words;
 mod started;
-mod text;
 mod words;
 
 pub use command::{Audit, Command, Migrate, Named};
+pub use faults::WordsFault;
 pub use names::{NamesFault, names_to};
 pub use program::{answer, run};
+pub use pt_run::Text;
 pub use started::Started;
-pub use text::Text;
-pub use words::{WordsFault, read_words};
+pub use words::read_words;

@@ -30,8 +30,8 @@ fn are_read(alloc: Global, words: &[&str], reading: Reading) -> bool {
 fn is_command(command: &Command, reading: Reading) -> bool {
     match (command, reading) {
         (Command::Names(asked), Reading::Names) => are_of_abc(asked),
-        (Command::Migrate(job), Reading::Migration(row)) => is_migration(job, row),
-        (Command::Audit(job), Reading::Audit) => is_gathering(job),
+        (Command::Migrate(asked), Reading::Migration(row)) => is_migration(asked, row),
+        (Command::Audit(asked), Reading::Audit) => is_gathering(asked),
         (_, Reading::Fault(number)) => number == 0,
         _ => false,
     }
@@ -49,11 +49,12 @@ fn are_of_abc(asked: &Named) -> bool {
     (asked.prefix.as_str(), asked.id.as_str()) == ("", "abc") && has_tuples(&asked.layout, (3, 3))
 }
 
-fn is_migration(job: &Migrate, row: &Row) -> bool {
+fn is_migration(asked: &Migrate, row: &Row) -> bool {
+    let job = &asked.options.job;
     is_meta(&job.meta, row)
         && has_tuples(&job.layout, row.tuples)
         && (job.algorithm, job.gather) == (row.algorithm, row.gather)
-        && (job.source.as_str(), job.dest.as_str()) == row.folders
+        && (asked.source.as_str(), asked.dest.as_str()) == row.folders
 }
 
 fn is_meta(meta: &Meta, row: &Row) -> bool {
@@ -63,10 +64,11 @@ fn is_meta(meta: &Meta, row: &Row) -> bool {
         && meta.message() == row.message
 }
 
-fn is_gathering(job: &Audit) -> bool {
+fn is_gathering(asked: &Audit) -> bool {
+    let job = &asked.options.job;
     has_tuples(&job.layout, (3, 2))
         && (job.algorithm, job.gather) == (Algorithm::Sha256, true)
-        && (job.source.as_str(), job.dest.as_str()) == ("S", "D")
+        && (asked.source.as_str(), asked.dest.as_str()) == ("S", "D")
 }
 
 // Whether a layout has tuples of so many digits, and so many of them.

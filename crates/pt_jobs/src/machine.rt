@@ -7,7 +7,9 @@ use pt_guard::{Claim, Folder, Hold, Places};
 use pt_move::Job;
 use pt_name::{Layout, Share};
 use pt_object::{Algorithm, Meta};
-use pt_run::{Ground, Host, Progress, Syncs, Wanted, WantedAudit, audit_guarded, run_guarded};
+use pt_run::{
+    AuditOptions, Feedback, Ground, Host, Progress, RunOptions, Syncs, audit_guarded, run_guarded,
+};
 use pt_tree::{Ignored, Name};
 use pt_walk::Limits;
 use std::alloc::{AllocGlobal, Global};
@@ -145,29 +147,37 @@ pub struct How {
     pub tidy: bool,
 }
 
+// Neither how far a run is nor a summary.
+const NOTHING_SHOWN: Feedback = Feedback {
+    verbose: false,
+    quiet: false,
+    progress: Progress::Never,
+    interval: 10,
+    expected: None,
+};
+
 /// Carries the store into the root, or rehearses that.
 pub fn carry(rt: &HostRuntime, machine: &mut Machine<'_>, how: How) -> Option<u8> {
-    let wanted = Wanted {
+    let options = RunOptions {
         job: job(machine.alloc, how.gather)?,
         ignored: ignored(machine.alloc, how.tidy)?,
         sync: false,
         rehearse: how.rehearse,
-        verbose: false,
-        progress: Progress::Never,
-        interval: 10,
+        present_ok: false,
+        feedback: NOTHING_SHOWN,
     };
-    Some(run_guarded(rt, machine, wanted, None, "store", "root"))
+    Some(run_guarded(rt, machine, options, "store", "root"))
 }
 
 /// Holds the root against the store.
 pub fn audit(rt: &HostRuntime, machine: &mut Machine<'_>) -> Option<u8> {
-    let wanted = WantedAudit {
+    let options = AuditOptions {
         job: job(machine.alloc, false)?,
         ignored: ignored(machine.alloc, false)?,
-        verbose: false,
-        progress: Progress::Never,
+        skips_ok: false,
+        feedback: NOTHING_SHOWN,
     };
-    Some(audit_guarded(rt, machine, wanted, "store", "root"))
+    Some(audit_guarded(rt, machine, options, "store", "root"))
 }
 
 // The names that are left out.

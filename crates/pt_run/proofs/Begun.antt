@@ -8,18 +8,19 @@ use Rattle.pt_folder.specs.declared.reading.Reading.{Reading}
 use Rattle.pt_folder.specs.declared.stuck.Stuck.{Stuck}
 use Rattle.pt_folder.specs.declared.writing.Writing.{Writing as Open}
 use Rattle.pt_tree.specs.Ignoring.{told_without}
-use Rattle.pt_run.specs.Made.{RunsFrom, RunsOver}
+use Rattle.pt_run.specs.Machine.{GroundWords}
+use Rattle.pt_run.specs.Made.{RunCall, RunsFrom, RunsOver, Start}
 use Rattle.pt_run.specs.declared.host.Ground.{Ground}
-use Rattle.pt_run.specs.declared.guarded_run.Wanted.{Wanted}
 use Rattle.pt_state.specs.Outside.{world}
-use Rattle.pt_tree.specs.Forest.{Forest}
 
-pub begun : {S D W E F : Type 0} (forest : S → List ℕ → Option Forest) (kept : D → List ℕ → Kept F) (contents : W → Option (List ℕ)) (bytes : E → Option (List ℕ)) (present_ok : Bool) (wanted : Wanted) (store folder : List ℕ) (ground : Ground S D W) (s : S) (s-at : List ℕ) (r : Option (Reading E)) (s-fails : ℕ) (d : D) (d-at : List ℕ) (synced : Bool) (stuck : Option Stuck) (w : Option (Open F)) (d-fails : ℕ) (o : W) (l-fails : ℕ)
-    → (s ≡ ground.store) × (s-at ≡ store) → (r ≡ None) × (s-fails ≡ 0) → (d ≡ ground.folder) × (d-at ≡ folder) → (w ≡ None) × (d-fails ≡ 0) → (synced ≡ wanted.sync) × (stuck ≡ None) → (o ≡ ground.output) × (l-fails ≡ 0)
+pub begun : {S D W E F : Type 0} (words : GroundWords S D W (Kept F)) (bytes : E → Option (List ℕ)) (call : RunCall) (ground : Ground S D W) (s : S) (s-at : List ℕ) (r : Option (Reading E)) (s-fails : ℕ) (d : D) (d-at : List ℕ) (synced : Bool) (stuck : Option Stuck) (w : Option (Open F)) (d-fails : ℕ) (o : W) (l-fails : ℕ)
+    → (s ≡ ground.store) × (s-at ≡ call.store) → (r ≡ None) × (s-fails ≡ 0) → (d ≡ ground.folder) × (d-at ≡ call.folder) → (w ≡ None) × (d-fails ≡ 0) → (synced ≡ call.options.sync) × (stuck ≡ None) → (o ≡ ground.output) × (l-fails ≡ 0)
     → (after : Ground S D W) (status : ℕ)
-    → RunsFrom forest kept contents present_ok wanted (record { store = s-at; folder = d-at; ignored = wanted.ignored; synced = synced })
-    (world (told_without wanted.ignored (source_told (forest s s-at) (unread_open bytes r))) (dest_told (kept d d-at) stuck w) (contents o) s-fails d-fails l-fails)
-    (kept d d-at) after status
-    → RunsOver forest kept contents present_ok wanted store folder ground after status
-begun forest kept contents bytes present_ok wanted store folder ground s s-at r s-fails d d-at synced stuck w d-fails o l-fails (s-is, s-at-is) (r-is, s-none) (d-is, d-at-is) (w-is, d-none) (synced-is, stuck-is) (o-is, l-none) after status run =
+    → RunsFrom words call.options (record {
+      at = record { store = s-at; folder = d-at; ignored = call.options.ignored; synced = synced };
+      world = world (told_without call.options.ignored (source_told (words.store s s-at) (unread_open bytes r))) (dest_told (words.folder d d-at) stuck w) (words.output o) s-fails d-fails l-fails;
+      kept = words.folder d d-at;
+    }) after status
+    → RunsOver words call ground after status
+begun words bytes call ground s s-at r s-fails d d-at synced stuck w d-fails o l-fails (s-is, s-at-is) (r-is, s-none) (d-is, d-at-is) (w-is, d-none) (synced-is, stuck-is) (o-is, l-none) after status run =
     rw (s-is, s-at-is, r-is, s-none, d-is, d-at-is, stuck-is, w-is, d-none, synced-is, o-is, l-none) at run

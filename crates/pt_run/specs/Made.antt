@@ -10,24 +10,19 @@ use Rattle.pt_folder.specs.SourceHeld.{told_of as source_told}
 use Rattle.pt_folder.specs.declared.stuck.Stuck.{Stuck}
 use Rattle.pt_folder.specs.declared.writing.Writing.{Writing as Open}
 use Rattle.pt_tree.specs.Ignoring.{told_without}
-use Rattle.pt_guard.specs.Guard.{Begins}
-use Rattle.pt_guard.specs.Paths.{Place}
 use Rattle.pt_guard.specs.declared.guard.GuardFault.{GuardFault}
-use Rattle.pt_guard.specs.declared.places.Claim.{Claim}
 use Rattle.pt_guard.specs.declared.places.Claim.TheVariants.{Alone}
-use Rattle.pt_guard.specs.declared.places.Folder.{Folder}
-use Rattle.pt_guard.specs.declared.places.Hold.{Hold}
 use Rattle.pt_move.specs.Migrates.{Migrates}
 use Rattle.pt_plan.specs.declared.fault.Fault.{Fault}
 use Rattle.pt_plan.specs.World.{Failures, World}
 use Rattle.pt_state.specs.declared.job.Job.{Job}
 use Rattle.pt_state.specs.declared.job.Report.{Report}
 use Rattle.pt_tree.specs.Dest.{Writing}
-use Rattle.pt_tree.specs.Forest.{Forest}
 use Rattle.pt_run.specs.Durable.{IsLogged}
 use Rattle.pt_run.specs.Ends.{guard_status, run_status}
+use Rattle.pt_run.specs.Machine.{AsksGuard, GroundOf, GroundWords, MachineWords}
 use Rattle.pt_run.specs.declared.host.Ground.{Ground}
-use Rattle.pt_run.specs.declared.guarded_run.Wanted.{Wanted}
+use Rattle.pt_run.specs.declared.options.RunOptions.{RunOptions}
 
 -- the world of a rehearsal, whose destination tells this; that of a run is its own
 abbrev pub seen : Bool → Option Writing → World → World
@@ -43,11 +38,11 @@ pub record IsRun (job : Job) (rehearse : Bool) (was : Option Writing) (old new :
   pub tells : is_some plays ≡ is_some was
   pub promises : Migrates job (seen rehearse was old) (seen rehearse plays new) ran
 
--- and this is its status, where present lines are well or not
-abbrev pub IsMade : Bool → Wanted → Option Writing → World → World → ℕ → Type 0
-IsMade present_ok wanted was old new status =
-    (ran : Result Report Fault) × IsRun wanted.job wanted.rehearse was old new ran
-    × (status ≡ run_status present_ok ran)
+-- and this is its status
+abbrev pub IsMade : RunOptions → Option Writing → World → World → ℕ → Type 0
+IsMade options was old new status =
+    (ran : Result Report Fault) × IsRun options.job options.rehearse was old new ran
+    × (status ≡ run_status options.present_ok ran)
 
 -- the paths of a run's two folders, the names of the entries that are left out of the store, and whether files are
 -- put onto the disk
@@ -59,13 +54,12 @@ pub record Between : Type 0 where
 
 -- what the devices of a run tell: over the trees that the systems keep at these folders, with this open for reading,
 -- and this stuck and open for writing, and what the output holds
-abbrev pub world_of : {S D W F : Type 0} → (S → List ℕ → Option Forest) → (D → List ℕ → Kept F)
-    → (W → Option (List ℕ)) → Between → Ground S D W → Option (List ℕ) → Option Stuck
-    → Option (Open F) → Failures → World
-world_of forest kept contents at ground reading stuck writing failures = record {
-  source = told_without at.ignored (source_told (forest ground.store at.store) reading);
-  dest = dest_told (kept ground.folder at.folder) stuck writing;
-  log = contents ground.output;
+abbrev pub world_of : {S D W F : Type 0} → GroundWords S D W (Kept F) → Between → Ground S D W
+    → Option (List ℕ) → Option Stuck → Option (Open F) → Failures → World
+world_of words at ground reading stuck writing failures = record {
+  source = told_without at.ignored (source_told (words.store ground.store at.store) reading);
+  dest = dest_told (words.folder ground.folder at.folder) stuck writing;
+  log = words.output ground.output;
   failures = failures;
 }
 
@@ -79,34 +73,57 @@ abbrev pub IsStuckBy : Bool → ℕ → ℕ → Option Stuck → Type 0
 IsStuckBy synced failures status stuck =
     ForSome stuck (λ _. (synced ≡ true) × (failures ≡ 0 → status ≡ 3))
 
--- a run was made between these folders, from this world to what its devices then tell over these systems and this
--- output, with this status and this stuck; a rehearsal left of the folder what the system kept
-abbrev pub RunsFrom : {S D W F : Type 0} → (S → List ℕ → Option Forest) → (D → List ℕ → Kept F)
-    → (W → Option (List ℕ)) → Bool → Wanted → Between → World → Kept F
+-- where a run starts: between which folders, from which world, and what the system keeps of the destination's
+pub record Start (F : Type 0) : Type 0 where
+  pub at : Between
+  pub world : World
+  pub kept : Kept F
+
+-- a run was made from this start to what its devices then tell over these systems and this output, with this status and
+-- this stuck; a rehearsal left of the folder what the system kept
+abbrev pub RunsFrom : {S D W F : Type 0} → GroundWords S D W (Kept F) → RunOptions → Start F
     → Ground S D W → ℕ → Type 0
-RunsFrom {S} {D} {W} {F} forest kept contents present_ok wanted at old was ground status =
+RunsFrom {S} {D} {W} {F} words options start ground status =
     (reading : Option (List ℕ)) × (stuck : Option Stuck) × (writing : Option (Open F))
-    × (failures : Failures) × IsMade present_ok wanted (dest_told was None None) old
-    (world_of forest kept contents at ground reading stuck writing failures) status
-    × LeavesKept wanted.rehearse was (kept ground.folder at.folder)
-    × IsStuckBy at.synced old.failures.dest status stuck
+    × (failures : Failures) × IsMade options (dest_told start.kept None None) start.world
+    (world_of words start.at ground reading stuck writing failures) status
+    × LeavesKept options.rehearse start.kept (words.folder ground.folder start.at.folder)
+    × IsStuckBy start.at.synced start.world.failures.dest status stuck
 
 -- no device failed yet
 abbrev pub none_failed : Failures
 none_failed = record { source = 0; dest = 0; log = 0 }
 
+-- a run that is asked for: its options, and its two folders
+pub record RunCall : Type 0 where
+  pub options : RunOptions
+  pub store : List ℕ
+  pub folder : List ℕ
+
+abbrev pub run_call : RunOptions → List ℕ → List ℕ → RunCall
+run_call options store folder = record { options = options; store = store; folder = folder }
+
 -- the two folders of a run
-abbrev pub between : Wanted → List ℕ → List ℕ → Between
-between wanted store folder =
-    record { store = store; folder = folder; ignored = wanted.ignored; synced = wanted.sync }
+abbrev pub between : RunCall → Between
+between call = record {
+  store = call.store;
+  folder = call.folder;
+  ignored = call.options.ignored;
+  synced = call.options.sync;
+}
+
+-- its start over what is lent, with no file open
+abbrev pub start_of : {S D W F : Type 0} → GroundWords S D W (Kept F) → RunCall → Ground S D W → Start F
+start_of words call ground = record {
+  at = between call;
+  world = world_of words (between call) ground None None None none_failed;
+  kept = words.folder ground.folder call.folder;
+}
 
 -- a run was made over these folders of the systems, with no file open, and left the systems and the output so
-abbrev pub RunsOver : {S D W F : Type 0} → (S → List ℕ → Option Forest) → (D → List ℕ → Kept F)
-    → (W → Option (List ℕ)) → Bool → Wanted → List ℕ → List ℕ → Ground S D W → Ground S D W → ℕ → Type 0
-RunsOver {S} {D} {W} {F} forest kept contents present_ok wanted store folder old new status =
-    RunsFrom forest kept contents present_ok wanted (between wanted store folder)
-    (world_of forest kept contents (between wanted store folder) old None None None none_failed)
-    (kept old.folder folder) new status
+abbrev pub RunsOver : {S D W F : Type 0} → GroundWords S D W (Kept F) → RunCall → Ground S D W
+    → Ground S D W → ℕ → Type 0
+RunsOver words call old = RunsFrom words call.options (start_of words call old)
 
 -- ---- the log's file
 
@@ -127,29 +144,32 @@ IsTried {F} syncs (Ok (Some file)) answer = (reply : Result (Unit {0}) Error) ×
     × syncs file reply after × IsSynced after reply answer
 
 -- where the log is to be synced its file is asked for, and tried; else nothing is asked
-abbrev pub FindsLog : {H F : Type 0} → (H → Result (Option F) Error → H → Type 0)
-    → (F → Result (Unit {0}) Error → F → Type 0) → Bool → H → H → Result (Option F) Error → Type 0
-FindsLog finds syncs false old new answer = (answer ≡ Ok None) × (new ≡ old)
-FindsLog {H} {F} finds syncs true old new answer = (found : Result (Option F) Error)
-    × finds old found new × IsTried syncs found answer
+abbrev pub FindsLog : {H : Type 0} (words : MachineWords H) → Bool → H → H
+    → Result (Option words.OutputFile) Error → Type 0
+FindsLog words false old new answer = (answer ≡ Ok None) × (new ≡ old)
+FindsLog words true old new answer = (found : Result (Option words.OutputFile) Error)
+    × words.finds old found new × IsTried words.syncs found answer
 
 -- ---- the run, on a machine
 
--- a run over what the machine lends, which is given back as the run left it, its log put onto the disk by this file, and of
--- the destination's system what serving it left; none is made where the log can't be put onto its disk, which is a fault
-abbrev pub GoesOver : {H S D W F : Type 0} → (H → Ground S D W → H → Type 0)
-    → (H → Ground S D W → H → Type 0) → (F → W → Result (Unit {0}) Error → F → Type 0)
-    → (D → D → Type 0) → (Ground S D W → Ground S D W → ℕ → Type 0)
-    → Result (Option F) Error → H → H → ℕ → Type 0
-GoesOver lends takes_back puts serves runs (Err error) mid new status = (status ≡ 3) × (new ≡ mid)
-GoesOver {H} {S} {D} {W} lends takes_back puts serves runs (Ok file) mid new status =
-    (ground : Ground S D W) × (lent : H) × lends mid ground lent × (after : Ground S D W)
-    × runs ground after status × IsLogged puts file ground.output after.output status
-    × serves ground.folder after.folder × takes_back lent after new
+-- a run over what the machine lends, before which it is asked what is expected of it; that is given back as the run left it,
+-- its log put onto the disk by this file, and of the destination's system what serving it left; none is made where the
+-- log can't be put onto its disk, which is a fault
+abbrev pub GoesOver : {H : Type 0} (words : MachineWords H) → (Option (List ℕ) → Type 0)
+    → RunCall → Result (Option words.OutputFile) Error → H → H → ℕ → Type 0
+GoesOver words asks call (Err error) mid new status = (status ≡ 3) × (new ≡ mid)
+GoesOver {H} words asks call (Ok file) mid new status =
+    asks call.options.feedback.expected
+    × (ground : GroundOf words) × (lent : H) × words.lends mid ground lent × (after : GroundOf words)
+    × RunsOver words.written call ground after status
+    × IsLogged words.puts file ground.output after.output status
+    × words.serves call.options call.folder ground.folder after.folder × words.takes_back lent after new
 
--- and before a run this is known
-abbrev pub Knows : {G : Type 0} → Type 0 → (G → G → ℕ → Type 0) → G → G → ℕ → Type 0
-Knows known runs old new status = known × runs old new status
+-- a run once it may begin: the log's file, if that is to be synced, and then the run
+abbrev pub Carries : {H : Type 0} → MachineWords H → (Option (List ℕ) → Type 0)
+    → RunCall → H → H → ℕ → Type 0
+Carries {H} words asks call old new status = (file : Result (Option words.OutputFile) Error) × (mid : H)
+    × FindsLog words call.options.sync old mid file × GoesOver words asks call file mid new status
 
 -- ---- the guard, the lock and the run
 
@@ -169,23 +189,9 @@ Guarded {H} {L} begins carries releases old new status =
     (answer : Result (Result L Error) GuardFault) × (mid : H) × begins old mid answer
     × GoesOn carries releases answer mid new status
 
--- what `run_guarded` does on a machine, by the words of its calls (where paths lead, what they are known by, the lock
--- taken and given back; the log's file, its syncing alone and behind the output; what is lent and taken back) and of what is lent (the trees of the two
--- systems, what the output holds, and how the second serves): the guard, with the lock for it alone, the run that is wanted from one folder to the
--- other, before which it is asked what is expected of it, and the lock; present lines are well for its status or not
-abbrev pub Runs : {H L S D W E F : Type 0} → (H → List ℕ → Result Place Error → H → Type 0)
-    → (H → List ℕ → Result Folder Error → H → Type 0) → (Claim → H → List ℕ → Hold L → H → Type 0)
-    → (H → L → H → Type 0) → (H → Result (Option E) Error → H → Type 0)
-    → (E → Result (Unit {0}) Error → E → Type 0) → (E → W → Result (Unit {0}) Error → E → Type 0)
-    → (H → Ground S D W → H → Type 0)
-    → (H → Ground S D W → H → Type 0) → (S → List ℕ → Option Forest) → (D → List ℕ → Kept F)
-    → (W → Option (List ℕ)) → (Wanted → List ℕ → D → D → Type 0) → Type 0 → Bool → Wanted → List ℕ
-    → List ℕ → H → H → ℕ → Type 0
-Runs {H} {L} {S} {D} {W} {E} {F} resolves identifies holds releases finds syncs puts lends
-    takes_back forest kept contents serves expects present_ok wanted source dest =
-    Guarded (Begins resolves identifies (holds Alone) source dest)
-    (λ old new status. (file : Result (Option E) Error) × (mid : H)
-    × FindsLog finds syncs wanted.sync old mid file
-    × GoesOver lends takes_back puts (serves wanted dest)
-    (Knows expects (RunsOver forest kept contents present_ok wanted source dest)) file mid new status)
-    releases
+-- what `run_guarded` does on a machine, by the words of that: the guard, with the lock for it alone, the run that is asked
+-- for, and the lock
+abbrev pub Runs : {H : Type 0} → MachineWords H → (Option (List ℕ) → Type 0)
+    → RunCall → H → H → ℕ → Type 0
+Runs words asks call =
+    Guarded (AsksGuard words Alone (call.store, call.folder)) (Carries words asks call) words.releases

@@ -6,7 +6,7 @@ use Rattle.pt_folder.specs.declared.system.Handle.{Ghosts as OfHandle}
 use Rattle.pt_folder.specs.declared.system.Input.{Ghosts as OfInput}
 use Rattle.pt_folder.specs.declared.system.System.{Ghosts as OfSystem}
 use Rattle.pt_run.specs.Room.{spare_of}
-use Rattle.pt_run.specs.declared.guarded_run.Wanted.{Wanted}
+use Rattle.pt_run.specs.declared.options.RunOptions.{RunOptions}
 
 module _ {S F D : Type 0} {sys : OfSystem S F D} {handle : OfHandle F} {file : OfInput F}
     {dir : OfInput D} where
@@ -20,18 +20,19 @@ module _ {S F D : Type 0} {sys : OfSystem S F D} {handle : OfHandle F} {file : O
   ServesTo rehearse old system =
       (new : HostDest S F D sys handle file dir) × IsServed rehearse old new × (new.desk.system ≡ system)
 
-  -- a destination over this folder of a system, of which nothing was asked, set as it is wanted: whether files are put onto
+  -- a destination over this folder of a system, of which nothing was asked, set as its options say: whether files are put onto
   -- the disk, and the greatest length of a path, which leaves room at the longest place
-  pub record IsSetUp (wanted : Wanted) (folder : List ℕ) (system : S)
+  pub record IsSetUp (options : RunOptions) (folder : List ℕ) (system : S)
       (dest : HostDest S F D sys handle file dir) : Type 0 where
     pub over : (dest.desk.system ≡ system) × (dest.folder.path.now ≡ folder)
     pub begun : (dest.writing ≡ None) × (dest.stuck ≡ None)
-    pub synced : dest.synced ≡ wanted.sync
-    pub longest : dest.longest + spare_of wanted.job.layout ≡ 4095
+    pub synced : dest.synced ≡ options.sync
+    pub longest : dest.longest + spare_of options.job.layout ≡ 4095
 
--- what a run leaves of the destination's system, by the words of that: what calls leave of a destination that is set as wanted
-abbrev pub Serves : {S F D : Type 0} (sys : OfSystem S F D) → OfHandle F → OfInput F → OfInput D → Wanted
+-- what a run leaves of the destination's system, by the words of that: what calls leave of a destination that is set as the options say
+abbrev pub Serves : {S F D : Type 0} (sys : OfSystem S F D) → OfHandle F → OfInput F → OfInput D
+    → RunOptions
     → List ℕ → S → S → Type 0
-Serves {S} {F} {D} sys handle file dir wanted folder old new =
-    (dest : HostDest S F D sys handle file dir) × IsSetUp wanted folder old dest
-    × ServesTo wanted.rehearse dest new
+Serves {S} {F} {D} sys handle file dir options folder old new =
+    (dest : HostDest S F D sys handle file dir) × IsSetUp options folder old dest
+    × ServesTo options.rehearse dest new

@@ -1,7 +1,7 @@
 //! What is seen to before a run or an audit.
-ghost use Rattle.pt_guard.specs.Guard.{Begins};
+ghost use Rattle.pt_run.specs.Machine.{AsksGuard};
 
-use crate::host::Host;
+use crate::{Host, Machine};
 use pt_guard::{Claim, GuardFault, begin};
 use pt_notices::{Reads, prefix, reason};
 use std::alloc::AllocGlobal;
@@ -17,7 +17,7 @@ pub(crate) fn begun<R: Reads + Eprint + AllocGlobal, H: Host>(
     source: &str,
     dest: &str,
 ) -> Result<io::Result<H::Lock>, GuardFault>
-    ensures { Begins H.resolves H.identifies (H.holds claim) source.now dest.now
+    ensures { AsksGuard ⟦<H as Machine>⟧.words claim (source.now, dest.now)
         host.old host.new result }
 {
     let answer = begin(host, rt.alloc(), claim, source, dest);

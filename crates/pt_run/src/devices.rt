@@ -2,7 +2,7 @@
 ghost use Rattle.std.specs.Prelude.{◌≡◌, ◌+◌, None};
 ghost use Rattle.pt_run.specs.Room.{spare_of};
 
-use crate::Wanted;
+use crate::RunOptions;
 use crate::host::Ground;
 use crate::log::{DurableLog, SyncsOutput};
 use crate::room::longest_made;
@@ -23,12 +23,12 @@ pub(crate) struct Devices<'a, S: System, D: System, W: Write, F: SyncsOutput<W> 
 }
 
 /// The devices of a run over these, from a store to a folder. Paths for which there is no room at the longest place are refused; and files
-/// are put onto the disk where that is wanted, as the log is where its file is given.
+/// are put onto the disk where the options say so, as the log is where its file is given.
 pub(crate) fn equipped<'a, S: System, D: System, W: Write, F: SyncsOutput<W> + Drop>(
     alloc: Global,
     ground: Ground<S, D, W>,
     file: Option<F>,
-    wanted: &Wanted,
+    options: &RunOptions,
     store: &'a str,
     folder: &'a str,
 ) -> Devices<'a, S, D, W, F>
@@ -38,16 +38,16 @@ pub(crate) fn equipped<'a, S: System, D: System, W: Write, F: SyncsOutput<W> + D
     ensures folder { (result.dest.desk.system ≡ ground.folder)
         × (result.dest.folder.path.now ≡ folder.now) }
     ensures unwritten { (result.dest.writing ≡ None) × (result.dest.failures ≡ 0) }
-    ensures longest { result.dest.longest + spare_of wanted.now.job.layout ≡ 4095 }
-    ensures synced { (result.dest.synced ≡ wanted.now.sync) × (result.dest.stuck ≡ None) }
+    ensures longest { result.dest.longest + spare_of options.now.job.layout ≡ 4095 }
+    ensures synced { (result.dest.synced ≡ options.now.sync) × (result.dest.stuck ≡ None) }
     ensures log { (result.log.writer ≡ ground.output) × (result.log.failures ≡ 0) }
     ensures log_synced { result.log.file ≡ file }
 {
     Devices {
         source: HostSource::new(ground.store, alloc, store),
         dest: HostDest::new(ground.folder, alloc, folder)
-            .with_longest(longest_made(&wanted.job.layout))
-            .with_sync(wanted.sync),
+            .with_longest(longest_made(&options.job.layout))
+            .with_sync(options.sync),
         log: DurableLog::new(ground.output, file),
     }
 }

@@ -1,52 +1,24 @@
 //! An audit of the root in a folder against a store, on a machine.
-ghost use Rattle.std.specs.Prelude.{◌≡◌, ⊤, false, option_map};
+ghost use Rattle.std.specs.Prelude.{◌≡◌};
 ghost use Rattle.pt_notices.specs.Expected.{AsksEnd};
-ghost use Rattle.pt_run.specs.Audits.{Audits, AuditsOver, audit_status};
+ghost use Rattle.pt_run.specs.Audits.{Audits, AuditsOver, Compares, audit_call, audit_status};
+ghost use Rattle.pt_run.specs.Machine.{ground_words};
 
 use crate::beginning::begun;
 use crate::devices::{Sides, both_sides};
-use crate::host::{Ground, Host};
 use crate::log::SyncsOutput;
-use crate::running::{Ended, Shown};
+use crate::running::Ended;
 use crate::saying::{refused, tell_fault};
 use crate::status::{DONE, FAILED, TOLD};
-use crate::telling::Telling;
+use crate::{AuditOptions, Ground, Host, Machine};
 use pt_audit::Counts;
 use pt_folder::{HostSource, System};
 use pt_guard::Claim;
-use pt_move::{Fault, Job};
-use pt_notices::{
-    Counted, Progress, Reads, Tally, Terminals, Watched, Words, lines_expected, reason,
-};
-use pt_tree::Ignored;
+use pt_move::Fault;
+use pt_notices::{Counted, Reads, Tally, Terminals, Watched, Words, lines_expected, reason};
 use std::alloc::AllocGlobal;
 use std::io::Write;
 use std::rt::Clock;
-
-// How many seconds pass between two lines of progress that don't go to a terminal.
-const INTERVAL: u32 = 10;
-
-/// What an audit is asked for, beside its folders.
-#[derive(Debug, Drop)]
-pub struct WantedAudit {
-    /// The run that is compared.
-    pub job: Job,
-    /// The names of the entries of the store that are left out.
-    pub ignored: Ignored,
-    /// Whether the reason of a fault is told too.
-    pub verbose: bool,
-    /// When to show how far it is.
-    pub progress: Progress,
-}
-
-/// An audit that is wanted, and how often it shows how far it is.
-#[derive(Debug, Drop)]
-pub struct PacedAudit {
-    /// What is wanted of it.
-    pub wanted: WantedAudit,
-    /// How many seconds pass between two lines that show it, where they don't go to a terminal.
-    pub interval: u32,
-}
 
 /// Holds the root in a destination against a store on a machine, and gives the exit status: 0 each object stands as a run makes
 /// it; 1 the log has lines that tell of others; 2 the folders lie in one another, or it isn't known where, or the destination is a
@@ -56,85 +28,49 @@ pub struct PacedAudit {
 /// lends, which is given back then; and at last the lock is given back. Where it ends well the output has got its log, of both folders as their systems keep them.
 /// Nothing is made or changed in either folder.
 ///
-/// Skip lines count as others: `audit_guarded_as` takes them as well, where that is asked.
+/// Skip lines count as others, unless the options say that they are well. The log that is expected to be as long may be one of a
+/// rehearsal, a run or an audit.
 pub fn audit_guarded<R, H: Host>(
     rt: &R,
     host: &mut H,
-    wanted: WantedAudit,
+    options: AuditOptions,
     source: &str,
     dest: &str,
 ) -> u8
 where
     R: Reads + Clock + Eprint + AllocGlobal + Terminals,
-    ensures { Audits H.resolves H.identifies H.holds H.releases H.lends H.takes_back
-        H.Store.forest H.Folder.forest H.Output.contents ⊤
-        false wanted source.now dest.now host.old host.new result }
+    ensures { Audits ⟦<H as Machine>⟧.words (AsksEnd R.ends rt.now)
+        (audit_call options source.now dest.now) host.old host.new result }
 {
-    let telling = Telling {
-        expected: None,
-        lenient: false,
-        quiet: false,
-    };
-    let audit = PacedAudit {
-        wanted,
-        interval: INTERVAL,
-    };
-    audit_guarded_as(rt, host, audit, telling, source, dest)
-}
-
-/// The same, told of as it is asked: where it is lenient, skip lines count as well, so that the status is 1 only where an object is absent or
-/// differs. The log that is expected to be as long may be one of a rehearsal, a run or an audit.
-pub fn audit_guarded_as<R, H: Host>(
-    rt: &R,
-    host: &mut H,
-    audit: PacedAudit,
-    telling: Telling<'_>,
-    source: &str,
-    dest: &str,
-) -> u8
-where
-    R: Reads + Clock + Eprint + AllocGlobal + Terminals,
-    ensures { Audits H.resolves H.identifies H.holds H.releases H.lends H.takes_back
-        H.Store.forest H.Folder.forest H.Output.contents
-        (AsksEnd R.ends rt.now (option_map (λ log. log.now) telling.entry.expected))
-        telling.entry.lenient audit.wanted source.now dest.now host.old host.new result }
-{
-    match begun(rt, host, audit.wanted.verbose, Claim::Shared, source, dest) {
+    match begun(
+        rt,
+        host,
+        options.feedback.verbose,
+        Claim::Shared,
+        source,
+        dest,
+    ) {
         Ok(Ok(lock)) => {
-            let status = hold(rt, host, audit, telling, source, dest);
+            let status = hold(rt, host, options, source, dest);
             host.release(lock);
             status
         }
-        Ok(Err(_)) => hold(rt, host, audit, telling, source, dest),
+        Ok(Err(_)) => hold(rt, host, options, source, dest),
         Err(fault) => refused(rt, fault),
     }
 }
 
 // Holds the root against the store over what the machine lends.
-fn hold<R, H: Host>(
-    rt: &R,
-    host: &mut H,
-    audit: PacedAudit,
-    telling: Telling<'_>,
-    store: &str,
-    folder: &str,
-) -> u8
+fn hold<R, H: Host>(rt: &R, host: &mut H, options: AuditOptions, store: &str, folder: &str) -> u8
 where
     R: Reads + Clock + Eprint + AllocGlobal + Terminals,
-    ensures { AsksEnd R.ends rt.now (option_map (λ log. log.now) telling.entry.expected)
-        × (given : _) × (lent : H) × H.lends host.old given lent × (after : _)
-        × AuditsOver H.Store.forest H.Folder.forest H.Output.contents telling.entry.lenient
-        audit.wanted store.now folder.now given after result × H.takes_back lent after host.new }
+    ensures { Compares ⟦<H as Machine>⟧.words (AsksEnd R.ends rt.now)
+        (audit_call options store.now folder.now) host.old host.new result }
 {
-    let shown = Shown {
-        expected: lines_expected(rt, telling.expected),
-        interval: audit.interval,
-        lenient: telling.lenient,
-        quiet: telling.quiet,
-    };
+    let expected = lines_expected(rt, options.feedback.expected());
     let ground = host.lend();
     let file: Option<H::File> = None;
-    let Ended { status, ground } = compare(rt, ground, file, audit.wanted, shown, store, folder);
+    let Ended { status, ground } = compare(rt, ground, file, options, expected, store, folder);
     host.take_back(ground);
     status
 }
@@ -144,35 +80,35 @@ fn compare<R, S: System, D: System, W: Write, F: SyncsOutput<W> + Drop>(
     rt: &R,
     ground: Ground<S, D, W>,
     file: Option<F>,
-    wanted: WantedAudit,
-    shown: Shown,
+    options: AuditOptions,
+    expected: Option<u64>,
     store: &str,
     folder: &str,
 ) -> Ended<S, D, W>
 where
     R: Reads + Clock + Eprint + AllocGlobal + Terminals,
-    ensures { AuditsOver S.forest D.forest W.contents
-        shown.lenient wanted store.now folder.now ground result.ground result.status }
+    ensures { AuditsOver (ground_words S.forest D.forest W.contents)
+        (audit_call options store.now folder.now) ground result.ground result.status }
 {
     let alloc = rt.alloc();
     let tally = Tally::new();
-    let verbose = wanted.verbose;
-    let watching = shown.watching(wanted.progress, Words::Audit, verbose);
-    let ignores = !wanted.ignored.names().is_empty();
+    let verbose = options.feedback.verbose;
+    let watching = options.feedback.watching(Words::Audit, expected);
+    let ignores = !options.ignored.names().is_empty();
     let Sides {
         source,
         mut root,
         log,
-    } = both_sides(alloc, ground, file, wanted.ignored, store, folder);
+    } = both_sides(alloc, ground, file, options.ignored, store, folder);
     let mut source = Watched::new(source, rt, alloc, &tally, watching);
     let mut log = Counted::new(log, source.sums());
-    let ran = pt_audit::audit(alloc, &mut source, &mut root, &mut log, wanted.job, &tally);
+    let ran = pt_audit::audit(alloc, &mut source, &mut root, &mut log, options.job, &tally);
     source.end(log.counts_if(ran.is_ok()));
     let ignoring = source.into_source();
     reason::left_out(rt, verbose & ignores, ignoring.left_out());
     let source = ignoring.into_source();
     told(rt, &ran, verbose, &source, &root, store, folder);
-    let status = status_of(&ran, shown.lenient);
+    let status = status_of(&ran, options.skips_ok);
     let ground = Ground {
         store: source.into_system(),
         folder: root.into_system(),

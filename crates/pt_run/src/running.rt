@@ -3,19 +3,19 @@ ghost use Rattle.std.specs.Prelude.{◌≡◌, Bool};
 ghost use Rattle.pt_run.specs.Devices.{dest_path, kept_by, seen_without, store_path, told_at_rest};
 ghost use Rattle.pt_run.specs.Durable.{IsLogged};
 ghost use Rattle.pt_run.specs.Ends.{run_status};
+ghost use Rattle.pt_run.specs.Machine.{ground_words};
 ghost use Rattle.pt_run.specs.Made.{IsRun, IsStuckBy, LeavesKept, RunsFrom};
 ghost use Rattle.pt_run.specs.Served.{IsServed, ServesTo};
 ghost use Rattle.pt_state.specs.Outside.{world_of};
 
-use crate::Wanted;
 use crate::devices::Devices;
-use crate::host::Ground;
 use crate::log::{DurableLog, SyncsOutput};
 use crate::saying::tell_fault;
 use crate::status::{DONE, FAILED, TOLD};
+use crate::{Ground, RunOptions};
 use pt_folder::{HostDest, HostSource, System};
 use pt_move::{Fault, Job, Report, migrate_observed};
-use pt_notices::{Counted, Progress, Reads, Tally, Terminals, Watched, Watching, Words, reason};
+use pt_notices::{Counted, Reads, Tally, Terminals, Watched, Words, reason};
 use pt_rehearsal::Rehearsal;
 use pt_tree::{Dest, Ignoring, Log, Source};
 use std::alloc::{AllocGlobal, Global};
@@ -29,68 +29,43 @@ pub(crate) struct Ended<S, D, W> {
     pub ground: Ground<S, D, W>,
 }
 
-/// How a run or an audit over its devices is told of.
-#[derive(Clone, Copy, Drop)]
-pub(crate) struct Shown {
-    /// How many lines its log may come to, where that is known.
-    pub expected: Option<u64>,
-    /// How many seconds pass between two lines that show how far it is, where they don't go to a terminal.
-    pub interval: u32,
-    /// Whether a run's present lines, or an audit's skip lines, leave its status at 0.
-    pub lenient: bool,
-    /// Whether neither how far it is nor its summary is told.
-    pub quiet: bool,
-}
-
-impl Shown {
-    /// How that is watched, whose log has these lines, and whose summary is told in any case where it is verbose.
-    pub(crate) fn watching(self, when: Progress, words: Words, verbose: bool) -> Watching {
-        Watching {
-            when,
-            interval: self.interval,
-            expected: self.expected,
-            words,
-            verbose,
-            quiet: self.quiet,
-        }
-    }
-}
-
-/// Makes the run that is wanted over its devices, or rehearses it, watched as that is wanted, and tells standard error of a fault. `store` is
-/// the path of the store.
+/// Makes the run that is asked for over its devices, or rehearses it, watched as its options say, and tells standard error of a fault.
+/// `expected` is how many lines its log may come to, where that is known, and `store` the path of the store.
 pub(crate) fn run<R, S: System, D: System, W: Write, F: SyncsOutput<W> + Drop>(
     rt: &R,
     devices: Devices<'_, S, D, W, F>,
-    wanted: Wanted,
+    options: RunOptions,
+    expected: Option<u64>,
     store: &str,
-    shown: Shown,
 ) -> Ended<S, D, W>
 where
     R: Reads + Clock + Eprint + AllocGlobal + Terminals,
-    ensures runs { RunsFrom S.forest D.kept W.contents shown.lenient wanted
+    ensures runs { RunsFrom (ground_words S.forest D.kept W.contents) options
         (record {
-          store = store_path devices.entry.source;
-          folder = dest_path devices.entry.dest;
-          ignored = wanted.ignored;
-          synced = devices.entry.dest.synced;
+          at = record {
+            store = store_path devices.entry.source;
+            folder = dest_path devices.entry.dest;
+            ignored = options.ignored;
+            synced = devices.entry.dest.synced;
+          };
+          world = seen_without options.ignored (world_of ⟦<HostSource<'static, S> as Source>⟧
+              ⟦<HostDest<'static, D> as Dest>⟧ ⟦<DurableLog<W, F> as Log>⟧
+              devices.entry.source devices.entry.dest devices.entry.log);
+          kept = kept_by devices.entry.dest;
         })
-        (seen_without wanted.ignored (world_of ⟦<HostSource<'static, S> as Source>⟧
-        ⟦<HostDest<'static, D> as Dest>⟧ ⟦<DurableLog<W, F> as Log>⟧
-        devices.entry.source devices.entry.dest devices.entry.log))
-        (kept_by devices.entry.dest)
         result.ground result.status }
     ensures logged { devices.entry.log.failures ≡ 0
         → IsLogged F.puts devices.entry.log.file devices.entry.log.writer
         result.ground.output result.status }
-    ensures served { ServesTo wanted.rehearse devices.entry.dest result.ground.folder }
+    ensures served { ServesTo options.rehearse devices.entry.dest result.ground.folder }
 {
     let alloc = rt.alloc();
     let tally = Tally::new();
     let Devices { source, dest, log } = devices;
-    let verbose = wanted.verbose;
-    let watching = shown.watching(wanted.progress, Words::Run, verbose);
-    let ignores = !wanted.ignored.names().is_empty();
-    let ignoring = Ignoring::new(source, wanted.ignored);
+    let verbose = options.feedback.verbose;
+    let watching = options.feedback.watching(Words::Run, expected);
+    let ignores = !options.ignored.names().is_empty();
+    let ignoring = Ignoring::new(source, options.ignored);
     let mut source = Watched::new(ignoring, rt, alloc, &tally, watching);
     let mut log = Counted::new(log, source.sums());
     let Ran { ran, dest } = made(
@@ -98,8 +73,8 @@ where
         &mut source,
         dest,
         &mut log,
-        wanted.rehearse,
-        wanted.job,
+        options.rehearse,
+        options.job,
         &tally,
     );
     source.end(log.counts_if(ran.is_ok()));
@@ -107,7 +82,7 @@ where
     reason::left_out(rt, verbose & ignores, ignoring.left_out());
     let source = ignoring.into_source();
     told(rt, &ran, verbose, &source, &dest, store);
-    let status = status_of(&ran, shown.lenient);
+    let status = status_of(&ran, options.present_ok);
     let ground = Ground {
         store: source.into_system(),
         folder: dest.into_system(),

@@ -7,7 +7,7 @@ use pt_memory_system::{Faults, MemorySystem};
 use pt_move::Job;
 use pt_name::{Layout, Share};
 use pt_object::{Algorithm, Meta};
-use pt_run::{Ground, Host, Progress, Syncs, Wanted, run_guarded};
+use pt_run::{Feedback, Ground, Host, Progress, RunOptions, Syncs, run_guarded};
 use pt_tree::Ignored;
 use pt_walk::Limits;
 use std::alloc::{AllocGlobal, Global};
@@ -132,8 +132,8 @@ pub fn carry(rt: &HostRuntime, faults: &Faults, ran: &mut Ran, rehearse: bool) -
 
 // The status of a run on a machine.
 fn status_of(rt: &HostRuntime, machine: &mut Machine<'_>, rehearse: bool) -> Option<u8> {
-    let wanted = wanted(rt.alloc(), rehearse)?;
-    Some(run_guarded(rt, machine, wanted, None, "store", "root"))
+    let options = options(rt.alloc(), rehearse)?;
+    Some(run_guarded(rt, machine, options, "store", "root"))
 }
 
 // Gives what a run left on a machine.
@@ -167,7 +167,7 @@ fn system(
 }
 
 // A run with the greatest limits and three tuples of three digits.
-fn wanted(alloc: Global, rehearse: bool) -> Option<Wanted> {
+fn options(alloc: Global, rehearse: bool) -> Option<RunOptions> {
     let meta = Meta::of(
         alloc,
         "2024-05-01T12:00:00Z",
@@ -183,13 +183,18 @@ fn wanted(alloc: Global, rehearse: bool) -> Option<Wanted> {
         gather: false,
         share: Share::whole(),
     };
-    Some(Wanted {
+    Some(RunOptions {
         job,
         ignored: Ignored::new(alloc),
         sync: false,
         rehearse,
-        verbose: false,
-        progress: Progress::Never,
-        interval: 10,
+        present_ok: false,
+        feedback: Feedback {
+            verbose: false,
+            quiet: false,
+            progress: Progress::Never,
+            interval: 10,
+            expected: None,
+        },
     })
 }

@@ -1,8 +1,8 @@
 use Rattle.std.proofs.Common.{rules, ◌∙◌, ap, sym, subst, map}
 use Rattle.clap.specs.Words.{App, HasKind, fault_of, is_simple, is_simple_and_free, subcommand_of, subcommand_rows_of}
-use Rattle.std.specs.Prelude.{is_some}
 use Rattle.pt_cli.specs.Grammar.{program}
-use Rattle.pt_cli.specs.Words.{answer_to}
+use Rattle.pt_cli.specs.Arguments.{IsThere}
+use Rattle.pt_cli.specs.Options.{answer_to}
 use Rattle.pt_cli.proofs.Complete.{program_answered}
 use Rattle.pt_cli.proofs.Parsed.{answers_error, answers_found, program-simple, program-free, some_words}
 use Rattle.pt_cli.proofs.words.read_words.Goals as goal
@@ -18,7 +18,7 @@ command-requires g c =
     let told = c.in_ok-parser.ensures.2 in
     let none = ap (λ (a : App). fault_of a words) (sym told) ∙ c.in-Ok.ensures.kinds (ap is_simple_and_free told ∙ program-free spelled others) in
     let found = (c.in-Ok.ensures.matches (ap is_simple told ∙ program-simple spelled others)).1 ∙ ap (λ (a : App). subcommand_of a words) told in
-    ap (λ o. is_some (answer_to o)) found ∙ program_answered spelled others words none
+    subst (λ o. IsThere (answer_to o)) (sym found) (program_answered spelled others words none)
 
 pub returns-in-Ok : goal.returns-in-Ok
 returns-in-Ok g c =

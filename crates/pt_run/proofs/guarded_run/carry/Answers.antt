@@ -1,26 +1,26 @@
-use Rattle.std.proofs.Common.{Ok}
+use Rattle.std.proofs.Common.{Ok, subst}
+use Rattle.pt_notices.specs.Expected.{AsksEnd}
 use Rattle.pt_run.proofs.Begun.{begun}
+use Rattle.pt_run.specs.Machine.{ground_words}
+use Rattle.pt_run.specs.Made.{run_call}
 use Rattle.pt_run.proofs.guarded_run.carry.Goals as goal
 
 pub returns : goal.returns
 returns g c =
     let made = c.equipped-devices.ensures in
-    let forest = g.H.Store.System.forest in
-    let kept = g.H.Folder.System.kept in
-    let contents = g.H.Output.Write.contents in (
+    let words = ground_words g.H.Store.System.forest g.H.Folder.System.kept g.H.Output.Write.contents in
+    let call = run_call c.args.options c.args.store.now c.args.folder.now in (
       Ok c.in-Ok.file,
       c.synced_output.new.host,
       c.in-Ok.ensures,
       (
+        subst (AsksEnd g.R.Reads.ends c.args.rt.now) c.expected.ensures c.lines_expected-expected.ensures,
         c.lend-ground.result,
         c.lend-ground.new.self,
         c.lend-ground.ensures,
         c.run-status.result.ground,
-        (
-          c.lines_expected-expected.ensures,
-          begun forest kept contents g.H.Store.File.Input.bytes c.args.telling.lenient c.args.wanted c.args.store.now c.args.folder.now c.lend-ground.result
-              _ _ _ _ _ _ _ _ _ _ _ _ made.store made.unread made.folder made.unwritten made.synced made.log _ _ c.run-status.ensures.runs,
-        ),
+        begun words g.H.Store.File.Input.bytes call c.lend-ground.result _ _ _ _ _ _ _ _ _ _ _ _
+            made.store made.unread made.folder made.unwritten made.synced made.log _ _ c.run-status.ensures.runs,
         rw (made.log_synced, made.log.0) at (c.run-status.ensures.logged made.log.1),
         (
           c.equipped-devices.result.dest,

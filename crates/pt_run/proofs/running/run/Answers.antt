@@ -29,7 +29,7 @@ returns-clause-runs g c =
         c.status_of-status.ensures,
       ),
       rw (c.into_system-2.ensures) (rw made.dest at made.rehearsed),
-      λ s is. let stuck = made.stuck c.args.shown.lenient s is in (stuck.0, λ none. c.status_of-status.ensures ∙ stuck.1 none),
+      λ s is. let stuck = made.stuck c.args.options.present_ok s is in (stuck.0, λ none. c.status_of-status.ensures ∙ stuck.1 none),
     )
 
 pub returns-clause-served : goal.returns-clause-served
@@ -39,7 +39,7 @@ pub returns-clause-logged : goal.returns-clause-logged
 returns-clause-logged g c =
     let made = c.made-ran.ensures in
     let ran = c.made-ran.result.ran in
-    let counts = log_counts c.args.wanted.job c.args.wanted.rehearse _ _ _ ran made.promises in
+    let counts = log_counts c.args.options.job c.args.options.rehearse _ _ _ ran made.promises in
     λ none. rw (c.into_writer.ensures, c.into_log.ensures, c.status_of-status.ensures, ← c.new-log.ensures)
-    (logged g.F.SyncsOutput.puts c.args.shown.lenient c.new-log.result.log c.made-ran.new.log.log ran made.log counts
+    (logged g.F.SyncsOutput.puts c.args.options.present_ok c.new-log.result.log c.made-ran.new.log.log ran made.log counts
     (ap (λ l. l.failures) c.new-log.ensures ∙ none))

@@ -1,5 +1,0 @@
-use Rattle.std.proofs.Common.{rules}
-use Rattle.pt_cli.proofs.words.refusal.Goals as goal
-
-pub returns-in-DisplayHelp-Ok : goal.returns-in-DisplayHelp-Ok
-returns-in-DisplayHelp-Ok c = search rules

@@ -1,0 +1,142 @@
+//! Why the words of a command line are no command.
+ghost use Rattle.std.specs.Prelude.{◌≡◌};
+ghost use Rattle.clap.specs.Words.{kind_of};
+ghost use Rattle.pt_cli.specs.Words.{RefusedAs, words_number};
+
+use crate::Text;
+use clap::Error;
+use clap::error::ErrorKind;
+use pt_name::LayoutFault;
+use pt_object::MetaFault;
+use pt_tree::MemoryFault;
+use std::alloc::{AllocError, Global};
+
+/// Why the words of a command line are no command.
+#[derive(Debug, Drop, thiserror::Error)]
+pub enum WordsFault {
+    /// Help was asked for; this is its text, for standard output.
+    #[error("{0}")]
+    Help(Text),
+    /// The version was asked for; this is its text, for standard output.
+    #[error("{0}")]
+    Version(Text),
+    /// The parser refuses the words; this is its text, for standard error.
+    #[error("{0}")]
+    Words(Text),
+    /// `--created` isn't a moment of RFC 3339 to the second.
+    #[error("--created is not a moment of RFC 3339 to the second")]
+    Created,
+    /// `--name` is empty.
+    #[error("--name is empty")]
+    EmptyName,
+    /// The identifier of `names` is empty.
+    #[error("the identifier is empty")]
+    EmptyId,
+    /// A growth was refused.
+    #[error("out of memory")]
+    Memory,
+    /// `--tuple-size` and `--tuples` are no layout.
+    #[error("the tuples are out of range")]
+    Tuples,
+    /// `--share` is no share.
+    #[error("--share is not K/N with N from 1 to 4096 and K from 1 to N")]
+    Share,
+    /// A text of `--ignore` is no name that an entry may have.
+    #[error("--ignore is not the name of a file or folder")]
+    Ignored,
+}
+
+impl WordsFault {
+    /// The fault's number: 1 `Help`, 2 `Words`, 3 `Created`, 4 `EmptyName`, 5 `EmptyId`, 6 `Memory`, 7 `Tuples`,
+    /// 8 `Version`, 9 `Share`, 10 `Ignored`.
+    pub fn number(&self) -> u8
+        ensures { result ≡ words_number self.now }
+    {
+        match self {
+            WordsFault::Help(_) => 1,
+            WordsFault::Words(_) => 2,
+            WordsFault::Created => 3,
+            WordsFault::EmptyName => 4,
+            WordsFault::EmptyId => 5,
+            WordsFault::Memory => 6,
+            WordsFault::Tuples => 7,
+            WordsFault::Version(_) => 8,
+            WordsFault::Share => 9,
+            WordsFault::Ignored => 10,
+        }
+    }
+}
+
+impl From<AllocError> for WordsFault {
+    ghost use Rattle.std.specs.Prelude.{◌≡◌};
+    ghost use Rattle.pt_cli.specs.declared.faults.WordsFault.TheVariants.{Memory};
+
+    ghost from_gives = { λ _ e. e ≡ Memory };
+
+    fn from(_: AllocError) -> Self {
+        WordsFault::Memory
+    }
+}
+
+// The parser's error as a refusal of the words.
+pub(crate) fn refusal(alloc: Global, error: &Error) -> WordsFault
+    ensures { RefusedAs (kind_of error.now) result }
+{
+    match (error.kind(), Text::shown(alloc, error)) {
+        (ErrorKind::OutOfMemory, _) | (_, Err(_)) => WordsFault::Memory,
+        (ErrorKind::DisplayHelp, Ok(text)) => WordsFault::Help(text),
+        (ErrorKind::DisplayVersion, Ok(text)) => WordsFault::Version(text),
+        (_, Ok(text)) => WordsFault::Words(text),
+    }
+}
+
+// Why what the parser found for the arguments is no command: `Missing`, where one isn't there that it sees to, and else as in
+// `WordsFault`.
+#[derive(Clone, Copy)]
+pub(crate) enum Unread {
+    Missing,
+    Created,
+    EmptyName,
+    EmptyId,
+    Memory,
+    Tuples,
+    Share,
+    Ignored,
+}
+
+impl From<MemoryFault> for Unread {
+    ghost use Rattle.std.specs.Prelude.{◌≡◌};
+    ghost use Rattle.pt_cli.specs.declared.faults.Unread.TheVariants.{Memory};
+
+    ghost from_gives = { λ _ e. e ≡ Memory };
+
+    fn from(_: MemoryFault) -> Self {
+        Unread::Memory
+    }
+}
+
+impl From<MetaFault> for Unread {
+    ghost use Rattle.std.specs.Prelude.{◌≡◌};
+    ghost use Rattle.pt_cli.specs.Arguments.{unread_of_meta};
+
+    ghost from_gives = { λ fault e. e ≡ unread_of_meta fault };
+
+    fn from(fault: MetaFault) -> Self {
+        match fault {
+            MetaFault::Created => Unread::Created,
+            MetaFault::EmptyName => Unread::EmptyName,
+            MetaFault::Memory => Unread::Memory,
+        }
+    }
+}
+
+impl From<LayoutFault> for Unread {
+    ghost use Rattle.std.specs.Prelude.{◌≡◌};
+    ghost use Rattle.pt_cli.specs.declared.faults.Unread.TheVariants.{Tuples};
+
+    ghost from_gives = { λ _ e. e ≡ Tuples };
+
+    fn from(_: LayoutFault) -> Self {
+        Unread::Tuples
+    }
+}

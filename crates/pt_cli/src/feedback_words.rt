@@ -1,0 +1,57 @@
+//! The words that say what is shown beside the log: `--verbose`, `--quiet`, `--progress`, `--interval` and `--expect`.
+ghost use Rattle.std.specs.Prelude.{◌≡◌, IfOk, option_map};
+ghost use Rattle.clap.specs.Words.{found_of, rows_of};
+ghost use Rattle.pt_cli.specs.Arguments.{ReadsAs, progress_in, progress_of};
+ghost use Rattle.pt_cli.specs.Options.{feedback_in};
+
+use crate::Text;
+use crate::arguments::{is_set, needed, number, text};
+use crate::faults::Unread;
+use crate::grammar::{EXPECT, INTERVAL, PROGRESS, QUIET, VERBOSE};
+use clap::ArgMatches;
+use pt_run::{Feedback, Progress};
+use pt_tree::MemoryFault;
+use std::alloc::Global;
+
+// What standard error is to show.
+pub(crate) fn feedback(alloc: Global, matches: &ArgMatches<'_>) -> Result<Feedback, Unread>
+    ensures { ReadsAs (feedback_in (rows_of (found_of matches.now))) result }
+{
+    let progress = progress(matches)?;
+    let interval = needed(number(matches, INTERVAL))?;
+    Ok(Feedback {
+        verbose: is_set(matches, VERBOSE),
+        quiet: is_set(matches, QUIET),
+        progress,
+        interval,
+        expected: copy_of(alloc, text(matches, EXPECT))?,
+    })
+}
+
+// When it is to be shown how far it is.
+fn progress(matches: &ArgMatches<'_>) -> Result<Progress, Unread>
+    ensures { result ≡ progress_in (rows_of (found_of matches.now)) }
+{
+    needed(progress_by_word(needed(text(matches, PROGRESS))?))
+}
+
+fn progress_by_word(word: &str) -> Option<Progress>
+    ensures { result ≡ progress_of word.now }
+{
+    match word {
+        "auto" => Some(Progress::Auto),
+        "always" => Some(Progress::Always),
+        "never" => Some(Progress::Never),
+        _ => None,
+    }
+}
+
+// A copy of a text, where there is one.
+fn copy_of(alloc: Global, text: Option<&str>) -> Result<Option<Text>, MemoryFault>
+    ensures { IfOk result (λ copy. copy ≡ option_map (λ t. t.now) text.entry) }
+{
+    match text {
+        Some(text) => Ok(Some(Text::of(alloc, text)?)),
+        None => Ok(None),
+    }
+}

@@ -1,0 +1,56 @@
+//! The words of the command `migrate`.
+ghost use Rattle.clap.specs.Words.{found_of, rows_of};
+ghost use Rattle.pt_cli.specs.Arguments.{ReadsAs};
+ghost use Rattle.pt_cli.specs.Options.{meta_in, migration_in, run_options_in};
+
+use crate::arguments::{is_set, needed, text};
+use crate::faults::Unread;
+use crate::feedback_words::feedback;
+use crate::grammar::{ADDRESS, CREATED, MESSAGE, NAME, PRESENT_OK, REHEARSE, SYNC};
+use crate::ignore_words::ignored;
+use crate::job_words::{folders, job, meta_of};
+use crate::{Command, Migrate};
+use clap::ArgMatches;
+use pt_object::Meta;
+use pt_run::RunOptions;
+use std::alloc::Global;
+
+// The migration that is asked for: refused as its options are.
+pub(crate) fn migrate_command(alloc: Global, matches: &ArgMatches<'_>) -> Result<Command, Unread>
+    ensures { ReadsAs (migration_in (rows_of (found_of matches.now))) result }
+{
+    let options = run_options(alloc, matches)?;
+    let (source, dest) = folders(alloc, matches)?;
+    Ok(Command::Migrate(Migrate {
+        options,
+        source,
+        dest,
+    }))
+}
+
+// The options of a run: refused as `Created`, `EmptyName`, `Tuples`, `Share` and `Ignored`, in this order.
+fn run_options(alloc: Global, matches: &ArgMatches<'_>) -> Result<RunOptions, Unread>
+    ensures { ReadsAs (run_options_in (rows_of (found_of matches.now))) result }
+{
+    let job = job(matches, meta(alloc, matches)?)?;
+    let ignored = ignored(alloc, matches)?;
+    let feedback = feedback(alloc, matches)?;
+    Ok(RunOptions {
+        job,
+        ignored,
+        sync: is_set(matches, SYNC),
+        rehearse: is_set(matches, REHEARSE),
+        present_ok: is_set(matches, PRESENT_OK),
+        feedback,
+    })
+}
+
+// What the inventories are to say of their versions.
+fn meta(alloc: Global, matches: &ArgMatches<'_>) -> Result<Meta, Unread>
+    ensures { ReadsAs (meta_in (rows_of (found_of matches.now))) result }
+{
+    let created = needed(text(matches, CREATED))?;
+    let name = needed(text(matches, NAME))?;
+    let message = needed(text(matches, MESSAGE))?;
+    meta_of(alloc, created, name, text(matches, ADDRESS), message)
+}

@@ -1,0 +1,28 @@
+//! The words of the command `names`.
+ghost use Rattle.clap.specs.Words.{found_of, rows_of};
+ghost use Rattle.pt_cli.specs.Arguments.{ReadsAs};
+ghost use Rattle.pt_cli.specs.Options.{names_in};
+
+use crate::arguments::{needed, text};
+use crate::faults::Unread;
+use crate::grammar::{ID, PREFIX};
+use crate::job_words::layout;
+use crate::{Command, Named, Text};
+use clap::ArgMatches;
+use std::alloc::Global;
+
+// The identifier whose names are asked for: refused as `EmptyId`, and then as `Tuples`.
+pub(crate) fn names_command(alloc: Global, matches: &ArgMatches<'_>) -> Result<Command, Unread>
+    ensures { ReadsAs (names_in (rows_of (found_of matches.now))) result }
+{
+    let id = needed(text(matches, ID))?;
+    if id.is_empty() {
+        return Err(Unread::EmptyId);
+    }
+    let layout = layout(matches)?;
+    Ok(Command::Names(Named {
+        id: Text::of(alloc, id)?,
+        prefix: Text::of(alloc, text(matches, PREFIX).unwrap_or(""))?,
+        layout,
+    }))
+}
