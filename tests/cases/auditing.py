@@ -280,6 +280,12 @@ def no_root(program, folder):
     faults += judged(program, folder, "a root without objects", objects, [])
     target = b"pairtree2ocfl: fault 8: the ocfl directory of the destination cannot be used\n"
     faults += differs(layout=(audit(program, folder, "--tuples", "2"), (3, b"", target)))
+    config = "ocfl/extensions/0003-hash-and-id-n-tuple-storage-layout/config.json"
+    other = f"pairtree2ocfl: {folder}/d/{config}: it is not what this program makes there with these tuples\n".encode()
+    faults += differs(other=(audit(program, folder, "--verbose", "--tuples", "2"), (3, b"", target + other)))
+    build(f"{folder}/e", {"ocfl": b""})
+    other = f"pairtree2ocfl: {folder}/e/ocfl: it is not what this program makes there with these tuples\n".encode()
+    faults += differs(file=(audit(program, folder, "--verbose", dest="e"), (3, b"", target + other)))
     unread = b"pairtree2ocfl: fault 2: cannot read the destination\n"
     faults += differs(gone=(audit(program, folder, dest="absent"), (3, b"", unread)))
     why = f"pairtree2ocfl: {folder}/absent/: No such file or directory (os error 2)\n".encode()

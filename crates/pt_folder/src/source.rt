@@ -30,6 +30,7 @@ pub struct HostSource<'a, S: System> {
     folder: Folder<'a>,
     reading: Option<Reading<S::File>>,
     at: String,
+    looked: String,
     // What the names of a directory and the bytes of a file are read into.
     room: Room,
     failures: u64,
@@ -48,12 +49,14 @@ impl<'a, S: System> HostSource<'a, S> {
         ensures desk { result.desk ≡ new_desk system alloc }
         ensures reading { result.reading ≡ None }
         ensures at { string_bytes result.at ≡ [] }
+        ensures looked { string_bytes result.looked ≡ [] }
     {
         HostSource {
             desk: Desk::new(system, alloc),
             folder: Folder { path },
             reading: None,
             at: String::new(alloc),
+            looked: String::new(alloc),
             room: [0; BLOCK],
             failures: 0,
             calls: 0,
@@ -74,6 +77,13 @@ impl<'a, S: System> HostSource<'a, S> {
         self.at.as_str()
     }
 
+    /// The path that `look` answered last; empty before the first.
+    pub fn looked_path(&self) -> &str
+        ensures { result.now ≡ string_bytes self.now.looked }
+    {
+        self.looked.as_str()
+    }
+
     /// The kind of what stands at a path, links not followed; None where nothing does.
     ///
     /// Where the system keeps a tree, a directory has to be above the path. The open file stays as it is.
@@ -89,10 +99,12 @@ impl<'a, S: System> HostSource<'a, S> {
             self.old.desk.system self.new.desk.system result }
         ensures kept { OnDevice result (KeepsLook self.old self.new path.now) }
         ensures still { lasting self.new ≡ lasting self.old }
+        ensures looked { OnOk result (string_bytes self.new.looked
+            ≡ entry_text self.old.folder.path.now path.now) }
+        ensures unlooked { OnErr result (self.new.looked ≡ self.old.looked) }
         ensures failures { IsCounted self.old.failures self.new.failures result }
     {
-        let mut at = String::new(self.desk.last.alloc);
-        let kind = self.desk.kind_at(&self.folder, path, &mut at);
+        let kind = self.desk.kind_at(&self.folder, path, &mut self.looked);
         counted(&mut self.failures, kind)
     }
 

@@ -8,6 +8,9 @@ use std::alloc::AllocGlobal;
 use std::io;
 use std::io::ErrorKind;
 
+// Of what stands where a root, or one of its files, would be.
+const ANOTHER_ROOT: &str = "it is not what this program makes there with these tuples";
+
 /// Tells standard error why a run over these folders ended with a fault, where that has a path.
 pub fn tell<R: Reads + Eprint + AllocGlobal, S: System, D: System>(
     rt: &R,
@@ -19,11 +22,7 @@ pub fn tell<R: Reads + Eprint + AllocGlobal, S: System, D: System>(
     match fault {
         Fault::Dest => failure(rt, dest.last_failure()),
         Fault::StagingLeft => say(rt, dest.looked_path(), "it stands there already"),
-        Fault::Target => say(
-            rt,
-            dest.looked_path(),
-            "it is not what this program makes there with these tuples",
-        ),
+        Fault::Target => say(rt, dest.looked_path(), ANOTHER_ROOT),
         _ => tell_of_source(rt, fault, source, store),
     }
 }
@@ -80,15 +79,10 @@ pub fn tell_audit<R: Reads + Eprint + AllocGlobal, S: System, D: System>(
     source: &HostSource<'_, S>,
     root: &HostSource<'_, D>,
     store: &str,
-    folder: &str,
 ) {
     match fault {
         Fault::Dest => failure(rt, root.last_failure()),
-        Fault::Target => say(
-            rt,
-            folder,
-            "ocfl in it is not what this program makes there with these tuples",
-        ),
+        Fault::Target => say(rt, root.looked_path(), ANOTHER_ROOT),
         _ => tell_of_source(rt, fault, source, store),
     }
 }

@@ -107,7 +107,7 @@ where
     let ignoring = source.into_source();
     reason::left_out(rt, verbose & ignores, ignoring.left_out());
     let source = ignoring.into_source();
-    told(rt, &ran, verbose, &source, &root, store, folder);
+    told(rt, &ran, verbose, &source, &root, store);
     let status = status_of(&ran, options.skips_ok);
     let ground = Ground {
         store: source.into_system(),
@@ -125,12 +125,11 @@ fn told<R: Reads + Eprint + AllocGlobal, S: System, D: System>(
     source: &HostSource<'_, S>,
     root: &HostSource<'_, D>,
     store: &str,
-    folder: &str,
 ) {
     if let Err(fault) = ran {
         failed(rt, fault);
         if verbose {
-            reason::tell_audit(rt, fault, source, root, store, folder);
+            reason::tell_audit(rt, fault, source, root, store);
         }
     }
 }
