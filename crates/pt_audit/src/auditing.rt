@@ -16,11 +16,11 @@ ghost use Rattle.pt_audit.specs.Growing.{KeepsLog};
 ghost use Rattle.pt_audit.specs.Surveying.{GoesOn as SurveyGoesOn, IsSurvey, Steps, Surveys, sight_at};
 ghost use Rattle.pt_audit.specs.declared.survey.Sight.TheVariants as sight;
 
+use crate::Counts;
 use crate::beside::Beside;
 use crate::layout::check_layout;
 use crate::lines::{end_line, object_line};
 use crate::survey::{AtHand, Sight, Survey};
-use crate::Counts;
 use pt_compare::{Finding, Root, Scanned, compare};
 use pt_move::{Job, Observer};
 use pt_plan::Fault;

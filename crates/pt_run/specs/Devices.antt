@@ -1,5 +1,5 @@
 -- What the folders of a run are, and hold: read by what their types know of them.
-use Rattle.std.specs.Prelude.{ℕ, List, Option, None}
+use Rattle.std.specs.Prelude.{◌≡◌, ℕ, List, Option, None}
 use Rattle.pt_folder.specs.DestHeld.{told_with}
 use Rattle.pt_folder.specs.DestLaws.{Kept}
 use Rattle.pt_folder.specs.declared.dest.HostDest.{HostDest}
@@ -20,6 +20,13 @@ module _ {S F D : Type 0} {sys : OfSystem S F D} {handle : OfHandle F} {file : O
   -- and of one that is written into
   abbrev pub dest_path : HostDest S F D sys handle file dir → List ℕ
   dest_path dest = dest.folder.path.now
+
+  -- they are the folders of these systems at these paths
+  abbrev pub ReadsFrom : HostSource S F D sys handle file dir → S → List ℕ → Type 0
+  ReadsFrom source system path = (source.desk.system ≡ system) × (store_path source ≡ path)
+
+  abbrev pub WritesInto : HostDest S F D sys handle file dir → S → List ℕ → Type 0
+  WritesInto dest system path = (dest.desk.system ≡ system) × (dest_path dest ≡ path)
 
   -- what its system keeps of it
   abbrev pub kept_by : HostDest S F D sys handle file dir → Kept F

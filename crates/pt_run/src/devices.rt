@@ -1,5 +1,6 @@
 //! The devices of a run and of an audit, as they are asked for.
 ghost use Rattle.std.specs.Prelude.{◌≡◌, ◌+◌, None};
+ghost use Rattle.pt_run.specs.Devices.{ReadsFrom, WritesInto};
 ghost use Rattle.pt_run.specs.Room.{spare_of};
 
 use crate::RunOptions;
@@ -32,11 +33,9 @@ pub(crate) fn equipped<'a, S: System, D: System, W: Write, F: SyncsOutput<W> + D
     store: &'a str,
     folder: &'a str,
 ) -> Devices<'a, S, D, W, F>
-    ensures store { (result.source.desk.system ≡ ground.store)
-        × (result.source.folder.path.now ≡ store.now) }
+    ensures store { ReadsFrom result.source ground.store store.now }
     ensures unread { (result.source.reading ≡ None) × (result.source.failures ≡ 0) }
-    ensures folder { (result.dest.desk.system ≡ ground.folder)
-        × (result.dest.folder.path.now ≡ folder.now) }
+    ensures folder { WritesInto result.dest ground.folder folder.now }
     ensures unwritten { (result.dest.writing ≡ None) × (result.dest.failures ≡ 0) }
     ensures longest { result.dest.longest + spare_of options.now.job.layout ≡ 4095 }
     ensures synced { (result.dest.synced ≡ options.now.sync) × (result.dest.stuck ≡ None) }
@@ -72,11 +71,9 @@ pub(crate) fn both_sides<'a, S: System, D: System, W: Write, F: SyncsOutput<W> +
     store: &'a str,
     folder: &'a str,
 ) -> Sides<'a, S, D, W, F>
-    ensures store { (result.source.source.desk.system ≡ ground.store)
-        × (result.source.source.folder.path.now ≡ store.now) }
+    ensures store { ReadsFrom result.source.source ground.store store.now }
     ensures left_out { result.source.names ≡ ignored }
-    ensures folder { (result.root.desk.system ≡ ground.folder)
-        × (result.root.folder.path.now ≡ folder.now) }
+    ensures folder { ReadsFrom result.root ground.folder folder.now }
     ensures log { result.log.writer ≡ ground.output }
 {
     Sides {
