@@ -1,6 +1,7 @@
 -- A run that was rehearsed, or made, over a folder as destination.
 use Rattle.std.proofs.Common.{◌≡◌, ◌∙◌, ℕ, Bool, true, false, List, refl, ap, sym}
 use Rattle.std.specs.Prelude.{Option, None, Some, is_some, Result}
+use Rattle.pt_folder.specs.DestLaws.{Kept}
 use Rattle.pt_folder.specs.HostDest.{told as told_by}
 use Rattle.pt_folder.specs.declared.system.Handle.{Ghosts as OfHandle}
 use Rattle.pt_folder.specs.declared.system.Input.{Ghosts as OfInput}
@@ -18,7 +19,7 @@ use Rattle.pt_state.specs.declared.job.Job.{Job}
 use Rattle.pt_state.specs.declared.job.Report.{Report}
 use Rattle.pt_tree.specs.Dest.{Writing}
 use Rattle.pt_tree.specs.Source.{Reading}
-use Rattle.pt_run.specs.Made.{IsRun}
+use Rattle.pt_run.specs.Made.{IsRun, LeavesKept}
 
 -- what is played over a tree is told where that is
 over_told : (o : Option Writing) (steps : List Step) → is_some (told_over o steps) ≡ is_some o
@@ -30,6 +31,10 @@ module _ {S F D : Type 0} {sys : OfSystem S F D} {handle : OfHandle F} {file : O
   pub tells_still : (begun ended : Rehearsal S F D sys handle file dir) → Stays begun.dest ended.dest → is_some (told ended) ≡ is_some (told begun)
   tells_still begun ended stays =
       over_told (told_by ended.dest) ended.played.steps ∙ ap is_some (told_still begun.dest ended.dest stays) ∙ sym (over_told (told_by begun.dest) begun.played.steps)
+
+-- what is left of a folder is left at the same path
+pub leaves_at : {S F : Type 0} (kept : S → List ℕ → Kept F) (rehearse : Bool) (was : Kept F) (system : S) {path path' : List ℕ} → path' ≡ path → LeavesKept rehearse was (kept system path') → LeavesKept rehearse was (kept system path)
+leaves_at kept rehearse was system same leaves = rw same at leaves
 
 module _ (job : Job) (was : Option Writing) (s s' : Option Reading) (l l' : Option (List ℕ)) (sf sf' lf lf' : ℕ) (ran : Result Report Fault) where
   pub rehearsed : (rehearse : Bool) (begun ended d d' : Option Writing) (df df' begun-df ended-df : ℕ)

@@ -1,6 +1,7 @@
 use Rattle.std.proofs.Common.{◌∙◌, ap, sym}
 use Rattle.pt_folder.specs.Reading.{unread_open}
 use Rattle.pt_run.proofs.Logged.{log_counts, logged}
+use Rattle.pt_run.proofs.Rehearsed.{leaves_at}
 use Rattle.pt_run.proofs.running.run.Goals as goal
 
 pub returns-clause-runs : goal.returns-clause-runs
@@ -28,7 +29,8 @@ returns-clause-runs g c =
         ) (rw (made.source.1, made.source.0, made.dest) at made.promises),
         c.status_of-status.ensures,
       ),
-      rw (c.into_system-2.ensures) (rw made.dest at made.rehearsed),
+      rw (c.into_system-2.ensures)
+          (leaves_at g.D.System.kept c.args.options.rehearse _ dest.desk.system (ap (λ f. f.path.now) made.dest) made.rehearsed),
       λ s is. let stuck = made.stuck c.args.options.present_ok s is in (stuck.0, λ none. c.status_of-status.ensures ∙ stuck.1 none),
     )
 
