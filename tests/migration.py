@@ -1,6 +1,7 @@
 """The built program's tests over real folders. tests/cases has the cases: carrying, refusing and options those of `migrate`, auditing those of `audit`, watching of progress, sharing of shares,
 peers beside plain Rust, surroundings of what is around a run, packages of what is shipped, anywhere of its programs, guide of the guide's commands,
-joining of tools/roots.py, documents of what the documents name, gate of the gate itself. tests/harness has how they are run, and what must stand.
+joining of tools/roots.py, report of examples/report.py, documents of what the documents name, gate of the gate itself. tests/harness has how they
+are run, and what must stand.
 
 Usage: migration.py PROGRAM [-k WORDS]. With -k only the cases are run whose file's name, with the case's name behind it, has these words, and those
 of tests/program.py whose names have. The last line is 'N passed, M failed, K skipped', and before it stand the skipped cases with their reasons.
@@ -25,13 +26,14 @@ import packages
 import peers
 import program
 import refusing
+import report
 import running
 import sharing
 import surroundings
 import watching
 from tally import Tally
 
-FILES = (carrying, auditing, refusing, options, watching, surroundings, sharing, peers, guide, joining, packages, anywhere, documents, gate)
+FILES = (carrying, auditing, refusing, options, watching, surroundings, sharing, peers, guide, joining, report, packages, anywhere, documents, gate)
 CASES = [case for file in FILES for case in file.CASES]
 
 

@@ -38,6 +38,8 @@ put 644 "$top/completions/_pairtree2ocfl" share/zsh/site-functions/_pairtree2ocf
 put 644 "$top/completions/pairtree2ocfl.fish" share/fish/vendor_completions.d/pairtree2ocfl.fish
 put 755 "$top/tools/roots.py" share/pairtree2ocfl/roots.py
 put 755 "$top/examples/shares.sh" share/pairtree2ocfl/shares.sh
+put 755 "$top/examples/report.py" share/pairtree2ocfl/report.py
+put 644 "$top/examples/report_page.py" share/pairtree2ocfl/report_page.py
 if [ "$program" = --remove ]; then
     for path in "$top/README.md" "$top"/docs/*.md; do
         rm -f "$documents/${path#"$top"/}"

@@ -24,6 +24,8 @@ INSTALLED = {
     "share/fish/vendor_completions.d/pairtree2ocfl.fish",
     "share/pairtree2ocfl/roots.py",
     "share/pairtree2ocfl/shares.sh",
+    "share/pairtree2ocfl/report.py",
+    "share/pairtree2ocfl/report_page.py",
 }
 # What is installed of the programs that are shipped, beside what is installed of any.
 OF_PROGRAMS = {f"lib/pairtree2ocfl/{name}" for name in ("README", "choose.sh", "libos_c.a", "liblibc_c.a")}
