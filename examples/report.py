@@ -8,7 +8,8 @@ of a rehearsal, whose lines are the same) or of an audit; one whose last line is
 
 Several logs are taken for those of one store, in the order in which they were written. Then the page tells what is still missing: the folders
 that the last log that names them skipped, and that no log has as done, present or same; and those that the last log that names them tells to be
-absent. The other numbers are added up over all logs, so what two logs name counts twice.
+absent. Leave the logs of rehearsals out there, whose done lines nobody can tell from a run's. The other numbers are added up over all logs, so what
+two logs name counts twice.
 
 `--csv` writes the lines as a table (RFC 4180), without the end lines. A spreadsheet may take a value that begins with = + - or @ for a formula.
 

@@ -62,6 +62,7 @@ th, td { padding: .32rem .9rem .32rem 0; text-align: left; vertical-align: top; 
 th { font-weight: 600; vertical-align: bottom; }
 tfoot { font-weight: 600; }
 .n { text-align: right; white-space: nowrap; font-variant-numeric: tabular-nums; }
+#numbers td:first-child { min-width: 8rem; }
 #numbers .n, #kinds .n, #causes .n, #whys .n, #sizes .n { width: 1%; }
 #kinds td:first-child, #causes td:first-child, #whys td:first-child, #sizes td:first-child { width: 1%; white-space: nowrap; }
 .bar { width: 30%; min-width: 7rem; }
@@ -71,7 +72,7 @@ tfoot { font-weight: 600; }
 .skip, #causes { --bar: var(--skip); } .differs, #whys { --bar: var(--differs); }
 code, bdi { font-family: ui-monospace, monospace; font-size: .95em; white-space: pre-wrap; overflow-wrap: anywhere; }
 footer { margin-top: 3rem; font-size: .9rem; }
-@media print { body { max-width: none; padding: 0; font-size: 10pt; } h2 { break-after: avoid; } tr, .tiles li { break-inside: avoid; } }
+@media print { body { max-width: none; padding: 0; font-size: 10pt; } table { font-size: 8.5pt; } .wide { overflow: visible; } h2 { break-after: avoid; } tr, .tiles li { break-inside: avoid; } }
 </style>
 </head>
 <body>
@@ -196,19 +197,17 @@ class Page:
 
     def by_log(self):
         """The numbers of each log, and of all."""
-        kinds, causes = ([it for it in words if of[it]] for words, of in ((MEANINGS, self.kinds), (ADVICE, self.causes)))
-
         def sums(logs):
-            yield from (sum(getattr(log, name) for log in logs) for name in ("objects", "files", "bytes", "empty"))
-            yield from (sum(log.kinds[kind] for log in logs) for kind in kinds)
+            return numbers(*(sum(getattr(log, name) for log in logs) for name in ("objects", "files", "bytes", "empty")))
 
         yield "<h2>Numbers</h2>\n<p>Objects are the lines that name one. Files, bytes and empty folders are those of done and same lines.</p>\n"
-        rows = (cells(told(log.path), log.what(), "end line" if log.is_whole() else "cut short") + numbers(*sums([log])) for log in self.report.logs)
-        heads = ["Log", "Of a", "Ends", "#Objects", "#Files", "#Bytes", "#Empty folders", *("#" + it for it in kinds)]
-        yield from table("numbers", heads, rows, cells("added up", "", "") + numbers(*sums(self.report.logs)) if self.several else ())
-        if self.several and causes:
-            rows = (cells(told(log.path)) + numbers(*(log.causes[it] for it in causes)) for log in self.report.logs)
-            yield from table("causes-by-log", ["Skips of", *("#" + it for it in causes)], rows)
+        heads = ["Log", "Of a", "Ends", "#Objects", "#Files", "#Bytes", "#Empty folders"]
+        rows = (cells(told(log.path), log.what(), "end line" if log.is_whole() else "cut short") + sums([log]) for log in self.report.logs)
+        yield from table("numbers", heads, rows, cells("added up", "", "") + sums(self.report.logs) if self.several else ())
+        for name, title, meanings in (("kinds", "Lines of", MEANINGS), ("causes", "Skips of", ADVICE)) if self.several else ():
+            words = [word for word in meanings if self.report.total(name)[word]]
+            rows = (cells(told(log.path)) + numbers(*(getattr(log, name)[word] for word in words)) for log in self.report.logs)
+            yield from table(f"{name}-by-log", [title, *("#" + word for word in words)], rows) if words else ()
 
     def counted(self, title, name, heads, of, meanings):
         """A section with a bar for each of these words that a log has."""
@@ -249,7 +248,8 @@ class Page:
 
     def missing(self):
         title = """Still missing: The last log that names the folder skipped it, and no log has it as done, present or same; or the last log that names it
-tells it to be absent. A folder that was renamed or removed since stands here too, by the log that named it last."""
+tells it to be absent. A folder that was renamed or removed since stands here too, by the log that named it last. The lines of a rehearsal are those of
+a run: what it alone has as done isn't told here, so leave its log out."""
         return self.listed("missing", self.report.missing, title, ["Folder", "Cause"], self.site)
 
     def site(self, at, cause):

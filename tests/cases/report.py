@@ -121,7 +121,7 @@ TWINS = [["ae", "ae/obj", "done"], ["ae", "a^65/obj", "present"]]
 def one_run(program, folder):
     """The numbers of one log, by kind, by cause and by size; its skipped folders, twins and lost folders; and nothing that isn't asked of one."""
     found, said = page(folder, *logs(folder, run=whole_log(*RUN)))
-    numbers = [["run.log", "run or rehearsal", "end line", "6", "1,024", "1,234,685", "3", "5", "1", "4"]]
+    numbers = [["run.log", "run or rehearsal", "end line", "6", "1,024", "1,234,685", "3"]]
     causes = [row[:2] for row in found.table("causes")]
     sizes = [["0 B", "1"], ["1 B to 10 B", "1"], ["10 B to 100 B", "2"], ["100 B to 1 kB", "0"], ["1 kB to 10 kB", "0"], ["10 kB to 100 kB", "0"]]
     skipped = [["pairtree_root itself", "root"], ["sp/li", "split"], ["sp/l2", "split"], ["ot/he", "other"]]
@@ -152,7 +152,7 @@ def one_audit(program, folder):
     entries = [sized("aa/obj", "aa", 5, kind="same"), absent("ab/obj", "ab"), unlike("ac/obj", "ac", "v1/content/a", "bytes")]
     entries += [unlike("ad/obj", "ad", "", "kind"), unlike("ae/obj", "ae", "v1/x", "bytes"), skip("af", "empty")]
     found, said = page(folder, *logs(folder, audit=whole_audit(*entries)))
-    row = ["audit.log", "audit", "end line", "5", "1", "5", "0", "1", "1", "3", "1"]
+    row = ["audit.log", "audit", "end line", "5", "1", "5", "0"]
     rest = [["v1/content/a", "bytes"], ["", "kind"], ["v1/x", "bytes"]]
     wanted = [["ab", "ab/obj", stores.place("ab"), "", "absent"]]
     wanted += [[name, f"{name}/obj", stores.place(name), *it] for name, it in zip(("ac", "ad", "ae"), rest)]
@@ -163,20 +163,21 @@ def one_audit(program, folder):
 
 def of_the_program(program, folder):
     """Over logs of the program: a rehearsal, a run, a second run by which a skip is mended, and an audit."""
-    build(f"{folder}/s/pairtree_root", {"ab/c/obj/e": DIR, "^41/B/obj/f": b"12", "A/obj/f": b"", "ot/he/obj/link": Link("f"), "sp/li/f": b"1", "README": b"1"})
-    build(f"{folder}/s/pairtree_root", {"A^42/obj/f": b"3"})
+    twin = {"^5/Cx/obj/f": b"12", "^5/cx/obj/f": b"12"}
+    build(f"{folder}/s/pairtree_root", {**twin, "ab/c/obj/e": DIR, "A/obj/f": b"", "ot/he/obj/link": Link("f"), "sp/li/f": b"1", "README": b"1"})
     texts = {"rehearsal": run(program, folder, "-n").stdout, "first": run(program, folder).stdout, "second": run(program, folder, "--gather").stdout}
     texts["audit"] = subprocess.run([program, "audit", "--gather", "s", "d"], cwd=folder, capture_output=True, timeout=120).stdout
     names = logs(folder, **texts)
     found, said = page(folder, *names)
     ends = [json.loads(text.splitlines()[-1]) for text in texts.values()]
-    kinds = ("done", "present", "same", "absent", "differs", "skip")
-    told = [row[7:] for row in found.table("numbers")[:-1]]
+    told = [row[1:] for row in found.table("kinds-by-log")]
     missing = [["pairtree_root itself", "root", "audit.log"], ["ot/he", "other", "audit.log"]]
     folders = sorted(row[1] for row in found.table("twins"))
-    faults = differs(said=(said, (0, "")), missing=(found.table("missing"), missing), twins=(folders, ["A^42/obj", "^41/B/obj"]))
-    heads = [head for head in found.tables["numbers"][0] if head in kinds]
-    return faults + differs(numbers=(told, [[str(end.get(kind, 0)) for kind in heads] for end in ends]), kinds=("same" in heads, True))
+    faults = differs(said=(said, (0, "")), missing=(found.table("missing"), missing), twins=(folders, ["^5/Cx/obj", "^5/cx/obj"]))
+    heads = found.tables["kinds-by-log"][0][1:]
+    faults += differs(kinds=(told, [[str(end.get(kind, 0)) for kind in heads] for end in ends]), heads=(heads, ["done", "present", "same", "skip"]))
+    causes = [["rehearsal.log", "1", "1", "1"], ["first.log", "1", "1", "1"], ["second.log", "1", "0", "1"], ["audit.log", "1", "0", "1"]]
+    return faults + differs(causes=(found.table("causes-by-log"), causes))
 
 
 def cut_short(program, folder):
