@@ -113,11 +113,11 @@ def is_part(line):
     return not line.endswith(b"\n") and any(line[: len(start)] == start[: len(line)] for start in (b'{"as":"', b'{"absent":'))
 
 
-def entries(path, refuse=lambda number, line: None, without=()):
-    """The kind and the values of each line of a log, but for lines that begin so. What is no line of a log is given to a function, with its number."""
+def entries(path, refuse=lambda number, line: None, wanted=None):
+    """The kind and the values of each line of a log that is wanted. What is no line of a log is given to a function, with its number."""
     with open(path, "rb", buffering=1 << 18) as file:
         for number, line in enumerate(file, 1):
-            if line.startswith(without):
+            if wanted and not wanted(line):
                 continue
             try:
                 entry = parsed(line)
@@ -125,6 +125,12 @@ def entries(path, refuse=lambda number, line: None, without=()):
                 refuse(number, line)
             else:
                 yield entry
+
+
+def may_name(line, twins):
+    """Whether a line may have an identifier of these hashes: the one that it has as it stands is one of them, or isn't seen so easily."""
+    _, found, rest = line.partition(b',"id":"')
+    return not found or b"\\" in line or hash(rest.partition(b'"')[0]) in twins
 
 
 class Keys:
@@ -299,7 +305,7 @@ class Report:
         """Looks up the identifiers of these hashes, and tells the sites each line. Of a folder that several lines name the last is told."""
         found, ids = {}, ID_AT if twins else {}
         for log in self.logs:
-            for kind, values in entries(log.path):
+            for kind, values in entries(log.path, wanted=None if sites else lambda line: may_name(line, twins)):
                 identifier = values[ids[kind]] if kind in ids else None
                 if identifier is not None and hash(identifier) in twins and (identifier in found or len(found) < self.most):
                     found.setdefault(identifier, {})[values[0]] = (kind, log)
@@ -313,7 +319,7 @@ class Report:
         """Looks up the sites of these hashes, each with its last cause."""
         found = {}
         for log in self.logs if missing else ():
-            for kind, values in entries(log.path, without=STANDS):
+            for kind, values in entries(log.path, wanted=lambda line: not line.startswith(STANDS)):
                 if kind in ("skip", "absent") and Sites.key_of(kind, values[0]) in missing:
                     key, cause = Sites.key_of(kind, values[0]), values[1].decode() if kind == "skip" else kind
                     if key in found or len(found) < self.most:

@@ -299,7 +299,13 @@ def twins(program, folder):
     found, said = page(folder, *logs(folder, first=first, second=second))
     wanted = [["two", "b/obj", "done", "first.log"], ["two", "b^/obj", "present", "second.log"]]
     wanted += [['th"ree', f"{it}/obj", kind, "first.log"] for it, kind in (("c", "done"), ("c^", "present"), ("c^^", "present"))]
-    return differs(said=(said, (0, "")), twins=(found.table("twins"), wanted), heading=("Twins: 2" in found.headings, True))
+    faults = differs(said=(said, (0, "")), twins=(found.table("twins"), wanted), heading=("Twins: 2" in found.headings, True))
+    spelled = [done("a/obj", 'q"x', {}), present("b/obj", 'q"x'), present("c/obj", "z"), present("d/obj", "z"), present('e/,"id":"z', "w")]
+    texts = [json.dumps(entry) if number % 2 else stores.text_of(entry).decode() for number, entry in enumerate(spelled)]
+    texts.append(texts[0].replace("a/obj", "f/obj").replace('"id":"q', '"id":"\\u0071'))
+    found, said = page(folder, *logs(folder, spelled="\n".join(texts).encode()))
+    rows = [row[:2] for row in found.table("twins")]
+    return faults + differs(spelled=((said, rows), ((0, ""), [['q"x', "a/obj"], ['q"x', "b/obj"], ['q"x', "f/obj"], ["z", "c/obj"], ["z", "d/obj"]])))
 
 
 def escaped(program, folder):
