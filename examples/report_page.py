@@ -72,7 +72,8 @@ tfoot { font-weight: 600; }
 .skip, #causes { --bar: var(--skip); } .differs, #whys { --bar: var(--differs); }
 code, bdi { font-family: ui-monospace, monospace; font-size: .95em; white-space: pre-wrap; overflow-wrap: anywhere; }
 footer { margin-top: 3rem; font-size: .9rem; }
-@media print { body { max-width: none; padding: 0; font-size: 10pt; } table { font-size: 8.5pt; } .wide { overflow: visible; } h2 { break-after: avoid; } tr, .tiles li { break-inside: avoid; } }
+@media print { body { max-width: none; padding: 0; font-size: 10pt; } table { font-size: 8.5pt; } .wide { overflow: visible; }
+  h2 { break-after: avoid; } tr, .tiles li { break-inside: avoid; } }
 </style>
 </head>
 <body>
