@@ -286,6 +286,8 @@ def still_missing(program, folder):
     faults = differs(said=(said, (0, "")), missing=({row[0].split("/")[0]: row[1:] for row in found.table("missing")}, wanted))
     rows = [row for row in found.table("missing") if row[1] == "absent"]
     faults += differs(absent=(rows, [["ah/obj", "absent", "third.log"]]), heading=(found.headings[1], f"Still missing: {len(wanted)}"))
+    few, _ = page(folder, "first.log", "second.log", "third.log", "--limit", "5")
+    faults += differs(few=((len(few.table("missing")), few.table("missing")[0]), (5, ["ae", "limit", "third.log"])))
     other, _ = page(folder, "third.log", "second.log", "first.log")
     order = {row[0]: row[1] for row in other.table("missing")}
     return faults + differs(order=((order.get("ae"), "ah/obj" in order), ("split", False)), alone=(page(folder, "first.log")[0].table("missing"), []))
