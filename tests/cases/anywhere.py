@@ -13,6 +13,7 @@ import carrying
 import options
 import program as words_alone
 import refusing
+import surroundings
 from alone import Alone, differs
 from running import MEANT, timeless
 from sharing import random_store
@@ -43,8 +44,8 @@ class Over:
 
 
 def over():
-    """The cases of runs and audits, of each program that is shipped; none where they aren't built, which CASES tell."""
-    cases = [case for file in (carrying, refusing, auditing, options) for case in file.CASES]
+    """The cases of runs, audits and what is around them, of each program that is shipped; none where these aren't built, which CASES tell."""
+    cases = [case for file in (carrying, refusing, auditing, options, surroundings) for case in file.CASES]
     return [Over(cpu, case) for cpu in CPUS for case in cases] if os.path.isdir(FOLDER) else []
 
 
@@ -135,7 +136,7 @@ def of_the_gate(program, folder):
         subprocess.run([*command, f"{FOLDER}/{cpu}/pairtree2ocfl.o", *archives], check=True, capture_output=True, timeout=120)
         with open(f"{folder}/{cpu}", "rb") as linked, open(program, "rb") as whole:
             made.append(linked.read() == whole.read())
-    return differs(of_this_program=(any(made), True))
+    return [] if any(made) else ["neither is built of what the program is built of: make programs builds them anew"]
 
 
 def linked_again(program, folder):
