@@ -43,30 +43,34 @@ def library_of(cc):
         return re.search(rb"GNU C Library [^\n]* version [\d.]*\d", file.read())[0].decode()
 
 
-def build(kit, cpu, to):
-    """Proves the program's crate over the libraries, and compiles it for a processor."""
+def building(kit, cpu, to):
+    """Begins to prove the program's crate over the libraries, and to compile it for a processor. What is proved is kept for each processor apart."""
     with open(f"{TOP}/crates.txt", encoding="utf-8") as file:
         (below,) = re.findall(rf"^{NAME}:(.*)$", file.read(), re.MULTILINE)
     libraries = {"std": f"{kit}/rlibs/std.rlib", **{name: f"{TOP}/crates/{name}/out/rlib/{name}.rlib" for name in below.split()}}
     command = [f"{kit}/bin/rattle", "build", "--crate-name", NAME, "src/main.rt", "--cpu", cpu, "--backend", "llvm", "-o", to]
     command += [word for name, path in libraries.items() for word in ("--extern", f"{name}={path}")]
-    command += [word for path in (f"{kit}/rlibs", *glob.glob(f"{TOP}/crates/*/out/rlib")) for word in ("-L", f"dependency={path}")]
+    command += [word for path in (f"{kit}/rlibs", *sorted(glob.glob(f"{TOP}/crates/*/out/rlib"))) for word in ("-L", f"dependency={path}")]
     command += ["--antt-project", f"{kit}/rattle/logic/antt-project.json", "--logic-built", f"{kit}/logic_built", "--toolchain", f"{kit}/toolchain"]
-    subprocess.run([*command, "--links", f"{NAME}=", "--incremental", "out/incremental"], cwd=f"{TOP}/crates/{NAME}", check=True)
+    kept = "out/incremental" if cpu == CPUS[0] else f"out/incremental-{cpu}"
+    os.makedirs(f"{TOP}/crates/{NAME}/out", exist_ok=True)
+    return subprocess.Popen([*command, "--links", f"{NAME}=", "--incremental", kept], cwd=f"{TOP}/crates/{NAME}")
 
 
 def build_all(rt, folder):
-    """Builds and links the programs."""
+    """Builds the programs side by side, which takes some four minutes where nothing is kept, and links them."""
     kit, cc, folder = kit_of(rt), os.environ.get("CC", "cc"), os.path.abspath(folder)
     shutil.rmtree(folder, ignore_errors=True)
-    os.makedirs(folder)
+    for cpu in CPUS:
+        os.makedirs(f"{folder}/{cpu}")
     with open(f"{folder}/README", "w", encoding="utf-8") as file:
         file.write(README.format(library=library_of(cc)))
     for name in ARCHIVES:
         shutil.copyfile(f"{kit}/c/{name}", f"{folder}/{name}")
+    begun = [building(kit, cpu, f"{folder}/{cpu}/{NAME}.o") for cpu in CPUS]
+    if any([process.wait() for process in begun]):
+        sys.exit("pairtree2ocfl: what is shipped could not be built")
     for cpu in CPUS:
-        os.mkdir(f"{folder}/{cpu}")
-        build(kit, cpu, f"{folder}/{cpu}/{NAME}.o")
         subprocess.run([cc, "-static", "-o", f"{cpu}/{NAME}", f"{cpu}/{NAME}.o", *ARCHIVES], cwd=folder, check=True)
 
 

@@ -120,7 +120,7 @@ def headers(path):
 def alone(program, shipped, folder):
     """It names no loader and no library, and the oldest kernel that it runs on is 3.2."""
     kinds, notes = headers(shipped)
-    oldest = struct.pack("<IIII4s4I", 4, 16, 1, 0, b"GNU\0", 0, 3, 2, 0)[4:]
+    oldest = struct.pack("<III4s4I", 4, 16, 1, b"GNU\0", 0, 3, 2, 0)
     return differs(loader=(3 in kinds, False), libraries=(2 in kinds, False), kernel=(oldest in notes, True))
 
 
