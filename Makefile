@@ -17,9 +17,7 @@ help: ## list the targets
 	@sed -n 's/^\([a-z]*\):.*## \(.*\)/make \1\t\2/p' $(MAKEFILE_LIST)
 
 build: toolchain ## prove and build the program, at bin/pairtree2ocfl (the default), for this machine (CPU=x86-64-v2, CPU=x86-64-v3)
-	cd crates/pairtree2ocfl && $(RT) run $(addprefix --cpu=,$(filter-out x86-64-v2,$(CPU))) -- --help > /dev/null
-	@mkdir -p bin
-	@cp $(BUILT) $(PROGRAM).new && mv $(PROGRAM).new $(PROGRAM)
+	@sh tools/build.sh $(RT) $(CPU) $(PROGRAM)
 
 try: toolchain ## run the program unproved over the store in demo/, in about a minute
 	@sh tools/try.sh $(RT)
@@ -53,7 +51,8 @@ uninstall: ## take away what install copied
 	@test -n "$(PREFIX)" || { echo "pairtree2ocfl: PREFIX is empty: name the folder that it was installed to" >&2; exit 1; }
 	sh tools/install.sh --remove "$(DESTDIR)$(PREFIX)"
 
-programs: build ## build what is shipped, in bin/static: the program for x86-64-v2 and for x86-64-v3, with the C library in it
+programs: toolchain ## build what is shipped, in bin/static: the program for x86-64-v2 and for x86-64-v3, with the C library in it
+	cd crates/pt_cli && $(RT) lib
 	@$(PYTHON) tools/programs.py $(RT) $(PROGRAMS)
 
 dist: programs ## make an archive of the programs with their documents and licences, in dist/

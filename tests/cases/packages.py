@@ -398,9 +398,35 @@ def built_for(program, folder):
     """make builds the program for what is chosen on this machine, unless CPU says otherwise; the toolchain's own choice is x86-64-v2."""
     here, faults = done("sh", f"{TOP}/tools/choose.sh").strip(), []
     for words, cpu in (([], here), *(([f"CPU={cpu}"], cpu) for cpu in static.CPUS)):
-        command = done("make", "-C", TOP, "-n", "build", "RT=true", *words)
-        faults += differs(**{f"{words}": (re.findall(r"true run .*", command), [f"true run {'--cpu=x86-64-v3' if cpu == 'x86-64-v3' else ''} -- --help > /dev/null"])})
+        said = done("make", "-C", TOP, "-n", "build", "RT=true", *words)
+        faults += differs(**{f"{words}": (f"sh tools/build.sh true {cpu} bin/pairtree2ocfl\n" in said, True)})
     return faults
+
+
+# What stands in for the toolchain: it writes down how it is called, and builds this.
+RT = """#!/bin/sh
+[ "$1" = version ] || { echo "$@" >> "$0.asked"; echo "$@" > out/pairtree2ocfl; chmod 755 out/pairtree2ocfl; }
+"""
+
+
+def built_once(program, folder):
+    """The program is built for the processor that is asked for; anew where that, or a source, is another one, or where the toolchain sees to it."""
+    for path in ("tools", "crates/pairtree2ocfl/src", "crates/pairtree2ocfl/out"):
+        os.makedirs(f"{folder}/{path}")
+    shutil.copy(f"{TOP}/tools/build.sh", f"{folder}/tools")
+    for path, text in {"rt": RT, "crates.txt": "", "crates/pairtree2ocfl/src/main.rt": "1"}.items():
+        with open(f"{folder}/{path}", "w", encoding="ascii") as file:
+            file.write(text)
+    os.chmod(f"{folder}/rt", 0o755)
+    v2, v3 = "run -- --help", "run --cpu=x86-64-v3 -- --help"
+    asked, faults = [], []
+    for cpu, source, words in (("3", "1", v3), ("3", "1", None), ("3", "2", v3), ("2", "2", v2), ("2", "2", v2), ("3", "2", v3), ("3", "2", None)):
+        with open(f"{folder}/crates/pairtree2ocfl/src/main.rt", "w", encoding="ascii") as file:
+            file.write(source)
+        done("sh", "tools/build.sh", f"{folder}/rt", f"x86-64-v{cpu}", "bin/program", cwd=folder)
+        asked += [words] * bool(words)
+        faults += differs(**{f"{cpu} {source}": ([open(f"{folder}/{name}", encoding="ascii").read().splitlines() for name in ("rt.asked", "bin/program")], [asked, asked[-1:]])})
+    return faults + differs(files=(sorted(os.listdir(f"{folder}/bin")), ["program", "program.of"]))
 
 
 CASES = [
@@ -423,4 +449,5 @@ CASES = [
     Alone("what lintian says of the package", linted),
     Alone("the processor that is chosen", choosing),
     Alone("the processor that make builds for", built_for),
+    Alone("the program is built once", built_once),
 ]
