@@ -288,7 +288,7 @@ def walk(program, folder):
 SUMMARY = re.compile(rb"^pairtree2ocfl: \d+ done, \d+ present, \d+ skipped.*\n", re.MULTILINE)
 
 # The blocks that other cases run.
-ELSEWHERE = ("shares.sh here", "--share K/N", "damaged.txt", 'damaged DEST/ocfl', "audit-2.log", "@csv", "xargs", "#SBATCH", "join out", "rm -r DEST/staging")
+ELSEWHERE = ("report.py run-1.log", "shares.sh here", "--share K/N", "damaged.txt", 'damaged DEST/ocfl', "audit-2.log", "@csv", "xargs", "#SBATCH", "join out", "rm -r DEST/staging")
 
 
 def guide_blocks():

@@ -448,6 +448,14 @@ def in_little_memory(program, folder):
     return differs(twins=(twins, ["Twins: 100,000"]), memory=(int(ended.stdout) < 40000, True))
 
 
+def documented(program, folder):
+    """The README, the guide, the man page, the changelog and CONTRIBUTING name report.py, and the guide its options."""
+    texts = {path: documents.text_of(path) for path in ("README.md", "docs/GUIDE.md", "man/pairtree2ocfl.1", "CHANGELOG.md", "CONTRIBUTING.md")}
+    faults = [f"{path} doesn't name report.py" for path, text in texts.items() if "report.py" not in text]
+    guide = next((part for part in texts["docs/GUIDE.md"].split("\n\n") if "report.py" in part), "")
+    return faults + [f"GUIDE doesn't tell of {word}" for word in ("--csv", "what is still missing") if word not in guide]
+
+
 CASES = [
     Alone("the report of a run", one_run),
     Alone("the report of an audit", one_audit),
@@ -465,4 +473,5 @@ CASES = [
     Alone("what the report refuses", refused),
     Alone("help of report.py", helps),
     Alone("the report's memory", in_little_memory),
+    Alone("report.py is documented", documented),
 ]

@@ -122,12 +122,14 @@ folders_in rows = do
   dest ← needed (first_of (codes "DEST") rows)
   Ok (source, dest)
 
+-- what `migrate` is asked for
 abbrev pub migration_in : List Row → Result Command Unread
 migration_in rows = do
   options ← run_options_in rows
   folders ← folders_in rows
   Ok (Migrate (record { options = options; source = folders.0; dest = folders.1 }))
 
+-- what `audit` is asked for
 abbrev pub audit_in : List Row → Result Command Unread
 audit_in rows = do
   options ← audit_options_in rows
@@ -139,6 +141,7 @@ abbrev pub id_only : Text → Result Text Unread
 id_only [] = Err unread.EmptyId
 id_only (x ∷ xs) = Ok (x ∷ xs)
 
+-- what `names` is asked for
 abbrev pub names_in : List Row → Result Command Unread
 names_in rows = do
   given ← needed (first_of (codes "ID") rows)

@@ -42,14 +42,16 @@ pub record AuditCall : Type 0 where
   pub store : List ℕ
   pub folder : List ℕ
 
+-- the audit of these options, over these two folders
 abbrev pub audit_call : AuditOptions → List ℕ → List ℕ → AuditCall
 audit_call options store folder = record { options = options; store = store; folder = folder }
 
--- the tree that an audit sees of its store, and the one of its root, over what is lent
+-- the tree that an audit sees of its store, over what is lent
 abbrev pub store_seen : {S D W : Type 0} → GroundWords S D W (Option Forest) → AuditCall → Ground S D W
     → Option Forest
 store_seen words call ground = store_tree call.options.ignored (words.store ground.store call.store)
 
+-- and the one of its root
 abbrev pub root_seen : {S D W : Type 0} → GroundWords S D W (Option Forest) → AuditCall → Ground S D W
     → Option Forest
 root_seen words call ground = root_tree (words.folder ground.folder call.folder)

@@ -18,6 +18,7 @@ pub record GroundWords (S D W K : Type 0) : Type 0 where
   pub folder : D → List ℕ → K
   pub output : W → Option (List ℕ)
 
+-- these three as one
 abbrev pub ground_words : {S D W K : Type 0} → (S → List ℕ → Option Forest) → (D → List ℕ → K)
     → (W → Option (List ℕ)) → GroundWords S D W K
 ground_words store folder output = record { store = store; folder = folder; output = output }

@@ -100,6 +100,7 @@ pub record RunCall : Type 0 where
   pub store : List ℕ
   pub folder : List ℕ
 
+-- the run of these options, between these two folders
 abbrev pub run_call : RunOptions → List ℕ → List ℕ → RunCall
 run_call options store folder = record { options = options; store = store; folder = folder }
 
