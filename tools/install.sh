@@ -1,7 +1,7 @@
 #!/bin/sh
 # Installs the program given, with its man page, completions and documents, below a folder; `--remove` in place of the program takes them
-# away. The documents go to DOCUMENTS below it, share/doc/pairtree2ocfl unless given. Of a folder that tools/programs.py made all is installed
-# that a package holds, and the program is that which runs on any processor, until choose.sh chooses.
+# away. The documents go to DOCUMENTS below it, share/doc/pairtree2ocfl unless given. Of a folder that tools/programs.py made both programs are
+# installed, as a package has them, with what links them again; the one for x86-64-v2 is to be run, until choose.sh chooses.
 #   install.sh PROGRAM|PROGRAMS|--remove PREFIX [DOCUMENTS]
 set -eu
 umask 022
