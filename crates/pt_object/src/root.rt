@@ -1,6 +1,7 @@
 ghost use Rattle.std.specs.Prelude.{◌≡◌, IfOk, map, slice_get};
 ghost use Rattle.std.specs.String.{string_bytes};
 ghost use Rattle.serde_json.specs.View.{view};
+ghost use Rattle.pt_object.specs.WellKnown.{known_text};
 ghost use Rattle.pt_object.specs.RootFiles.{config_text, config_tree, files_lent, layout_text, root_files_of};
 
 use crate::WellKnownName;
@@ -47,18 +48,26 @@ pub fn root_files(alloc: Global, layout: Layout) -> Result<RootFiles, MemoryFaul
 {
     let mut files = Vec::with_capacity(alloc, 3)?;
     let declaration = String::from_str(alloc, ROOT_DECLARATION)?;
-    let path = NamePath::of_known(alloc, &[WellKnownName::RootDeclaration])?;
-    files.push((path, declaration))?;
-    let path = NamePath::of_known(alloc, &[WellKnownName::LayoutFile])?;
-    files.push((path, layout_file(alloc)?))?;
+    files.push((path(alloc, &[WellKnownName::RootDeclaration])?, declaration))?;
+    files.push((
+        path(alloc, &[WellKnownName::LayoutFile])?,
+        layout_file(alloc)?,
+    ))?;
     let configuration = [
         WellKnownName::Extensions,
         WellKnownName::Extension,
         WellKnownName::Configuration,
     ];
-    let path = NamePath::of_known(alloc, &configuration)?;
-    files.push((path, config_file(alloc, layout.size(), layout.count())?))?;
+    let config = config_file(alloc, layout.size(), layout.count())?;
+    files.push((path(alloc, &configuration)?, config))?;
     Ok(RootFiles { files })
+}
+
+// The path of these names.
+fn path(alloc: Global, names: &[WellKnownName]) -> Result<NamePath, MemoryFault>
+    ensures { IfOk result (λ path. path ≡ map known_text names.now) }
+{
+    NamePath::of_known(alloc, names)
 }
 
 fn layout_file(alloc: Global) -> Result<String, MemoryFault>
