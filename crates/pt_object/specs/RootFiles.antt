@@ -29,12 +29,24 @@ config_text tuples =
     codes "{\"digestAlgorithm\":\"sha256\",\"extensionName\":\"0003-hash-and-id-n-tuple-storage-layout\",\"numberOfTuples\":"
     ++ (decimal tuples.count ++ (codes ",\"tupleSize\":" ++ (decimal tuples.size ++ codes "}")))
 
+-- where the root's declaration lies in it
+abbrev pub declaration_at : Path
+declaration_at = codes "0=ocfl_1.1" ∷ []
+
+-- the layout's description
+abbrev pub layout_at : Path
+layout_at = codes "ocfl_layout.json" ∷ []
+
+-- and the extension's configuration
+abbrev pub config_at : Path
+config_at = codes "extensions" ∷ extension_name ∷ codes "config.json" ∷ []
+
 -- the files' paths and bytes: the declaration, the layout's description, the extension's configuration
 abbrev pub root_files_of : Tuples → List (Path × List ℕ)
 root_files_of tuples =
-    (codes "0=ocfl_1.1" ∷ [], root_declaration_bytes)
-    ∷ (codes "ocfl_layout.json" ∷ [], layout_text)
-    ∷ (codes "extensions" ∷ extension_name ∷ codes "config.json" ∷ [], config_text tuples)
+    (declaration_at, root_declaration_bytes)
+    ∷ (layout_at, layout_text)
+    ∷ (config_at, config_text tuples)
     ∷ []
 
 -- the file that is lent

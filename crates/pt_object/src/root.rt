@@ -1,8 +1,7 @@
 ghost use Rattle.std.specs.Prelude.{◌≡◌, IfOk, map, slice_get};
 ghost use Rattle.std.specs.String.{string_bytes};
 ghost use Rattle.serde_json.specs.View.{view};
-ghost use Rattle.pt_object.specs.WellKnown.{known_text};
-ghost use Rattle.pt_object.specs.RootFiles.{config_text, config_tree, files_lent, layout_text, root_files_of};
+ghost use Rattle.pt_object.specs.RootFiles.{config_at, config_text, config_tree, declaration_at, files_lent, layout_at, layout_text, root_files_of};
 
 use crate::WellKnownName;
 use crate::files::ROOT_DECLARATION;
@@ -48,26 +47,34 @@ pub fn root_files(alloc: Global, layout: Layout) -> Result<RootFiles, MemoryFaul
 {
     let mut files = Vec::with_capacity(alloc, 3)?;
     let declaration = String::from_str(alloc, ROOT_DECLARATION)?;
-    files.push((path(alloc, &[WellKnownName::RootDeclaration])?, declaration))?;
-    files.push((
-        path(alloc, &[WellKnownName::LayoutFile])?,
-        layout_file(alloc)?,
-    ))?;
-    let configuration = [
+    files.push((declaration_path(alloc)?, declaration))?;
+    files.push((layout_path(alloc)?, layout_file(alloc)?))?;
+    let config = config_file(alloc, layout.size(), layout.count())?;
+    files.push((config_path(alloc)?, config))?;
+    Ok(RootFiles { files })
+}
+
+fn declaration_path(alloc: Global) -> Result<NamePath, MemoryFault>
+    ensures { IfOk result (λ path. path ≡ declaration_at) }
+{
+    NamePath::of_known(alloc, &[WellKnownName::RootDeclaration])
+}
+
+fn layout_path(alloc: Global) -> Result<NamePath, MemoryFault>
+    ensures { IfOk result (λ path. path ≡ layout_at) }
+{
+    NamePath::of_known(alloc, &[WellKnownName::LayoutFile])
+}
+
+fn config_path(alloc: Global) -> Result<NamePath, MemoryFault>
+    ensures { IfOk result (λ path. path ≡ config_at) }
+{
+    let names = [
         WellKnownName::Extensions,
         WellKnownName::Extension,
         WellKnownName::Configuration,
     ];
-    let config = config_file(alloc, layout.size(), layout.count())?;
-    files.push((path(alloc, &configuration)?, config))?;
-    Ok(RootFiles { files })
-}
-
-// The path of these names.
-fn path(alloc: Global, names: &[WellKnownName]) -> Result<NamePath, MemoryFault>
-    ensures { IfOk result (λ path. path ≡ map known_text names.now) }
-{
-    NamePath::of_known(alloc, names)
+    NamePath::of_known(alloc, &names)
 }
 
 fn layout_file(alloc: Global) -> Result<String, MemoryFault>
