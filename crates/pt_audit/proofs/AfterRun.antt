@@ -17,9 +17,9 @@ use Rattle.pt_compare.proofs.Exact.{standing_object_is_the_same}
 use Rattle.pt_compare.specs.Described.{IsGiven}
 use Rattle.pt_compare.specs.Found.{IsFound}
 use Rattle.pt_compare.specs.Marks.{inside}
-use Rattle.pt_compare.specs.declared.difference.Finding.{Finding}
-use Rattle.pt_compare.specs.declared.difference.Finding.TheVariants as found
-use Rattle.pt_begun.proofs.source.ScannedFiles.{get_map_back}
+use Rattle.pt_compare.specs.declared.difference.Comparison.{Comparison}
+use Rattle.pt_compare.specs.declared.difference.Comparison.TheVariants as found
+use Rattle.pt_invariant.proofs.source.ScannedFiles.{get_map_back}
 use Rattle.pt_name.specs.Place.{place_of}
 use Rattle.pt_name.specs.Prefix.{without_line_ends}
 use Rattle.pt_name.specs.Reading.{reading_of}
@@ -107,7 +107,7 @@ module _ (job : Job) (source root : Forest) (start : Tree) (proper : is_proper s
         ∙ left (place_of job.tuples id ++ q)
         ∙ of_one (StandsWhole job (after_all job source (root_in start))) (λ (m : Marked). carried_by job m.1 m.0.verdict) (marked job source (root_in start)) k (item, false) it marked_so gives whole q
 
-    pub is_the_same : IsGiven job.meta → IsUtf8 (inventory_text id (rows_of job.algorithm files) job.meta job.algorithm) → (finding : Finding) → IsFound (sought job id files) (inside root (in_root (place_of job.tuples id))) finding → finding ≡ found.Same
+    pub is_the_same : IsGiven job.meta → IsUtf8 (inventory_text id (rows_of job.algorithm files) job.meta job.algorithm) → (finding : Comparison) → IsFound (sought job id files) (inside root (in_root (place_of job.tuples id))) finding → finding ≡ found.Same
     is_the_same given text finding is_found =
         standing_object_is_the_same (sought job id files) (inside root (in_root (place_of job.tuples id))) finding order (in_order_apart (paths_of (sought job id files).stored) order)
         (inventory_text id (rows_of job.algorithm files) job.meta job.algorithm, record { is_text = text; meta = job.meta; given = given; is = refl }, stands)
@@ -239,13 +239,13 @@ none_taken job source root k item none is = by (is_taken job root (take k (items
     by false e = taken_against_earlier job source root k ∙ ap (option_map (with_mark (λ (i : Item). is_taken job root (take k (items job source)) i.verdict))) is ∙ ap (marked_with item) e
 
 -- the counts of what was told stay where each finding is that it stands
-one_told : {job : Job} {source root : Forest} {item : Item} {lines : List Line} {more : List ℕ} {counts later : Counts} → ((finding : Finding) → IsFoundOf job source root item finding → finding ≡ found.Same) → TellsOf job source root item lines more counts later → (later.absent ≡ counts.absent) × (later.differs ≡ counts.differs)
+one_told : {job : Job} {source root : Forest} {item : Item} {lines : List Line} {more : List ℕ} {counts later : Counts} → ((finding : Comparison) → IsFoundOf job source root item finding → finding ≡ found.Same) → TellsOf job source root item lines more counts later → (later.absent ≡ counts.absent) × (later.differs ≡ counts.differs)
 one_told same Leads = (refl, refl)
 one_told same (Passes at why) = (refl, refl)
 one_told {counts = counts} same (Finds finding it) = by finding (same finding it)
   where
-    by : (f : Finding) → f ≡ found.Same → ((counts_with f counts).absent ≡ counts.absent) × ((counts_with f counts).differs ≡ counts.differs)
-    by f is = (ap (λ (g : Finding). (counts_with g counts).absent) is, ap (λ (g : Finding). (counts_with g counts).differs) is)
+    by : (f : Comparison) → f ≡ found.Same → ((counts_with f counts).absent ≡ counts.absent) × ((counts_with f counts).differs ≡ counts.differs)
+    by f is = (ap (λ (g : Comparison). (counts_with g counts).absent) is, ap (λ (g : Comparison). (counts_with g counts).differs) is)
 
 all_told : (job : Job) (source root : Forest) (start : Tree) → HasRun job source start root → NoneIsTaken job source (root_in start) → {n : ℕ} {text : List ℕ} {counts : Counts} → Told job source root n text counts → (counts.absent ≡ 0) × (counts.differs ≡ 0)
 all_told job source root start run none Nothing = (refl, refl)

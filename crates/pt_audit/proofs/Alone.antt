@@ -7,8 +7,8 @@ use Rattle.pt_plan.specs.Answer.{Answer}
 use Rattle.pt_plan.specs.Job.{Job}
 use Rattle.pt_plan.specs.Lines.{Line}
 use Rattle.pt_plan.specs.Run.{Kept}
-use Rattle.pt_plan.specs.Turn.{Did, FailsAtFirst, FailsLater, GoesOn, IsRefused, LeavesSome, Stays, Turn}
-use Rattle.pt_plan.specs.World.{Adds, Change, Changes, ChangesNothing, Creates, Finds, FindsNoneAndMakes, Finishes, LeavesFront, Makes, Peeks, Puts, Renames, Untouched, WasFound}
+use Rattle.pt_plan.specs.Turn.{Did, FailsAtFirst, FailsLater, GoesOn, IsRefused, FailsPartway, FailsUnchanged, Turn}
+use Rattle.pt_plan.specs.DeviceStates.{Adds, Change, Changes, ChangesNothing, Creates, Finds, FindsNoneAndMakes, Finishes, LeavesFront, Makes, Peeks, Puts, Renames, Untouched, WasFound}
 use Rattle.pt_plan.specs.declared.phase.Phase.{Phase}
 use Rattle.pt_state.specs.Outside.{world}
 use Rattle.pt_state.specs.declared.state.State.{State}
@@ -51,7 +51,7 @@ none_found (Some _) (Renames _ _) = tt
 
 module _ {job : Job} {here : Phase} {before after : Kept} (told new : Option Reading) (w v : Option Writing) (l k : Option (List ℕ)) (a b c a' b' c' : ℕ) where
   pub alone_turn : {answer : Answer} → Turn job here before after (world told w l a b c) (world new v k a' b' c') answer → Turn job here before after (world told None None a b c) (world new None None a' b' c') answer
-  unfolding Did Stays LeavesSome
+  unfolding Did FailsUnchanged FailsPartway
   alone_turn (GoesOn calls next follows did counts) =
       GoesOn calls next follows (record { source = did.0.source; dest = no_change calls.change; log = no_line calls.line }, did.1) counts
   alone_turn (IsRefused prefix held calls why follows did halted) =

@@ -9,11 +9,11 @@ use Rattle.pt_plan.specs.Answer.{Answer}
 use Rattle.pt_move.specs.Running.{Running}
 use Rattle.pt_plan.specs.Job.{Job}
 use Rattle.pt_plan.specs.Run.{Counts, Held, Kept, turning}
-use Rattle.pt_plan.specs.Turn.{Did, Follows, GoesOn, Make, Place, Scan, Start, Turn, Walk}
-use Rattle.pt_plan.specs.TurnScan.{EndsFile, EndsObject, EndsSite, EntersDirectory, EntersObject, IsTooDeep, IsTooLong, LeavesDirectory, MeetsDeep, MeetsLimit, MeetsOther, OpensFile, PassesShorty, ReadsOn, Scans, StartsInSite}
+use Rattle.pt_plan.specs.Turn.{Did, Next, GoesOn, Make, Place, Scan, Start, Turn, Walk}
+use Rattle.pt_plan.specs.TurnScan.{EndsFile, EndsObject, EndsSite, EntersDirectory, EntersObject, IsTooDeep, IsTooLong, LeavesDirectory, MeetsDeep, MeetsLimit, MeetsOther, OpensFile, PassesShorty, ReadsOn, ScanStep, StartsInSite}
 use Rattle.pt_plan.specs.TurnStart as start
-use Rattle.pt_plan.specs.TurnWalk.{EndsWalk, EntersSite, IsDeep, IsNew, IsPast, IsPresent, IsSkipped, LeadsOn, LeavesSite, OpensRoot, PassesEntry, Walks}
-use Rattle.pt_plan.specs.World.{Calls, World}
+use Rattle.pt_plan.specs.TurnWalk.{EndsWalk, EntersSite, IsDeep, IsNew, IsPast, IsPresent, IsSkipped, LeadsOn, LeavesSite, OpensRoot, PassesEntry, WalkStep}
+use Rattle.pt_plan.specs.DeviceStates.{Calls, DeviceStates}
 use Rattle.pt_plan.specs.declared.phase.Phase.{Phase}
 use Rattle.pt_plan.specs.declared.phase.Phase.TheVariants as phase
 use Rattle.pt_plan.specs.declared.phase.Stage.TheVariants as stage
@@ -29,7 +29,7 @@ use Rattle.pt_tree.specs.Dest.{Writing}
 use Rattle.pt_tree.specs.Source.{Reading}
 
 -- an object is scanned where a turn of a scan is made
-scanning_is : {job : Job} {here : Phase} {held after : Held} {calls : Calls} {answer : Answer} → Scans job here held after calls answer → is_scanning here ≡ true
+scanning_is : {job : Job} {here : Phase} {held after : Held} {calls : Calls} {answer : Answer} → ScanStep job here held after calls answer → is_scanning here ≡ true
 scanning_is (StartsInSite _ _ _) = refl
 scanning_is (EntersObject _ _ _ _ _) = refl
 scanning_is (IsTooDeep _ _ _ _) = refl
@@ -50,7 +50,7 @@ scanning_is (EndsFile _ _ _) = refl
 abbrev IsElsewhere : Phase → Phase → Type 0
 IsElsewhere here next = (is_scanning here ≡ false) × (is_of_object (passed next) ≡ false)
 
-walks_elsewhere : {job : Job} {prefix : List ℕ} {here next : Phase} {held new : Held} {calls : Calls} → Walks job prefix here held new calls (Ok next) → IsElsewhere here next
+walks_elsewhere : {job : Job} {prefix : List ℕ} {here next : Phase} {held new : Held} {calls : Calls} → WalkStep job prefix here held new calls (Ok next) → IsElsewhere here next
 walks_elsewhere (OpensRoot _ _) = (refl, refl)
 walks_elsewhere (LeadsOn _ _) = (refl, refl)
 walks_elsewhere (IsSkipped _ _ _) = (refl, refl)
@@ -63,7 +63,7 @@ walks_elsewhere (PassesEntry _ _ _ _) = (refl, refl)
 walks_elsewhere (LeavesSite _ _ _) = (refl, refl)
 walks_elsewhere (EndsWalk _ _ _) = (refl, refl)
 
-starts_elsewhere : {job : Job} {here next : Phase} {prefix read : List ℕ} {calls : Calls} → start.Starts job here prefix read calls (Ok next) → is_looking here ≡ true → IsElsewhere here next
+starts_elsewhere : {job : Job} {here next : Phase} {prefix read : List ℕ} {calls : Calls} → start.StartStep job here prefix read calls (Ok next) → is_looking here ≡ true → IsElsewhere here next
 starts_elsewhere (start.IsStore _ _ _) is = (refl, refl)
 starts_elsewhere (start.HasNoPrefix _) is = (refl, refl)
 starts_elsewhere (start.HasPrefix _ _ _) is = (refl, refl)
@@ -75,8 +75,8 @@ starts_elsewhere (start.RenamesRoot _) is = absurd (true≢false (sym is))
 starts_elsewhere (start.IsSame _ _ _ _ _) is = absurd (true≢false (sym is))
 
 -- a turn that looks is one of a scan, or made elsewhere
-scans_or_not : {job : Job} {counts : Counts} {here next : Phase} {prefix read : List ℕ} {held after : Held} {calls : Calls} (S : Type 0) → is_looking here ≡ true → Follows job counts here prefix held read after calls (Ok next)
-    → (Scans job here held after calls (Ok next) → S) → MatchBool (is_scanning here) S (is_of_object (passed next) ≡ false)
+scans_or_not : {job : Job} {counts : Counts} {here next : Phase} {prefix read : List ℕ} {held after : Held} {calls : Calls} (S : Type 0) → is_looking here ≡ true → Next job counts here prefix held read after calls (Ok next)
+    → (ScanStep job here held after calls (Ok next) → S) → MatchBool (is_scanning here) S (is_of_object (passed next) ≡ false)
 scans_or_not {next} S is (Scan turn) there = subst (λ b. MatchBool b S (is_of_object (passed next) ≡ false)) (sym (scanning_is turn)) (there turn)
 scans_or_not {next} S is (Start turn) there = let at = starts_elsewhere turn is in subst (λ b. MatchBool b S (is_of_object (passed next) ≡ false)) (sym at.0) at.1
 scans_or_not {next} S is (Walk turn) there = let at = walks_elsewhere turn in subst (λ b. MatchBool b S (is_of_object (passed next) ≡ false)) (sym at.0) at.1
@@ -109,6 +109,6 @@ module _ (here next : Phase) (s s' : State) (told told' : Option Reading) (w v :
       let made = counted.1 it.fed (fed_going s.job.algorithm s.hasher it.fed (going here it.stands) it.was) in
       by here hand made.1.1
     where
-      by : {before after : Kept} {old new : World} (p : Phase) → is_at_hand p ≡ true → Turn (job_of s.job) p before after old new (Ok next) → MatchBool (is_scanning p) (Scanned told told' Before After) (is_of_object spot ≡ false)
+      by : {before after : Kept} {old new : DeviceStates} (p : Phase) → is_at_hand p ≡ true → Turn (job_of s.job) p before after old new (Ok next) → MatchBool (is_scanning p) (Scanned told told' Before After) (is_of_object spot ≡ false)
       by (phase.Carrying object stage.Line) hand (GoesOn calls _ follows did _) = ap is_of_object is ∙ ap (λ (q : Phase). is_of_object (passed q)) (line_follows follows).0
       by _ hand turn = absurd (true≢false (sym hand))

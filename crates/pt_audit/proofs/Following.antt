@@ -7,9 +7,9 @@ use Rattle.std.proofs.lemmas.Bool.{eqb-true}
 use Rattle.std.proofs.lemmas.List.{length-append, take-append-drop, take-append-le, take_all, take_min}
 use Rattle.std.proofs.lemmas.List.Elements.{All-nil, All-push}
 use Rattle.pt_audit.proofs.Pacing.{still_alike}
-use Rattle.pt_begun.proofs.source.InPairtree.{some_same}
-use Rattle.pt_audit.specs.Beside.{AreAlike, AreFew, HasEnded, HaveRead, IsBehind, IsPaced, IsAtObject, IsOpened, PacedAt, BehindAt, ReadBeside}
-use Rattle.pt_audit.specs.declared.beside.Beside.{Beside}
+use Rattle.pt_invariant.proofs.source.InPairtree.{some_same}
+use Rattle.pt_audit.specs.RootReader.{AreAlike, AreFew, HasEnded, HaveRead, IsBehind, IsPaced, IsAtObject, IsOpened, PacedAt, BehindAt, ReadBeside}
+use Rattle.pt_audit.specs.declared.root_reader.RootReader.{RootReader}
 use Rattle.pt_compare.specs.Beside.{OpensStanding, StandsAlike}
 use Rattle.pt_compare.specs.Bytes.{CameNext, TellsEnd, left_in}
 use Rattle.pt_compare.specs.Marks.{inside}
@@ -29,8 +29,8 @@ use Rattle.pt_state.specs.declared.state.State.{State}
 use Rattle.pt_audit.specs.Surveying.{sight_at}
 use Rattle.pt_audit.specs.Files.{IsOpened as IsOpenedFile, IsOpenedAt, names_before}
 use Rattle.pt_audit.specs.declared.survey.Opened.{Opened as OpenedFile}
-use Rattle.pt_audit.specs.declared.survey.Sight.{Sight}
-use Rattle.pt_audit.specs.declared.survey.Sight.TheVariants as sight
+use Rattle.pt_audit.specs.declared.survey.SurveyEvent.{SurveyEvent}
+use Rattle.pt_audit.specs.declared.survey.SurveyEvent.TheVariants as sight
 use Rattle.pt_tree.specs.Forest.{Dir, File, Forest, Node, Other, as_file, file_at, kind_of, node_at}
 use Rattle.pt_tree.specs.Path.{Path}
 use Rattle.pt_tree.specs.Source.{Reading, after_open}
@@ -52,7 +52,7 @@ was_told (Some r) root' now same is = record { reading = r; told = refl; tree = 
 
 -- ---- a block
 
-module _ (source root root' : Option Reading) (b : Beside) (block : _) (object : Object) (s : State) (stays : tree_in root' ≡ tree_in root) (next : CameNext s.block.items root root') where
+module _ (source root root' : Option Reading) (b : RootReader) (block : _) (object : Object) (s : State) (stays : tree_in root' ≡ tree_in root) (next : CameNext s.block.items root root') where
   both_read : (r t : Reading) (path : Path) → root' ≡ Some t → ((u : Reading) → root ≡ Some u → HaveRead r u b path s.block.items) → HaveRead r t (record b { reads = true; block = block }) path []
   unfolding CameNext
   both_read r t path is was =
@@ -75,7 +75,7 @@ module _ (source root root' : Option Reading) (b : Beside) (block : _) (object :
     same = λ r e t f. both_read r t (logical_path object s.trail) f (λ u g. it.same r e u g);
   }
 
-pub read_paced : (source root root' : Option Reading) (b : Beside) (block : _) (r : Running) (same : Bool) → sight_at r.phase ≡ sight.Block → b.reads ≡ true → tree_in root' ≡ tree_in root → (same ≡ true → CameNext r.state.block.items root root') → IsBehind source root b r → IsPaced source root' (record b { reads = same; block = block }) r
+pub read_paced : (source root root' : Option Reading) (b : RootReader) (block : _) (r : Running) (same : Bool) → sight_at r.phase ≡ sight.Block → b.reads ≡ true → tree_in root' ≡ tree_in root → (same ≡ true → CameNext r.state.block.items root root') → IsBehind source root b r → IsPaced source root' (record b { reads = same; block = block }) r
 unfolding AreAlike
 read_paced source root root' b block r same is reads stays next behind = by r.phase is behind
   where
@@ -99,7 +99,7 @@ none_of : (left : List ℕ) → true ≡ (length left == 0) → left ≡ []
 none_of [] is = refl
 none_of (x ∷ left) is = absurd (let none = eqb-true (length (x ∷ left)) 0 (sym is) in omega (arith, none))
 
-one_more : (source root root' : Option Reading) (b : Beside) (block : _) (contents : List Content) → tree_in root' ≡ tree_in root → TellsEnd root true → b.alike < length contents → AreAlike source root b contents → HasEnded source root b contents → AreAlike source root' (record b { alike = b.alike + 1; reads = false; block = block }) contents
+one_more : (source root root' : Option Reading) (b : RootReader) (block : _) (contents : List Content) → tree_in root' ≡ tree_in root → TellsEnd root true → b.alike < length contents → AreAlike source root b contents → HasEnded source root b contents → AreAlike source root' (record b { alike = b.alike + 1; reads = false; block = block }) contents
 unfolding AreAlike StandsAlike TellsEnd
 one_more source root root' b block contents stays ended more alike it = by it.stored
   where
@@ -131,7 +131,7 @@ one_more source root root' b block contents stays ended more alike it = by it.st
         let before : All (P (tree_in root')) front = subst (λ t. All (P t) front) (sym stays) (subst (All (P (tree_in root))) first alike) in
         subst (All (P (tree_in root'))) (sym whole) (All-push (P (tree_in root')) front last before (this last at))
 
-pub end_paced : (source root root' : Option Reading) (b : Beside) (block : _) (r : Running) → sight_at r.phase ≡ sight.Scan → b.reads ≡ true → tree_in root' ≡ tree_in root → TellsEnd root true → b.alike < length r.state.contents → IsBehind source root b r → IsPaced source root' (record b { alike = b.alike + 1; reads = false; block = block }) r
+pub end_paced : (source root root' : Option Reading) (b : RootReader) (block : _) (r : Running) → sight_at r.phase ≡ sight.Scan → b.reads ≡ true → tree_in root' ≡ tree_in root → TellsEnd root true → b.alike < length r.state.contents → IsBehind source root b r → IsPaced source root' (record b { alike = b.alike + 1; reads = false; block = block }) r
 unfolding AreFew
 end_paced source root root' b block r is reads stays ended more behind = by r.phase is behind
   where
@@ -146,7 +146,7 @@ end_paced source root root' b block r is reads stays ended more behind = by r.ph
     by (phase.Opening opening.OpenRoot) is behind = absurd (cc)
     by _ is behind = absurd (cc)
 
-pub closed_paced : (source root root' : Option Reading) (b : Beside) (block : _) (r : Running) → sight_at r.phase ≡ sight.Scan → tree_in root' ≡ tree_in root → IsBehind source root b r → IsPaced source root' (record b { reads = false; block = block }) r
+pub closed_paced : (source root root' : Option Reading) (b : RootReader) (block : _) (r : Running) → sight_at r.phase ≡ sight.Scan → tree_in root' ≡ tree_in root → IsBehind source root b r → IsPaced source root' (record b { reads = false; block = block }) r
 unfolding AreAlike AreFew
 closed_paced source root root' b block r is stays behind = by r.phase is behind
   where
@@ -159,7 +159,7 @@ closed_paced source root root' b block r is stays behind = by r.phase is behind
 
 -- ---- any other step
 
-pub other_paced : (source root : Option Reading) (b : Beside) (r : Running) (what : Sight) → what ≡ sight_at r.phase → what ≢ sight.Scan → what ≢ sight.Opened → what ≢ sight.Block → IsBehind source root b r → IsPaced source root (record b { reads = false }) r
+pub other_paced : (source root : Option Reading) (b : RootReader) (r : Running) (what : SurveyEvent) → what ≡ sight_at r.phase → what ≢ sight.Scan → what ≢ sight.Opened → what ≢ sight.Block → IsBehind source root b r → IsPaced source root (record b { reads = false }) r
 unfolding AreAlike
 other_paced source root b r what saw scan opened block behind = by r.phase saw behind
   where
@@ -173,7 +173,7 @@ other_paced source root b r what saw scan opened block behind = by r.phase saw b
 -- ---- a file that was opened
 
 -- so many contents are alike still, of the object that is begun with
-alike_begun : (source root : Option Reading) (b b' : Beside) (from place : Path) (m : ℕ) (contents : List Content) → IsAtObject from place b b' → m ≡ min b'.alike (length contents) → AreAlike source root b contents → AreAlike source root (record b' { alike = m }) contents
+alike_begun : (source root : Option Reading) (b b' : RootReader) (from place : Path) (m : ℕ) (contents : List Content) → IsAtObject from place b b' → m ≡ min b'.alike (length contents) → AreAlike source root b contents → AreAlike source root (record b' { alike = m }) contents
 unfolding AreAlike
 alike_begun source root b b' from place m contents it least alike =
     subst (λ (c : List Content). All (P b'.from b'.place) c) (sym (ap (λ n. take n contents) least ∙ take_min b'.alike contents)) (by it.kept)
@@ -187,7 +187,7 @@ alike_begun source root b b' from place m contents it least alike =
         subst (λ n. All (P b'.from b'.place) (take n contents)) (sym same)
         (subst (λ f. All (P f b'.place) (take b.alike contents)) (of ∙ sym it.from_is) (subst (λ t. All (P b.from t) (take b.alike contents)) (at ∙ sym it.place_is) alike))
 
-pub unopened_paced : (source root : Option Reading) (b b' : Beside) (r : Running) (from place : Path) (m : ℕ) → sight_at r.phase ≡ sight.Opened → IsAtObject from place (record b { reads = false }) b' → m ≡ min b'.alike (length r.state.contents) → IsBehind source root b r → IsPaced source root (record b' { alike = m }) r
+pub unopened_paced : (source root : Option Reading) (b b' : RootReader) (r : Running) (from place : Path) (m : ℕ) → sight_at r.phase ≡ sight.Opened → IsAtObject from place (record b { reads = false }) b' → m ≡ min b'.alike (length r.state.contents) → IsBehind source root b r → IsPaced source root (record b' { alike = m }) r
 unfolding AreAlike
 unopened_paced source root b b' r from place m is it least behind = by r.phase is behind
   where
@@ -252,9 +252,9 @@ pub record Cut (path : Path) (before k : ℕ) (from logical : Path) : Type 0 whe
   pub front : from ≡ take k path
   pub back : logical ≡ drop k path
 
-module _ (source root root' : Option Reading) (b b' : Beside) (r : Running) (from logical whole : Path) (m before k : ℕ) (folder : Path) (object : Object) (it : IsAtObject from object.place (record b { reads = false }) b') (least : m ≡ min b'.alike (length r.state.contents)) (all : length r.state.contents ≤ m)
+module _ (source root root' : Option Reading) (b b' : RootReader) (r : Running) (from logical whole : Path) (m before k : ℕ) (folder : Path) (object : Object) (it : IsAtObject from object.place (record b { reads = false }) b') (least : m ≡ min b'.alike (length r.state.contents)) (all : length r.state.contents ≤ m)
     (cut : Cut (names_to r.state.trail) before k from logical) (is_before : before ≡ names_before object) (at : whole ≡ in_root object.place ++ in_content logical) where
-  abbrev Now : Bool → Beside
+  abbrev Now : Bool → RootReader
   Now x = record b' { alike = m; reads = x; folder = folder }
 
   both_opened : OpensStanding whole root root' true → IsOpened source object r.state → ReadBeside source root' (Now true) object r.state []
@@ -281,7 +281,7 @@ module _ (source root root' : Option Reading) (b b' : Beside) (r : Running) (fro
   opened_now true opens file = both_opened opens file
   opened_now false opens file = tt
 
-pub opened_paced : (source root root' : Option Reading) (b b' : Beside) (r : Running) (from logical place whole : Path) (m before k : ℕ) (folder : Path) (x : Bool) → sight_at r.phase ≡ sight.Opened → ((object : Object) → r.phase ≡ phase.Carrying object (stage.Read zero) → (place ≡ object.place) × (before ≡ names_before object)) → IsAtObject from place (record b { reads = false }) b'
+pub opened_paced : (source root root' : Option Reading) (b b' : RootReader) (r : Running) (from logical place whole : Path) (m before k : ℕ) (folder : Path) (x : Bool) → sight_at r.phase ≡ sight.Opened → ((object : Object) → r.phase ≡ phase.Carrying object (stage.Read zero) → (place ≡ object.place) × (before ≡ names_before object)) → IsAtObject from place (record b { reads = false }) b'
     → m ≡ min b'.alike (length r.state.contents) → length r.state.contents ≤ m → Cut (names_to r.state.trail) before k from logical → whole ≡ in_root place ++ in_content logical → tree_in root' ≡ tree_in root → OpensStanding whole root root' x → IsBehind source root b r → IsPaced source root' (record b' { alike = m; reads = x; folder = folder }) r
 unfolding AreAlike
 opened_paced source root root' b b' r from logical place whole m before k folder x is of it least all cut at stays opens behind = by r.phase refl is behind

@@ -7,11 +7,11 @@ use Rattle.std.specs.Str.{bytes_eq}
 use Rattle.std.proofs.lemmas.List.Elements.{All-nil, All-push}
 use Rattle.std.proofs.lemmas.Bool.{true≢false}
 use Rattle.std.proofs.lemmas.List.{take_all}
-use Rattle.pt_begun.proofs.source.InPairtree.{some_same}
-use Rattle.pt_begun.proofs.source.RootChecks.{peeked_whole}
-use Rattle.pt_begun.proofs.Tests.{take_one}
-use Rattle.pt_begun.specs.BegunDest.{HasRootFiles}
-use Rattle.pt_begun.specs.RefusalLaws.{HasOtherFile, IsNoFolder}
+use Rattle.pt_invariant.proofs.source.InPairtree.{some_same}
+use Rattle.pt_invariant.proofs.source.RootChecks.{peeked_whole}
+use Rattle.pt_invariant.proofs.Tests.{take_one}
+use Rattle.pt_invariant.specs.DestInvariant.{HasRootFiles}
+use Rattle.pt_invariant.specs.RefusalLaws.{HasOtherFile, IsNoFolder}
 use Rattle.pt_compare.specs.Root.{IsSeen, kind_at, tree_in}
 use Rattle.pt_object.specs.Holding.{IsFree}
 use Rattle.pt_object.specs.RootFiles.{root_files_of}

@@ -7,10 +7,10 @@ use Rattle.std.proofs.lemmas.Bool.{true≢false}
 use Rattle.std.proofs.lemmas.List.{length-append, length-drop, take-append-drop, take-append-le, take_all}
 use Rattle.std.proofs.lemmas.List.Elements.{All-nil}
 use Rattle.pt_audit.specs.Auditing.{IsAt, is_told}
-use Rattle.pt_audit.specs.Beside.{AreAlike, AreAlikeAtHand, AreFew, BehindAt, Follows, HasBegun, HoldsItsFields, HasEnded, HaveRead, IsAlikeAt, IsBehind, IsClosed, IsOpened, IsPaced, PacedAt, ReadBehind, ReadBeside, Saw}
-use Rattle.pt_audit.specs.declared.beside.Beside.{Beside}
-use Rattle.pt_begun.proofs.source.InPairtree.{file_in_pairtree}
-use Rattle.pt_begun.specs.BegunHeld.{RowsAt}
+use Rattle.pt_audit.specs.RootReader.{AreAlike, AreAlikeAtHand, AreFew, BehindAt, Follows, HasBegun, HoldsItsFields, HasEnded, HaveRead, IsAlikeAt, IsBehind, IsClosed, IsOpened, IsPaced, PacedAt, ReadBehind, ReadBeside, Saw}
+use Rattle.pt_audit.specs.declared.root_reader.RootReader.{RootReader}
+use Rattle.pt_invariant.proofs.source.InPairtree.{file_in_pairtree}
+use Rattle.pt_invariant.specs.HeldInvariant.{RowsAt}
 use Rattle.pt_compare.proofs.Opening.{dir_above}
 use Rattle.pt_compare.proofs.Passed.{block_is}
 use Rattle.pt_compare.specs.Beside.{StandsAlike}
@@ -24,9 +24,9 @@ use Rattle.pt_object.specs.Contents.{content_of, is_noted, noted}
 use Rattle.pt_object.specs.declared.contents.Content.{Content}
 use Rattle.pt_plan.specs.Job.{Job}
 use Rattle.pt_plan.specs.Run.{Held}
-use Rattle.pt_plan.specs.TurnScan.{EndsFile, EndsObject, EndsSite, EntersDirectory, EntersObject, IsTooDeep, IsTooLong, LeavesDirectory, MeetsDeep, MeetsLimit, MeetsOther, OpensFile, PassesShorty, ReadsOn, Scans, StartsInSite, logical_path}
+use Rattle.pt_plan.specs.TurnScan.{EndsFile, EndsObject, EndsSite, EntersDirectory, EntersObject, IsTooDeep, IsTooLong, LeavesDirectory, MeetsDeep, MeetsLimit, MeetsOther, OpensFile, PassesShorty, ReadsOn, ScanStep, StartsInSite, logical_path}
 use Rattle.pt_plan.specs.TurnWalk.{in_pairtree, in_root}
-use Rattle.pt_plan.specs.World.{Answers, Calls}
+use Rattle.pt_plan.specs.DeviceStates.{Answers, Calls}
 use Rattle.pt_plan.specs.declared.object.Object.{Object}
 use Rattle.pt_plan.specs.declared.phase.Phase.{Phase}
 use Rattle.pt_plan.specs.declared.phase.Opening.TheVariants as opening
@@ -40,8 +40,8 @@ use Rattle.pt_audit.proofs.Stepping.{stands_so}
 use Rattle.pt_audit.specs.Files.{Scanned, ScansOn, is_of_object, is_scanning, names_before}
 use Rattle.pt_audit.specs.Surveying.{IsHand, IsHandAt, Surveys, passed, sight_at}
 use Rattle.pt_audit.specs.declared.survey.AtHand.{AtHand}
-use Rattle.pt_audit.specs.declared.survey.Sight.{Sight}
-use Rattle.pt_audit.specs.declared.survey.Sight.TheVariants as sight
+use Rattle.pt_audit.specs.declared.survey.SurveyEvent.{SurveyEvent}
+use Rattle.pt_audit.specs.declared.survey.SurveyEvent.TheVariants as sight
 use Rattle.pt_tree.specs.Forest.{Forest}
 use Rattle.pt_tree.proofs.Below.{whole_of}
 use Rattle.pt_tree.specs.Path.{Path, rest_below}
@@ -72,17 +72,17 @@ opened {told} {object} {s} (count, it) =
 
 -- ---- contents that stay
 
-alike_on : (told told' root : Option Reading) (b : Beside) (contents contents' : List Content) → tree_in told' ≡ tree_in told → contents' ≡ contents → AreAlike told root b contents → AreAlike told' root b contents'
+alike_on : (told told' root : Option Reading) (b : RootReader) (contents contents' : List Content) → tree_in told' ≡ tree_in told → contents' ≡ contents → AreAlike told root b contents → AreAlike told' root b contents'
 unfolding AreAlike
 alike_on told told' root b contents contents' tree same alike =
     let P : Option Forest → Content → Type 0 = λ t content. StandsAlike t (tree_in root) (in_root b.place) (in_content content.path) (in_pairtree (b.from ++ content.path)) in
     subst (λ t. All (P t) (take b.alike contents')) (sym tree) (subst (λ (c : List Content). All (P (tree_in told)) (take b.alike c)) (sym same) alike)
 
-few_on : (b : Beside) (contents contents' : List Content) → contents' ≡ contents → AreFew b contents → AreFew b contents'
+few_on : (b : RootReader) (contents contents' : List Content) → contents' ≡ contents → AreFew b contents → AreFew b contents'
 few_on b contents contents' same few = subst (AreFew b) (sym same) few
 
 -- with others at the end
-alike_more : (told told' root : Option Reading) (b : Beside) (contents contents' more : List Content) → tree_in told' ≡ tree_in told → contents' ≡ contents ++ more → b.alike ≤ length contents → AreAlike told root b contents → AreAlike told' root b contents'
+alike_more : (told told' root : Option Reading) (b : RootReader) (contents contents' more : List Content) → tree_in told' ≡ tree_in told → contents' ≡ contents ++ more → b.alike ≤ length contents → AreAlike told root b contents → AreAlike told' root b contents'
 unfolding AreAlike
 alike_more told told' root b contents contents' more tree same few alike =
     let P : Option Forest → Content → Type 0 = λ t content. StandsAlike t (tree_in root) (in_root b.place) (in_content content.path) (in_pairtree (b.from ++ content.path)) in
@@ -90,13 +90,13 @@ alike_more told told' root b contents contents' more tree same few alike =
     (subst (λ (c : List Content). All (P (tree_in told)) c) (sym (ap (take b.alike) same ∙ take-append-le b.alike contents more few)) alike)
 
 -- outside an object nothing is said
-elsewhere : (told root : Option Reading) (b : Beside) (p : Phase) (s : State) → is_of_object p ≡ false → BehindAt told root b p s
+elsewhere : (told root : Option Reading) (b : RootReader) (p : Phase) (s : State) → is_of_object p ≡ false → BehindAt told root b p s
 elsewhere told root b (phase.Carrying object stage.Scan) s off = absurd (true≢false off)
 elsewhere told root b (phase.Carrying object (stage.Read bytes)) s off = absurd (true≢false off)
 elsewhere told root b (phase.Carrying object stage.Line) s off = absurd (true≢false off)
 elsewhere told root b _ s off = tt
 
-closed_behind : (told root : Option Reading) (b : Beside) (contents : List Content) → b.reads ≡ false → OnTrue b.reads (HasEnded told root b contents)
+closed_behind : (told root : Option Reading) (b : RootReader) (contents : List Content) → b.reads ≡ false → OnTrue b.reads (HasEnded told root b contents)
 closed_behind told root b contents closed = subst (λ (x : Bool). OnTrue x (HasEnded told root b contents)) (sym closed) tt
 
 -- ---- a block that was read of both
@@ -112,7 +112,7 @@ was_read None read is = absurd (cc)
 was_read (Some r) read is = record { was = r; told_is = refl; read_is = (let same : after_next r ≡ read = cc in sym same) }
 
 -- so the file of the source goes on behind the block
-have_read : {r read t : Reading} {b : Beside} {path : Path} {block : List ℕ} → HaveRead r t b path [] → read ≡ after_next r → IsRead (Some r) block → HaveRead read t b path block
+have_read : {r read t : Reading} {b : RootReader} {path : Path} {block : List ℕ} → HaveRead r t b path [] → read ≡ after_next r → IsRead (Some r) block → HaveRead read t b path block
 have_read {r} {read} {t} {b} {path} {block} it is next =
     let front : take 8192 it.rest ≡ block = block_is (Some r) it.rest block next it.unread in
     let goes : it.rest ≡ block ++ drop 8192 it.rest = sym (take-append-drop 8192 it.rest) ∙ ap (λ (x : List ℕ). x ++ drop 8192 it.rest) front in
@@ -126,7 +126,7 @@ have_read {r} {read} {t} {b} {path} {block} it is next =
       beside = it.beside;
     }
 
-read_on : {told told' root : Option Reading} {b : Beside} {object : Object} {s s' : State} {block : List ℕ} → told' ≡ option_map after_next told → IsRead told block → s'.trail ≡ s.trail → s'.contents ≡ s.contents → ReadBeside told root b object s [] → ReadBeside told' root b object s' block
+read_on : {told told' root : Option Reading} {b : RootReader} {object : Object} {s s' : State} {block : List ℕ} → told' ≡ option_map after_next told → IsRead told block → s'.trail ≡ s.trail → s'.contents ≡ s.contents → ReadBeside told root b object s [] → ReadBeside told' root b object s' block
 unfolding IsRead
 read_on {told} {told'} {root} {b} {object} {s} {s'} {block} moved next trail contents it = record {
   all = it.all ∙ ap length (sym contents);
@@ -151,7 +151,7 @@ noted_so contents digest path n all after is = by (is_noted contents digest) ref
     by true same = inl (ap length (is ∙ ap (λ x. cond x contents (contents ++ content_of digest path ∷ [])) same) ∙ sym all)
     by false other = inr (contents, content_of digest path, is ∙ ap (λ x. cond x contents (contents ++ content_of digest path ∷ [])) other, sym all, refl)
 
-ended : {told told' root : Option Reading} {b : Beside} {object : Object} {s : State} {after : List Content} (digest : List ℕ) → told' ≡ option_map after_next told → IsRead told [] → after ≡ noted s.contents digest (logical_path object s.trail) → ReadBeside told root b object s [] → HasEnded told' root b after
+ended : {told told' root : Option Reading} {b : RootReader} {object : Object} {s : State} {after : List Content} (digest : List ℕ) → told' ≡ option_map after_next told → IsRead told [] → after ≡ noted s.contents digest (logical_path object s.trail) → ReadBeside told root b object s [] → HasEnded told' root b after
 unfolding IsRead
 ended {told} {told'} {root} {b} {object} {s} {after} digest moved next is it = record {
   path = logical_path object s.trail;
@@ -182,14 +182,14 @@ none_taken zero contents is = refl
 none_taken (suc n) [] is = refl
 none_taken (suc n) (content ∷ contents) is = absurd (cc)
 
-alike_none : (told root : Option Reading) (b : Beside) (contents : List Content) → contents ≡ [] → AreAlike told root b contents
+alike_none : (told root : Option Reading) (b : RootReader) (contents : List Content) → contents ≡ [] → AreAlike told root b contents
 unfolding AreAlike
 alike_none told root b contents none =
     let P : Content → Type 0 = λ content. StandsAlike (tree_in told) (tree_in root) (in_root b.place) (in_content content.path) (in_pairtree (b.from ++ content.path)) in
     subst (All P) (sym (none_taken b.alike contents none)) (All-nil P)
 
-module _ (told told' root : Option Reading) (b : Beside) (s s' : State) (tree : tree_in told' ≡ tree_in told) where
-  scanned : {job : Job} {here next : Phase} {held after : Held} {calls : Calls} (fed later : List ℕ) → Scans job here held after calls (Ok next) → held ≡ held_of s fed → after ≡ held_of s' later → Answers calls.asked told told' → OnTrue (is_reading here) (IsNextBlock told s'.block.items next)
+module _ (told told' root : Option Reading) (b : RootReader) (s s' : State) (tree : tree_in told' ≡ tree_in told) where
+  scanned : {job : Job} {here next : Phase} {held after : Held} {calls : Calls} (fed later : List ℕ) → ScanStep job here held after calls (Ok next) → held ≡ held_of s fed → after ≡ held_of s' later → Answers calls.asked told told' → OnTrue (is_reading here) (IsNextBlock told s'.block.items next)
       → ((object : Object) → here ≡ phase.Carrying object stage.Open → s.contents ≡ []) → ((object : Object) → next ≡ phase.Carrying object (stage.Read zero) → IsOpened told' object s') → PacedAt told root b here s → BehindAt told' root b (passed next) s'
   unfolding Answers AreFew
   scanned fed later (StartsInSite h object _) held after answers block none here_opened paced =
@@ -239,7 +239,7 @@ none_yet : (told : Option Reading) (r : Running) (object : Object) → r.phase �
 unfolding Surveys
 none_yet told r object is (count, it) = (subst (λ (p : Phase). RowsAt (job_of r.state.job) it.past.bytes p (held_of r.state it.fed)) is it.is.held.rows).contents
 
-pub behind : (told told' root : Option Reading) (b : Beside) (r r' : Running) → Surveys told r → Surveys told' r' → ScansOn told told' r r' → tree_in told' ≡ tree_in told → IsPaced told root b r → IsBehind told' root b r'
+pub behind : (told told' root : Option Reading) (b : RootReader) (r r' : Running) → Surveys told r → Surveys told' r' → ScansOn told told' r r' → tree_in told' ≡ tree_in told → IsPaced told root b r → IsBehind told' root b r'
 behind told told' root b r r' was now step tree paced = by (is_scanning r.phase) refl
   where
     in_object : Scanned told told' r r' → IsBehind told' root b r'
@@ -254,10 +254,10 @@ behind told told' root b r r' was now step tree paced = by (is_scanning r.phase)
 
 -- ---- an audit that is to begin
 
-pub holds_its_fields : (b : Beside) → HoldsItsFields b
+pub holds_its_fields : (b : RootReader) → HoldsItsFields b
 holds_its_fields b = (record { alloc = b.alloc; from = b.from; place = b.place; folder = b.folder; alike = b.alike; reads = b.reads; block = b.block.items }, refl)
 
-pub follows_first : (source root : Option Reading) (b : Beside) (r : Running) → HasBegun b → r.phase ≡ phase.Opening opening.Begin → Surveys source r → Follows source root b r
+pub follows_first : (source root : Option Reading) (b : RootReader) (r : Running) → HasBegun b → r.phase ≡ phase.Opening opening.Begin → Surveys source r → Follows source root b r
 follows_first source root b r new begin under_way = record {
   holds = holds_its_fields b;
   under_way = under_way;
@@ -271,13 +271,13 @@ follows_first source root b r new begin under_way = record {
 -- ---- after what isn't of an object, nothing is read beside
 
 -- the trees stay, and nothing is read beside
-pub still_alike : (source source' root root' : Option Reading) (b : Beside) (contents : List Content) → tree_in source' ≡ tree_in source → tree_in root' ≡ tree_in root → AreAlike source root b contents → AreAlike source' root' b contents
+pub still_alike : (source source' root root' : Option Reading) (b : RootReader) (contents : List Content) → tree_in source' ≡ tree_in source → tree_in root' ≡ tree_in root → AreAlike source root b contents → AreAlike source' root' b contents
 unfolding AreAlike
 still_alike source source' root root' b contents same stays alike =
     let P : Option Forest → Option Forest → Content → Type 0 = λ s t content. StandsAlike s t (in_root b.place) (in_content content.path) (in_pairtree (b.from ++ content.path)) in
     subst (λ t. All (P (tree_in source') t) (take b.alike contents)) (sym stays) (subst (λ s. All (P s (tree_in root)) (take b.alike contents)) (sym same) alike)
 
-pub follows_told : (source source' root root' : Option Reading) (b : Beside) (r : Running) (what : Sight) → what ≡ sight_at r.phase → is_told what ≡ true → tree_in source' ≡ tree_in source → tree_in root' ≡ tree_in root → Surveys source' r → Follows source root b r → Follows source' root' b r
+pub follows_told : (source source' root root' : Option Reading) (b : RootReader) (r : Running) (what : SurveyEvent) → what ≡ sight_at r.phase → is_told what ≡ true → tree_in source' ≡ tree_in source → tree_in root' ≡ tree_in root → Surveys source' r → Follows source root b r → Follows source' root' b r
 follows_told source source' root root' b r what saw told same stays under_way it =
     let stood = there r.phase (ap is_told (sym saw) ∙ told) it.paced in record {
       holds = it.holds;
@@ -298,12 +298,12 @@ follows_told source source' root root' b r what saw told same stays under_way it
     there _ is paced = absurd (true≢false (sym is))
 
 -- what a step came to
-pub at_sight : {source root : Option Reading} {b : Beside} {what : Sight} {r : Running} → Saw source root b what r → IsAt source what r
+pub at_sight : {source root : Option Reading} {b : RootReader} {what : SurveyEvent} {r : Running} → Saw source root b what r → IsAt source what r
 at_sight it = record { under_way = it.follows.under_way; saw = it.saw }
 
 -- ---- the object at hand
 
-pub alike_at_hand : (source root : Option Reading) (b : Beside) (r : Running) (hand : AtHand) (alike : ℕ) → sight_at r.phase ≡ sight.Object → IsHand r (Some hand) → Follows source root b r → IsAlikeAt b hand.told.at hand.told.to.now alike → AreAlikeAtHand (tree_in source) (tree_in root) hand alike
+pub alike_at_hand : (source root : Option Reading) (b : RootReader) (r : Running) (hand : AtHand) (alike : ℕ) → sight_at r.phase ≡ sight.Object → IsHand r (Some hand) → Follows source root b r → IsAlikeAt b hand.told.at hand.told.to.now alike → AreAlikeAtHand (tree_in source) (tree_in root) hand alike
 unfolding AreAlike
 alike_at_hand source root b r hand alike is at it so = by r.phase is at it.paced
   where

@@ -6,7 +6,7 @@ use Rattle.std.specs.Option.{ForSome}
 use Rattle.pt_audit.specs.Auditing.{IsAt}
 use Rattle.pt_audit.specs.Failing.{AuditSays, BlamesRightly, FailsAs, ReadFailsAs, RootFailsAs, TellFails, failures}
 use Rattle.pt_audit.specs.Layout.{IsOfAnother, TellsLayout}
-use Rattle.pt_begun.specs.BegunSource.{SourcePart}
+use Rattle.pt_invariant.specs.SourceInvariant.{SourcePart}
 use Rattle.pt_plan.specs.declared.fault.Fault.{Fault}
 use Rattle.pt_name.specs.Tuples.{IsLayout}
 use Rattle.std.proofs.lemmas.Bool.{true≢false}
@@ -15,7 +15,7 @@ use Rattle.pt_move.specs.Running.{Running}
 use Rattle.pt_move.proofs.Outcomes.{reading_of}
 use Rattle.pt_plan.specs.Store.{has_prefix, is_store}
 use Rattle.pt_plan.specs.Turn.{HasFailed}
-use Rattle.pt_plan.specs.World.{Failures, source_tree}
+use Rattle.pt_plan.specs.DeviceStates.{Failures, source_tree}
 use Rattle.pt_plan.specs.declared.fault.Fault.TheVariants as fault
 use Rattle.pt_plan.specs.declared.phase.Phase.{Phase}
 use Rattle.pt_plan.specs.declared.phase.Opening.TheVariants as opening
@@ -24,8 +24,8 @@ use Rattle.pt_plan.specs.declared.phase.Stage.TheVariants as stage
 use Rattle.pt_state.specs.States.{held_of, job_of}
 use Rattle.pt_state.specs.declared.job.Job as own
 use Rattle.pt_audit.specs.Surveying.{IsSurvey, SurveySays, is_of_dest, Surveys, sight_at}
-use Rattle.pt_audit.specs.declared.survey.Sight.{Sight}
-use Rattle.pt_audit.specs.declared.survey.Sight.TheVariants as sight
+use Rattle.pt_audit.specs.declared.survey.SurveyEvent.{SurveyEvent}
+use Rattle.pt_audit.specs.declared.survey.SurveyEvent.TheVariants as sight
 use Rattle.pt_tree.specs.Failures.{HasRisen}
 use Rattle.pt_tree.specs.Forest.{Forest}
 use Rattle.pt_tree.specs.Source.{Reading}
@@ -58,7 +58,7 @@ says_survey job source root f says = record {
 }
 
 -- the layout that a survey has
-pub has_layout : (told : Option Reading) (what : Sight) (r : Running) (job : own.Job) → job ≡ r.state.job → IsAt told what r → IsLayout job.layout
+pub has_layout : (told : Option Reading) (what : SurveyEvent) (r : Running) (job : own.Job) → job ≡ r.state.job → IsAt told what r → IsLayout job.layout
 unfolding Surveys
 has_layout told what r job same at = subst (λ (j : own.Job). IsLayout j.layout) (sym same) at.under_way.1.is.layout
 
@@ -94,7 +94,7 @@ layout_fails fault.Target a b c old new it = inr (refl, ap (λ (n : ℕ). failur
 layout_fails _ a b c old new it = absurd it
 
 -- what is read beside alone
-pub read_fails : (why : Fault) (a b c a' c' new : ℕ) → a' ≡ a → c' ≡ c → ReadFailsAs {T = Unit {0}} (Err why) b new → BlamesRightly {T = Sight} (failures a b c) (failures a' new c') (Err why)
+pub read_fails : (why : Fault) (a b c a' c' new : ℕ) → a' ≡ a → c' ≡ c → ReadFailsAs {T = Unit {0}} (Err why) b new → BlamesRightly {T = SurveyEvent} (failures a b c) (failures a' new c') (Err why)
 read_fails fault.Dest a b c a' c' new sa sc it = record { source = sa; root = it; log = sc }
 read_fails fault.Memory a b c a' c' new sa sc it = record { source = sa; root = it; log = sc }
 read_fails _ a b c a' c' new sa sc it = absurd it

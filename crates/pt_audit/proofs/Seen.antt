@@ -22,7 +22,7 @@ use Rattle.pt_plan.specs.Job.{Job}
 use Rattle.pt_plan.specs.Lines.{Line, Skipped, line_by_outcome, line_by_verdict}
 use Rattle.pt_plan.specs.Run.{Counts, Held}
 use Rattle.pt_plan.specs.Store.{is_store, pairtree_of, prefix_of, sites_of}
-use Rattle.pt_plan.specs.Turn.{Follows, Make, Place, Scan, Start, Walk}
+use Rattle.pt_plan.specs.Turn.{Next, Make, Place, Scan, Start, Walk}
 use Rattle.pt_object.proofs.ObjectScripts.{in_order_apart}
 use Rattle.pt_object.specs.FilePaths.{File, part_in_order, row_paths}
 use Rattle.pt_object.specs.Object.{bytes_in, rows_of, stored_files}
@@ -30,27 +30,27 @@ use Rattle.pt_object.specs.declared.rows.Row.{Row}
 use Rattle.pt_plan.specs.TurnMake.{path_of_source}
 use Rattle.pt_plan.specs.TurnPlace as place
 use Rattle.pt_plan.specs.TurnMake as make
-use Rattle.pt_plan.specs.TurnScan.{EndsFile, EndsObject, EndsSite, EntersDirectory, EntersObject, IsTooDeep, IsTooLong, LeavesDirectory, MeetsDeep, MeetsLimit, MeetsOther, OpensFile, PassesShorty, ReadsOn, Scans, StartsInSite, is_beyond, logical_path, skipped, to_site}
+use Rattle.pt_plan.specs.TurnScan.{EndsFile, EndsObject, EndsSite, EntersDirectory, EntersObject, IsTooDeep, IsTooLong, LeavesDirectory, MeetsDeep, MeetsLimit, MeetsOther, OpensFile, PassesShorty, ReadsOn, ScanStep, StartsInSite, is_beyond, logical_path, skipped, to_site}
 use Rattle.pt_plan.specs.TurnStart as start
-use Rattle.pt_plan.specs.TurnWalk.{EndsWalk, EntersSite, IsDeep, IsNew, IsPast, IsPresent, IsSkipped, LeadsOn, LeavesSite, OpensRoot, PassesEntry, Walks, in_pairtree}
-use Rattle.pt_plan.specs.World.{Answers, Calls, Changes}
+use Rattle.pt_plan.specs.TurnWalk.{EndsWalk, EntersSite, IsDeep, IsNew, IsPast, IsPresent, IsSkipped, LeadsOn, LeavesSite, OpensRoot, PassesEntry, WalkStep, in_pairtree}
+use Rattle.pt_plan.specs.DeviceStates.{Answers, Calls, Changes}
 use Rattle.pt_plan.specs.declared.object.Object.{Object}
 use Rattle.pt_plan.specs.declared.phase.Phase.{Phase}
 use Rattle.pt_plan.specs.declared.phase.Phase.TheVariants as phase
 use Rattle.pt_plan.specs.declared.phase.Stage.TheVariants as stage
-use Rattle.pt_begun.specs.BegunHeld.{HeldAt}
-use Rattle.pt_begun.specs.BegunSource.{HasScanned, HasStarted, IsInObject, IsSiteOf, SourcePart, object_at}
-use Rattle.pt_begun.specs.Past.{Past, done_after}
-use Rattle.pt_begun.proofs.held.DistinctRows.{get_map}
-use Rattle.pt_begun.proofs.held.OwnFiles.{own_stored}
-use Rattle.pt_begun.proofs.items.PlacesTell.{comes_whole, done_told, files_are}
-use Rattle.pt_begun.proofs.items.ScansTell.{fails_at_directory, fails_at_file, fails_at_other, fails_before, item_of_site, named_so, too_long}
-use Rattle.pt_begun.proofs.items.WalksTell.{judged_next, judged_verdict, with_prefix}
-use Rattle.pt_begun.proofs.source.InObject.{site_itself}
-use Rattle.pt_begun.proofs.source.InPairtree.{file_in_pairtree, pairtree_proper}
-use Rattle.pt_begun.proofs.source.ReadsOn.{reads_block}
-use Rattle.pt_begun.proofs.source.WalksKeep.{deep_next, done_at_shorty, none_at_end, none_at_entry, past_next}
-use Rattle.pt_audit.specs.Bare.{bare}
+use Rattle.pt_invariant.specs.HeldInvariant.{HeldAt}
+use Rattle.pt_invariant.specs.SourceInvariant.{HasScanned, HasStarted, IsInObject, IsSiteOf, SourcePart, object_at}
+use Rattle.pt_invariant.specs.History.{History, done_after}
+use Rattle.pt_invariant.proofs.held.DistinctRows.{get_map}
+use Rattle.pt_invariant.proofs.held.OwnFiles.{own_stored}
+use Rattle.pt_invariant.proofs.items.PlacesTell.{comes_whole, done_told, files_are}
+use Rattle.pt_invariant.proofs.items.ScansTell.{fails_at_directory, fails_at_file, fails_at_other, fails_before, item_of_site, named_so, too_long}
+use Rattle.pt_invariant.proofs.items.WalksTell.{judged_next, judged_verdict, with_prefix}
+use Rattle.pt_invariant.proofs.source.InObject.{site_itself}
+use Rattle.pt_invariant.proofs.source.InPairtree.{file_in_pairtree, pairtree_proper}
+use Rattle.pt_invariant.proofs.source.ReadsOn.{reads_block}
+use Rattle.pt_invariant.proofs.source.WalksKeep.{deep_next, done_at_shorty, none_at_end, none_at_entry, past_next}
+use Rattle.pt_audit.specs.EmptyDest.{bare}
 use Rattle.pt_audit.specs.Surveying.{HasAtHand, Leads, Nothing, Sees, Skips, SeesItem, is_looking, is_of_survey, passed}
 
 -- ---- each kind of item
@@ -84,7 +84,7 @@ at_shorty : {job : Job} {source : Forest} {count : ℕ} (held : Held) {name : Li
     → Sees job source count phase.Walk held line (done_after phase.Walk held.trail phase.Walk count)
 at_shorty {job} {source} {count} held {name} {line} e short sees = subst (Sees job source count phase.Walk held line) (sym (done_at_shorty held.trail name count e short)) sees
 
-pub walk_sees : {job : Job} {past : Past} {s : Reading} {prefix : List ℕ} (new : Option Writing) {here next : Phase} {held after : Held} {calls : Calls} → Walks job prefix here held after calls (Ok next) → is_trail held.trail ≡ true → SourcePart job past here prefix held s
+pub walk_sees : {job : Job} {past : History} {s : Reading} {prefix : List ℕ} (new : Option Writing) {here next : Phase} {held after : Held} {calls : Calls} → WalkStep job prefix here held after calls (Ok next) → is_trail held.trail ≡ true → SourcePart job past here prefix held s
     → Changes calls.change (Some bare) new → Sees job s.tree past.count here held calls.line (done_after here held.trail next past.count)
 unfolding Changes IsKindAt
 walk_sees {job} {s} {prefix} _ (LeadsOn was is) _ part _ =
@@ -119,7 +119,7 @@ gives_up : {job : Job} {source : Forest} {prefix : List ℕ} {here : Phase} {obj
     → outcome job.limits (object_at source object (to_site object held.trail)) ≡ Fails why → Sees job source count here held (Some (skipped object held why)) (suc count)
 gives_up {source} {object} held {why} looks started it of_is = Skips looks (trail_path (to_site object held.trail)) why (comes (of_site it.site) (named_so started it.site) of_is)
 
-pub scan_sees : {job : Job} {past : Past} {s : Reading} {prefix : List ℕ} {here next : Phase} {held after : Held} {calls : Calls} → Scans job here held after calls (Ok next) → is_trail held.trail ≡ true → SourcePart job past here prefix held s
+pub scan_sees : {job : Job} {past : History} {s : Reading} {prefix : List ℕ} {here next : Phase} {held after : Held} {calls : Calls} → ScanStep job here held after calls (Ok next) → is_trail held.trail ≡ true → SourcePart job past here prefix held s
     → (new : Option Reading) → Answers calls.asked (Some s) new → Sees job s.tree past.count here held calls.line (done_after here held.trail next past.count)
 unfolding Answers IsRead
 scan_sees (IsTooDeep was _ apart deep) is_one part _ _ = gives_up was refl part.at.1 part.at.2 (fails_before was.trail is_one apart deep part.at.3 part.at.2)
@@ -161,7 +161,7 @@ module _ {job : Job} (source : Forest) (object : Object) (site : List Frame) {ro
       ∙ own_stored rows there (in_order_apart (row_paths rows) order)
       ∙ ap (λ (l : List File). stored_files rows (bytes_in l)) (files_are source object site there (pairtree_proper source store proper) it (λ k d h. refl))
 
-pub has_at_hand : {job : Job} {past : Past} {s : Reading} {prefix : List ℕ} {object : Object} {held : Held} → HeldAt job past (phase.Carrying object stage.Line) held → SourcePart job past (phase.Carrying object stage.Line) prefix held s → HasAtHand job s.tree past.count object held
+pub has_at_hand : {job : Job} {past : History} {s : Reading} {prefix : List ℕ} {object : Object} {held : Held} → HeldAt job past (phase.Carrying object stage.Line) held → SourcePart job past (phase.Carrying object stage.Line) prefix held s → HasAtHand job s.tree past.count object held
 has_at_hand {job} {past} {s} {object} {held} at part =
     let site = to_site object held.trail in
     let what = object_at s.tree object site in
@@ -186,7 +186,7 @@ has_at_hand {job} {past} {s} {object} {held} at part =
 -- ---- each turn that looks
 
 -- the turns that make an object and that bring it to its place are none
-pub making_is_none : {job : Job} {here : Phase} {held new : Held} {calls : Calls} {answer : Answer} → make.Makings job here held new calls answer → is_looking here ≡ false
+pub making_is_none : {job : Job} {here : Phase} {held new : Held} {calls : Calls} {answer : Answer} → make.MakeStep job here held new calls answer → is_looking here ≡ false
 making_is_none (make.MakesStaging _ _) = refl
 making_is_none (make.MakesDeclaration _ _) = refl
 making_is_none (make.MakesVersion _ _) = refl
@@ -202,7 +202,7 @@ making_is_none (make.MakesVersionSidecar _ _) = refl
 making_is_none (make.MakesInventory _ _) = refl
 making_is_none (make.MakesSidecar _ _) = refl
 
-pub placing_is_none : {job : Job} {counts : Counts} {here : Phase} {held new : Held} {calls : Calls} {answer : Answer} → place.Places job counts here held new calls answer → is_looking here ≡ false
+pub placing_is_none : {job : Job} {counts : Counts} {here : Phase} {held new : Held} {calls : Calls} {answer : Answer} → place.PlaceStep job counts here held new calls answer → is_looking here ≡ false
 placing_is_none (place.MakesTuple _ _ _) = refl
 placing_is_none (place.FindsTuple _ _ _) = refl
 placing_is_none (place.IsInTheWay _ _ _ _ _) = refl
@@ -210,7 +210,7 @@ placing_is_none (place.RenamesObject _ _) = refl
 placing_is_none (place.TellsDone _ _) = refl
 placing_is_none (place.TellsEnd _) = refl
 
-pub looks_sees : {job : Job} {counts : Counts} {past : Past} {s : Reading} {prefix read : List ℕ} {here next : Phase} {held after : Held} {calls : Calls} → is_looking here ≡ true → Follows job counts here prefix held read after calls (Ok next) → is_trail held.trail ≡ true → SourcePart job past here prefix held s
+pub looks_sees : {job : Job} {counts : Counts} {past : History} {s : Reading} {prefix read : List ℕ} {here next : Phase} {held after : Held} {calls : Calls} → is_looking here ≡ true → Next job counts here prefix held read after calls (Ok next) → is_trail held.trail ≡ true → SourcePart job past here prefix held s
     → (new : Option Reading) → Answers calls.asked (Some s) new → (w : Option Writing) → Changes calls.change (Some bare) w → Sees job s.tree past.count here held calls.line (done_after here held.trail next past.count)
 looks_sees _ (Start (start.IsStore _ _ _)) _ _ _ _ _ _ = Nothing refl
 looks_sees _ (Start (start.HasNoPrefix _)) _ _ _ _ _ _ = Nothing refl
@@ -228,7 +228,7 @@ looks_sees is (Place turn) _ _ _ _ _ _ = absurd (true≢false (sym is ∙ placin
 
 -- ---- where a turn that looks leads
 
-pub looks_on : {job : Job} {counts : Counts} {prefix read : List ℕ} {here next : Phase} {held after : Held} {calls : Calls} → is_looking here ≡ true → Follows job counts here prefix held read after calls (Ok next) → is_of_survey (passed next) ≡ true
+pub looks_on : {job : Job} {counts : Counts} {prefix read : List ℕ} {here next : Phase} {held after : Held} {calls : Calls} → is_looking here ≡ true → Next job counts here prefix held read after calls (Ok next) → is_of_survey (passed next) ≡ true
 looks_on _ (Start (start.IsStore _ _ _)) = refl
 looks_on _ (Start (start.HasNoPrefix _)) = refl
 looks_on _ (Start (start.HasPrefix _ _ _)) = refl
@@ -240,7 +240,7 @@ looks_on is (Start (start.RenamesRoot _)) = absurd (true≢false (sym is))
 looks_on is (Start (start.IsSame _ _ _ _ _)) = absurd (true≢false (sym is))
 looks_on _ (Walk turn) = walk_on turn
   where
-    walk_on : {job : Job} {prefix : List ℕ} {here next : Phase} {held new : Held} {calls : Calls} → Walks job prefix here held new calls (Ok next) → is_of_survey (passed next) ≡ true
+    walk_on : {job : Job} {prefix : List ℕ} {here next : Phase} {held new : Held} {calls : Calls} → WalkStep job prefix here held new calls (Ok next) → is_of_survey (passed next) ≡ true
     walk_on (OpensRoot _ _) = refl
     walk_on (LeadsOn _ _) = refl
     walk_on (IsSkipped _ _ _) = refl
@@ -254,7 +254,7 @@ looks_on _ (Walk turn) = walk_on turn
     walk_on (EndsWalk _ _ _) = refl
 looks_on _ (Scan turn) = scan_on turn
   where
-    scan_on : {job : Job} {here next : Phase} {held new : Held} {calls : Calls} → Scans job here held new calls (Ok next) → is_of_survey (passed next) ≡ true
+    scan_on : {job : Job} {here next : Phase} {held new : Held} {calls : Calls} → ScanStep job here held new calls (Ok next) → is_of_survey (passed next) ≡ true
     scan_on (IsTooDeep _ _ _ _) = refl
     scan_on (MeetsDeep _ _ _ _ _ _) = refl
     scan_on (MeetsLimit _ _ _ _ _) = refl

@@ -7,10 +7,10 @@ use Rattle.pt_audit.specs.AuditLaws.{SoundAuditMeansAllStand, StandAmong}
 use Rattle.pt_audit.specs.Auditing.{Finds, IsFoundOf, Leads, Next, Nothing, Passes, TellsOf, Told, sought}
 use Rattle.pt_audit.specs.Counting.{one_more}
 use Rattle.pt_audit.specs.declared.counts.Counts.{Counts}
-use Rattle.pt_begun.proofs.source.InPairtree.{some_same}
+use Rattle.pt_invariant.proofs.source.InPairtree.{some_same}
 use Rattle.pt_compare.specs.Found.{IsObject}
 use Rattle.pt_compare.specs.Marks.{inside}
-use Rattle.pt_compare.specs.declared.difference.Finding.TheVariants as found
+use Rattle.pt_compare.specs.declared.difference.Comparison.TheVariants as found
 use Rattle.pt_name.specs.Place.{place_of}
 use Rattle.pt_object.specs.FilePaths.{File}
 use Rattle.pt_plan.specs.Items.{Holds, Item, Named, Outcome, PairtreeObject, Verdict, items, outcome}

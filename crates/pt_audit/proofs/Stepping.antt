@@ -11,13 +11,13 @@ use Rattle.pt_tree.specs.Source.{Reading}
 use Rattle.pt_plan.specs.Answer.{Answer, phase_after}
 use Rattle.pt_plan.specs.Job.{Job}
 use Rattle.pt_plan.specs.Lines.{Done, End, Line, Present, Skipped, is_skipped, line_text}
-use Rattle.pt_plan.specs.Permits.{Permits}
+use Rattle.pt_plan.specs.Enabled.{Enabled}
 use Rattle.pt_plan.specs.Run.{Counts, Held, Kept, Run, new_run, turning}
-use Rattle.pt_plan.specs.Turn.{Did, FailsAtFirst, FailsLater, Follows, GoesOn as TurnGoesOn, IsRefused, LeavesSome, Stays, Make, Place, Scan, Start, Turn, Walk, HasFailed, counted as counted_with}
+use Rattle.pt_plan.specs.Turn.{Did, FailsAtFirst, FailsLater, Next, GoesOn as TurnGoesOn, IsRefused, FailsPartway, FailsUnchanged, Make, Place, Scan, Start, Turn, Walk, HasFailed, counted as counted_with}
 use Rattle.pt_plan.specs.TurnMake as make
 use Rattle.pt_plan.specs.TurnPlace as place
 use Rattle.pt_plan.specs.TurnStart as start
-use Rattle.pt_plan.specs.World.{Answers, Calls, Failures, LeavesFront, Puts, World, source_tree}
+use Rattle.pt_plan.specs.DeviceStates.{Answers, Calls, Failures, LeavesFront, Puts, DeviceStates, source_tree}
 use Rattle.pt_plan.specs.declared.fault.Fault.{Fault}
 use Rattle.pt_plan.specs.declared.fault.Fault.TheVariants as fault
 use Rattle.pt_plan.specs.declared.object.Object.{Object}
@@ -26,28 +26,28 @@ use Rattle.pt_plan.specs.declared.phase.Phase.{Phase}
 use Rattle.pt_plan.specs.declared.phase.Opening.TheVariants as opening
 use Rattle.pt_plan.specs.declared.phase.Phase.TheVariants as phase
 use Rattle.pt_plan.specs.declared.phase.Stage.TheVariants as stage
-use Rattle.pt_begun.specs.Begun.{IsPast}
-use Rattle.pt_begun.specs.Past.{Past, done_after, no_past, past_after}
-use Rattle.pt_begun.specs.WorkLaws.{BegunWithinWork}
-use Rattle.pt_begun.proofs.ends.NewRun.{new_past}
-use Rattle.pt_begun.proofs.ends.TurnKeeps.{turned}
+use Rattle.pt_invariant.specs.RunInvariant.{IsHistory}
+use Rattle.pt_invariant.specs.History.{History, done_after, no_history, history_after}
+use Rattle.pt_invariant.specs.WorkLaws.{InvariantWithinWork}
+use Rattle.pt_invariant.proofs.ends.NewRun.{new_past}
+use Rattle.pt_invariant.proofs.ends.TurnKeeps.{turned}
 use Rattle.pt_state.specs.Outside.{world}
 use Rattle.pt_state.specs.States.{held_of, job_of, kept_of}
 use Rattle.pt_state.specs.declared.job.Job as own
 use Rattle.pt_state.specs.declared.state.State.{State}
-use Rattle.pt_move.specs.Running.{BeganSomewhere, IsBegun, IsNew, IsWell, Running, run_of}
+use Rattle.pt_move.specs.Running.{BeganSomewhere, IsBegun, IsNew, TypeInvariant, Running, run_of}
 use Rattle.pt_move.specs.Stands.{Stands}
 use Rattle.pt_move.specs.Turning.{CountedTurn, HasFed}
 use Rattle.pt_move.specs.Counting.{Rose}
 use Rattle.pt_plan.specs.RunFaults.{IsOfTurn, fault_number}
-use Rattle.pt_begun.proofs.refusals.Reasons.{of_turn}
+use Rattle.pt_invariant.proofs.refusals.Reasons.{of_turn}
 use Rattle.pt_move.specs.Leaving.{TurnLeaves}
 use Rattle.pt_move.specs.Outcome.{HoldsWithinBound, SaysRightly}
 use Rattle.pt_move.specs.Promises.{TurnKeeps}
 use Rattle.pt_move.proofs.Answering.{fed_going, fed_to_end, has_fed, left_by_turn, may_turn, stands_there, well_after}
 use Rattle.pt_move.proofs.Keeping.{keeps_after, tree_stays}
 use Rattle.pt_tree.specs.Failures.{HasRisen}
-use Rattle.pt_audit.specs.Bare.{bare}
+use Rattle.pt_audit.specs.EmptyDest.{bare}
 use Rattle.pt_audit.specs.Growing.{BlamesRightly, Grows, Leaves, grows_none}
 use Rattle.pt_plan.specs.TurnPlace.{done_line}
 use Rattle.pt_audit.specs.Surveying.{WasAtHand, GoesOn, HasAtHand, IsReady, IsSurvey, IsWithinWork, SurveySays, is_at_hand, is_of_dest, Leads, Nothing, Skips, Sees, Surveys, is_looking, is_of_survey, no_start, passed, source_alone}
@@ -62,7 +62,7 @@ going here is ended = true≢false (sym is ∙ ap is_of_survey ended)
 
 module _ {told : Option Reading} {count : ℕ} {r : Running} (a b c : ℕ) where
   pub is_begun : IsSurvey told count r → IsBegun no_start (world told None None a b c) r
-  unfolding IsBegun BegunWithinWork
+  unfolding IsBegun InvariantWithinWork
   is_begun it = record { fed = it.fed; was = it.was; begun = (it.past, it.is, λ s e old f. absurd (cc)) }
 
   pub began : IsSurvey told count r → BeganSomewhere (world told None None a b c) r
@@ -71,7 +71,7 @@ module _ {told : Option Reading} {count : ℕ} {r : Running} (a b c : ℕ) where
 
 -- ---- what its turn needs
 
-permits_any : (job : Job) (here : Phase) (held : Held) (r : Option Reading) (w v : Option Writing) → is_of_survey here ≡ true → Permits job here held r w → Permits job here held r v
+permits_any : (job : Job) (here : Phase) (held : Held) (r : Option Reading) (w v : Option Writing) → is_of_survey here ≡ true → Enabled job here held r w → Enabled job here held r v
 permits_any job (phase.Opening opening.Begin) held r w v is may = may
 permits_any job (phase.Opening (opening.Prefix _)) held r w v is may = may
 permits_any job (phase.Opening opening.OpenRoot) held r w v is may = may
@@ -85,7 +85,7 @@ permits_any job phase.End held r w v is may = may
 permits_any job _ held r w v is may = absurd (true≢false (sym is))
 
 module _ (told : Option Reading) (here : Phase) (s : State) where
-  pub may_look : (w : Option Writing) → is_of_survey here ≡ true → Surveys told (record { phase = here; state = s }) → Permits (job_of s.job) here (held_of s []) told w
+  pub may_look : (w : Option Writing) → is_of_survey here ≡ true → Surveys told (record { phase = here; state = s }) → Enabled (job_of s.job) here (held_of s []) told w
   unfolding Surveys
   may_look w is (count, it) = permits_any (job_of s.job) here (held_of s []) told None w is (may_turn here s (world told None None 0 0 0) (going here is) (began 0 0 0 it))
 
@@ -103,7 +103,7 @@ of_survey told r (count, it) = it.stands
 
 -- ---- where a run would make something it goes on
 
-passed_past : {job : Job} {told : Option Reading} (next : Phase) {kept : Kept} {past : Past} → IsPast job no_start (source_alone told) (record { phase = next; kept = kept }) past → IsPast job no_start (source_alone told) (record { phase = passed next; kept = kept }) past
+passed_past : {job : Job} {told : Option Reading} (next : Phase) {kept : Kept} {past : History} → IsHistory job no_start (source_alone told) (record { phase = next; kept = kept }) past → IsHistory job no_start (source_alone told) (record { phase = passed next; kept = kept }) past
 passed_past (phase.Opening opening.Staging) it = record {
   layout = it.layout;
   held = record { trail = record { is_one = it.held.trail.is_one; none = it.held.trail.none; entry = tt }; ends = tt; rows = it.held.rows; behind = tt; numbers = tt; fed = tt };
@@ -126,7 +126,7 @@ passed_past (phase.Carrying object (stage.Make part.Staging)) it = record {
 }
 passed_past _ it = it
 
-passed_well : (next : Phase) {s : State} → IsWell (record { phase = next; state = s }) → IsWell (record { phase = passed next; state = s })
+passed_well : (next : Phase) {s : State} → TypeInvariant (record { phase = next; state = s }) → TypeInvariant (record { phase = passed next; state = s })
 passed_well (phase.Opening opening.Staging) well = record {
   bounded = record { lines = well.bounded.lines; turns = well.bounded.turns; few = well.bounded.few; within = tt; prefix = well.bounded.prefix };
   fresh = λ begins. absurd (cc);
@@ -160,18 +160,18 @@ module _ (here next : Phase) (s s' : State) (told told' : Option Reading) where
   abbrev After : Running
   After = record { phase = passed next; state = s' }
 
-  abbrev later_of : Past → List ℕ → Past
-  later_of past fed = past_after here next (held_of s fed) past
+  abbrev later_of : History → List ℕ → History
+  later_of past fed = history_after here next (held_of s fed) past
 
   -- over the source alone it is in progress after a turn
-  past_on : {fed fed' : List ℕ} {past : Past} {calls : Calls} → Follows (job_of s.job) (turning (kept_of s fed)).counts here (kept_of s fed).prefix (held_of s fed) (kept_of s' fed').prefix (held_of s' fed') calls (Ok next)
-      → Answers calls.asked told told' → (kept_of s' fed').counts ≡ counted_with calls.line (turning (kept_of s fed)).counts → IsPast (job_of s.job) no_start (source_alone told) (run_of Before fed) past
-      → IsPast (job_of s.job) no_start (source_alone told') (record { phase = next; kept = kept_of s' fed' }) (later_of past fed)
+  past_on : {fed fed' : List ℕ} {past : History} {calls : Calls} → Next (job_of s.job) (turning (kept_of s fed)).counts here (kept_of s fed).prefix (held_of s fed) (kept_of s' fed').prefix (held_of s' fed') calls (Ok next)
+      → Answers calls.asked told told' → (kept_of s' fed').counts ≡ counted_with calls.line (turning (kept_of s fed)).counts → IsHistory (job_of s.job) no_start (source_alone told) (run_of Before fed) past
+      → IsHistory (job_of s.job) no_start (source_alone told') (record { phase = next; kept = kept_of s' fed' }) (later_of past fed)
   past_on {fed} {fed'} {past} {calls} follows answers counts it =
       turned (job_of s.job) past no_start (source_alone told) (source_alone told') (run_of Before fed) (kept_of s' fed') next calls follows
       (record { source = answers; dest = no_change calls.change; log = no_line calls.line }) counts it
 
-  survey_on : {count : ℕ} (it : IsSurvey told count Before) (fed' : List ℕ) → s'.job ≡ s.job → HasBeenFed s.job.algorithm s'.hasher fed' → IsPast (job_of s.job) no_start (source_alone told') (record { phase = next; kept = kept_of s' fed' }) (later_of it.past it.fed)
+  survey_on : {count : ℕ} (it : IsSurvey told count Before) (fed' : List ℕ) → s'.job ≡ s.job → HasBeenFed s.job.algorithm s'.hasher fed' → IsHistory (job_of s.job) no_start (source_alone told') (record { phase = next; kept = kept_of s' fed' }) (later_of it.past it.fed)
       → ForSome told' (λ r. IsWithinWork (job_of s.job) r.tree (later_of it.past it.fed).count (record { phase = passed next; kept = kept_of s' fed' }))
       → is_of_survey (passed next) ≡ true → IsSurvey told' (later_of it.past it.fed).count After
   survey_on it fed' job was past within stands = record {
@@ -179,7 +179,7 @@ module _ (here next : Phase) (s s' : State) (told told' : Option Reading) where
     was = fed_to_end (passed next) s'.job.algorithm s'.hasher fed' (subst (λ j. HasBeenFed j.algorithm s'.hasher fed') (sym job) was);
     past = later_of it.past it.fed;
     seen = refl;
-    is = subst (λ j. IsPast (job_of j) no_start (source_alone told') (record { phase = passed next; kept = kept_of s' fed' }) (later_of it.past it.fed)) (sym job) (passed_past next past);
+    is = subst (λ j. IsHistory (job_of j) no_start (source_alone told') (record { phase = passed next; kept = kept_of s' fed' }) (later_of it.past it.fed)) (sym job) (passed_past next past);
     within = subst (λ j. ForSome told' (λ r. IsWithinWork (job_of j) r.tree (later_of it.past it.fed).count (record { phase = passed next; kept = kept_of s' fed' }))) (sym job) within;
     stands = stands;
   }
@@ -192,8 +192,8 @@ looks here next s s' told told' w l l' a b c a' b' c' count looking it counted =
     let made = counted.1 it.fed (fed_going s.job.algorithm s.hasher it.fed (going here it.stands) it.was) in
     by made.0 made.1.0 made.1.1
   where
-    later : Past
-    later = past_after here next (held_of s it.fed) it.past
+    later : History
+    later = history_after here next (held_of s it.fed) it.past
 
     by : (fed' : List ℕ) → HasBeenFed s.job.algorithm s'.hasher fed' → Turn (job_of s.job) here (turning (kept_of s it.fed)) (kept_of s' fed') (world told (Some bare) l a b c) (world told' w l' a' b' c') (Ok next)
         → GoesOn told told' l l' count (record { phase = here; state = s }) (record { phase = passed next; state = s' })
@@ -214,7 +214,7 @@ at_hand_seen : {job : Job} {source : Forest} {count : ℕ} {object : Object} {he
 at_hand_seen it {same} is = WasAtHand (record { item = it.item; is = it.is; lines_are = it.lines_are ∙ ap (λ (l : Line). l ∷ []) is })
 
 -- the turn that passes it
-pub line_follows : {job : Job} {counts : Counts} {object : Object} {next : Phase} {prefix read : List ℕ} {held after : Held} {calls : Calls} → Follows job counts (phase.Carrying object stage.Line) prefix held read after calls (Ok next) → (next ≡ phase.Walk) × (calls.line ≡ Some (done_line object held))
+pub line_follows : {job : Job} {counts : Counts} {object : Object} {next : Phase} {prefix read : List ℕ} {held after : Held} {calls : Calls} → Next job counts (phase.Carrying object stage.Line) prefix held read after calls (Ok next) → (next ≡ phase.Walk) × (calls.line ≡ Some (done_line object held))
 line_follows (Start turn) = elim turn [ ]
 line_follows (Walk turn) = elim turn [ ]
 line_follows (Scan turn) = elim turn [ ]
@@ -229,8 +229,8 @@ passes object next s s' told told' w l a b c a' b' c' count it counted =
     let made = counted.1 it.fed (fed_going s.job.algorithm s.hasher it.fed (going (phase.Carrying object stage.Line) it.stands) it.was) in
     by made.0 made.1.0 made.1.1
   where
-    later : Past
-    later = past_after (phase.Carrying object stage.Line) next (held_of s it.fed) it.past
+    later : History
+    later = history_after (phase.Carrying object stage.Line) next (held_of s it.fed) it.past
 
     by : (fed' : List ℕ) → HasBeenFed s.job.algorithm s'.hasher fed' → Turn (job_of s.job) (phase.Carrying object stage.Line) (turning (kept_of s it.fed)) (kept_of s' fed') (world told (Some bare) None a b c) (world told' w None a' b' c') (Ok next)
         → GoesOn told told' l l count (record { phase = phase.Carrying object stage.Line; state = s }) (record { phase = passed next; state = s' })
@@ -253,10 +253,10 @@ passes object next s s' told told' w l a b c a' b' c' count it counted =
 -- ---- what a turn leaves, whatever it answers
 
 module _ (here : Phase) (s s' : State) (told told' : Option Reading) (w v : Option Writing) (l l' : Option (List ℕ)) (a b c a' b' c' : ℕ) (answer : Answer) where
-  abbrev Old : World
+  abbrev Old : DeviceStates
   Old = world told None None a b c
 
-  abbrev New : World
+  abbrev New : DeviceStates
   New = world told' None None a' b' c'
 
   abbrev Counted : Type 0
@@ -269,7 +269,7 @@ module _ (here : Phase) (s s' : State) (told told' : Option Reading) (w v : Opti
   unfolding Surveys
   tree_of_turn (count, it) counted = tree_stays here s s' Old New answer (going here it.stands) (began a b c it) (alone counted)
 
-  pub well_of_turn : Surveys told (record { phase = here; state = s }) → IsWell (record { phase = here; state = s }) → s.counts.turns < s.job.limits.turns → Counted → IsWell (record { phase = phase_after answer; state = s' })
+  pub well_of_turn : Surveys told (record { phase = here; state = s }) → TypeInvariant (record { phase = here; state = s }) → s.counts.turns < s.job.limits.turns → Counted → TypeInvariant (record { phase = phase_after answer; state = s' })
   unfolding Surveys
   well_of_turn (count, it) well more counted = well_after here s s' Old New answer (going here it.stands) (began a b c it) well more (alone counted)
 
@@ -288,7 +288,7 @@ front_grows None l l' same = subst (Grows l) (sym same) (grows_none l)
 front_grows (Some line) l l' (n, puts) = (take n (line_text line), puts)
 
 pub log_of_turn : (here : Phase) (s s' : State) (told told' : Option Reading) (w v : Option Writing) (l l' : Option (List ℕ)) (a b c a' b' c' : ℕ) (answer : Answer) → Surveys told (record { phase = here; state = s }) → CountedTurn here s s' (world told w l a b c) (world told' v l' a' b' c') answer → Grows l l'
-unfolding Surveys CountedTurn Did Stays LeavesSome
+unfolding Surveys CountedTurn Did FailsUnchanged FailsPartway
 log_of_turn here s s' told told' w v l l' a b c a' b' c' answer (count, it) counted =
     by (counted.1 it.fed (fed_going s.job.algorithm s.hasher it.fed (going here it.stands) it.was)).1.1
   where
@@ -313,13 +313,13 @@ blames_none next left = record { source_is = ap (λ (f : Failures). f.source) le
 
 -- where it halts it says so rightly
 -- no turn of a survey refuses a destination
-start_refuses : {job : Job} {here : Phase} {prefix read : List ℕ} {calls : Calls} {why : Fault} → start.Starts job here prefix read calls (Err why) → is_of_survey here ≡ true → is_of_dest why ≡ false
+start_refuses : {job : Job} {here : Phase} {prefix read : List ℕ} {calls : Calls} {why : Fault} → start.StartStep job here prefix read calls (Err why) → is_of_survey here ≡ true → is_of_dest why ≡ false
 start_refuses (start.IsNoStore _ _ _) is = refl
 start_refuses (start.IsNoPrefixFile _ _ _ _) is = refl
 start_refuses (start.IsNoPrefix _ _ _ _) is = refl
 start_refuses _ is = absurd (true≢false (sym is))
 
-refuses : {job : Job} {counts : Counts} {here : Phase} {prefix read : List ℕ} {held after : Held} {calls : Calls} {why : Fault} → Follows job counts here prefix held read after calls (Err why) → is_of_survey here ≡ true → is_of_dest why ≡ false
+refuses : {job : Job} {counts : Counts} {here : Phase} {prefix read : List ℕ} {held after : Held} {calls : Calls} {why : Fault} → Next job counts here prefix held read after calls (Err why) → is_of_survey here ≡ true → is_of_dest why ≡ false
 refuses (Start turn) is = start_refuses turn is
 refuses (Walk turn) is = elim turn [ ]
 refuses (Scan turn) is = elim turn [ ]
@@ -339,7 +339,7 @@ no_turns why own is = subst IsOfTurn is own
 
 pub says_of_turn : (here : Phase) (s s' : State) (told told' : Option Reading) (w v : Option Writing) (l l' : Option (List ℕ)) (a c a' c' : ℕ) (why : Fault) → Surveys told (record { phase = here; state = s }) → CountedTurn here s s' (world told w l a 0 c) (world told' v l' a' 0 c') (Err why)
     → SurveySays s.job (source_tree told) why
-unfolding Surveys TurnKeeps CountedTurn Did Stays LeavesSome
+unfolding Surveys TurnKeeps CountedTurn Did FailsUnchanged FailsPartway
 says_of_turn here s s' told told' w v l l' a c a' c' why (count, it) counted = record {
   rightly = (keeps_after here s s' (world told None None a 0 c) (world told' None None a' 0 c') (Err why) (going here it.stands) (counted_alone here s s' told told' w v l l' a 0 c a' 0 c' (Err why) counted) no_start (is_begun a 0 c it)).says.says;
   no_dest = by (counted.1 it.fed (fed_going s.job.algorithm s.hasher it.fed (going here it.stands) it.was)).1.1;
@@ -420,12 +420,12 @@ pub leaves_halted : (here : Phase) (why : Fault) (s s' : State) (told told' : Op
     → Leaves told told' l l a a' c c s.job (Err why)
 leaves_halted here why s s' told told' v l c a a' it counted = leaves_log l c (leaves_err here why s s' told told' v None None a 0 a' 0 it counted)
 
-pub well_ok : (here next : Phase) (s s' : State) (told told' : Option Reading) (v : Option Writing) (l l' : Option (List ℕ)) (a b c a' b' c' : ℕ) → Surveys told (record { phase = here; state = s }) → IsWell (record { phase = here; state = s }) → s.counts.turns < s.job.limits.turns
-    → CountedTurn here s s' (world told (Some bare) l a b c) (world told' v l' a' b' c') (Ok next) → IsWell (record { phase = passed next; state = s' })
+pub well_ok : (here next : Phase) (s s' : State) (told told' : Option Reading) (v : Option Writing) (l l' : Option (List ℕ)) (a b c a' b' c' : ℕ) → Surveys told (record { phase = here; state = s }) → TypeInvariant (record { phase = here; state = s }) → s.counts.turns < s.job.limits.turns
+    → CountedTurn here s s' (world told (Some bare) l a b c) (world told' v l' a' b' c') (Ok next) → TypeInvariant (record { phase = passed next; state = s' })
 well_ok here next s s' told told' v l l' a b c a' b' c' it well more counted = passed_well next (well_of_turn here s s' told told' (Some bare) v l l' a b c a' b' c' (Ok next) it well more counted)
 
-pub well_err : (here : Phase) (why : Fault) (s s' : State) (told told' : Option Reading) (v : Option Writing) (l l' : Option (List ℕ)) (a b c a' b' c' : ℕ) → Surveys told (record { phase = here; state = s }) → IsWell (record { phase = here; state = s }) → s.counts.turns < s.job.limits.turns
-    → CountedTurn here s s' (world told (Some bare) l a b c) (world told' v l' a' b' c') (Err why) → IsWell (record { phase = phase.Ended; state = s' })
+pub well_err : (here : Phase) (why : Fault) (s s' : State) (told told' : Option Reading) (v : Option Writing) (l l' : Option (List ℕ)) (a b c a' b' c' : ℕ) → Surveys told (record { phase = here; state = s }) → TypeInvariant (record { phase = here; state = s }) → s.counts.turns < s.job.limits.turns
+    → CountedTurn here s s' (world told (Some bare) l a b c) (world told' v l' a' b' c') (Err why) → TypeInvariant (record { phase = phase.Ended; state = s' })
 well_err here why s s' told told' v l l' a b c a' b' c' it well more counted = well_of_turn here s s' told told' (Some bare) v l l' a b c a' b' c' (Err why) it well more counted
 
 -- ---- a survey that is to begin
@@ -434,10 +434,10 @@ pub new_survey : (r : Running) (job : own.Job) → IsNew job r → IsLayout job.
 new_survey r job new layout told proper = record {
   fed = [];
   was = fed_to_end r.phase r.state.job.algorithm r.state.hasher [] (subst (λ j. HasBeenFed j.algorithm r.state.hasher []) (sym new.job_is) new.fed);
-  past = no_past;
+  past = no_history;
   seen = refl;
-  is = subst (λ j. IsPast (job_of j) no_start (source_alone told) (run_of r []) no_past) (sym new.job_is)
-      (subst (λ (run : Run). IsPast (job_of job) no_start (source_alone told) run no_past) (sym run_is)
+  is = subst (λ j. IsHistory (job_of j) no_start (source_alone told) (run_of r []) no_history) (sym new.job_is)
+      (subst (λ (run : Run). IsHistory (job_of job) no_start (source_alone told) run no_history) (sym run_is)
       (new_past {world = source_alone told} layout (record { source = proper; dest = λ s e. absurd (cc) })));
   within = subst (λ j. ForSome told (λ s. IsWithinWork (job_of j) s.tree 0 (run_of r []))) (sym new.job_is)
       (subst (λ (run : Run). ForSome told (λ s. IsWithinWork (job_of job) s.tree 0 run)) (sym run_is) (λ s is. omega arith));
@@ -471,8 +471,8 @@ module _ (here next : Phase) (s s' : State) (told told' : Option Reading) (v : O
       → GoesOn told told' l l' count (record { phase = here; state = s }) (record { phase = at; state = s' })
   step_looks count is looking counted it = subst (λ (p : Phase). GoesOn told told' l l' count (record { phase = here; state = s }) (record { phase = p; state = s' })) (sym is) (looks here next s s' told told' v l l' a 0 c a' 0 c' count looking it counted)
 
-  pub step_well : at ≡ passed next → IsReady told here s → CountedTurn here s s' (world told (Some bare) l a 0 c) (world told' v l' a' 0 c') (Ok next) → IsWell (record { phase = at; state = s' })
-  step_well is ready counted = subst (λ (p : Phase). IsWell (record { phase = p; state = s' })) (sym is) (well_ok here next s s' told told' v l l' a 0 c a' 0 c' ready.under_way ready.well ready.within counted)
+  pub step_well : at ≡ passed next → IsReady told here s → CountedTurn here s s' (world told (Some bare) l a 0 c) (world told' v l' a' 0 c') (Ok next) → TypeInvariant (record { phase = at; state = s' })
+  step_well is ready counted = subst (λ (p : Phase). TypeInvariant (record { phase = p; state = s' })) (sym is) (well_ok here next s s' told told' v l l' a 0 c a' 0 c' ready.under_way ready.well ready.within counted)
 
   pub step_leaves : at ≡ passed next → IsReady told here s → CountedTurn here s s' (world told (Some bare) l a 0 c) (world told' v l' a' 0 c') (Ok next) → Leaves told told' l l' a a' c c' s.job (Ok at)
   step_leaves is ready counted = subst (λ (p : Phase). Leaves told told' l l' a a' c c' s.job (Ok p)) (sym is) (leaves_ok here next s s' told told' v l l' a c a' c' ready.under_way counted)
@@ -485,8 +485,8 @@ module _ (here next : Phase) (s s' : State) (told told' : Option Reading) (v : O
   step_leaves_log is ready counted = subst (λ (p : Phase). Leaves told told' l l a a' c c s.job (Ok p)) (sym is) (leaves_passed here next s s' told told' v l c a a' ready.under_way counted)
 
 module _ (here : Phase) (why : Fault) (s s' : State) (told told' : Option Reading) (v : Option Writing) (l l' : Option (List ℕ)) (a c a' c' : ℕ) (answer : Answer) where
-  pub halt_well : answer ≡ Err why → IsReady told here s → CountedTurn here s s' (world told (Some bare) l a 0 c) (world told' v l' a' 0 c') (Err why) → IsWell (record { phase = phase_after answer; state = s' })
-  halt_well is ready counted = subst (λ (r : Answer). IsWell (record { phase = phase_after r; state = s' })) (sym is) (well_err here why s s' told told' v l l' a 0 c a' 0 c' ready.under_way ready.well ready.within counted)
+  pub halt_well : answer ≡ Err why → IsReady told here s → CountedTurn here s s' (world told (Some bare) l a 0 c) (world told' v l' a' 0 c') (Err why) → TypeInvariant (record { phase = phase_after answer; state = s' })
+  halt_well is ready counted = subst (λ (r : Answer). TypeInvariant (record { phase = phase_after r; state = s' })) (sym is) (well_err here why s s' told told' v l l' a 0 c a' 0 c' ready.under_way ready.well ready.within counted)
 
   pub halt_leaves : answer ≡ Err why → IsReady told here s → CountedTurn here s s' (world told (Some bare) l a 0 c) (world told' v l' a' 0 c') (Err why) → Leaves told told' l l' a a' c c' s.job answer
   halt_leaves is ready counted = subst (λ (r : Answer). Leaves told told' l l' a a' c c' s.job r) (sym is) (leaves_err here why s s' told told' v l l' a c a' c' ready.under_way counted)

@@ -6,9 +6,9 @@ use Rattle.pt_tree.specs.Dest.{Writing}
 use Rattle.pt_tree.specs.Source.{Reading}
 use Rattle.pt_plan.specs.Job.{Job}
 use Rattle.pt_plan.specs.Run.{Counts, Held, Kept}
-use Rattle.pt_plan.specs.Turn.{Follows, GoesOn as TurnGoesOn, Make, Place, Scan, Start, Turn, Walk}
+use Rattle.pt_plan.specs.Turn.{Next, GoesOn as TurnGoesOn, Make, Place, Scan, Start, Turn, Walk}
 use Rattle.pt_plan.specs.TurnStart as start
-use Rattle.pt_plan.specs.World.{Calls, source_tree}
+use Rattle.pt_plan.specs.DeviceStates.{Calls, source_tree}
 use Rattle.pt_plan.specs.declared.phase.Phase.{Phase}
 use Rattle.pt_plan.specs.declared.phase.Opening.TheVariants as opening
 use Rattle.pt_plan.specs.declared.phase.Phase.TheVariants as phase
@@ -23,7 +23,7 @@ use Rattle.pt_audit.proofs.Working.{is_left}
 use Rattle.pt_audit.proofs.Stepping.{bound_of_turn, going, leaves_of_turn}
 
 -- the store is seen before its sites
-opens : {job : Job} {counts : Counts} (here : Phase) {next : Phase} {prefix read : List ℕ} {held after : Held} {calls : Calls} → is_before_store here ≡ true → Follows job counts here prefix held read after calls (Ok next) → is_before_sites (passed next) ≡ true
+opens : {job : Job} {counts : Counts} (here : Phase) {next : Phase} {prefix read : List ℕ} {held after : Held} {calls : Calls} → is_before_store here ≡ true → Next job counts here prefix held read after calls (Ok next) → is_before_sites (passed next) ≡ true
 opens (phase.Opening opening.Begin) is (Start (start.IsStore _ _ _)) = refl
 opens (phase.Opening opening.Begin) is (Walk turn) = elim turn [ ]
 opens (phase.Opening opening.Begin) is (Scan turn) = elim turn [ ]

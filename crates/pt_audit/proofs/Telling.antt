@@ -12,13 +12,13 @@ use Rattle.pt_audit.specs.Counting.{counts_with, no_counts}
 use Rattle.pt_audit.specs.Layout.{IsOfLayout}
 use Rattle.pt_audit.specs.Lines as audit
 use Rattle.pt_audit.specs.declared.counts.Counts.{Counts}
-use Rattle.pt_begun.specs.BegunHeld.{HeldAt}
-use Rattle.pt_begun.specs.BegunSource.{SourcePart}
-use Rattle.pt_begun.proofs.ends.Permitted.{may_open_row}
+use Rattle.pt_invariant.specs.HeldInvariant.{HeldAt}
+use Rattle.pt_invariant.specs.SourceInvariant.{SourcePart}
+use Rattle.pt_invariant.proofs.ends.Permitted.{may_open_row}
 use Rattle.pt_compare.specs.Found.{IsFound, Sought}
 use Rattle.pt_compare.specs.Marks.{inside}
-use Rattle.pt_compare.specs.declared.difference.Finding.{Finding}
-use Rattle.pt_compare.specs.declared.difference.Finding.TheVariants as found
+use Rattle.pt_compare.specs.declared.difference.Comparison.{Comparison}
+use Rattle.pt_compare.specs.declared.difference.Comparison.TheVariants as found
 use Rattle.pt_move.specs.Running.{IsNew, Running, run_of}
 use Rattle.pt_move.proofs.Outcomes.{reading_of}
 use Rattle.pt_name.specs.Place.{place_of}
@@ -30,13 +30,13 @@ use Rattle.pt_object.specs.declared.rows.Row.{Row}
 use Rattle.pt_plan.specs.Items.{item_of, items}
 use Rattle.pt_plan.specs.Job.{Job}
 use Rattle.pt_plan.specs.Lines.{Line, Skipped, is_skipped, line_text}
-use Rattle.pt_plan.specs.Permits.{MayOpenRow}
+use Rattle.pt_plan.specs.Enabled.{MayOpenRow}
 use Rattle.pt_plan.specs.Run.{Held}
 use Rattle.pt_plan.specs.Store.{prefix_of, sites_of}
 use Rattle.pt_plan.specs.TurnPlace.{bytes_in_rows, done_line}
 use Rattle.pt_plan.specs.TurnMake.{path_of_source}
 use Rattle.pt_plan.specs.TurnWalk.{in_pairtree, in_root}
-use Rattle.pt_plan.specs.World.{Puts, source_tree}
+use Rattle.pt_plan.specs.DeviceStates.{Puts, source_tree}
 use Rattle.pt_plan.specs.declared.fault.Fault.{Fault}
 use Rattle.pt_plan.specs.declared.object.Object.{Object}
 use Rattle.pt_plan.specs.declared.phase.Part.TheVariants as part
@@ -50,8 +50,8 @@ use Rattle.pt_state.specs.declared.job.Report.{Report}
 use Rattle.pt_state.specs.declared.state.State.{State}
 use Rattle.pt_audit.specs.Surveying.{WasAtHand, GoesOn, HasAtHand, IsHand, IsHandAt, IsOf, IsSurvey, IsWithinWork, is_before_sites, is_before_store, Leads as SeesLeads, Nothing as SeesNothing, Sees, Skips, Surveys, is_looking, sight_at}
 use Rattle.pt_audit.specs.declared.survey.AtHand as hand
-use Rattle.pt_audit.specs.declared.survey.Sight.{Sight}
-use Rattle.pt_audit.specs.declared.survey.Sight.TheVariants as sight
+use Rattle.pt_audit.specs.declared.survey.SurveyEvent.{SurveyEvent}
+use Rattle.pt_audit.specs.declared.survey.SurveyEvent.TheVariants as sight
 use Rattle.pt_audit.proofs.Seen.{has_at_hand}
 use Rattle.pt_tree.specs.Failures.{greatest_count}
 use Rattle.pt_tree.specs.Forest.{Forest, file_at}
@@ -70,7 +70,7 @@ object_at_hand (phase.Opening opening.OpenRoot) is = absurd (cc)
 object_at_hand _ is = absurd (cc)
 
 -- where none is at hand, of the items that were seen is told
-told_there : (here : Phase) (count : ℕ) (what : Sight) → sight_at here ≡ what → is_told what ≡ false → told_at here count ≡ count
+told_there : (here : Phase) (count : ℕ) (what : SurveyEvent) → sight_at here ≡ what → is_told what ≡ false → told_at here count ≡ count
 told_there (phase.Carrying object stage.Line) count what is more = absurd (true≢false (ap is_told is ∙ more))
 told_there _ count what is more = refl
 
@@ -175,7 +175,7 @@ sites_after (phase.Opening (opening.Prefix _)) other later = later
 sites_after _ other later = later
 
 -- more is to be seen
-pub goes_on : {told : Option Reading} {source root : Option Forest} {first : Option (List ℕ)} (now : Option (List ℕ)) (counts : Counts) (r : Running) (what : Sight) → sight_at r.phase ≡ what → is_told what ≡ false → IsSeen told source root first now counts r → IsUnderWay told source root first now counts r
+pub goes_on : {told : Option Reading} {source root : Option Forest} {first : Option (List ℕ)} (now : Option (List ℕ)) (counts : Counts) (r : Running) (what : SurveyEvent) → sight_at r.phase ≡ what → is_told what ≡ false → IsSeen told source root first now counts r → IsUnderWay told source root first now counts r
 goes_on now counts r what is more it = record {
   count = it.count;
   is = it.is;
@@ -260,7 +260,7 @@ can_compare told r at is (count, it) mine = record {
         record { proper = known.proper; at = known.at; bytes = known.bytes; few = known.few }
 
 -- what was found of it is what is told of its item
-found_of : {job : own.Job} {source root : Forest} {count : ℕ} {object : Object} {s : State} {at : hand.AtHand} {finding : Finding} → s.job ≡ job → (it : HasAtHand (job_of job) source count object (held_of s [])) → IsOf object s at
+found_of : {job : own.Job} {source root : Forest} {count : ℕ} {object : Object} {s : State} {at : hand.AtHand} {finding : Comparison} → s.job ≡ job → (it : HasAtHand (job_of job) source count object (held_of s [])) → IsOf object s at
     → IsFound (sought_at_hand job at source) (inside root (in_root at.told.to.now)) finding → IsFoundOf (job_of job) source root it.item finding
 found_of {job} {source} {root} {count} {object} {s} {at} {finding} same it mine found = record {
   id = object.id;
@@ -289,13 +289,13 @@ found_of {job} {source} {root} {count} {object} {s} {at} {finding} same it mine 
     }
 
 -- its line
-line_is : {object : Object} {s : State} {at : hand.AtHand} (finding : Finding) → IsOf object s at
+line_is : {object : Object} {s : State} {at : hand.AtHand} (finding : Comparison) → IsOf object s at
     → audit.line_text (audit.line_by (audit.told_of at.told) finding)
     ≡ audit.line_text (audit.line_by (record { at = path_of_source object s.trail; bytes = min (bytes_in_rows s.rows) greatest_count; empty = object.empty; files = length s.rows; id = object.id; to = object.place }) finding)
 line_is finding mine = λ i. audit.line_text (audit.line_by (record { at = mine.told.at i; bytes = mine.told.bytes i; empty = mine.told.empty i; files = mine.told.files i; id = mine.told.id i; to = mine.told.to i }) finding)
 
 -- its line was put, and it is counted
-pub told_object : (told again : Option Reading) (source root : Option Forest) (first now new : Option (List ℕ)) (counts : Counts) (r : Running) (at : hand.AtHand) (finding : Finding) (text : List ℕ) (job : own.Job) (later : Counts) → job ≡ r.state.job → later ≡ counts_with finding counts → sight_at r.phase ≡ sight.Object → source_tree told ≡ source → source_tree again ≡ source_tree told
+pub told_object : (told again : Option Reading) (source root : Option Forest) (first now new : Option (List ℕ)) (counts : Counts) (r : Running) (at : hand.AtHand) (finding : Comparison) (text : List ℕ) (job : own.Job) (later : Counts) → job ≡ r.state.job → later ≡ counts_with finding counts → sight_at r.phase ≡ sight.Object → source_tree told ≡ source → source_tree again ≡ source_tree told
     → IsHand r (Some at) → IsFoundAtHand job at source root finding → text ≡ audit.line_text (audit.line_by (audit.told_of at.told) finding) → Appends now new text
     → IsSeen told source root first now counts r → IsUnderWay again source root first new later r
 told_object told again source root first now new counts r at finding text job later job_is counted_is is tree same mine found_there line puts it = record {
@@ -334,7 +334,7 @@ told_object told again source root first now new counts r at finding text job la
         (subst (λ (p : Phase). SourcePart (job_of r.state.job) it.is.past p (string_bytes r.state.prefix) (held_of r.state fed) s) here.1 (it.is.is.source s e)) in
         record { item = known.item; inner = known.inner; files = known.files; is = known.is; named = known.named; whole = known.whole; rows = known.rows; stored = known.stored; at = known.at; place = known.place; lines_are = known.lines_are }
 
-    counts_are : (f : Finding) → counts_with f (counted counts r) ≡ counted (counts_with f counts) r
+    counts_are : (f : Comparison) → counts_with f (counted counts r) ≡ counted (counts_with f counts) r
     counts_are found.Same = refl
     counts_are found.Absent = refl
     counts_are (found.Differs _) = refl
@@ -369,7 +369,7 @@ sought_from job at id from s = record {
 }
 
 -- what was found of the object that was compared is what was found of the one at hand
-pub found_at_hand : (job : own.Job) (at : hand.AtHand) (id : List ℕ) (from to : Path) (source root : Option Forest) (result : Result Finding Fault) → id ≡ at.told.id.now → from ≡ in_pairtree at.told.at → to ≡ in_root at.told.to.now
+pub found_at_hand : (job : own.Job) (at : hand.AtHand) (id : List ℕ) (from to : Path) (source root : Option Forest) (result : Result Comparison Fault) → id ≡ at.told.id.now → from ≡ in_pairtree at.told.at → to ≡ in_root at.told.to.now
     → IfOk result (λ finding. ForSome source (λ s. ForSome root (λ r. IsFound (sought_from job at id from s) (inside r to) finding))) → IfOk result (IsFoundAtHand job at source root)
 found_at_hand job at id from to source root (Err why) id_is from_is to_is is_found = tt
 found_at_hand job at id from to source root (Ok finding) id_is from_is to_is is_found = λ s e r f.
@@ -388,19 +388,19 @@ pub at_object : {told : Option Reading} {r : Running} → IsAt told sight.Object
 at_object it = sym it.saw
 
 -- of most steps nothing is told
-pub not_told : (what : Sight) → (what ≡ sight.More) ⊎ ((what ≡ sight.Scan) ⊎ ((what ≡ sight.Opened) ⊎ (what ≡ sight.Block))) → is_told what ≡ false
+pub not_told : (what : SurveyEvent) → (what ≡ sight.More) ⊎ ((what ≡ sight.Scan) ⊎ ((what ≡ sight.Opened) ⊎ (what ≡ sight.Block))) → is_told what ≡ false
 not_told what (inl is) = ap is_told is
 not_told what (inr (inl is)) = ap is_told is
 not_told what (inr (inr (inl is))) = ap is_told is
 not_told what (inr (inr (inr is))) = ap is_told is
 
-pub on_more : {told : Option Reading} {source root : Option Forest} {first : Option (List ℕ)} (now : Option (List ℕ)) (counts : Counts) (r : Running) (what : Sight) → is_told what ≡ false → IsAt told what r → IsSeen told source root first now counts r → IsUnderWay told source root first now counts r
+pub on_more : {told : Option Reading} {source root : Option Forest} {first : Option (List ℕ)} (now : Option (List ℕ)) (counts : Counts) (r : Running) (what : SurveyEvent) → is_told what ≡ false → IsAt told what r → IsSeen told source root first now counts r → IsUnderWay told source root first now counts r
 on_more now counts r what more at it = goes_on now counts r what (sym at.saw) more it
 
 pub on_store : {told : Option Reading} {source root : Option Forest} {first : Option (List ℕ)} (now : Option (List ℕ)) (counts : Counts) (r : Running) (job : own.Job) → job ≡ r.state.job → ForSome root (IsOfLayout (job_of job)) → IsAt told sight.Store r → IsSeen told source root first now counts r → IsUnderWay told source root first now counts r
 on_store {root} now counts r job same layout at it = goes_on_store now counts r (sym at.saw) (subst (λ (j : own.Job). ForSome root (IsOfLayout (job_of j))) same layout) it
 
-pub on_end : (told : Option Reading) (what : Sight) (root : Option Forest) (first now new : Option (List ℕ)) (counts last : Counts) (r : Running) → what ≡ sight.End → IsAt told what r → last ≡ counted counts r → Appends now new (last_text last) → IsSeen told (source_tree told) root first now counts r
+pub on_end : (told : Option Reading) (what : SurveyEvent) (root : Option Forest) (first now new : Option (List ℕ)) (counts last : Counts) (r : Running) → what ≡ sight.End → IsAt told what r → last ≡ counted counts r → Appends now new (last_text last) → IsSeen told (source_tree told) root first now counts r
     → EndsAs (job_of r.state.job) (source_tree told) root first new (counted counts r) × CanGoOn root r
 on_end told what root first now new counts last r end at is puts it = (told_end told (source_tree told) root first now new counts r (sym at.saw ∙ end) refl (subst (λ (k : Counts). Appends now new (last_text k)) is puts) it, it.opened (ap is_before_sites (end_at r.phase (sym at.saw ∙ end))))
 

@@ -8,21 +8,21 @@ use Rattle.pt_plan.specs.Carried.{Marked}
 use Rattle.pt_plan.specs.Items.{Item, items}
 use Rattle.pt_plan.specs.Job.{Job}
 use Rattle.pt_plan.specs.Run.{Counts, Held, turning}
-use Rattle.pt_plan.specs.Turn.{Follows, counted as counted_with}
-use Rattle.pt_plan.specs.World.{Answers, Calls, source_tree}
+use Rattle.pt_plan.specs.Turn.{Next, counted as counted_with}
+use Rattle.pt_plan.specs.DeviceStates.{Answers, Calls, source_tree}
 use Rattle.pt_plan.specs.declared.phase.Part.TheVariants as part
 use Rattle.pt_plan.specs.declared.phase.Phase.{Phase}
 use Rattle.pt_plan.specs.declared.phase.Opening.TheVariants as opening
 use Rattle.pt_plan.specs.declared.phase.Phase.TheVariants as phase
 use Rattle.pt_plan.specs.declared.phase.Stage.TheVariants as stage
-use Rattle.pt_begun.specs.Begun.{IsPast}
-use Rattle.pt_begun.specs.Past.{Past, past_after}
-use Rattle.pt_begun.specs.WorkLaws.{AreMarked, EntersFree}
-use Rattle.pt_begun.specs.WorkLeft.{left}
-use Rattle.pt_begun.proofs.ends.TurnKeeps.{told_source}
-use Rattle.pt_begun.proofs.source.InPairtree.{some_same}
-use Rattle.pt_begun.proofs.source.SourceKeeps.{tree_kept}
-use Rattle.pt_begun.proofs.turns_left.Within.{follows_lower, same_turns, some_left}
+use Rattle.pt_invariant.specs.RunInvariant.{IsHistory}
+use Rattle.pt_invariant.specs.History.{History, history_after}
+use Rattle.pt_invariant.specs.WorkLaws.{AreMarked, EntersFree}
+use Rattle.pt_invariant.specs.Rank.{rank}
+use Rattle.pt_invariant.proofs.ends.TurnKeeps.{told_source}
+use Rattle.pt_invariant.proofs.source.InPairtree.{some_same}
+use Rattle.pt_invariant.proofs.source.SourceKeeps.{tree_kept}
+use Rattle.pt_invariant.proofs.turns_left.Within.{follows_lower, same_turns, some_left}
 use Rattle.pt_move.proofs.Going.{is_going}
 use Rattle.pt_move.proofs.Outcomes.{reading_of}
 use Rattle.pt_move.specs.Running.{Running, run_of}
@@ -49,7 +49,7 @@ enters_free items _ count = tt
 -- ---- a step
 
 -- where a run would make something no more is left
-passed_left : (job : Job) (source : Forest) (marks : List Marked) (count : ℕ) (next : Phase) (held : Held) → left job source marks count (passed next) held ≤ left job source marks count next held
+passed_left : (job : Job) (source : Forest) (marks : List Marked) (count : ℕ) (next : Phase) (held : Held) → rank job source marks count (passed next) held ≤ rank job source marks count next held
 passed_left job source marks count (phase.Opening opening.Staging) held = omega arith
 passed_left job source marks count (phase.Carrying object (stage.Make part.Staging)) held = omega arith
 passed_left job source marks count (phase.Carrying object (stage.Make _)) held = omega arith
@@ -59,11 +59,11 @@ module _ (here next : Phase) (s s' : State) (told told' : Option Reading) where
   abbrev Before : Running
   Before = record { phase = here; state = s }
 
-  abbrev later_of : Past → List ℕ → Past
-  later_of past fed = past_after here next (held_of s fed) past
+  abbrev later_of : History → List ℕ → History
+  later_of past fed = history_after here next (held_of s fed) past
 
-  pub within_on : {fed fed' : List ℕ} {past : Past} {calls : Calls} → Follows (job_of s.job) (turning (kept_of s fed)).counts here (kept_of s fed).prefix (held_of s fed) (kept_of s' fed').prefix (held_of s' fed') calls (Ok next)
-      → Answers calls.asked told told' → (kept_of s' fed').counts ≡ counted_with calls.line (turning (kept_of s fed)).counts → IsPast (job_of s.job) no_start (source_alone told) (run_of Before fed) past
+  pub within_on : {fed fed' : List ℕ} {past : History} {calls : Calls} → Next (job_of s.job) (turning (kept_of s fed)).counts here (kept_of s fed).prefix (held_of s fed) (kept_of s' fed').prefix (held_of s' fed') calls (Ok next)
+      → Answers calls.asked told told' → (kept_of s' fed').counts ≡ counted_with calls.line (turning (kept_of s fed)).counts → IsHistory (job_of s.job) no_start (source_alone told) (run_of Before fed) past
       → ForSome told (λ r. IsWithinWork (job_of s.job) r.tree past.count (run_of Before fed))
       → ForSome told' (λ r. IsWithinWork (job_of s.job) r.tree (later_of past fed).count (record { phase = passed next; kept = kept_of s' fed' }))
   within_on {fed} {fed'} {past} {calls} follows answers counts it within = λ v same.

@@ -5,8 +5,8 @@ use Rattle.pt_audit.specs.declared.counts.Counts.{Counts}
 use Rattle.pt_compare.specs.Described.{IsGiven}
 use Rattle.pt_compare.specs.Found.{IsObject}
 use Rattle.pt_compare.specs.Marks.{inside}
-use Rattle.pt_compare.specs.declared.difference.Finding.{Finding}
-use Rattle.pt_compare.specs.declared.difference.Finding.TheVariants.{Same}
+use Rattle.pt_compare.specs.declared.difference.Comparison.{Comparison}
+use Rattle.pt_compare.specs.declared.difference.Comparison.TheVariants.{Same}
 use Rattle.pt_name.specs.Place.{place_of}
 use Rattle.pt_object.specs.FilePaths.{File}
 use Rattle.pt_object.specs.MetaParts.{AreTexts}
@@ -50,7 +50,7 @@ pub record HasRun (job : Job) (source : Forest) (start : Tree) (root : Forest) :
 -- of an object that the run carried nothing is found but that it stands
 abbrev pub WhatWasCarriedIsTheSame : Type 0
 WhatWasCarriedIsTheSame =
-    (job : Job) (source root : Forest) (start : Tree) (k : ℕ) (item : Item) (finding : Finding)
+    (job : Job) (source root : Forest) (start : Tree) (k : ℕ) (item : Item) (finding : Comparison)
     → HasRun job source start root
     → slice_get (marked job source (root_in start)) k ≡ Some (item, false)
     → IsFoundOf job source root item finding → finding ≡ Same

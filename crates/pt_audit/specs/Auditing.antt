@@ -7,7 +7,7 @@ use Rattle.pt_audit.specs.Lines as audit
 use Rattle.pt_audit.specs.declared.counts.Counts.{Counts}
 use Rattle.pt_compare.specs.Found.{IsFound, Sought}
 use Rattle.pt_compare.specs.Marks.{inside}
-use Rattle.pt_compare.specs.declared.difference.Finding.{Finding}
+use Rattle.pt_compare.specs.declared.difference.Comparison.{Comparison}
 use Rattle.pt_move.specs.Running.{Running}
 use Rattle.pt_name.specs.Place.{place_of}
 use Rattle.pt_object.specs.Distinct.{content_of_row, distinct}
@@ -24,8 +24,8 @@ use Rattle.pt_plan.specs.declared.phase.Stage.TheVariants as stage
 use Rattle.pt_state.specs.States.{job_of}
 use Rattle.pt_state.specs.declared.job.Job as own
 use Rattle.pt_audit.specs.Surveying.{IsSurvey, Surveys, is_before_sites, is_before_store, sight_at}
-use Rattle.pt_audit.specs.declared.survey.Sight.{Sight}
-use Rattle.pt_audit.specs.declared.survey.Sight.TheVariants as sight
+use Rattle.pt_audit.specs.declared.survey.SurveyEvent.{SurveyEvent}
+use Rattle.pt_audit.specs.declared.survey.SurveyEvent.TheVariants as sight
 use Rattle.pt_audit.specs.declared.survey.AtHand.{AtHand}
 use Rattle.pt_tree.specs.Failures.{greatest_count}
 use Rattle.pt_tree.specs.Forest.{Forest}
@@ -45,7 +45,7 @@ sought job id files = record {
 }
 
 -- the item has an object with no cause against it, and this is found at the place of its identifier
-pub record IsFoundOf (job : Job) (source root : Forest) (item : Item) (finding : Finding) : Type 0 where
+pub record IsFoundOf (job : Job) (source root : Forest) (item : Item) (finding : Comparison) : Type 0 where
   pub id : List ℕ
   pub object : PairtreeObject
   pub files : List File
@@ -60,7 +60,7 @@ pub data TellsOf (job : Job) (source root : Forest) (item : Item) : List Line �
   Passes : {counts : Counts} (at : Path) (why : Cause)
       → TellsOf job source root item (Skipped at why ∷ []) (line_text (Skipped at why)) counts
       (record counts { skipped = counts.skipped + 1 })
-  Finds : {counts : Counts} {at : Path} {bytes empty files : ℕ} {id : List ℕ} {to : Path} (finding : Finding)
+  Finds : {counts : Counts} {at : Path} {bytes empty files : ℕ} {id : List ℕ} {to : Path} (finding : Comparison)
       → IsFoundOf job source root item finding
       → TellsOf job source root item (Done at bytes empty files id to ∷ [])
       (audit.line_text (audit.line_by
@@ -114,14 +114,14 @@ pub record IsSeen (told : Option Reading) (source root : Option Forest) (first n
   pub opened : is_before_sites r.phase ≡ false → CanGoOn root r
 
 -- something is told or looked at that a step came to
-abbrev pub is_told : Sight → Bool
+abbrev pub is_told : SurveyEvent → Bool
 is_told sight.Store = true
 is_told sight.Object = true
 is_told sight.End = true
 is_told _ = false
 
 -- a survey is under way that saw this by its last step
-pub record IsAt (told : Option Reading) (what : Sight) (r : Running) : Type 0 where
+pub record IsAt (told : Option Reading) (what : SurveyEvent) (r : Running) : Type 0 where
   pub under_way : Surveys told r
   pub saw : what ≡ sight_at r.phase
 
@@ -143,7 +143,7 @@ sought_at_hand job hand source = record {
 }
 
 -- and this is found there, where both trees are told
-abbrev pub IsFoundAtHand : own.Job → AtHand → Option Forest → Option Forest → Finding → Type 0
+abbrev pub IsFoundAtHand : own.Job → AtHand → Option Forest → Option Forest → Comparison → Type 0
 IsFoundAtHand job hand source root finding =
     ForSome source (λ s. ForSome root
     (λ r. IsFound (sought_at_hand job hand s) (inside r (in_root hand.told.to.now)) finding))

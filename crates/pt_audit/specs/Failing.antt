@@ -7,7 +7,7 @@ use Rattle.pt_move.specs.Outcome.{SaysRightly}
 use Rattle.pt_plan.specs.declared.fault.Fault.{Fault}
 use Rattle.pt_plan.specs.declared.fault.Fault.TheVariants as fault
 use Rattle.pt_plan.specs.Turn.{HasFailed}
-use Rattle.pt_plan.specs.World.{Failures}
+use Rattle.pt_plan.specs.DeviceStates.{Failures}
 use Rattle.pt_state.specs.States.{job_of}
 use Rattle.pt_state.specs.declared.job.Job as own
 use Rattle.pt_audit.specs.Surveying.{MeetsLimit}

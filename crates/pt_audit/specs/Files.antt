@@ -2,8 +2,8 @@
 use Rattle.std.specs.Prelude.{◌≡◌, ℕ, zero, ◌-◌, Bool, true, false, cond, List, Option, None, Some, Ok}
 use Rattle.std.specs.Bool.{MatchBool, OnTrue}
 use Rattle.pt_move.specs.Running.{Running}
-use Rattle.pt_plan.specs.TurnScan.{Scans}
-use Rattle.pt_plan.specs.World.{Answers, Calls, source_tree}
+use Rattle.pt_plan.specs.TurnScan.{ScanStep}
+use Rattle.pt_plan.specs.DeviceStates.{Answers, Calls, source_tree}
 use Rattle.pt_plan.specs.declared.object.Object.{Object}
 use Rattle.pt_plan.specs.declared.phase.Phase.{Phase}
 use Rattle.pt_plan.specs.declared.phase.Phase.TheVariants as phase
@@ -29,7 +29,7 @@ pub record Scanned (told told' : Option Reading) (before after : Running) : Type
   pub later : List ℕ
   pub next : Phase
   pub calls : Calls
-  pub scans : Scans (job_of before.state.job) before.phase (held_of before.state fed)
+  pub scans : ScanStep (job_of before.state.job) before.phase (held_of before.state fed)
       (held_of after.state later) calls (Ok next)
   pub answers : Answers calls.asked told told'
   pub here : after.phase ≡ passed next

@@ -5,7 +5,7 @@ use Rattle.std.specs.Io.KnownBytes.{Appends}
 use Rattle.pt_move.specs.Counting.{Counts}
 use Rattle.pt_plan.specs.declared.fault.Fault.{Fault}
 use Rattle.pt_plan.specs.declared.fault.Fault.TheVariants as fault
-use Rattle.pt_plan.specs.World.{source_tree}
+use Rattle.pt_plan.specs.DeviceStates.{source_tree}
 use Rattle.pt_plan.specs.declared.phase.Phase.{Phase}
 use Rattle.pt_state.specs.declared.job.Job.{Job}
 use Rattle.pt_audit.specs.Surveying.{SurveySays}

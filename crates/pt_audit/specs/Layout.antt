@@ -1,7 +1,7 @@
 -- Which storage root an audit goes on with: none, or one of the job's layout.
 use Rattle.std.specs.Prelude.{◌≡◌, ◌≢◌, ◌⊎◌, ℕ, Bool, true, false, List, [], Some, Result, Ok, Err, ⊤}
-use Rattle.pt_begun.specs.BegunDest.{HasRootFiles}
-use Rattle.pt_begun.specs.RefusalLaws.{IsBadTarget}
+use Rattle.pt_invariant.specs.DestInvariant.{HasRootFiles}
+use Rattle.pt_invariant.specs.RefusalLaws.{IsBadTarget}
 use Rattle.pt_object.specs.Holding.{IsFree}
 use Rattle.pt_plan.specs.Job.{Job}
 use Rattle.pt_plan.specs.Roots.{root_in}

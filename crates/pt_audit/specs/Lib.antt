@@ -1,13 +1,13 @@
 pub mod AuditLaws
 pub mod Auditing
-pub mod Bare
-pub mod Beside
 pub mod Bounds
 pub mod Counting
+pub mod EmptyDest
 pub mod Failing
 pub mod Files
 pub mod Growing
 pub mod Layout
 pub mod Lines
+pub mod RootReader
 pub mod Surveying
 pub mod Surveys

@@ -1,8 +1,8 @@
 -- The lines of an audit's log: each one compact JSON object with its keys in byte order, and LF.
 use Rattle.std.specs.Prelude.{ℕ, List, [], ◌∷◌, ◌++◌, codes}
 use Rattle.pt_compare.specs.Difference.{why_word}
-use Rattle.pt_compare.specs.declared.difference.Finding.{Finding}
-use Rattle.pt_compare.specs.declared.difference.Finding.TheVariants as finding
+use Rattle.pt_compare.specs.declared.difference.Comparison.{Comparison}
+use Rattle.pt_compare.specs.declared.difference.Comparison.TheVariants as finding
 use Rattle.pt_compare.specs.declared.difference.Why.{Why}
 use Rattle.pt_move.specs.declared.carried.Carried.{Carried}
 use Rattle.pt_plan.specs.Lines.{number_member, text_member}
@@ -28,7 +28,7 @@ pub data Line : Type 0 where
   End : (same absent differs skipped : ℕ) → Line
 
 -- the line of an object, by what was found at its place
-abbrev pub line_by : Told → Finding → Line
+abbrev pub line_by : Told → Comparison → Line
 line_by told finding.Same = Same told
 line_by told finding.Absent = Absent told
 line_by told (finding.Differs difference) = Differs told difference.path difference.why

@@ -1,11 +1,11 @@
 -- A survey under way: the turns of a run that look at a store, over a destination in which nothing stands. Its neighbours are the source's, since nothing is made.
 use Rattle.std.specs.Prelude.{◌≡◌, ◌<◌, ◌≤◌, ℕ, zero, suc, Bool, true, false, List, [], ◌∷◌, ◌++◌, ◌+◌, count_by, map, sum_by, Option, None, Some, option_to_list, slice_get}
 use Rattle.std.specs.Option.{ForSome}
-use Rattle.pt_begun.specs.Begun.{IsPast, Start}
-use Rattle.pt_begun.specs.Past.{Past}
-use Rattle.pt_begun.specs.WorkLeft.{left}
+use Rattle.pt_invariant.specs.RunInvariant.{IsHistory, Start}
+use Rattle.pt_invariant.specs.History.{History}
+use Rattle.pt_invariant.specs.Rank.{rank}
 use Rattle.pt_move.specs.Outcome.{HoldsWithinBound, SaysRightly}
-use Rattle.pt_move.specs.Running.{FedUntilEnd, IsWell, Running, run_of}
+use Rattle.pt_move.specs.Running.{FedUntilEnd, TypeInvariant, Running, run_of}
 use Rattle.pt_name.specs.Place.{place_of}
 use Rattle.pt_object.specs.FilePaths.{File}
 use Rattle.pt_object.specs.Object.{bytes_in, rows_of, stored_files}
@@ -18,7 +18,7 @@ use Rattle.pt_plan.specs.TurnMake.{path_of_source}
 use Rattle.pt_plan.specs.TurnPlace.{done_line}
 use Rattle.pt_plan.specs.TurnWalk.{in_pairtree}
 use Rattle.pt_plan.specs.Work.{work_on_item}
-use Rattle.pt_plan.specs.World.{Puts, World}
+use Rattle.pt_plan.specs.DeviceStates.{Puts, DeviceStates}
 use Rattle.pt_plan.specs.declared.object.Object.{Object}
 use Rattle.pt_plan.specs.declared.phase.Part.{Part}
 use Rattle.pt_plan.specs.declared.phase.Part.TheVariants as part
@@ -34,10 +34,10 @@ use Rattle.pt_state.specs.declared.state.State.{State}
 use Rattle.pt_move.specs.Carried.{IsCarried}
 use Rattle.pt_plan.specs.declared.fault.Fault.{Fault}
 use Rattle.pt_plan.specs.declared.fault.Fault.TheVariants as fault
-use Rattle.pt_audit.specs.Bare.{bare}
+use Rattle.pt_audit.specs.EmptyDest.{bare}
 use Rattle.pt_audit.specs.declared.survey.AtHand.{AtHand}
-use Rattle.pt_audit.specs.declared.survey.Sight.{Sight}
-use Rattle.pt_audit.specs.declared.survey.Sight.TheVariants as sight
+use Rattle.pt_audit.specs.declared.survey.SurveyEvent.{SurveyEvent}
+use Rattle.pt_audit.specs.declared.survey.SurveyEvent.TheVariants as sight
 use Rattle.pt_tree.specs.Forest.{Forest}
 use Rattle.pt_tree.specs.Path.{Path}
 use Rattle.pt_tree.specs.Source.{Reading}
@@ -53,15 +53,15 @@ abbrev pub no_start : Start
 no_start = record { dest = None; log = None }
 
 -- a world in which the source alone tells, and nothing failed
-abbrev pub source_alone : Option Reading → World
+abbrev pub source_alone : Option Reading → DeviceStates
 source_alone told = world told None None 0 0 0
 
 -- the world of a survey's devices, by the words of their traits: its source and its log, over a bare root that never fails
-abbrev pub bare_world : {S L : Type 0} → OfSource S → OfLog L → S → L → World
+abbrev pub bare_world : {S L : Type 0} → OfSource S → OfLog L → S → L → DeviceStates
 bare_world s l source log = world (s.told source) (Some bare) (l.told log) (s.failed source) 0 (l.failed log)
 
 -- the same with a log that nobody reads
-abbrev pub unlogged_world : {S : Type 0} → OfSource S → S → World
+abbrev pub unlogged_world : {S : Type 0} → OfSource S → S → DeviceStates
 unlogged_world s source = world (s.told source) (Some bare) None (s.failed source) 0 0
 
 -- what stands in the source is looked at
@@ -99,7 +99,7 @@ passed (phase.Carrying object (stage.Make here)) = passed_part object here
 passed here = here
 
 -- what is seen there
-abbrev pub sight_at : Phase → Sight
+abbrev pub sight_at : Phase → SurveyEvent
 sight_at (phase.Opening opening.OpenRoot) = sight.Store
 sight_at (phase.Carrying object stage.Scan) = sight.Scan
 sight_at (phase.Carrying object (stage.Read zero)) = sight.Opened
@@ -122,7 +122,7 @@ work_of_survey job source = 13 + sum_by (work_on_item job) (all_free (items job 
 abbrev pub IsWithinWork : Job → Forest → ℕ → Run → Type 0
 IsWithinWork job source count run =
     run.kept.counts.turns
-    + left job source (all_free (items job source)) count run.phase run.kept.held
+    + rank job source (all_free (items job source)) count run.phase run.kept.held
     ≤ work_of_survey job source
 
 -- ---- a survey under way
@@ -131,9 +131,9 @@ IsWithinWork job source count run =
 pub record IsSurvey (told : Option Reading) (count : ℕ) (r : Running) : Type 0 where
   pub fed : List ℕ
   pub was : FedUntilEnd r.phase r.state.job.algorithm r.state.hasher fed
-  pub past : Past
+  pub past : History
   pub seen : past.count ≡ count
-  pub is : IsPast (job_of r.state.job) no_start (source_alone told) (run_of r fed) past
+  pub is : IsHistory (job_of r.state.job) no_start (source_alone told) (run_of r fed) past
   pub within : ForSome told (λ s. IsWithinWork (job_of r.state.job) s.tree past.count (run_of r fed))
   pub stands : is_of_survey r.phase ≡ true
 
@@ -144,7 +144,7 @@ Surveys told r = (count : ℕ) × IsSurvey told count r
 -- a step may be made: the survey is under way, its numbers are within their bounds, and the limit of turns isn't made
 pub record IsReady (told : Option Reading) (here : Phase) (s : State) : Type 0 where
   pub under_way : Surveys told (record { phase = here; state = s })
-  pub well : IsWell (record { phase = here; state = s })
+  pub well : TypeInvariant (record { phase = here; state = s })
   pub within : s.counts.turns < s.job.limits.turns
 
 -- ---- each step

@@ -4,24 +4,24 @@ ghost use Rattle.pt_audit.specs.Auditing.{CanCompare, EndsAs, GoesOn, IsFoundAtH
 ghost use Rattle.std.specs.Bool.{OnFalse};
 ghost use Rattle.std.specs.Option.{ForSome};
 ghost use Rattle.std.specs.Io.KnownBytes.{Appends};
-ghost use Rattle.pt_audit.specs.Beside.{AreAlikeAtHand, Begins, CanFollow, Follows, Saw};
+ghost use Rattle.pt_audit.specs.RootReader.{AreAlikeAtHand, Begins, CanFollow, Follows, Saw};
 ghost use Rattle.pt_audit.specs.Bounds.{IsMade, IsMadeFrom};
 ghost use Rattle.pt_audit.specs.Failing.{AuditSays, BlamesRightly, FailsAs, TellFails, failures};
 ghost use Rattle.pt_audit.specs.Layout.{IsOfLayout};
 ghost use Rattle.pt_compare.specs.Root.{KeepsRoot, tree_in};
 ghost use Rattle.pt_state.specs.States.{job_of};
-ghost use Rattle.pt_plan.specs.World.{source_tree};
+ghost use Rattle.pt_plan.specs.DeviceStates.{source_tree};
 ghost use Rattle.pt_plan.specs.declared.phase.Phase.TheVariants as phase;
 ghost use Rattle.pt_audit.specs.Growing.{KeepsLog};
 ghost use Rattle.pt_audit.specs.Surveying.{GoesOn as SurveyGoesOn, IsSurvey, Steps, Surveys, sight_at};
-ghost use Rattle.pt_audit.specs.declared.survey.Sight.TheVariants as sight;
+ghost use Rattle.pt_audit.specs.declared.survey.SurveyEvent.TheVariants as sight;
 
 use crate::Counts;
-use crate::beside::Beside;
 use crate::layout::check_layout;
 use crate::lines::{end_line, object_line};
-use crate::survey::{AtHand, Sight, Survey};
-use pt_compare::{Finding, Root, Scanned, compare};
+use crate::root_reader::RootReader;
+use crate::survey::{AtHand, Survey, SurveyEvent};
+use pt_compare::{Comparison, Root, Scanned, compare};
 use pt_move::{Job, Observer};
 use pt_plan::Fault;
 use pt_state::paths::{in_pairtree, in_storage_root};
@@ -64,7 +64,7 @@ pub fn audit<S: Source, R: Root, L: Log, O: Observer<Counts>>(
     ensures made { IsMade job (source_tree (S.told source.old)) result }
 {
     let mut survey = Survey::start(alloc, job);
-    let mut beside = Beside::new(alloc);
+    let mut beside = RootReader::new(alloc);
     go_through(alloc, &mut survey, &mut beside, source, root, log, observer)
 }
 
@@ -72,7 +72,7 @@ pub fn audit<S: Source, R: Root, L: Log, O: Observer<Counts>>(
 fn go_through<S: Source, R: Root, L: Log, O: Observer<Counts>>(
     alloc: Global,
     survey: &mut Survey,
-    beside: &mut Beside,
+    beside: &mut RootReader,
     source: &mut S,
     root: &mut R,
     log: &mut L,
@@ -109,7 +109,7 @@ fn go_on<S: Source, R: Root, L: Log>(
     alloc: Global,
     survey: &mut Survey,
     counts: &mut Counts,
-    beside: &mut Beside,
+    beside: &mut RootReader,
     source: &mut S,
     root: &mut R,
     log: &mut L,
@@ -139,11 +139,11 @@ fn go_on<S: Source, R: Root, L: Log>(
 // Makes one step of the survey, and reads the root as far.
 fn see<S: Source, R: Root, L: Log>(
     survey: &mut Survey,
-    beside: &mut Beside,
+    beside: &mut RootReader,
     source: &mut S,
     root: &mut R,
     log: &mut L,
-) -> Result<Sight, Fault>
+) -> Result<SurveyEvent, Fault>
     requires { Follows (S.told source.old) (R.told root.old) beside.old survey.old }
     ensures on { (count : ℕ) → IsSurvey (S.told source.old) count survey.old
         → OnOk result (SurveyGoesOn (S.told source.old) (S.told source.new)
@@ -168,9 +168,9 @@ fn see<S: Source, R: Root, L: Log>(
 fn tell<S: Source, R: Root, L: Log>(
     alloc: Global,
     survey: &Survey,
-    sight: Sight,
+    sight: SurveyEvent,
     counts: &mut Counts,
-    beside: &Beside,
+    beside: &RootReader,
     source: &mut S,
     root: &mut R,
     log: &mut L,
@@ -193,16 +193,18 @@ fn tell<S: Source, R: Root, L: Log>(
         (source_tree (S.told source.old)) (tree_in (R.told root.old)) why) }
 {
     match sight {
-        Sight::More | Sight::Scan | Sight::Opened | Sight::Block => Ok(true),
-        Sight::Store => {
+        SurveyEvent::More | SurveyEvent::Scan | SurveyEvent::Opened | SurveyEvent::Block => Ok(
+            true,
+        ),
+        SurveyEvent::Store => {
             check_layout(alloc, root, survey.job())?;
             Ok(true)
         }
-        Sight::Object => {
+        SurveyEvent::Object => {
             tell_object(alloc, survey, counts, beside, source, root, log)?;
             Ok(true)
         }
-        Sight::End => {
+        SurveyEvent::End => {
             tell_end(alloc, counts.with_skipped(survey.report().skipped), log)?;
             Ok(false)
         }
@@ -214,7 +216,7 @@ fn tell_object<S: Source, R: Root, L: Log>(
     alloc: Global,
     survey: &Survey,
     counts: &mut Counts,
-    beside: &Beside,
+    beside: &RootReader,
     source: &mut S,
     root: &mut R,
     log: &mut L,
@@ -252,9 +254,9 @@ fn found<S: Source, R: Root>(
     root: &mut R,
     job: &Job,
     hand: &AtHand<'_>,
-    beside: &Beside,
+    beside: &RootReader,
     alike: usize,
-) -> Result<Finding, Fault>
+) -> Result<Comparison, Fault>
     requires compared { CanCompare (S.told source.old) hand.now }
     requires folder { CanFollow (R.told root.old) beside.now }
     requires alike { AreAlikeAtHand (tree_in (S.told source.old)) (tree_in (R.told root.old))

@@ -1,7 +1,7 @@
 ghost use Rattle.std.specs.Prelude.{◌≡◌};
 ghost use Rattle.pt_audit.specs.Counting.{counts_with, no_counts};
 
-use crate::Finding;
+use crate::Comparison;
 
 /// How many lines of each kind an audit has.
 #[derive(Clone, Copy, Debug, PartialEq, Eq)]
@@ -30,19 +30,19 @@ impl Counts {
     }
 
     /// With one object more, by what was found.
-    pub fn with(self, finding: &Finding) -> Counts
+    pub fn with(self, finding: &Comparison) -> Counts
         ensures { result ≡ counts_with finding.now self }
     {
         match finding {
-            Finding::Same => Counts {
+            Comparison::Same => Counts {
                 same: self.same.saturating_add(1),
                 ..self
             },
-            Finding::Absent => Counts {
+            Comparison::Absent => Counts {
                 absent: self.absent.saturating_add(1),
                 ..self
             },
-            Finding::Differs(_) => Counts {
+            Comparison::Differs(_) => Counts {
                 differs: self.differs.saturating_add(1),
                 ..self
             },

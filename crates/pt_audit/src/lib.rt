@@ -13,7 +13,7 @@
 //! - Where the root tells, an audit ends well only if nothing stands at `ocfl`, or a directory with the three files of this layout
 //!   (`IsOfLayout`). `Target` is answered only where something else does (`IsOfAnother`), after the store was found to be one with a good
 //!   prefix.
-//! - Between two steps (`Follows`): of the contents of the object that is scanned so many, from the first on, as are counted stand in the root
+//! - Between two steps (`Next`): of the contents of the object that is scanned so many, from the first on, as are counted stand in the root
 //!   with the bytes that the store's files have, and where a file of the root is read beside one of the store, both have had the same bytes so
 //!   far. What is held beside the survey are three paths, two numbers and a block, and nothing else (`BesideFields`).
 //! - It is made by steps of a survey, to the survey's end where it answers Ok (`IsMade`): no more than the limit of turns, and where the store
@@ -41,15 +41,15 @@
 #![tactic(auto, using(crate::proofs::AuditRules::audit_rules))]
 
 mod auditing;
-mod bare;
-mod beside;
 mod counts;
+mod empty_dest;
 pub mod laws;
 mod layout;
 mod lines;
+mod root_reader;
 mod survey;
 
 pub use auditing::audit;
 pub use counts::Counts;
-pub use pt_compare::{Difference, Finding, Root, Why};
-pub use survey::{AtHand, Opened, Sight, Survey};
+pub use pt_compare::{Comparison, Difference, Root, Why};
+pub use survey::{AtHand, Opened, Survey, SurveyEvent};

@@ -7,7 +7,7 @@ ghost use Rattle.pt_audit.specs.Lines.{line_by, line_text, line_tree};
 ghost use Rattle.pt_audit.specs.Lines as line;
 ghost use Rattle.pt_audit.specs.Lines.{told_of};
 
-use crate::{Counts, Difference, Finding};
+use crate::{Comparison, Counts, Difference};
 use pt_move::Carried;
 use pt_object::members::{put_number, put_text};
 use pt_state::paths::text_of;
@@ -19,15 +19,15 @@ use std::alloc::Global;
 pub(crate) fn object_line(
     alloc: Global,
     object: &Carried<'_>,
-    finding: &Finding,
+    finding: &Comparison,
 ) -> Result<String, MemoryFault>
     ensures { IfOk result (λ text. string_bytes text
         ≡ line_text (line_by (told_of object.now) finding.now)) }
 {
     match finding {
-        Finding::Same => text(alloc, &same_line(alloc, object)?),
-        Finding::Absent => text(alloc, &absent_line(alloc, object)?),
-        Finding::Differs(difference) => text(alloc, &differs_line(alloc, object, difference)?),
+        Comparison::Same => text(alloc, &same_line(alloc, object)?),
+        Comparison::Absent => text(alloc, &absent_line(alloc, object)?),
+        Comparison::Differs(difference) => text(alloc, &differs_line(alloc, object, difference)?),
     }
 }
 

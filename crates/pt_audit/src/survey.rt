@@ -5,10 +5,10 @@
 ghost use Rattle.std.specs.Option.{ForSome};
 ghost use Rattle.std.specs.Prelude.{◌≡◌, ◌≢◌, ℕ, true, length, Option, Some, None, IfErr, OnOk, IfOk};
 ghost use Rattle.pt_move.specs.Bounds.{most_calls};
-ghost use Rattle.pt_move.specs.Running.{IsNew, IsWell};
+ghost use Rattle.pt_move.specs.Running.{IsNew, TypeInvariant};
 ghost use Rattle.pt_plan.specs.Answer.{phase_after};
 ghost use Rattle.pt_audit.specs.Growing.{BlamesRightly, KeepsLog, KeepsTree, Leaves};
-ghost use Rattle.pt_plan.specs.World.{source_tree};
+ghost use Rattle.pt_plan.specs.DeviceStates.{source_tree};
 ghost use Rattle.pt_state.specs.Counting.{AtMostCalls};
 ghost use Rattle.pt_move.specs.Turning.{CountedTurn};
 ghost use Rattle.pt_plan.specs.declared.phase.Phase.TheVariants as phase;
@@ -18,7 +18,7 @@ ghost use Rattle.pt_audit.specs.Surveying.{GoesOn, IsHand, IsReady, IsSurvey, Su
 ghost use Rattle.pt_tree.specs.Forest.{is_proper};
 ghost use Rattle.pt_tree.specs.Source.{Reading};
 
-use crate::bare::{Bare, Unread};
+use crate::empty_dest::{EmptyDest, NullLog};
 use pt_move::turning::{new_state, turn};
 use pt_move::{Carried, Job, Report, as_told};
 use pt_object::{Contents, Rows};
@@ -32,7 +32,7 @@ use std::mem;
 
 /// What a step of a survey came to.
 #[derive(Clone, Copy, Debug, PartialEq, Eq)]
-pub enum Sight {
+pub enum SurveyEvent {
     /// There is more to see.
     More,
     /// It is a store with a good prefix; its sites come next.
@@ -79,13 +79,13 @@ pub struct Survey {
 }
 
 impl Model for Survey {
-    ghost use Rattle.pt_move.specs.Running.{IsWell, Running};
+    ghost use Rattle.pt_move.specs.Running.{TypeInvariant, Running};
 
     ghost Value = { Running };
 
     ghost view = { λ m. record { phase = m.phase; state = m.state } };
 
-    ghost invariant = { λ m. IsWell (record { phase = m.phase; state = m.state }) };
+    ghost invariant = { λ m. TypeInvariant (record { phase = m.phase; state = m.state }) };
 
     ghost use Rattle.pt_audit.specs.Surveys.{survey_of};
 
@@ -115,7 +115,11 @@ impl Survey {
 
     /// Makes one step, which is a turn of a run over a destination in which nothing stands, and calls the source no more often
     /// than that. What is passed over is told in the log as a run tells it; of an object nothing is told.
-    pub fn step<S: Source, L: Log>(&mut self, source: &mut S, log: &mut L) -> Result<Sight, Fault>
+    pub fn step<S: Source, L: Log>(
+        &mut self,
+        source: &mut S,
+        log: &mut L,
+    ) -> Result<SurveyEvent, Fault>
         requires { Surveys (S.told source.old) self.old }
         ensures on { (count : ℕ) → IsSurvey (S.told source.old) count self.old
             → OnOk result (GoesOn (S.told source.old) (S.told source.new)
@@ -214,7 +218,7 @@ fn stepped<S: Source, L: Log>(
         → IfOk result (λ next. GoesOn (S.told source.old) (S.told source.new)
         (L.told log.old) (L.told log.new) count (record { phase = here; state = state.old })
         (record { phase = next; state = state.new })) }
-    ensures well { IsWell (record { phase = phase_after result; state = state.new }) }
+    ensures well { TypeInvariant (record { phase = phase_after result; state = state.new }) }
     ensures leaves { Leaves (S.told source.old) (S.told source.new)
         (L.told log.old) (L.told log.new)
         (S.failed source.old) (S.failed source.new) (L.failed log.old) (L.failed log.new)
@@ -227,9 +231,9 @@ fn stepped<S: Source, L: Log>(
     ensures log_stays { L.keeps log.old log.new }
 {
     if is_at_hand(&here) {
-        Ok(passed(pass(state, here, source)?))
+        Ok(pass_making(pass(state, here, source)?))
     } else {
-        Ok(passed(look(state, here, source, log)?))
+        Ok(pass_making(look(state, here, source, log)?))
     }
 }
 
@@ -262,7 +266,7 @@ fn look<S: Source, L: Log>(
         here,
         &mut Devices {
             source,
-            dest: &mut Bare,
+            dest: &mut EmptyDest,
             log,
         },
     )
@@ -282,14 +286,14 @@ fn pass<S: Source>(state: &mut State, here: Phase, source: &mut S) -> Result<Pha
         here,
         &mut Devices {
             source,
-            dest: &mut Bare,
-            log: &mut Unread,
+            dest: &mut EmptyDest,
+            log: &mut NullLog,
         },
     )
 }
 
 // Where the survey goes on that a run would make something.
-fn passed(next: Phase) -> Phase
+fn pass_making(next: Phase) -> Phase
     ensures { result ≡ passed_phase next }
 {
     match next {
@@ -300,17 +304,17 @@ fn passed(next: Phase) -> Phase
 }
 
 // What is seen at a phase.
-fn seen_at(here: &Phase) -> Sight
+fn seen_at(here: &Phase) -> SurveyEvent
     ensures { result ≡ sight_at here.now }
 {
     match here {
-        Phase::Opening(Opening::OpenRoot) => Sight::Store,
-        Phase::Carrying(_, Stage::Scan) => Sight::Scan,
-        Phase::Carrying(_, Stage::Read(0)) => Sight::Opened,
-        Phase::Carrying(_, Stage::Read(_)) => Sight::Block,
-        Phase::Carrying(_, Stage::Line) => Sight::Object,
-        Phase::End => Sight::End,
-        _ => Sight::More,
+        Phase::Opening(Opening::OpenRoot) => SurveyEvent::Store,
+        Phase::Carrying(_, Stage::Scan) => SurveyEvent::Scan,
+        Phase::Carrying(_, Stage::Read(0)) => SurveyEvent::Opened,
+        Phase::Carrying(_, Stage::Read(_)) => SurveyEvent::Block,
+        Phase::Carrying(_, Stage::Line) => SurveyEvent::Object,
+        Phase::End => SurveyEvent::End,
+        _ => SurveyEvent::More,
     }
 }
 

@@ -298,7 +298,7 @@ fn is_place(alloc: Global, size: u32, count: u32, names: usize, place: &[u8]) ->
 // The names of this path are this text, with nothing between them.
 fn concatenates(alloc: Global, names: &str, want: &[u8]) -> bool {
     match path(alloc, names) {
-        Ok(path) => gives_bytes(concatenated(alloc, &path), want),
+        Ok(path) => gives_bytes(concatenate(alloc, &path), want),
         Err(_) => false,
     }
 }

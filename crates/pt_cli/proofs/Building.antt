@@ -9,8 +9,8 @@ use Rattle.clap.specs.Simple.{on_top}
 use Rattle.clap.specs.declared.builder.arg.Arg.{Arg}
 use Rattle.clap.specs.declared.builder.command.Command.{Command}
 use Rattle.clap.specs.declared.builder.command.Command.TheViews.{out-Command}
-use Rattle.pt_cli.specs.Taken.{IsLocal, TakesToo, rule_of_taken, with_rules}
-use Rattle.pt_cli.specs.declared.grammar.Taken.{Taken}
+use Rattle.pt_cli.specs.ArgSpec.{IsLocal, TakesToo, rule_of_taken, with_rules}
+use Rattle.pt_cli.specs.declared.grammar.ArgSpec.{ArgSpec}
 
 -- the parser takes these words, and has no argument that its subcommands take too
 abbrev pub IsLocalApp : App → Command → Type 0
@@ -25,7 +25,7 @@ behind : (app : App) (rules : List Rule) (rule : Rule) → with_rule (with_rules
 behind app rules rule = ap (λ (l : List Rule). on_top (λ s. record s { rules = l }) app) (append_assoc app.top.rules rules (rule ∷ []))
 
 -- one more of the arguments that a command takes
-pub one_more : (first old new : Command) (arg : Arg) (takes : List Taken) (i : ℕ) (d : Taken) → i < length takes
+pub one_more : (first old new : Command) (arg : Arg) (takes : List ArgSpec) (i : ℕ) (d : ArgSpec) → i < length takes
     → TakesToo (map rule_of_taken (take i takes)) first old → IsLocal (rule_of_taken (get_or takes i d)) arg → AddsArg old arg new
     → TakesToo (map rule_of_taken (take (i + 1) takes)) first new
 one_more first old new arg takes i d here so_far is adds =

@@ -25,8 +25,8 @@ use Rattle.pt_object.specs.declared.meta.MetaFault.{MetaFault}
 use Rattle.pt_object.specs.declared.meta.MetaFault.TheVariants as meta_fault
 use Rattle.pt_object.specs.declared.algorithm.Algorithm.{Algorithm}
 use Rattle.pt_object.specs.declared.algorithm.Algorithm.TheVariants.{Sha512, Sha256}
-use Rattle.pt_notices.specs.declared.watch.Progress.{Progress}
-use Rattle.pt_notices.specs.declared.watch.Progress.TheVariants.{Auto, Always, Never}
+use Rattle.pt_messages.specs.declared.watch.Progress.{Progress}
+use Rattle.pt_messages.specs.declared.watch.Progress.TheVariants.{Auto, Always, Never}
 use Rattle.pt_cli.specs.Grammar.{Spelled, SpellsAlgorithms, SpellsTimes, audit_app, migrate_app, names_app, program, u32_parser}
 use Rattle.pt_cli.specs.Arguments.{◌>>=◌, IsThere, algorithm_of, judged, number_of, progress_of}
 use Rattle.pt_cli.specs.Ignore.{are_names, ignored_in, names_of, names_only}

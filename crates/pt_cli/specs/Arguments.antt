@@ -10,8 +10,8 @@ use Rattle.pt_object.specs.declared.algorithm.Algorithm.{Algorithm}
 use Rattle.pt_object.specs.declared.algorithm.Algorithm.TheVariants.{Sha512, Sha256}
 use Rattle.pt_object.specs.declared.meta.MetaFault.{MetaFault}
 use Rattle.pt_object.specs.declared.meta.MetaFault.TheVariants as meta_fault
-use Rattle.pt_notices.specs.declared.watch.Progress.{Progress}
-use Rattle.pt_notices.specs.declared.watch.Progress.TheVariants.{Auto, Always, Never}
+use Rattle.pt_messages.specs.declared.watch.Progress.{Progress}
+use Rattle.pt_messages.specs.declared.watch.Progress.TheVariants.{Auto, Always, Never}
 use Rattle.pt_cli.specs.declared.faults.Unread.{Unread}
 use Rattle.pt_cli.specs.declared.faults.Unread.TheVariants as unread
 

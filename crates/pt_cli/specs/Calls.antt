@@ -7,10 +7,10 @@ use Rattle.std.specs.declared.io.ErrorKind.TheVariants.{BrokenPipe}
 use Rattle.pt_tree.specs.Log.{AppendsFront}
 use Rattle.pt_name.specs.Tuples.{Tuples}
 use Rattle.pt_cli.specs.Names.{LeavesWritten, names_text}
-use Rattle.pt_cli.specs.declared.command.Named.{Named}
+use Rattle.pt_cli.specs.declared.command.NamesArgs.{NamesArgs}
 use Rattle.pt_cli.specs.declared.names.NamesFault.{NamesFault}
 use Rattle.pt_cli.specs.declared.names.NamesFault.TheVariants as names
-use Rattle.pt_run.specs.Machine.{GroundOf, MachineWords}
+use Rattle.pt_host.specs.Machine.{HostIoOf, MachineWords}
 
 -- of writing names: 0 where they were written, 2 for the empty identifier, else 3
 abbrev pub names_status : Result (Unit {0}) NamesFault → ℕ
@@ -27,9 +27,9 @@ pub record WritesNames (layout : Tuples) (prefix id : List ℕ) (old new : Optio
   pub err : IfErr written (λ fault. LeavesWritten fault old new (names_text layout prefix id))
 
 -- the names that are asked for are written to the output that a machine lends, which is given back with all else as it was; and the status is by that
-abbrev pub TellsNames : {H : Type 0} → MachineWords H → Named → H → H → ℕ → Type 0
+abbrev pub TellsNames : {H : Type 0} → MachineWords H → NamesArgs → H → H → ℕ → Type 0
 TellsNames {H} words asked old new status =
-    (ground : GroundOf words) × (lent : H) × words.lends old ground lent
+    (ground : HostIoOf words) × (lent : H) × words.lends old ground lent
     × (output : words.Output) × (written : Result (Unit {0}) NamesFault)
     × WritesNames asked.layout asked.prefix asked.id (words.written.output ground.output)
     (words.written.output output) written
@@ -50,7 +50,7 @@ pub record WritesText (text : List ℕ) (old new : Option (List ℕ)) (written :
 -- a text is written to the output that a machine lends, which is given back with all else as it was; and the status is by that
 abbrev pub TellsText : {H : Type 0} → MachineWords H → List ℕ → H → H → ℕ → Type 0
 TellsText {H} words text old new status =
-    (ground : GroundOf words) × (lent : H) × words.lends old ground lent
+    (ground : HostIoOf words) × (lent : H) × words.lends old ground lent
     × (output : words.Output) × (written : Result (Unit {0}) Error)
     × WritesText text (words.written.output ground.output) (words.written.output output) written
     × words.takes_back lent (record ground { output = output }) new

@@ -1,3 +1,4 @@
+pub mod ArgSpec
 pub mod Arguments
 pub mod Calls
 pub mod Grammar
@@ -6,5 +7,4 @@ pub mod Names
 pub mod Options
 pub mod Share
 pub mod Statuses
-pub mod Taken
 pub mod Words

@@ -10,9 +10,9 @@ use Rattle.pt_name.specs.declared.layout.LayoutFault.{LayoutFault}
 use Rattle.pt_object.specs.Meta.{given_address, meta_refusal, parts_of}
 use Rattle.pt_object.specs.MetaParts.{MetaParts}
 use Rattle.pt_object.specs.declared.meta.MetaFault.{MetaFault}
-use Rattle.pt_run.specs.declared.options.AuditOptions.{AuditOptions}
-use Rattle.pt_run.specs.declared.options.Feedback.{Feedback}
-use Rattle.pt_run.specs.declared.options.RunOptions.{RunOptions}
+use Rattle.pt_host.specs.declared.options.AuditOptions.{AuditOptions}
+use Rattle.pt_host.specs.declared.options.Feedback.{Feedback}
+use Rattle.pt_host.specs.declared.options.RunOptions.{RunOptions}
 use Rattle.pt_state.specs.declared.job.Job.{Job}
 use Rattle.pt_walk.specs.Limits.{greatest_limits}
 use Rattle.pt_cli.specs.Arguments.{◌>>=◌, algorithm_in, is_set_in, judged, needed, number_in, progress_in, unread_of_meta}

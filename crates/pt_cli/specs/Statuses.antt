@@ -4,9 +4,9 @@ use Rattle.std.specs.IoError.{error_kind}
 use Rattle.std.specs.declared.io.Error.{Error}
 use Rattle.std.specs.declared.io.ErrorKind.TheVariants.{OutOfMemory}
 use Rattle.clap.specs.Words.{Text}
-use Rattle.pt_run.specs.Audits.{Audits, audit_call}
-use Rattle.pt_run.specs.Machine.{MachineWords}
-use Rattle.pt_run.specs.Made.{Runs, run_call}
+use Rattle.pt_host.specs.Audits.{Audits, audit_call}
+use Rattle.pt_host.specs.Machine.{MachineWords}
+use Rattle.pt_host.specs.Made.{Runs, run_call}
 use Rattle.pt_cli.specs.Calls.{TellsNames, TellsText}
 use Rattle.pt_cli.specs.Words.{ReadsWords}
 use Rattle.pt_cli.specs.declared.command.Command.{Command}

@@ -11,8 +11,8 @@ use crate::ignore_words::ignored;
 use crate::job_words::{folders, job, meta_of};
 use crate::{Audit, Command};
 use clap::ArgMatches;
+use pt_host::AuditOptions;
 use pt_object::Meta;
-use pt_run::AuditOptions;
 use std::alloc::Global;
 
 // A moment for the inventories of the run that is compared; those that stand may give any.

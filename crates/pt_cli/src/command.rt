@@ -1,12 +1,12 @@
 use crate::Text;
+use pt_host::{AuditOptions, RunOptions};
 use pt_name::Layout;
-use pt_run::{AuditOptions, RunOptions};
 
 /// What the words ask the program to do.
 #[derive(Debug, Drop)]
 pub enum Command {
     /// Write the two names of an identifier.
-    Names(Named),
+    Names(NamesArgs),
     /// Carry a Pairtree store into a storage root.
     Migrate(Migrate),
     /// Hold a storage root against a Pairtree store.
@@ -15,7 +15,7 @@ pub enum Command {
 
 /// An identifier whose names are asked for.
 #[derive(Debug, Drop)]
-pub struct Named {
+pub struct NamesArgs {
     /// The identifier, which isn't empty.
     pub id: Text,
     /// What is put before it for its place.

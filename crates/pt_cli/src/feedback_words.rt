@@ -9,7 +9,7 @@ use crate::arguments::{is_set, needed, number, text};
 use crate::faults::Unread;
 use crate::grammar::{EXPECT, INTERVAL, PROGRESS, QUIET, VERBOSE};
 use clap::ArgMatches;
-use pt_run::{Feedback, Progress};
+use pt_host::{Feedback, Progress};
 use pt_tree::MemoryFault;
 use std::alloc::Global;
 

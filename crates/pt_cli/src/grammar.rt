@@ -4,8 +4,8 @@ ghost use Rattle.clap.specs.Words.{AddsSubcommand, app_of};
 ghost use Rattle.clap.specs.declared.builder.command.Command.TheViews.{out-Command};
 ghost use Rattle.pt_cli.specs.Grammar.{IsAuditApp, IsMigrateApp, IsProgram, names_app, top_app};
 ghost use Rattle.pt_cli.specs.Grammar.{flag_rule, number_rule, option_rule};
-ghost use Rattle.pt_cli.specs.Taken.{IsLocal, IsTaker, TakesToo, defaulted_rule, needed_rule, place_rule};
-ghost use Rattle.pt_cli.specs.Taken.{repeated_rule, rule_of_taken, word_rule};
+ghost use Rattle.pt_cli.specs.ArgSpec.{IsLocal, IsTaker, TakesToo, defaulted_rule, needed_rule, place_rule};
+ghost use Rattle.pt_cli.specs.ArgSpec.{repeated_rule, rule_of_taken, word_rule};
 
 use clap::{Arg, ArgAction, Command as Parser, value_parser};
 use std::alloc::{AllocError, Global};
@@ -63,7 +63,7 @@ pub(crate) const SOURCE: &str = "SOURCE";
 pub(crate) const DEST: &str = "DEST";
 
 // An argument that a command takes: its id, how it is given, and its help.
-pub(crate) struct Taken {
+pub(crate) struct ArgSpec {
     id: &'static str,
     form: Form,
     help: &'static str,
@@ -91,64 +91,64 @@ pub(crate) enum Form {
     Letter(char),
 }
 
-const TAKES_TUPLE_SIZE: Taken = Taken {
+const TAKES_TUPLE_SIZE: ArgSpec = ArgSpec {
     id: TUPLE_SIZE,
     form: Form::Number("DIGITS", "3"),
     help: "Digits in the name of each folder above an object",
 };
 
-const TAKES_TUPLES: Taken = Taken {
+const TAKES_TUPLES: ArgSpec = ArgSpec {
     id: TUPLES,
     form: Form::Number("NUMBER", "3"),
     help: "Folders above each object",
 };
 
-const TAKES_DIGEST: Taken = Taken {
+const TAKES_DIGEST: ArgSpec = ArgSpec {
     id: DIGEST,
     form: Form::Word("ALGORITHM", &["sha512", "sha256"], "sha512"),
     help: "The digest algorithm of the inventories",
 };
 
-const TAKES_IGNORE: Taken = Taken {
+const TAKES_IGNORE: ArgSpec = ArgSpec {
     id: IGNORE,
     form: Form::Repeated("NAME"),
     help: "Leave out every file and folder of this name, as .DS_Store; may be given again",
 };
 
-const TAKES_VERBOSE: Taken = Taken {
+const TAKES_VERBOSE: ArgSpec = ArgSpec {
     id: VERBOSE,
     form: Form::Letter('v'),
     help: "Tell of a fault also the path and the reason, on one more line, and else a summary at the end",
 };
 
-const TAKES_QUIET: Taken = Taken {
+const TAKES_QUIET: ArgSpec = ArgSpec {
     id: QUIET,
     form: Form::Letter('q'),
     help: "Show neither how far it is nor a summary at the end",
 };
 
-const TAKES_INTERVAL: Taken = Taken {
+const TAKES_INTERVAL: ArgSpec = ArgSpec {
     id: INTERVAL,
     form: Form::Number("SECONDS", "10"),
     help: "Seconds between two such lines, where they don't go to a terminal",
 };
 
-const TAKES_SOURCE: Taken = Taken {
+const TAKES_SOURCE: ArgSpec = ArgSpec {
     id: SOURCE,
     form: Form::Place,
     help: "The folder that holds pairtree_root",
 };
 
 // What `names` takes.
-const NAMES_TAKES: &[Taken] = &[
-    Taken {
+const NAMES_TAKES: &[ArgSpec] = &[
+    ArgSpec {
         id: PREFIX,
         form: Form::Value("TEXT"),
         help: "The prefix of the store, put before the identifier for its place",
     },
     TAKES_TUPLE_SIZE,
     TAKES_TUPLES,
-    Taken {
+    ArgSpec {
         id: ID,
         form: Form::Place,
         help: "The identifier",
@@ -156,23 +156,23 @@ const NAMES_TAKES: &[Taken] = &[
 ];
 
 // What `migrate` takes.
-const MIGRATE_TAKES: &[Taken] = &[
-    Taken {
+const MIGRATE_TAKES: &[ArgSpec] = &[
+    ArgSpec {
         id: CREATED,
         form: Form::Needed("MOMENT"),
         help: "The moment that the inventories give, as 2024-05-01T12:00:00Z",
     },
-    Taken {
+    ArgSpec {
         id: NAME,
         form: Form::Needed("NAME"),
         help: "Who made the migration, as the inventories name them",
     },
-    Taken {
+    ArgSpec {
         id: ADDRESS,
         form: Form::Value("ADDRESS"),
         help: "Where to reach them, as mailto:ada@example.org [default: none]",
     },
-    Taken {
+    ArgSpec {
         id: MESSAGE,
         form: Form::Default("TEXT", "Migrated from Pairtree"),
         help: "What the inventories say of the migration",
@@ -180,47 +180,47 @@ const MIGRATE_TAKES: &[Taken] = &[
     TAKES_DIGEST,
     TAKES_TUPLE_SIZE,
     TAKES_TUPLES,
-    Taken {
+    ArgSpec {
         id: GATHER,
         form: Form::Flag,
         help: "Carry what lies directly in an identifier's folder too, as one object [default: skip it]",
     },
-    Taken {
+    ArgSpec {
         id: SHARE,
         form: Form::Value("K/N"),
         help: "Carry the objects of share K of N shares alone, as 2/8 [default: all objects]",
     },
     TAKES_IGNORE,
-    Taken {
+    ArgSpec {
         id: SYNC,
         form: Form::Flag,
         help: "Have each file, each object's folder and the log put onto the disk",
     },
-    Taken {
+    ArgSpec {
         id: REHEARSE,
         form: Form::Letter('n'),
         help: "Rehearse: read all, write the log, and make or change nothing in DEST",
     },
-    Taken {
+    ArgSpec {
         id: PRESENT_OK,
         form: Form::Flag,
         help: "Exit with 0 also where the log has present lines, as a second run's has",
     },
     TAKES_VERBOSE,
     TAKES_QUIET,
-    Taken {
+    ArgSpec {
         id: PROGRESS,
         form: Form::Word("WHEN", &["auto", "always", "never"], "auto"),
         help: "When to show on standard error how far the run is",
     },
     TAKES_INTERVAL,
-    Taken {
+    ArgSpec {
         id: EXPECT,
         form: Form::Value("LOG"),
         help: "Show the share done and the time left too, by the log of a rehearsal",
     },
     TAKES_SOURCE,
-    Taken {
+    ArgSpec {
         id: DEST,
         form: Form::Place,
         help: "A folder that stands already; ocfl and staging in it are the program's",
@@ -228,41 +228,41 @@ const MIGRATE_TAKES: &[Taken] = &[
 ];
 
 // What `audit` takes.
-const AUDIT_TAKES: &[Taken] = &[
+const AUDIT_TAKES: &[ArgSpec] = &[
     TAKES_DIGEST,
     TAKES_TUPLE_SIZE,
     TAKES_TUPLES,
-    Taken {
+    ArgSpec {
         id: GATHER,
         form: Form::Flag,
         help: "Audit what lies directly in an identifier's folder too, as one object [default: skip it]",
     },
-    Taken {
+    ArgSpec {
         id: SHARE,
         form: Form::Value("K/N"),
         help: "Audit the objects of share K of N shares alone, as 2/8 [default: all objects]",
     },
     TAKES_IGNORE,
-    Taken {
+    ArgSpec {
         id: SKIPS_OK,
         form: Form::Flag,
         help: "Exit with 0 also where the log has skip lines",
     },
     TAKES_VERBOSE,
     TAKES_QUIET,
-    Taken {
+    ArgSpec {
         id: PROGRESS,
         form: Form::Word("WHEN", &["auto", "always", "never"], "auto"),
         help: "When to show on standard error how far the audit is",
     },
     TAKES_INTERVAL,
-    Taken {
+    ArgSpec {
         id: EXPECT,
         form: Form::Value("LOG"),
         help: "Show the share done and the time left too, by the log of a run, a rehearsal or an audit",
     },
     TAKES_SOURCE,
-    Taken {
+    ArgSpec {
         id: DEST,
         form: Form::Place,
         help: "The folder in which ocfl is",
@@ -377,7 +377,7 @@ fn with_help<'a>(
     name: &'a str,
     before: &'a str,
     after: &'a str,
-    takes: &[Taken],
+    takes: &[ArgSpec],
 ) -> Result<Parser<'a>, AllocError>
     ensures { IfOk result (IsTaker name.entry.now (map rule_of_taken takes.now)) }
 {
@@ -389,7 +389,7 @@ fn with_help<'a>(
 fn with_taken<'a>(
     alloc: Global,
     parser: Parser<'a>,
-    takes: &[Taken],
+    takes: &[ArgSpec],
 ) -> Result<Parser<'a>, AllocError>
     ensures { IfOk result (λ grown. TakesToo (map rule_of_taken takes.now) parser.entry grown) }
 {
@@ -400,7 +400,7 @@ fn with_taken<'a>(
     Ok(grown)
 }
 
-impl Taken {
+impl ArgSpec {
     // What the parser is told of it, but for its help.
     fn arg<'a>(&self, alloc: Global) -> Arg<'a>
         ensures { IsLocal (rule_of_taken self.now) result }

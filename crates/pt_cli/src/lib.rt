@@ -1,10 +1,10 @@
 //! The program `pairtree2ocfl`: its words, its commands and its statuses.
 //!
-//! What it promises, on a machine of pt_run:
+//! What it promises, on a machine of pt_host:
 //!
 //! - `answer` says what words lead to, of which the first is the program's name (`EndsWith`). They are answered as `read_words` has it, and
 //!   that is done (`Obeys`, `Declines`). `names` writes the two names, by `names_to`, to the output that the machine lends, and the status
-//!   is by the answer (`TellsNames`). `migrate` makes the run of pt_run from SOURCE to DEST, with all that its options say, and the status
+//!   is by the answer (`TellsNames`). `migrate` makes the run of pt_host from SOURCE to DEST, with all that its options say, and the status
 //!   is its status; `audit` makes the audit likewise. Help and the version are written to the machine's output: 0 where they were, or
 //!   nobody may read them any more, and else 3 (`TellsText`). Refused words (2) and want of memory (3) ask nothing of the machine.
 //! - The options that have a part in what is said of a run or an audit: those of the job, `--ignore`, `--sync`, `--dry-run`,
@@ -36,10 +36,10 @@ mod share_words;
 mod started;
 mod words;
 
-pub use command::{Audit, Command, Migrate, Named};
+pub use command::{Audit, Command, Migrate, NamesArgs};
 pub use faults::WordsFault;
 pub use names::{NamesFault, names_to};
 pub use program::{answer, run};
-pub use pt_run::Text;
+pub use pt_host::Text;
 pub use started::Started;
 pub use words::read_words;

@@ -11,8 +11,8 @@ use crate::ignore_words::ignored;
 use crate::job_words::{folders, job, meta_of};
 use crate::{Command, Migrate};
 use clap::ArgMatches;
+use pt_host::RunOptions;
 use pt_object::Meta;
-use pt_run::RunOptions;
 use std::alloc::Global;
 
 // The migration that is asked for: refused as its options are.

@@ -7,7 +7,7 @@ use crate::arguments::{needed, text};
 use crate::faults::Unread;
 use crate::grammar::{ID, PREFIX};
 use crate::job_words::layout;
-use crate::{Command, Named, Text};
+use crate::{Command, NamesArgs, Text};
 use clap::ArgMatches;
 use std::alloc::Global;
 
@@ -20,7 +20,7 @@ pub(crate) fn names_command(alloc: Global, matches: &ArgMatches<'_>) -> Result<C
         return Err(Unread::EmptyId);
     }
     let layout = layout(matches)?;
-    Ok(Command::Names(Named {
+    Ok(Command::Names(NamesArgs {
         id: Text::of(alloc, id)?,
         prefix: Text::of(alloc, text(matches, PREFIX).unwrap_or(""))?,
         layout,

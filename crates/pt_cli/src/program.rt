@@ -1,16 +1,18 @@
 ghost use Rattle.std.specs.Prelude.{◌≡◌, map, string_bytes};
 ghost use Rattle.std.specs.Process.{exit_status};
-ghost use Rattle.pt_notices.specs.Expected.{AsksEnd};
+ghost use Rattle.pt_messages.specs.Expected.{AsksEnd};
 ghost use Rattle.pt_cli.specs.Calls.{IsToldAs, TellsNames, TellsText, names_status};
 ghost use Rattle.pt_cli.specs.Statuses.{Declines, Ends, EndsWith, IsWordless, Obeys};
-ghost use Rattle.pt_run.specs.Audits.{Audits, audit_call};
-ghost use Rattle.pt_run.specs.Made.{Runs, run_call};
+ghost use Rattle.pt_host.specs.Audits.{Audits, audit_call};
+ghost use Rattle.pt_host.specs.Made.{Runs, run_call};
 
 use crate::started::Started;
-use crate::{Audit, Command, Migrate, Named, NamesFault, Text, WordsFault, names_to, read_words};
+use crate::{
+    Audit, Command, Migrate, NamesArgs, NamesFault, Text, WordsFault, names_to, read_words,
+};
+use pt_host::status::{DONE, REFUSED};
+use pt_host::{Host, Machine, Reads, Terminals, audit_guarded, end_with_fault, run_guarded};
 use pt_move::Fault;
-use pt_run::status::{DONE, REFUSED};
-use pt_run::{Host, Machine, Reads, Terminals, audit_guarded, failed, run_guarded};
 use pt_tree::write_out;
 use std::alloc::AllocGlobal;
 use std::io;
@@ -50,7 +52,7 @@ fn wordless(rt: &impl Eprint, error: &io::Error) -> u8
     ensures { IsWordless error.now result }
 {
     match error.kind() {
-        io::ErrorKind::OutOfMemory => failed(rt, &Fault::Memory),
+        io::ErrorKind::OutOfMemory => end_with_fault(rt, &Fault::Memory),
         _ => refused(rt, "the arguments are not text"),
     }
 }
@@ -97,7 +99,7 @@ fn refuse<R: Eprint, H: Host>(rt: &R, host: &mut H, fault: &WordsFault) -> u8
             let _ = eprint!(rt; "{text}");
             REFUSED
         }
-        WordsFault::Memory => failed(rt, &Fault::Memory),
+        WordsFault::Memory => end_with_fault(rt, &Fault::Memory),
         _ => {
             let _ = eprintln!(rt; "pairtree2ocfl: {fault}");
             REFUSED
@@ -122,7 +124,7 @@ fn told_text(rt: &impl Eprint, written: io::Result<()>) -> u8
     match written {
         Ok(()) => DONE,
         Err(error) if error.kind() == io::ErrorKind::BrokenPipe => DONE,
-        Err(_) => failed(rt, &Fault::Log),
+        Err(_) => end_with_fault(rt, &Fault::Log),
     }
 }
 
@@ -157,7 +159,7 @@ where
 }
 
 // Writes the names that are asked for to the machine's output, and gives the status of that.
-fn write_names<R: Eprint + AllocGlobal, H: Host>(rt: &R, host: &mut H, asked: &Named) -> u8
+fn write_names<R: Eprint + AllocGlobal, H: Host>(rt: &R, host: &mut H, asked: &NamesArgs) -> u8
     ensures { TellsNames ⟦<H as Machine>⟧.words asked.now host.old host.new result }
 {
     let (prefix, id) = (asked.prefix.as_str(), asked.id.as_str());
@@ -174,8 +176,8 @@ fn told(rt: &impl Eprint, written: Result<(), NamesFault>) -> u8
     match written {
         Ok(()) => DONE,
         Err(NamesFault::Empty) => refused(rt, "the identifier is empty"),
-        Err(NamesFault::Write) => failed(rt, &Fault::Log),
-        Err(NamesFault::Memory) => failed(rt, &Fault::Memory),
+        Err(NamesFault::Write) => end_with_fault(rt, &Fault::Log),
+        Err(NamesFault::Memory) => end_with_fault(rt, &Fault::Memory),
     }
 }
 

@@ -1,5 +1,5 @@
 //! Words of the command line, and what is read of them.
-use pt_cli::{Audit, Command, Migrate, Named, WordsFault, read_words};
+use pt_cli::{Audit, Command, Migrate, NamesArgs, WordsFault, read_words};
 use pt_name::Layout;
 use pt_object::{Algorithm, Meta};
 use std::alloc::Global;
@@ -45,7 +45,7 @@ fn is_fault(fault: &WordsFault, reading: Reading) -> bool {
     }
 }
 
-fn are_of_abc(asked: &Named) -> bool {
+fn are_of_abc(asked: &NamesArgs) -> bool {
     (asked.prefix.as_str(), asked.id.as_str()) == ("", "abc") && has_tuples(&asked.layout, (3, 3))
 }
 

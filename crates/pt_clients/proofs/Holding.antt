@@ -1,6 +1,6 @@
 -- What is held after each step.
 use Rattle.std.proofs.Common.{◌≡◌, ◌≤◌, ◌+◌, ℕ, max, Ok, Some, length, arith, ◌∙◌, ap, subst, sym}
-use Rattle.pt_begun.specs.Begun.{Start}
+use Rattle.pt_invariant.specs.RunInvariant.{Start}
 use Rattle.pt_move.specs.Outcome.{HoldsWithinBound, MadeWithinWork}
 use Rattle.pt_move.specs.Promises.{Keeps}
 use Rattle.pt_move.specs.Running.{Running}
@@ -9,7 +9,7 @@ use Rattle.pt_move.specs.declared.mover.Turn.{Turn}
 use Rattle.pt_plan.specs.Bound.{bound}
 use Rattle.pt_plan.specs.Roots.{root_in}
 use Rattle.pt_plan.specs.Work.{work}
-use Rattle.pt_plan.specs.World.{World}
+use Rattle.pt_plan.specs.DeviceStates.{DeviceStates}
 use Rattle.pt_state.specs.States.{job_of}
 use Rattle.pt_state.specs.declared.job.Job.{Job}
 use Rattle.pt_state.specs.declared.job.Report.{Report}
@@ -19,11 +19,11 @@ use Rattle.pt_walk.specs.Trail.{entries_held}
 use Rattle.pt_clients.specs.Holding.{GoesOn, IsMost}
 
 -- it goes on, and holds no more than the bound
-pub goes_on : (start : Start) (source : Forest) (job : Job) (old new : World) (a b : Running) (t : Turn) → GoesOn start source job old a → Keeps start old new a b (Ok t) → StepLeaves old new a b (Ok t) → GoesOn start source job new b
+pub goes_on : (start : Start) (source : Forest) (job : Job) (old new : DeviceStates) (a b : Running) (t : Turn) → GoesOn start source job old a → Keeps start old new a b (Ok t) → StepLeaves old new a b (Ok t) → GoesOn start source job new b
 unfolding Keeps StepLeaves
 goes_on start source job old new a b t is keeps leaves = record { begun = keeps.begun; tree = leaves.tree ∙ is.tree; job_is = leaves.job ∙ is.job_is }
 
-pub held_within : (start : Start) (source : Forest) (job : Job) (old new : World) (a b : Running) (t : Turn) → GoesOn start source job old a → Keeps start old new a b (Ok t)
+pub held_within : (start : Start) (source : Forest) (job : Job) (old new : DeviceStates) (a b : Running) (t : Turn) → GoesOn start source job old a → Keeps start old new a b (Ok t)
     → entries_held b.state.trail + length b.state.rows + length b.state.contents ≤ bound (job_of job) source
 unfolding Keeps HoldsWithinBound
 held_within start source job old new a b t is keeps =
@@ -32,13 +32,13 @@ held_within start source job old new a b t is keeps =
 pub most_within : (most records limit : ℕ) → most ≤ limit → records ≤ limit → max most records ≤ limit
 most_within most records limit a b = omega arith
 
-pub made_within : (start : Start) (source : Forest) (job : Job) (old new : World) (a b : Running) (t : Turn) → GoesOn start source job old a → Keeps start old new a b (Ok t)
+pub made_within : (start : Start) (source : Forest) (job : Job) (old new : DeviceStates) (a b : Running) (t : Turn) → GoesOn start source job old a → Keeps start old new a b (Ok t)
     → (d : Tree) → start.dest ≡ Some d → b.state.counts.turns ≤ work (job_of job) source (root_in d)
 unfolding Keeps MadeWithinWork
 made_within start source job old new a b t is keeps d told = subst (λ (j : Job). b.state.counts.turns ≤ work (job_of j) source (root_in d)) is.job_is (keeps.work source d is.tree told)
 
 -- the most after one more turn
-pub most_after : (start : Start) (source : Forest) (job : Job) (old new : World) (a b : Running) (t : Turn) (most held records turns : ℕ) (counts : Report) → GoesOn start source job old a → Keeps start old new a b (Ok t)
+pub most_after : (start : Start) (source : Forest) (job : Job) (old new : DeviceStates) (a b : Running) (t : Turn) (most held records turns : ℕ) (counts : Report) → GoesOn start source job old a → Keeps start old new a b (Ok t)
     → most ≤ bound (job_of job) source → held ≡ entries_held b.state.trail + length b.state.rows + length b.state.contents → records ≡ max most held → counts ≡ b.state.counts → turns ≡ counts.turns
     → IsMost job start source records turns
 most_after start source job old new a b t most held records turns counts is keeps within held_is records_is counts_is turns_is = record {

@@ -3,14 +3,14 @@ use Rattle.std.proofs.Common.{◌≡◌, ℕ, List, refl, sym, ap, ◌∙◌, su
 use Rattle.std.specs.Prelude.{IsSome, Option, None, Some, Ok, Err}
 use Rattle.std.specs.Io.KnownBytes.{Appends}
 use Rattle.std.specs.Option.{option_map}
-use Rattle.pt_begun.specs.Begun.{TellsAsBefore}
+use Rattle.pt_invariant.specs.RunInvariant.{TellsAsBefore}
 use Rattle.pt_object.specs.Holding.{IsFree}
 use Rattle.pt_object.specs.Scripts.{staging}
 use Rattle.pt_plan.proofs.LaterTrees.{rerun_leaves_the_same}
 use Rattle.pt_plan.specs.Carried.{after_all}
 use Rattle.pt_plan.specs.Job.{Job as Plan}
 use Rattle.pt_plan.specs.Roots.{root_in, with_root}
-use Rattle.pt_plan.specs.World.{World, dest_tree, source_tree}
+use Rattle.pt_plan.specs.DeviceStates.{DeviceStates, dest_tree, source_tree}
 use Rattle.pt_state.specs.States.{job_of}
 use Rattle.pt_state.specs.declared.job.Job.{Job}
 use Rattle.pt_state.specs.declared.job.Report.{Report}
@@ -21,8 +21,8 @@ use Rattle.pt_tree.specs.Tree.{IsTree, Tree, without, without_at}
 use Rattle.pt_tree.proofs.Below.{whole_of}
 use Rattle.pt_move.specs.Lines.{HasToldAll, HasToldFront}
 use Rattle.pt_move.specs.Migrates.{Migrates}
-use Rattle.pt_move.specs.Outcome.{EndsWhole, FaultLeaves}
-use Rattle.pt_move.specs.Running.{LeavesBehind}
+use Rattle.pt_move.specs.Outcome.{EndsWhole, FaultStateTold}
+use Rattle.pt_move.specs.Running.{DestFaultStateTold}
 use Rattle.pt_plan.specs.declared.fault.Fault.{Fault}
 use Rattle.pt_clients.specs.Mending.{MayEndAs, TakesStaging, undisturbed}
 
@@ -61,10 +61,10 @@ told_tree (Some w) law t is = let same : w.tree ≡ t = cc in subst (λ (x : Tre
 
 -- ---- by the answer
 
-module _ (job : Job) (s : Forest) (start : Tree) (old new : World) (is : MayEndAs (job_of job) s start old) where
+module _ (job : Job) (s : Forest) (start : Tree) (old new : DeviceStates) (is : MayEndAs (job_of job) s start old) where
   -- a run that came to its end
   pub ended : (report : Report) → Migrates job old new (Ok report) → dest_tree new.dest ≡ Some (undisturbed (job_of job) s start)
-  unfolding EndsWhole HasToldAll LeavesBehind
+  unfolding EndsWhole HasToldAll DestFaultStateTold
   ended report made =
       let log = log_on old.log new.log _ is.log made.told.1.0 in
       let dest = dest_on (dest_tree old.dest) new.dest _ is.now is.stands made.leaves in
@@ -73,9 +73,9 @@ module _ (job : Job) (s : Forest) (start : Tree) (old new : World) (is : MayEndA
       ap dest_tree dest.1 ∙ ap Some (end.tree ∙ sym (undisturbed_free (job_of job) s is.now end.free) ∙ is.same)
 
   -- one that a fault ended, once `staging` is taken away
-  pub again : (f : Fault) (later : World) → Migrates job old new (Err f) → later.source ≡ new.source → later.log ≡ new.log → TakesStaging new.dest later.dest
+  pub again : (f : Fault) (later : DeviceStates) → Migrates job old new (Err f) → later.source ≡ new.source → later.log ≡ new.log → TakesStaging new.dest later.dest
       → ((t : Tree) → dest_tree later.dest ≡ Some t → IsTree t) → MayEndAs (job_of job) s start later
-  unfolding FaultLeaves HasToldFront LeavesBehind
+  unfolding FaultStateTold HasToldFront DestFaultStateTold
   again f later made source-is log-is takes is_tree =
       let log = log_on old.log new.log _ is.log made.told_front.1.1.1 in
       let dest = dest_on (dest_tree old.dest) new.dest _ is.now is.stands made.leaves in
@@ -93,12 +93,12 @@ module _ (job : Job) (s : Forest) (start : Tree) (old new : World) (is : MayEndA
       }
 
 -- the same, where the run's job is the one that is meant
-pub ended_as : (plan : Plan) (job : Job) (s : Forest) (start : Tree) (old new : World) (report : Report) → job_of job ≡ plan → MayEndAs plan s start old → Migrates job old new (Ok report)
+pub ended_as : (plan : Plan) (job : Job) (s : Forest) (start : Tree) (old new : DeviceStates) (report : Report) → job_of job ≡ plan → MayEndAs plan s start old → Migrates job old new (Ok report)
     → dest_tree new.dest ≡ Some (undisturbed plan s start)
 ended_as plan job s start old new report same is made =
     subst (λ (p : Plan). MayEndAs p s start old → dest_tree new.dest ≡ Some (undisturbed p s start)) same (λ is. ended job s start old new is report made) is
 
-pub again_as : (plan : Plan) (job : Job) (s : Forest) (start : Tree) (old new later : World) (f : Fault) → job_of job ≡ plan → MayEndAs plan s start old → Migrates job old new (Err f) → later.source ≡ new.source → later.log ≡ new.log
+pub again_as : (plan : Plan) (job : Job) (s : Forest) (start : Tree) (old new later : DeviceStates) (f : Fault) → job_of job ≡ plan → MayEndAs plan s start old → Migrates job old new (Err f) → later.source ≡ new.source → later.log ≡ new.log
     → TakesStaging new.dest later.dest → ((t : Tree) → dest_tree later.dest ≡ Some t → IsTree t) → MayEndAs plan s start later
 again_as plan job s start old new later f same is made source-is log-is takes is_tree =
     subst (λ (p : Plan). MayEndAs p s start old → MayEndAs p s start later) same (λ is. again job s start old new is f later made source-is log-is takes is_tree) is

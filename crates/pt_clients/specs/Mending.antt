@@ -5,7 +5,7 @@ use Rattle.pt_object.specs.Scripts.{staging}
 use Rattle.pt_plan.specs.Carried.{IsStart, after_all}
 use Rattle.pt_plan.specs.Job.{Job}
 use Rattle.pt_plan.specs.Roots.{root_in, with_root}
-use Rattle.pt_plan.specs.World.{World, dest_tree, source_tree}
+use Rattle.pt_plan.specs.DeviceStates.{DeviceStates, dest_tree, source_tree}
 use Rattle.pt_tree.specs.Dest.{Writing}
 use Rattle.pt_tree.specs.Forest.{Forest}
 use Rattle.pt_tree.specs.Tree.{IsTree, Tree, without}
@@ -19,7 +19,7 @@ abbrev pub TakesStaging : Option Writing → Option Writing → Type 0
 TakesStaging old new = dest_tree new ≡ option_map (λ t. without t staging) (dest_tree old)
 
 -- all three tell, a run may end well, and then it leaves what one undisturbed run leaves of this start
-pub record MayEndAs (job : Job) (source : Forest) (start : Tree) (world : World) : Type 0 where
+pub record MayEndAs (job : Job) (source : Forest) (start : Tree) (world : DeviceStates) : Type 0 where
   pub tells : source_tree world.source ≡ Some source
   pub now : Tree
   pub stands : dest_tree world.dest ≡ Some now

@@ -2,7 +2,7 @@
 ghost use Rattle.std.specs.Prelude.{◌≡◌, true, IfSome, Some};
 ghost use Rattle.pt_clients.specs.Mending.{MayEndAs, TakesStaging, undisturbed};
 ghost use Rattle.pt_plan.specs.Job.{Job as Plan};
-ghost use Rattle.pt_plan.specs.World.{dest_tree};
+ghost use Rattle.pt_plan.specs.DeviceStates.{dest_tree};
 ghost use Rattle.pt_state.specs.Outside.{world_of};
 ghost use Rattle.pt_state.specs.States.{job_of};
 ghost use Rattle.pt_tree.specs.Forest.{Forest};

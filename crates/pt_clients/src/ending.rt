@@ -1,8 +1,8 @@
 //! What a caller knows where a whole run is answered Ok.
 ghost use Rattle.std.specs.Prelude.{◌≡◌, ◌≤◌, true, IfOk};
-ghost use Rattle.pt_begun.specs.Begun.{start_of};
+ghost use Rattle.pt_invariant.specs.RunInvariant.{start_of};
 ghost use Rattle.pt_move.specs.Outcome.{EndsWhole};
-ghost use Rattle.pt_plan.specs.World.{source_tree};
+ghost use Rattle.pt_plan.specs.DeviceStates.{source_tree};
 ghost use Rattle.pt_state.specs.Outside.{world_of};
 ghost use Rattle.pt_state.specs.declared.job.Report.{Report};
 

@@ -1,6 +1,6 @@
 //! A run that owns its devices.
 ghost use Rattle.std.specs.Prelude.{◌≡◌, None};
-ghost use Rattle.pt_begun.specs.Begun.{Start};
+ghost use Rattle.pt_invariant.specs.RunInvariant.{Start};
 ghost use Rattle.pt_clients.specs.Holding.{GoesOn, IsMost};
 ghost use Rattle.pt_move.specs.Promises.{TakesStep};
 ghost use Rattle.pt_move.specs.Running.{HasBegun, IsNew};

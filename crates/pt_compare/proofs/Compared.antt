@@ -7,14 +7,14 @@ use Rattle.std.specs.Global.{Global}
 use Rattle.std.specs.String.{string_bytes}
 use Rattle.std.proofs.lemmas.Bool.{and_from, and_parts}
 use Rattle.std.proofs.lemmas.List.Elements.{All-cons, All-head, All-map, All-nil, All-tail}
-use Rattle.pt_compare.specs.Found.{IsFirst, IsFound, IsLeft, IsWrong, MeetsInventories, MeetsObject, Sought, inventory_items, version_inventory}
+use Rattle.pt_compare.specs.Found.{IsFirst, IsFound, LeavesExtra, IsWrong, MeetsInventories, MeetsObject, Sought, inventory_items, version_inventory}
 use Rattle.pt_compare.specs.Marks.{Marks, all_met, at_first, inside, kind_in, no_marks, with_mark}
 use Rattle.pt_compare.specs.Meeting.{IsWrongInventory, Meets, MeetsFrom, MeetsIn, MeetsText, MeetsTextIn, NotedStand, StandsSo}
 use Rattle.pt_compare.specs.Parts.{content_items, early_items, files_of, first_items, last_items}
 use Rattle.pt_compare.specs.Root.{IsSeen, kind_at}
 use Rattle.pt_compare.specs.declared.difference.Difference.{Difference}
-use Rattle.pt_compare.specs.declared.difference.Finding.{Finding}
-use Rattle.pt_compare.specs.declared.difference.Finding.TheVariants as finding
+use Rattle.pt_compare.specs.declared.difference.Comparison.{Comparison}
+use Rattle.pt_compare.specs.declared.difference.Comparison.TheVariants as finding
 use Rattle.pt_compare.specs.declared.stop.Stop.{Stop}
 use Rattle.pt_compare.specs.declared.stop.Stop.TheVariants as stop
 use Rattle.pt_compare.proofs.Entering.{kind_same}
@@ -184,10 +184,10 @@ module _ (sought : Sought) (order : part_in_order (paths_of sought.stored) ≡ t
       by (inr (inl between)) = (stopped_between sought order apart (inside f place) d.path d.why between.0 between.2, first_between sought order apart (inside f place) d.path d.why between.0 between.1 between.2)
       by (inr (inr late)) = (stopped_late sought order apart (inside f place) late.0 d.path d.why late.1 late.2, first_late sought order apart (inside f place) late.0 d.path d.why late.2)
 
-  pub left_is : (old marks : Marks) (found : Finding) (u : Unit {0}) → old ≡ at_first (inside f place) → MeetsObject sought (inside f place) old marks (Ok u) → IsLeft marks found → IsFound sought (inside f place) found
+  pub left_is : (old marks : Marks) (found : Comparison) (u : Unit {0}) → old ≡ at_first (inside f place) → MeetsObject sought (inside f place) old marks (Ok u) → LeavesExtra marks found → IsFound sought (inside f place) found
   left_is old marks found u first met left = by found (subst (λ (m : Marks). MeetsObject sought (inside f place) m marks (Ok u)) first met) left
     where
-      by : (found : Finding) → MeetsObject sought (inside f place) (at_first (inside f place)) marks (Ok u) → IsLeft marks found → IsFound sought (inside f place) found
+      by : (found : Comparison) → MeetsObject sought (inside f place) (at_first (inside f place)) marks (Ok u) → LeavesExtra marks found → IsFound sought (inside f place) found
       by finding.Absent met left = absurd left
       by finding.Same met left = (met.0, met.1, is_all sought order apart (inside f place) met.0 marks met.3 met.2 (inside_above f place) left)
       by (finding.Differs d) met left = (
@@ -242,6 +242,6 @@ module _ (src tree next : Option Forest) (place top : Path) (sought : Forest →
   found_differs d new met = λ s read f told.
       differs_is (sought s) (order s) (in_order_apart (paths_of (sought s).stored) (order s)) f place d old new (first_noted_is f place top k old (seen f told) at is) (met s read f (same ∙ told))
 
-  pub found_left : (new : Marks) (found : Finding) (u : Unit {0}) → ForSome src (λ s. ForSome next (λ f. MeetsObject (sought s) (inside f place) old new (Ok u))) → IsLeft new found → ForSome src (λ s. ForSome tree (λ f. IsFound (sought s) (inside f place) found))
+  pub found_left : (new : Marks) (found : Comparison) (u : Unit {0}) → ForSome src (λ s. ForSome next (λ f. MeetsObject (sought s) (inside f place) old new (Ok u))) → LeavesExtra new found → ForSome src (λ s. ForSome tree (λ f. IsFound (sought s) (inside f place) found))
   found_left new found u met left = λ s read f told.
       left_is (sought s) (order s) (in_order_apart (paths_of (sought s).stored) (order s)) f place old new found u (first_noted_is f place top k old (seen f told) at is) (met s read f (same ∙ told)) left

@@ -7,7 +7,7 @@ use Rattle.pt_compare.specs.Described.{IsMade}
 use Rattle.pt_compare.specs.Found.{HaveOtherBytes, HaveOtherKinds, IsOtherFile, IsWrong, Sought, object_with, shape, version_inventory}
 use Rattle.pt_compare.specs.Marks.{kind_in}
 use Rattle.pt_compare.specs.Parts.{early_items, last_items}
-use Rattle.pt_compare.specs.declared.difference.Finding.TheVariants as found
+use Rattle.pt_compare.specs.declared.difference.Comparison.TheVariants as found
 use Rattle.pt_compare.specs.declared.difference.Why.{Why}
 use Rattle.pt_compare.specs.declared.difference.Why.TheVariants as why
 use Rattle.pt_compare.proofs.Findings.{are_items, at_top, kinds, locate}

@@ -1,7 +1,7 @@
 -- What an audit finds at an object's place.
 use Rattle.std.specs.Prelude.{ℕ, Bool, true, false, List, codes}
-use Rattle.pt_compare.specs.declared.difference.Finding.{Finding}
-use Rattle.pt_compare.specs.declared.difference.Finding.TheVariants.{Absent, Differs, Same}
+use Rattle.pt_compare.specs.declared.difference.Comparison.{Comparison}
+use Rattle.pt_compare.specs.declared.difference.Comparison.TheVariants.{Absent, Differs, Same}
 use Rattle.pt_compare.specs.declared.difference.Why.{Why}
 use Rattle.pt_compare.specs.declared.difference.Why.TheVariants.{Bytes, Extra, Kind, Missing}
 
@@ -13,7 +13,7 @@ why_word Kind = codes "kind"
 why_word Bytes = codes "bytes"
 
 -- no difference was found
-abbrev pub is_same : Finding → Bool
+abbrev pub is_same : Comparison → Bool
 is_same Same = true
 is_same Absent = false
 is_same (Differs difference) = false

@@ -2,8 +2,8 @@
 use Rattle.std.specs.Prelude.{◌≡◌, ◌≢◌, ◌⊎◌, ℕ, List, [], ◌∷◌, ◌++◌, All, None, Some, IsSome, Result, Ok, Err, ⊤}
 use Rattle.pt_compare.specs.Described.{IsMade}
 use Rattle.pt_compare.specs.declared.scanned.Scanned.{Scanned}
-use Rattle.pt_compare.specs.declared.difference.Finding.{Finding}
-use Rattle.pt_compare.specs.declared.difference.Finding.TheVariants.{Absent, Differs, Same}
+use Rattle.pt_compare.specs.declared.difference.Comparison.{Comparison}
+use Rattle.pt_compare.specs.declared.difference.Comparison.TheVariants.{Absent, Differs, Same}
 use Rattle.pt_compare.specs.Marks.{Marks, all_met}
 use Rattle.pt_compare.specs.Meeting.{IsWrongInventory, StandsSo, StopsAt}
 use Rattle.pt_compare.specs.Parts.{early_items, last_items}
@@ -11,7 +11,7 @@ use Rattle.pt_compare.specs.declared.difference.Why.{Why}
 use Rattle.pt_compare.specs.declared.stop.Stop.{Stop}
 use Rattle.pt_compare.specs.declared.stop.Stop.TheVariants as stop
 use Rattle.pt_plan.specs.Turn.{HasFailed}
-use Rattle.pt_plan.specs.World.{Failures}
+use Rattle.pt_plan.specs.DeviceStates.{Failures}
 use Rattle.pt_plan.specs.declared.fault.Fault.{Fault}
 use Rattle.pt_object.specs.Script.{Item, MakeFile, item_path}
 use Rattle.pt_object.specs.Scripts.{object_items}
@@ -117,22 +117,22 @@ IsFirst sought t q why.Bytes = StandsUpTo sought t q
 IsFirst sought t q why.Extra = AllStands sought t
 
 -- what is found, where this stands at the place and below it, is so: nothing stands; just the object; or at a path something is missing, of another kind, has other bytes, or is more
-abbrev pub IsFound : Sought → Tree → Finding → Type 0
+abbrev pub IsFound : Sought → Tree → Comparison → Type 0
 IsFound sought t Absent = t [] ≡ None
 IsFound sought t Same = IsObject sought t
 IsFound sought t (Differs difference) = IsWrong sought t difference.path difference.why
     × IsFirst sought t difference.path difference.why
 
 -- a comparison halts only as the device that is blamed has failed
-abbrev pub HaltsAs : Result Finding Fault → Failures → Failures → Type 0
+abbrev pub HaltsAs : Result Comparison Fault → Failures → Failures → Type 0
 HaltsAs (Ok finding) old new = new ≡ old
 HaltsAs (Err why) old new = HasFailed why old new
 
 -- what is found where all of an object stands, and this is noted beside it
-abbrev pub IsLeft : Marks → Finding → Type 0
-IsLeft marks Absent = ⊥
-IsLeft marks Same = (q : Path) → marks q ≡ None
-IsLeft marks (Differs difference) = (difference.why ≡ why.Extra) × IsSome (marks difference.path)
+abbrev pub LeavesExtra : Marks → Comparison → Type 0
+LeavesExtra marks Absent = ⊥
+LeavesExtra marks Same = (q : Path) → marks q ≡ None
+LeavesExtra marks (Differs difference) = (difference.why ≡ why.Extra) × IsSome (marks difference.path)
 
 -- the inventory in the version's folder, and what follows it
 abbrev pub inventory_items : Algorithm → List ℕ → List Item

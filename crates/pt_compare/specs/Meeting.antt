@@ -15,7 +15,7 @@ use Rattle.pt_compare.specs.declared.stop.Stop.TheVariants as stop
 use Rattle.pt_object.specs.MetaParts.{MetaParts}
 use Rattle.pt_object.specs.Script.{Item, MakeFolder, MakeFile, item_entry, item_path}
 use Rattle.pt_plan.specs.Turn.{HasFailed}
-use Rattle.pt_plan.specs.World.{Failures}
+use Rattle.pt_plan.specs.DeviceStates.{Failures}
 use Rattle.pt_plan.specs.declared.fault.Fault.{Fault}
 use Rattle.pt_plan.specs.declared.fault.Fault.TheVariants as fault
 use Rattle.pt_tree.specs.Failures.{HasRisen}

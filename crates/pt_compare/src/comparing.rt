@@ -2,7 +2,7 @@
 ghost use Rattle.std.specs.Prelude.{◌≡◌, ◌++◌, IfOk, map, true, All, IfErr, None, OnOk};
 ghost use Rattle.std.specs.Option.{ForSome};
 ghost use Rattle.pt_compare.specs.Beside.{AreAlike, IsKnown, IsKnownToStand};
-ghost use Rattle.pt_compare.specs.Found.{HaltsAs, IsFound, IsLeft, MeetsInventories, MeetsObject, sought_of, texts_of_object};
+ghost use Rattle.pt_compare.specs.Found.{HaltsAs, IsFound, LeavesExtra, MeetsInventories, MeetsObject, sought_of, texts_of_object};
 ghost use Rattle.pt_compare.specs.Marks.{inside, marks_of};
 ghost use Rattle.pt_compare.specs.Meeting.{FailsAs, FailsInRoot, MeetsFrom, MeetsIn, NotedStand, both};
 ghost use Rattle.pt_compare.specs.Parts.{content_items, files_of, first_items, fronts, last_items, way_items};
@@ -17,9 +17,9 @@ ghost use Rattle.pt_tree.specs.Source.{CanOpen};
 use crate::entries::Entries;
 use crate::meeting::{meet_bytes, meet_folder, meet_inventory, meet_stored};
 use crate::names::alike_names;
-use crate::paths::{content_path, joined};
+use crate::paths::{content_path, join};
 use crate::stop::Stop;
-use crate::{Difference, Finding, Root, Scanned, Why, standing};
+use crate::{Comparison, Difference, Root, Scanned, Why, standing};
 use pt_object::{WellKnownName, object_declaration, sidecar};
 use pt_plan::Fault;
 use pt_tree::{Kind, NamePath, Source, TreeFault};
@@ -38,7 +38,7 @@ pub fn compare<S: Source, R: Root>(
     source: &mut S,
     root: &mut R,
     object: &Scanned<'_>,
-) -> Result<Finding, Fault>
+) -> Result<Comparison, Fault>
     requires contents { object.now.contents.now
         ≡ map content_of_row (distinct object.now.rows.now) }
     requires order { part_in_order (row_paths object.now.rows.now) ≡ true }
@@ -55,13 +55,13 @@ pub fn compare<S: Source, R: Root>(
 {
     let here = at_place(alloc, root, object).map_err(Fault::of_dest)?;
     let Some(kind) = here else {
-        return Ok(Finding::Absent);
+        return Ok(Comparison::Absent);
     };
     let mut entries = Entries::new(alloc);
     entries.add(&NamePath::new(alloc), kind)?;
     match meet_object(alloc, source, root, object, &mut entries) {
-        Ok(()) => left_over(&entries),
-        Err(Stop::Differs(difference)) => Ok(Finding::Differs(difference)),
+        Ok(()) => find_left_over(&entries),
+        Err(Stop::Differs(difference)) => Ok(Comparison::Differs(difference)),
         Err(Stop::Fault(why)) => Err(why),
     }
 }
@@ -86,16 +86,16 @@ fn at_place<R: Root>(
 }
 
 // What is found where all of an object stands, and this is still noted beside it.
-fn left_over(entries: &Entries) -> Result<Finding, Fault>
+fn find_left_over(entries: &Entries) -> Result<Comparison, Fault>
     ensures halts { IfErr result (λ why. why ≡ fault.Memory) }
-    ensures left { IfOk result (IsLeft (marks_of entries.now)) }
+    ensures left { IfOk result (LeavesExtra (marks_of entries.now)) }
 {
     match entries.first()? {
         Some(path) => {
             let why = Why::Extra;
-            Ok(Finding::Differs(Difference { path, why }))
+            Ok(Comparison::Differs(Difference { path, why }))
         }
-        None => Ok(Finding::Same),
+        None => Ok(Comparison::Same),
     }
 }
 
@@ -179,7 +179,7 @@ fn meet_contents<S: Source, R: Root>(
         meet_way(alloc, root, object.to, entries, &last, &content.path)?;
         let path = content_path(alloc, &content.path, content.path.len())?;
         let is_alike = i < object.alike;
-        let from = joined(object.from, &content.path)?;
+        let from = join(object.from, &content.path)?;
         meet_stored(source, root, object.to, entries, &path, &from, is_alike)?;
         last = Some(path);
     }

@@ -42,7 +42,7 @@ pub struct Difference {
 
 /// What was found so far at the place of an object.
 #[derive(Debug, Drop)]
-pub enum Finding {
+pub enum Comparison {
     /// No difference.
     Same,
     /// Nothing stands at the place.
@@ -51,14 +51,14 @@ pub enum Finding {
     Differs(Difference),
 }
 
-impl Finding {
+impl Comparison {
     /// Whether no difference was found.
     pub fn is_same(&self) -> bool
         ensures { result ≡ is_same_finding self.now }
     {
         match self {
-            Finding::Same => true,
-            Finding::Absent | Finding::Differs(_) => false,
+            Comparison::Same => true,
+            Comparison::Absent | Comparison::Differs(_) => false,
         }
     }
 }

@@ -6,6 +6,6 @@ use pt_tree::{Kind, NamePath, TreeFault};
 
 impl<'a, S: System> Root for HostSource<'a, S> {
     fn kind(&mut self, path: &NamePath) -> Result<Option<Kind>, TreeFault> {
-        self.look(path)
+        self.lstat(path)
     }
 }

@@ -95,9 +95,9 @@ fn meta_by_text(alloc: Global, text: &str) -> Result<Option<Meta>, MemoryFault>
     let Some(parts) = parts_of(text) else {
         return Ok(None);
     };
-    let created = parsed(alloc, parts.created)?;
-    let message = parsed(alloc, parts.message)?;
-    let user = parsed(alloc, parts.user)?;
+    let created = parse(alloc, parts.created)?;
+    let message = parse(alloc, parts.message)?;
+    let user = parse(alloc, parts.user)?;
     match texts_of(&created, &message, &user) {
         Some(texts) => meta_of(alloc, &texts),
         None => Ok(None),
@@ -131,7 +131,7 @@ fn parts_of(text: &str) -> Option<Parts<'_>> {
 fn meta_by_json(alloc: Global, text: &str) -> Result<Option<Meta>, MemoryFault>
     ensures { IfOk result (λ meta. meta ≡ description_in (unwrap_or (read text.now) null)) }
 {
-    let inventory = parsed(alloc, text)?;
+    let inventory = parse(alloc, text)?;
     match texts_in_json(&inventory) {
         Some(texts) => meta_of(alloc, &texts),
         None => Ok(None),
@@ -139,7 +139,7 @@ fn meta_by_json(alloc: Global, text: &str) -> Result<Option<Meta>, MemoryFault>
 }
 
 // The JSON of a text; null where it is none.
-fn parsed(alloc: Global, text: &str) -> Result<Value, MemoryFault>
+fn parse(alloc: Global, text: &str) -> Result<Value, MemoryFault>
     ensures { IfOk result (λ value. view value ≡ unwrap_or (read text.now) null) }
 {
     match Value::from_str(alloc, text) {

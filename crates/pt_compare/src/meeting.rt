@@ -16,7 +16,7 @@ use crate::both_sides::are_alike;
 use crate::bytes::{are_the_rest, rest_of};
 use crate::entries::{Entries, note};
 use crate::inventories::text_if_made;
-use crate::paths::joined;
+use crate::paths::join;
 use crate::stop::{Stop, of_root, of_source};
 use crate::{Difference, Root, Scanned, Why};
 use pt_tree::{Block, Kind, NamePath, Source};
@@ -39,7 +39,7 @@ pub(crate) fn meet_folder<R: Root>(
     if !is_of_kind(here, Kind::Dir) {
         return Err(wrong(path, here));
     }
-    let whole = joined(place, &path)?;
+    let whole = join(place, &path)?;
     let listing = root.list(&whole).map_err(of_root)?;
     note(entries, &path, &listing)?;
     Ok(())
@@ -185,7 +185,7 @@ fn open_file<R: Root>(
     if !is_of_kind(here, Kind::File) {
         return Err(wrong(path.copy()?, here));
     }
-    let whole = joined(place, path)?;
+    let whole = join(place, path)?;
     root.open(&whole).map_err(of_root)?;
     Ok(())
 }

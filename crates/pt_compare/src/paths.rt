@@ -7,7 +7,7 @@ use pt_tree::{MemoryFault, NamePath};
 use std::alloc::Global;
 
 /// A path with another behind it. `Memory` where a growth was refused.
-pub(crate) fn joined(path: &NamePath, inner: &NamePath) -> Result<NamePath, MemoryFault>
+pub(crate) fn join(path: &NamePath, inner: &NamePath) -> Result<NamePath, MemoryFault>
     ensures { IfOk result (λ whole. whole ≡ path.now ++ inner.now) }
 {
     path.extended(inner.names())

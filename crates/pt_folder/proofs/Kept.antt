@@ -7,8 +7,8 @@ use Rattle.std.specs.declared.io.Error.{Error}
 use Rattle.pt_tree.specs.declared.faults.TreeFault.{TreeFault}
 use Rattle.pt_tree.specs.declared.faults.TreeFault.TheVariants.{Device, Memory}
 use Rattle.pt_folder.specs.Failure.{HasError, IsAt, IsNamesCause, IsOfCall, IsOfName, IsOfNames, OnDevice}
-use Rattle.pt_folder.specs.declared.failure.Cause.TheVariants as cause
-use Rattle.pt_folder.specs.declared.failure.Cause.{Cause}
+use Rattle.pt_folder.specs.declared.failure.FailureReason.TheVariants as cause
+use Rattle.pt_folder.specs.declared.failure.FailureReason.{FailureReason}
 use Rattle.pt_folder.specs.declared.failure.Failure.{Failure}
 
 -- what is kept of a fault that is handed on
@@ -31,16 +31,16 @@ kept_held (Err Memory) last P kept = tt
 kept_held (Err Device) None P kept = absurd kept
 kept_held (Err Device) (Some f) P kept = kept
 
-pub kept_names : (last : Option Failure) (text : List ℕ) (why : Cause) → IfSome last (IsAt text why) → IsNamesCause why → IfSome last (IsOfNames text)
+pub kept_names : (last : Option Failure) (text : List ℕ) (why : FailureReason) → IfSome last (IsAt text why) → IsNamesCause why → IfSome last (IsOfNames text)
 kept_names None text why kept is = tt
 kept_names (Some f) text why kept is = (kept.0, subst IsNamesCause (sym kept.1) is)
 
-pub names_heard : {T : Type 0} (r : Result T TreeFault) (last : Option Failure) (text : List ℕ) (why : Cause) → IfSome last (IsAt text why) → IsNamesCause why → OnDevice r (IfSome last (IsOfNames text))
+pub names_heard : {T : Type 0} (r : Result T TreeFault) (last : Option Failure) (text : List ℕ) (why : FailureReason) → IfSome last (IsAt text why) → IsNamesCause why → OnDevice r (IfSome last (IsOfNames text))
 names_heard (Ok x) last text why kept is = tt
 names_heard (Err Memory) last text why kept is = tt
 names_heard (Err Device) last text why kept is = kept_names last text why kept is
 
-pub kept_name : (last : Option Failure) (text : List ℕ) (why : Cause) (most : ℕ) (names : List (List ℕ)) (name : List ℕ) → IfSome last (IsAt text why)
+pub kept_name : (last : Option Failure) (text : List ℕ) (why : FailureReason) (most : ℕ) (names : List (List ℕ)) (name : List ℕ) → IfSome last (IsAt text why)
     → IsOfName most names name why → IfSome last (λ f. IsOfName most names name f.cause)
 kept_name None text why most names name kept is = tt
 kept_name (Some f) text why most names name kept is = subst (IsOfName most names name) (sym kept.1) is

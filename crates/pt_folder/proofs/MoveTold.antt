@@ -14,9 +14,9 @@ use Rattle.pt_folder.specs.DestLaws.{Kept, Moves, StaysApart, MoveLaw, StillLaw}
 use Rattle.pt_folder.specs.DestHeld.{IsBack, IsPlaced, told_of, told_with}
 use Rattle.pt_folder.specs.Moving.{AfterMove, MovesOnce}
 use Rattle.pt_folder.specs.Folder.{entry_text}
-use Rattle.pt_folder.specs.Stuck.{stuck_after}
-use Rattle.pt_folder.specs.declared.stuck.Stuck.{Stuck}
-use Rattle.pt_folder.specs.declared.stuck.Stuck.TheVariants as stuck
+use Rattle.pt_folder.specs.UnsyncedChange.{stuck_after}
+use Rattle.pt_folder.specs.declared.unsynced_change.UnsyncedChange.{UnsyncedChange}
+use Rattle.pt_folder.specs.declared.unsynced_change.UnsyncedChange.TheVariants as stuck
 use Rattle.pt_folder.specs.Writing.{open_unless_within}
 use Rattle.pt_folder.proofs.Back.{back}
 use Rattle.pt_folder.proofs.DestTold.{told_at}
@@ -53,13 +53,13 @@ abbrev pub IsMoved : {F : Type 0} → Kept F → Kept F → Path → Path → Ty
 IsMoved old new from to = (new.tree ≡ option_map (λ t. moved t from to) old.tree) × StaysApart old new from
 
 -- it is moved, or nothing is changed; or it is moved, and that is stuck
-abbrev pub HasMoved : {F : Type 0} → Kept F → Kept F → Path → Path → Option Stuck → Result (Unit {0}) TreeFault → Type 0
+abbrev pub HasMoved : {F : Type 0} → Kept F → Kept F → Path → Path → Option UnsyncedChange → Result (Unit {0}) TreeFault → Type 0
 HasMoved old new from to left (Ok x) = IsMoved old new from to × (left ≡ None)
 HasMoved old new from to left (Err e) = ((new ≡ old) × (left ≡ None)) ⊎ (IsMoved old new from to × (left ≡ Some (stuck.Moved from to)))
 
 module _ {S F : Type 0} (kept : S → List ℕ → Kept F) (folder : List ℕ) (old new : S) (from to : Path) where
   pub rename_gives : (synced : Bool) (renames : S → List ℕ → List ℕ → Result (Unit {0}) Error → S → Type 0) (opens : S → List ℕ → Result F Error → S → Type 0) (syncs : F → Result (Unit {0}) Error → F → Type 0) → MoveLaw kept renames → StillLaw kept opens
-      → (left : Option Stuck) (result : Result (Unit {0}) TreeFault) → ForSome (kept old folder).tree (λ t. CanMove t from to) → MovesOnce renames opens syncs synced folder from to old new left result
+      → (left : Option UnsyncedChange) (result : Result (Unit {0}) TreeFault) → ForSome (kept old folder).tree (λ t. CanMove t from to) → MovesOnce renames opens syncs synced folder from to old new left result
       → HasMoved (kept old folder) (kept new folder) from to left result
   rename_gives synced renames opens syncs law still left (Ok x) can (inl none) = absurd none.2
   rename_gives synced renames opens syncs law still left (Err e) can (inl none) = inl (ap (λ s. kept s folder) none.0, none.1)
@@ -84,7 +84,7 @@ module _ {S F : Type 0} (kept : S → List ℕ → Kept F) (folder : List ℕ) (
 
   -- where nothing is to be put onto the disk, nothing is stuck
   pub rename_wanted : (renames : S → List ℕ → List ℕ → Result (Unit {0}) Error → S → Type 0) (opens : S → List ℕ → Result F Error → S → Type 0) (syncs : F → Result (Unit {0}) Error → F → Type 0) → (synced : Bool)
-      → (left : Option Stuck) (result : Result (Unit {0}) TreeFault) → MovesOnce renames opens syncs synced folder from to old new left result → ForSome left (λ _. synced ≡ true)
+      → (left : Option UnsyncedChange) (result : Result (Unit {0}) TreeFault) → MovesOnce renames opens syncs synced folder from to old new left result → ForSome left (λ _. synced ≡ true)
   rename_wanted renames opens syncs true left result asked = λ s at. refl
   rename_wanted renames opens syncs false left result (inl none) = λ s at. let free = none.1 in absurd (cc)
   rename_wanted renames opens syncs false left result (inr asked) = by asked.reply result asked.gives asked.left_stuck
@@ -98,7 +98,7 @@ module _ {S F : Type 0} (kept : S → List ℕ → Kept F) (folder : List ℕ) (
 
   -- something is stuck only where the device failed
   pub rename_device : (renames : S → List ℕ → List ℕ → Result (Unit {0}) Error → S → Type 0) (opens : S → List ℕ → Result F Error → S → Type 0) (syncs : F → Result (Unit {0}) Error → F → Type 0) → (synced : Bool)
-      → (left : Option Stuck) (result : Result (Unit {0}) TreeFault) → MovesOnce renames opens syncs synced folder from to old new left result → ForSome left (λ _. result ≡ Err Device)
+      → (left : Option UnsyncedChange) (result : Result (Unit {0}) TreeFault) → MovesOnce renames opens syncs synced folder from to old new left result → ForSome left (λ _. result ≡ Err Device)
   rename_device renames opens syncs synced left result (inl none) = λ s at. let free = none.1 in absurd (cc)
   rename_device renames opens syncs synced left result (inr asked) = by synced asked.reply result asked.gives asked.left_stuck
     where
@@ -134,7 +134,7 @@ module _ (o o' : Option Tree) (from to : Path) (law : (t : Tree) → o ≡ Some 
       law (moved t to from) (sym told_back ∙ ap (option_map (λ t. moved t to from)) told)
 
 module _ {S F : Type 0} (kept : S → List ℕ → Kept F) (folder : List ℕ) (old new : S) (from to : Path) where
-  module _ (w v : Option (Open F)) (left : Option Stuck) where
+  module _ (w v : Option (Open F)) (left : Option UnsyncedChange) where
     pub rename_moved : (result : Result (Unit {0}) TreeFault) → HasMoved (kept old folder) (kept new folder) from to left result → OnOk result (v ≡ open_unless_within from w)
         → OnOk result (told_with (kept new folder) left v ≡ option_map (after_rename from to) (told_of (kept old folder) w))
     rename_moved (Err e) is closes = tt

@@ -10,11 +10,11 @@ use Rattle.pt_folder.specs.Calls.{fault_of}
 use Rattle.pt_folder.specs.Failure.{IsOfCall, OnDevice}
 use Rattle.pt_folder.specs.Folder.{entry_text}
 use Rattle.pt_folder.specs.Moving.{AfterMove, FailsToSync, IsGone, IsOfGoing, IsOfMove, IsReady, IsSynced, MovesOnce}
-use Rattle.pt_folder.specs.Stuck.{move_to_sync, stuck_after, unless_done}
+use Rattle.pt_folder.specs.UnsyncedChange.{move_to_sync, stuck_after, unless_done}
 use Rattle.pt_folder.specs.declared.failure.Failure.{Failure}
 use Rattle.pt_folder.specs.declared.moving.Ready.{Ready}
-use Rattle.pt_folder.specs.declared.stuck.Stuck.{Stuck}
-use Rattle.pt_folder.specs.declared.stuck.Stuck.TheVariants as stuck
+use Rattle.pt_folder.specs.declared.unsynced_change.UnsyncedChange.{UnsyncedChange}
+use Rattle.pt_folder.specs.declared.unsynced_change.UnsyncedChange.TheVariants as stuck
 
 module _ {S F : Type 0} (renames : S → List ℕ → List ℕ → Result (Unit {0}) Error → S → Type 0) (opens : S → List ℕ → Result F Error → S → Type 0)
     (syncs : F → Result (Unit {0}) Error → F → Type 0) (ready : Ready) (old new : S) where
@@ -41,16 +41,16 @@ module _ {S F : Type 0} (renames : S → List ℕ → List ℕ → Result (Unit 
     kept_move (Err Device) (Some f) (inr (mid, call)) = inr (mid, subst (λ t. IsOfCall t (FailsToSync opens syncs t mid new) f) is.holder call)
 
     -- what came after it, by what it is while its directory isn't put onto the disk
-    abbrev Done : S → Option Stuck → Result (Unit {0}) TreeFault → Option Stuck → Type 0
+    abbrev Done : S → Option UnsyncedChange → Result (Unit {0}) TreeFault → Option UnsyncedChange → Type 0
     Done mid after result left =
         MatchOption left ((new ≡ mid) × (result ≡ Ok tt) × (after ≡ None)) (λ s. IsSynced opens syncs (string_bytes ready.holder) mid new result × (after ≡ unless_done s result))
 
-    done : (mid : S) (after : Option Stuck) (result : Result (Unit {0}) TreeFault) (synced : Bool) → Done mid after result (move_to_sync synced p q)
+    done : (mid : S) (after : Option UnsyncedChange) (result : Result (Unit {0}) TreeFault) (synced : Bool) → Done mid after result (move_to_sync synced p q)
         → AfterMove opens syncs synced (entry_text folder q) mid new result × (after ≡ unless_done (stuck.Moved p q) result)
     done mid after result true gives = (subst (λ t. IsSynced opens syncs t mid new result) is.holder gives.0, gives.1)
     done mid after result false gives = ((gives.0, gives.1), gives.2 ∙ sym (ap (unless_done (stuck.Moved p q)) gives.1))
 
-    pub move_gone : (before after : Option Stuck) (result : Result (Unit {0}) TreeFault) → before ≡ None → IsGone renames opens syncs ready old new before after result → MovesOnce renames opens syncs synced folder p q old new after result
+    pub move_gone : (before after : Option UnsyncedChange) (result : Result (Unit {0}) TreeFault) → before ≡ None → IsGone renames opens syncs ready old new before after result → MovesOnce renames opens syncs synced folder p q old new after result
     move_gone before after result none gone = inr (record {
       reply = gone.reply;
       mid = gone.mid;

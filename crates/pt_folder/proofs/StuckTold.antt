@@ -13,10 +13,10 @@ use Rattle.pt_folder.specs.DestHeld.{IsBack, told_with}
 use Rattle.pt_folder.specs.DestLaws.{Kept, PeekLaw}
 use Rattle.pt_folder.specs.Failure.{OnDevice}
 use Rattle.pt_folder.specs.HostDest.{Peeks, told}
-use Rattle.pt_folder.specs.Stuck.{stuck_by_close}
+use Rattle.pt_folder.specs.UnsyncedChange.{stuck_by_close}
 use Rattle.pt_folder.specs.Writing.{ClosesBy}
 use Rattle.pt_folder.specs.declared.dest.HostDest.{HostDest}
-use Rattle.pt_folder.specs.declared.stuck.Stuck.{Stuck}
+use Rattle.pt_folder.specs.declared.unsynced_change.UnsyncedChange.{UnsyncedChange}
 use Rattle.pt_folder.specs.declared.system.Handle.{Ghosts as OfHandle}
 use Rattle.pt_folder.specs.declared.system.Input.{Ghosts as OfInput}
 use Rattle.pt_folder.specs.declared.system.System.{Ghosts as OfSystem}
@@ -27,29 +27,29 @@ use Rattle.pt_tree.proofs.AtPaths.{added-nil}
 
 -- ---- nothing is stuck
 
-pub none_stuck : (o : Option Stuck) → is_some o ≡ false → o ≡ None
+pub none_stuck : (o : Option UnsyncedChange) → is_some o ≡ false → o ≡ None
 none_stuck None is = refl
 none_stuck (Some s) is = absurd (cc)
 
-pub none_back : {F : Type 0} (kept : Kept F) (o : Option Stuck) → o ≡ None → ForSome o (IsBack kept)
+pub none_back : {F : Type 0} (kept : Kept F) (o : Option UnsyncedChange) → o ≡ None → ForSome o (IsBack kept)
 none_back kept o none = λ s is. absurd (cc)
 
-pub kept_free : {T : Type 0} (r : Result T TreeFault) (o : Option Stuck) (P Q : Type 0) → o ≡ None → OnDevice r Q → OnDevice r (P ⊎ ((o ≡ None) × Q))
+pub kept_free : {T : Type 0} (r : Result T TreeFault) (o : Option UnsyncedChange) (P Q : Type 0) → o ≡ None → OnDevice r Q → OnDevice r (P ⊎ ((o ≡ None) × Q))
 kept_free (Ok x) o P Q none kept = tt
 kept_free (Err Memory) o P Q none kept = tt
 kept_free (Err Device) o P Q none kept = inr (none, kept)
 
 -- ---- something is stuck only where the device failed
 
-pub none_risen : (n : ℕ) (o : Option Stuck) → o ≡ None → ForSome o (λ _. 1 ≤ n)
+pub none_risen : (n : ℕ) (o : Option UnsyncedChange) → o ≡ None → ForSome o (λ _. 1 ≤ n)
 none_risen n o none = λ s is. absurd (cc)
 
-pub device_risen : (before after : ℕ) (o : Option Stuck) (result : Result (Unit {0}) TreeFault) → IsCounted before after result → ForSome o (λ _. result ≡ Err Device) → ForSome o (λ _. 1 ≤ after)
+pub device_risen : (before after : ℕ) (o : Option UnsyncedChange) (result : Result (Unit {0}) TreeFault) → IsCounted before after result → ForSome o (λ _. result ≡ Err Device) → ForSome o (λ _. 1 ≤ after)
 device_risen before after o result counted device = λ s is.
     let risen : HasRisen before after = subst (IsCounted before after) (device s is) counted in
     omega (arith, risen)
 
-module _ {F : Type 0} (kept : Kept F) (s : Option Stuck) (w : Option (Open F)) (none : s ≡ None) where
+module _ {F : Type 0} (kept : Kept F) (s : Option UnsyncedChange) (w : Option (Open F)) (none : s ≡ None) where
   pub may_make_free : (p : Path) → MayMake (told_with kept s w) p → ForSome kept.tree (λ t. CanMake t p)
   may_make_free p can = may_make w kept.tree p (subst (λ s. MayMake (told_with kept s w) p) none can)
 
@@ -64,7 +64,7 @@ module _ {F : Type 0} (syncs : F → Result (Unit {0}) Error → F → Type 0) w
   closed_wanted false (Some w) (Ok x) closed = λ s at. absurd (cc)
   closed_wanted false (Some w) (Err e) closed = absurd (cc)
 
-  pub finish_wanted : (synced : Bool) (w : Option (Open F)) (result : Result (Unit {0}) TreeFault) (before after : Option Stuck) → before ≡ None → after ≡ stuck_by_close before w result → ClosesBy syncs synced w result
+  pub finish_wanted : (synced : Bool) (w : Option (Open F)) (result : Result (Unit {0}) TreeFault) (before after : Option UnsyncedChange) → before ≡ None → after ≡ stuck_by_close before w result → ClosesBy syncs synced w result
       → ForSome after (λ _. synced ≡ true)
   finish_wanted synced w result before after none is closed =
       subst (λ o. ForSome o (λ _. synced ≡ true)) (sym (is ∙ ap (λ s. stuck_by_close s w result) none)) (closed_wanted synced w result closed)

@@ -6,8 +6,8 @@ use Rattle.pt_tree.specs.Tree.{Tree, IsTree, moved}
 use Rattle.std.specs.Option.{option_map, ForSome}
 use Rattle.pt_tree.specs.Dest.{CanPeek, CanWrite, MayMake, MayMove, Writing}
 use Rattle.pt_tree.specs.Path.{Path}
-use Rattle.pt_folder.specs.declared.stuck.Stuck.{Stuck}
-use Rattle.pt_folder.specs.declared.stuck.Stuck.TheVariants as stuck
+use Rattle.pt_folder.specs.declared.unsynced_change.UnsyncedChange.{UnsyncedChange}
+use Rattle.pt_folder.specs.declared.unsynced_change.UnsyncedChange.TheVariants as stuck
 use Rattle.pt_folder.specs.declared.writing.Writing.{Writing as Open}
 use Rattle.pt_folder.specs.DestLaws.{Kept}
 use Rattle.pt_folder.specs.EntryCodes.{tree_once}
@@ -23,7 +23,7 @@ abbrev pub moved_back : {F : Type 0} → Path → Path → Kept F → Kept F
 moved_back from to kept = record { tree = option_map (λ t. moved t to from) kept.tree; place = kept.place }
 
 -- what is told: where something is stuck, what was told before the call that left it
-abbrev pub told_with : {F : Type 0} → Kept F → Option Stuck → Option (Open F) → Option Writing
+abbrev pub told_with : {F : Type 0} → Kept F → Option UnsyncedChange → Option (Open F) → Option Writing
 told_with kept None writing = told_of kept writing
 told_with kept (Some (stuck.Closed p)) writing =
     option_map (λ t. record { tree = t; writing = Some p }) kept.tree
@@ -34,7 +34,7 @@ abbrev pub IsPlaced : {F : Type 0} → Kept F → Option (Open F) → Type 0
 IsPlaced kept writing = ForSome kept.tree (λ _. ForSome writing (λ w. kept.place w.file ≡ Some w.path))
 
 -- what was moved and is stuck leaves a tree where it is moved back
-abbrev pub IsBack : {F : Type 0} → Kept F → Stuck → Type 0
+abbrev pub IsBack : {F : Type 0} → Kept F → UnsyncedChange → Type 0
 IsBack kept (stuck.Closed p) = ⊤
 IsBack kept (stuck.Moved from to) = ForSome kept.tree (λ t. IsTree (moved t to from))
 
@@ -55,7 +55,7 @@ tree_back (Some s) from to held t is =
     let same : moved s to from ≡ t = cc in subst IsTree same (held s refl)
 
 -- what is told is a tree, also where something is stuck
-pub tree_with : {F : Type 0} (kept : Kept F) (s : Option Stuck) (w : Option (Open F)) (state : Writing)
+pub tree_with : {F : Type 0} (kept : Kept F) (s : Option UnsyncedChange) (w : Option (Open F)) (state : Writing)
     → ((t : Tree) → kept.tree ≡ Some t → IsTree t) → ∥ ForSome s (IsBack kept) ∥₁
     → told_with kept s w ≡ Some state → IsTree state.tree
 tree_with {F} kept s w state law back is = ∥∥₁_elim back (tree_once state.tree) (λ b. by s b is)
@@ -63,7 +63,7 @@ tree_with {F} kept s w state law back is = ∥∥₁_elim back (tree_once state.
     open_at : Option Path
     open_at = option_map (λ (w : Open F). w.path) w
 
-    by : (s : Option Stuck) → ForSome s (IsBack kept) → told_with kept s w ≡ Some state
+    by : (s : Option UnsyncedChange) → ForSome s (IsBack kept) → told_with kept s w ≡ Some state
         → IsTree state.tree
     by None b is = tree_of_kept kept.tree open_at state law is
     by (Some (stuck.Closed p)) b is = tree_of_kept kept.tree (Some p) state law is
@@ -72,31 +72,31 @@ tree_with {F} kept s w state law back is = ∥∥₁_elim back (tree_once state.
         (tree_back kept.tree from to (b (stuck.Moved from to) refl)) is
 
 -- where the system keeps nothing, each call may be made
-untold : {F : Type 0} (s : Option Stuck) (w : Option (Open F)) → told_with no_kept s w ≡ None
+untold : {F : Type 0} (s : Option UnsyncedChange) (w : Option (Open F)) → told_with no_kept s w ≡ None
 untold None w = refl
 untold (Some (stuck.Closed p)) w = refl
 untold (Some (stuck.Moved from to)) w = refl
 
 -- where nothing is told anything may be made
-pub untold_may_make : {F : Type 0} (s : Option Stuck) (w : Option (Open F)) (p : Path)
+pub untold_may_make : {F : Type 0} (s : Option UnsyncedChange) (w : Option (Open F)) (p : Path)
     → MayMake (told_with no_kept s w) p
 unfolding MayMake
 untold_may_make s w p = λ state is. let none = untold s w in absurd (cc)
 
 -- where nothing is told anything may be moved
-pub untold_may_move : {F : Type 0} (s : Option Stuck) (w : Option (Open F)) (from to : Path)
+pub untold_may_move : {F : Type 0} (s : Option UnsyncedChange) (w : Option (Open F)) (from to : Path)
     → MayMove (told_with no_kept s w) from to
 unfolding MayMove
 untold_may_move s w from to = λ state is. let none = untold s w in absurd (cc)
 
 -- where nothing is told it may be written to
-pub untold_can_write : {F : Type 0} (s : Option Stuck) (w : Option (Open F))
+pub untold_can_write : {F : Type 0} (s : Option UnsyncedChange) (w : Option (Open F))
     → CanWrite (told_with no_kept s w)
 unfolding CanWrite
 untold_can_write s w = λ state is. let none = untold s w in absurd (cc)
 
 -- where nothing is told any file may be looked into
-pub untold_can_peek : {F : Type 0} (s : Option Stuck) (w : Option (Open F)) (p : Path)
+pub untold_can_peek : {F : Type 0} (s : Option UnsyncedChange) (w : Option (Open F)) (p : Path)
     → CanPeek (told_with no_kept s w) p
 unfolding CanPeek
 untold_can_peek s w p = λ state is. let none = untold s w in absurd (cc)

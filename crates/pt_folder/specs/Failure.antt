@@ -6,15 +6,15 @@ use Rattle.pt_tree.specs.declared.faults.TreeFault.TheVariants.{Device, Memory}
 use Rattle.pt_tree.specs.Name.{is_name}
 use Rattle.pt_tree.specs.Path.{Path}
 use Rattle.pt_folder.specs.declared.failure.Failure.{Failure}
-use Rattle.pt_folder.specs.declared.failure.Cause.{Cause}
-use Rattle.pt_folder.specs.declared.failure.Cause.TheVariants as cause
+use Rattle.pt_folder.specs.declared.failure.FailureReason.{FailureReason}
+use Rattle.pt_folder.specs.declared.failure.FailureReason.TheVariants as cause
 use Rattle.pt_folder.specs.Folder.{entry_text}
 use Rattle.pt_folder.specs.Listing.{dir_front}
 use Rattle.pt_folder.specs.Runs.{FailsToRead}
 use Rattle.pt_tree.specs.declared.kind.Kind.{Kind}
 
 -- it was at this path, for this cause
-abbrev pub IsAt : List ℕ → Cause → Failure → Type 0
+abbrev pub IsAt : List ℕ → FailureReason → Failure → Type 0
 IsAt path why f = (string_bytes f.path ≡ path) × (f.cause ≡ why)
 
 -- where the device failed, this holds
@@ -24,7 +24,7 @@ OnDevice (Err Device) P = P
 OnDevice (Err Memory) P = ⊤
 
 -- the cause is an error of the system, of which this holds
-abbrev pub HasError : (Error → Type 0) → Cause → Type 0
+abbrev pub HasError : (Error → Type 0) → FailureReason → Type 0
 HasError P (cause.System e) = P e
 HasError P _ = ⊥
 
@@ -68,13 +68,13 @@ abbrev pub FailsLook : {S : Type 0} → (S → List ℕ → Result Kind Error �
 FailsLook {S} looks text e = (old : S) × (new : S) × looks old text (Err e) new
 
 -- why a name isn't added to these: it would be one too many, or no entry may have it
-abbrev pub IsOfName : ℕ → List (List ℕ) → List ℕ → Cause → Type 0
+abbrev pub IsOfName : ℕ → List (List ℕ) → List ℕ → FailureReason → Type 0
 IsOfName most names name cause.Entries = most ≤ length names
 IsOfName most names name cause.Name = is_name name ≡ false
 IsOfName most names name _ = ⊥
 
 -- why the names of a directory aren't had: the system said so, or one isn't added, or there is no end
-abbrev pub IsNamesCause : Cause → Type 0
+abbrev pub IsNamesCause : FailureReason → Type 0
 IsNamesCause (cause.System e) = ⊤
 IsNamesCause cause.Name = ⊤
 IsNamesCause cause.Entries = ⊤

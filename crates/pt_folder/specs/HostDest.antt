@@ -15,10 +15,10 @@ use Rattle.pt_folder.specs.Moving.{IsOfMove, MovesOnce}
 use Rattle.pt_folder.specs.Runs.{PeeksAt}
 use Rattle.pt_folder.specs.Settings.{IsSetAs}
 use Rattle.pt_folder.specs.Writing.{FailsToAdd, ClosesBy, IsOfWriting, MakesAt, WritesTo}
-use Rattle.pt_folder.specs.declared.desk.Desk.{Desk}
+use Rattle.pt_folder.specs.declared.syscalls.Syscalls.{Syscalls}
 use Rattle.pt_folder.specs.declared.dest.HostDest.{HostDest}
 use Rattle.pt_folder.specs.declared.folder.Folder.{Folder}
-use Rattle.pt_folder.specs.declared.stuck.Stuck.{Stuck}
+use Rattle.pt_folder.specs.declared.unsynced_change.UnsyncedChange.{UnsyncedChange}
 use Rattle.pt_folder.specs.declared.system.Handle.{Ghosts as OfHandle}
 use Rattle.pt_folder.specs.declared.system.Input.{Ghosts as OfInput}
 use Rattle.pt_folder.specs.declared.system.System.{Ghosts as OfSystem}
@@ -36,7 +36,7 @@ module _ {S F D : Type 0} {sys : OfSystem S F D} {handle : OfHandle F} {file : O
 
   -- a call on the same folder, whose failure is counted and which leaves this stuck; the path that was looked at last stays
   pub record IsCall {T : Type 0} (old new : HostDest S F D sys handle file dir)
-      (left : Option Stuck) (result : Result T TreeFault) : Type 0 where
+      (left : Option UnsyncedChange) (result : Result T TreeFault) : Type 0 where
     pub keeps : IsSame old new
     pub failures : IsCounted old.failures new.failures result
     pub stuck : new.stuck ≡ left
@@ -60,7 +60,7 @@ module _ {S F D : Type 0} {sys : OfSystem S F D} {handle : OfHandle F} {file : O
     pub writing : new.writing ≡ old.writing
 
   -- what stays when a setting is changed: the system, the folder, the path that was looked at, and the failures
-  abbrev pub lasting : HostDest S F D sys handle file dir → Desk S × Folder × String Global × ℕ
+  abbrev pub lasting : HostDest S F D sys handle file dir → Syscalls S × Folder × String Global × ℕ
   lasting d = (d.desk, d.folder, d.at, d.failures)
 
   -- where something is stuck the call is refused, and nothing is asked or changed; where nothing is, this holds

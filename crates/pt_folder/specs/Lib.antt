@@ -1,6 +1,5 @@
 pub mod Bytes
 pub mod Calls
-pub mod Desk
 pub mod DestHeld
 pub mod DestLaws
 pub mod Devices
@@ -21,6 +20,7 @@ pub mod Settings
 pub mod SourceHeld
 pub mod SourceLaws
 pub mod Steps
-pub mod Stuck
+pub mod Syscalls
+pub mod UnsyncedChange
 pub mod Untold
 pub mod Writing

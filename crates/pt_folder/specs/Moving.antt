@@ -8,11 +8,11 @@ use Rattle.pt_folder.specs.Calls.{IsRefused, IsSyncAnswer, fault_of}
 use Rattle.pt_folder.specs.Failure.{IsOfCall, IsUnasked}
 use Rattle.pt_folder.specs.Folder.{entry_text}
 use Rattle.pt_folder.specs.Laws.{IsPath}
-use Rattle.pt_folder.specs.Stuck.{move_to_sync, stuck_after, unless_done}
+use Rattle.pt_folder.specs.UnsyncedChange.{move_to_sync, stuck_after, unless_done}
 use Rattle.pt_folder.specs.declared.failure.Failure.{Failure}
 use Rattle.pt_folder.specs.declared.moving.Ready.{Ready}
-use Rattle.pt_folder.specs.declared.stuck.Stuck.{Stuck}
-use Rattle.pt_folder.specs.declared.stuck.Stuck.TheVariants as stuck
+use Rattle.pt_folder.specs.declared.unsynced_change.UnsyncedChange.{UnsyncedChange}
+use Rattle.pt_folder.specs.declared.unsynced_change.UnsyncedChange.TheVariants as stuck
 
 -- the path of the directory that holds a directory
 abbrev pub holder_text : List ℕ → List ℕ
@@ -55,7 +55,7 @@ pub record IsGone {S F : Type 0}
     (renames : S → List ℕ → List ℕ → Result (Unit {0}) Error → S → Type 0)
     (opens : S → List ℕ → Result F Error → S → Type 0)
     (syncs : F → Result (Unit {0}) Error → F → Type 0) (ready : Ready) (old new : S)
-    (before after : Option Stuck) (result : Result (Unit {0}) TreeFault) : Type 0 where
+    (before after : Option UnsyncedChange) (result : Result (Unit {0}) TreeFault) : Type 0 where
   pub reply : Result (Unit {0}) Error
   pub mid : S
   pub made : renames old (string_bytes ready.from) (string_bytes ready.to) reply mid
@@ -81,7 +81,7 @@ pub record IsMovedBy {S F : Type 0}
     (renames : S → List ℕ → List ℕ → Result (Unit {0}) Error → S → Type 0)
     (opens : S → List ℕ → Result F Error → S → Type 0)
     (syncs : F → Result (Unit {0}) Error → F → Type 0) (synced : Bool) (folder : List ℕ)
-    (from to : Path) (old new : S) (left : Option Stuck) (result : Result (Unit {0}) TreeFault)
+    (from to : Path) (old new : S) (left : Option UnsyncedChange) (result : Result (Unit {0}) TreeFault)
     : Type 0 where
   pub reply : Result (Unit {0}) Error
   pub mid : S
@@ -97,7 +97,7 @@ pub record IsMovedBy {S F : Type 0}
 abbrev pub MovesOnce : {S F : Type 0} → (S → List ℕ → List ℕ → Result (Unit {0}) Error → S → Type 0)
     → (S → List ℕ → Result F Error → S → Type 0)
     → (F → Result (Unit {0}) Error → F → Type 0) → Bool → List ℕ → Path → Path → S → S
-    → Option Stuck → Result (Unit {0}) TreeFault → Type 0
+    → Option UnsyncedChange → Result (Unit {0}) TreeFault → Type 0
 MovesOnce renames opens syncs synced folder from to old new left result =
     ((new ≡ old) × (left ≡ None) × IsRefused folder result)
     ⊎ IsMovedBy renames opens syncs synced folder from to old new left result

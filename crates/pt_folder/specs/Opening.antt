@@ -11,7 +11,7 @@ use Rattle.pt_folder.specs.Folder.{entry_text}
 use Rattle.pt_folder.specs.Laws.{IsPath}
 use Rattle.pt_folder.specs.Reading.{OpensAt}
 use Rattle.pt_folder.specs.declared.failure.Failure.{Failure}
-use Rattle.pt_folder.specs.declared.failure.Cause.TheVariants as cause
+use Rattle.pt_folder.specs.declared.failure.FailureReason.TheVariants as cause
 use Rattle.pt_tree.specs.declared.kind.Kind.{Kind}
 use Rattle.pt_tree.specs.declared.kind.Kind.TheVariants.{File}
 

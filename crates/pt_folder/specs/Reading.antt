@@ -10,7 +10,7 @@ use Rattle.pt_folder.specs.declared.reading.Reading.{Reading}
 use Rattle.pt_folder.specs.Calls.{fault_of}
 use Rattle.pt_folder.specs.Failure.{IsAt, IsOfCall}
 use Rattle.pt_folder.specs.declared.failure.Failure.{Failure}
-use Rattle.pt_folder.specs.declared.failure.Cause.TheVariants as cause
+use Rattle.pt_folder.specs.declared.failure.FailureReason.TheVariants as cause
 use Rattle.pt_folder.specs.Runs.{FailsToRead, ReadsBlock}
 
 -- what of a file isn't read yet, where its bytes are known

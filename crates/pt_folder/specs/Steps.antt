@@ -5,7 +5,7 @@ use Rattle.pt_tree.specs.declared.faults.TreeFault.{TreeFault}
 use Rattle.pt_tree.specs.declared.kind.Kind.{Kind}
 use Rattle.pt_folder.specs.Calls.{LeadsToKind}
 use Rattle.pt_folder.specs.HostDest.{Closes, IsCall, IsLook, IsOtherCall, IsSame, Looks, MakesDir, MakesFile, Moves, Peeks, Writes}
-use Rattle.pt_folder.specs.Stuck.{open_if_stuck, stuck_by_finish}
+use Rattle.pt_folder.specs.UnsyncedChange.{open_if_stuck, stuck_by_finish}
 use Rattle.pt_folder.specs.Writing.{open_unless_within}
 use Rattle.pt_folder.specs.declared.dest.HostDest.{HostDest}
 use Rattle.pt_folder.specs.declared.system.Handle.{Ghosts as OfHandle}

@@ -9,7 +9,7 @@ use Rattle.pt_folder.specs.Calls.{IsSyncAnswer, fault_of}
 use Rattle.pt_folder.specs.Failure.{IsAt, IsOfCall}
 use Rattle.pt_folder.specs.Folder.{entry_text}
 use Rattle.pt_folder.specs.declared.failure.Failure.{Failure}
-use Rattle.pt_folder.specs.declared.failure.Cause.TheVariants as cause
+use Rattle.pt_folder.specs.declared.failure.FailureReason.TheVariants as cause
 use Rattle.pt_folder.specs.Runs.{FailsToWrite, WritesAll, on_pairs}
 
 -- the file at this path is the open one

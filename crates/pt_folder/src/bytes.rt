@@ -8,14 +8,18 @@ use pt_tree::{BLOCK, Block};
 use std::io;
 
 /// What is read into before it is known how much that is.
-pub type Room = [u8; BLOCK];
+pub type ReadBuffer = [u8; BLOCK];
 
 /// The block becomes the next bytes of a file: as many as it holds, unless the file ends first. A short read isn't
 /// taken for the end. On an error the block is empty.
 ///
 /// A full block is read into as it is; for any other the bytes are read into `room`, and so many as there are copied: no room of
 /// a block is filled for it to be read into.
-pub fn read_block<F: Input>(file: &mut F, block: &mut Block, room: &mut Room) -> io::Result<()>
+pub fn read_block<F: Input>(
+    file: &mut F,
+    block: &mut Block,
+    room: &mut ReadBuffer,
+) -> io::Result<()>
     ensures block { OnOk result (TakesBlock (F.left file.old) (F.left file.new) block.new.items) }
     ensures same { F.bytes file.new ≡ F.bytes file.old }
     ensures empty { OnErr result (block.new.items ≡ []) }

@@ -2,7 +2,7 @@ ghost use Rattle.std.proofs.Common.{◌∙◌, refl};
 ghost use Rattle.std.specs.Prelude.{◌≡◌, ◌≤◌, length, [], None, Err, IfOk, IfNone, OnOk, OnErr, false, string_bytes, true};
 ghost use Rattle.std.specs.Option.{ForNone, ForSome, option_map};
 ghost use Rattle.pt_tree.specs.declared.faults.TreeFault.TheVariants.{Device};
-ghost use Rattle.pt_folder.specs.Desk.{new_desk};
+ghost use Rattle.pt_folder.specs.Syscalls.{new_desk};
 ghost use Rattle.pt_folder.specs.Folder.{entry_text};
 ghost use Rattle.pt_folder.specs.Calls.{CannotMake, IsThere, LeadsToKind};
 ghost use Rattle.pt_folder.specs.Failure.{KeepsUnmade, OnDevice};
@@ -10,12 +10,12 @@ ghost use Rattle.pt_folder.specs.DestHeld.{IsBack, IsPlaced};
 ghost use Rattle.pt_folder.specs.Settings.{greatest_length};
 ghost use Rattle.pt_folder.specs.Writing.{IsMadeAt, open_unless_within};
 
-use crate::desk::Desk;
 use crate::failure::Failure;
-use crate::folder::{Folder, counted};
-use crate::moving::{Move, moved};
-use crate::stuck::Stuck;
+use crate::folder::{Folder, count_failure};
+use crate::moving::{Move, move_entry};
+use crate::syscalls::Syscalls;
 use crate::system::System;
+use crate::unsynced_change::UnsyncedChange;
 use crate::writing::{Writing, add, close, close_moved, create};
 use pt_tree::{Block, Dest, Kind, NamePath, TreeFault};
 use std::alloc::Global;
@@ -26,12 +26,12 @@ use std::alloc::Global;
 /// Then that is stuck: what was told before is told on, and each further call is refused.
 #[derive(Drop)]
 pub struct HostDest<'a, S: System> {
-    desk: Desk<S>,
+    desk: Syscalls<S>,
     folder: Folder<'a>,
     longest: usize,
     synced: bool,
     writing: Option<Writing<S::File>>,
-    stuck: Option<Stuck>,
+    stuck: Option<UnsyncedChange>,
     at: String,
     failures: u64,
     ghost placed: { ForNone stuck (IsPlaced (S.kept desk.system folder.path.now) writing) },
@@ -55,7 +55,7 @@ impl<'a, S: System> HostDest<'a, S> {
         ensures at { string_bytes result.at ≡ [] }
     {
         HostDest {
-            desk: Desk::new(system, alloc),
+            desk: Syscalls::new(system, alloc),
             folder: Folder { path },
             longest: usize::MAX,
             synced: false,
@@ -129,7 +129,7 @@ impl<'a, S: System> HostDest<'a, S> {
         let text = self
             .folder
             .text_to_make(path, self.longest, &mut self.desk.last);
-        counted(&mut self.failures, text.map(|_| ()))
+        count_failure(&mut self.failures, text.map(|_| ()))
     }
 }
 
@@ -148,7 +148,7 @@ impl<'a, S: System> HostDest<'a, S> {
         }
         let top = NamePath::new(self.desk.last.alloc);
         let there = self.desk.is_there(&self.folder, &top);
-        counted(&mut self.failures, there)
+        count_failure(&mut self.failures, there)
     }
 
     /// The block becomes the first bytes of what stands at a path, up to 8,192, whatever that is. On a fault the block is
@@ -164,7 +164,7 @@ impl<'a, S: System> HostDest<'a, S> {
             return self.refuse();
         }
         let peeked = self.desk.peek(&self.folder, path, block);
-        counted(&mut self.failures, peeked)
+        count_failure(&mut self.failures, peeked)
     }
 }
 
@@ -180,7 +180,7 @@ impl<'a, S: System> HostDest<'a, S> {
         ensures call { IsOtherCall self.old self.new result }
     {
         self.desk.last.failure = None;
-        counted(&mut self.failures, Err(TreeFault::Device))
+        count_failure(&mut self.failures, Err(TreeFault::Device))
     }
 }
 
@@ -188,7 +188,7 @@ impl<'a, S: System> Dest for HostDest<'a, S> {
     ghost use Rattle.pt_tree.specs.Dest.{CanPeek, CanWrite, IsKindAt, IsPeeked, LeavesPart, MayMake, MayMove, after_mkdir, after_create, after_append, after_finish, after_rename};
     ghost use Rattle.pt_folder.specs.DestHeld.{tree_with};
     ghost use Rattle.pt_folder.specs.Steps.{Serves, none, steps_on};
-    ghost use Rattle.pt_folder.specs.Stuck.{open_if_stuck, stuck_by_finish};
+    ghost use Rattle.pt_folder.specs.UnsyncedChange.{open_if_stuck, stuck_by_finish};
     ghost use Rattle.pt_folder.specs.HostDest.{Closes, IsCall, IsLook, IsOtherCall, KeepsClose, KeepsDir, KeepsFile, KeepsLook, KeepsMove, KeepsPeek, KeepsWrite, Looks, MakesDir, MakesFile, Moves, Peeks, Writes, told};
 
     ghost told = { told };
@@ -225,7 +225,7 @@ impl<'a, S: System> Dest for HostDest<'a, S> {
             return self.refuse();
         }
         let kind = self.desk.kind_at(&self.folder, path, &mut self.at);
-        counted(&mut self.failures, kind)
+        count_failure(&mut self.failures, kind)
     }
 
     fn peek(&mut self, path: &NamePath, block: &mut Block) -> Result<(), TreeFault>
@@ -253,7 +253,7 @@ impl<'a, S: System> Dest for HostDest<'a, S> {
             return self.refuse();
         }
         let made = self.desk.make_dir(&self.folder, path, self.longest);
-        counted(&mut self.failures, made)
+        count_failure(&mut self.failures, made)
     }
 
     fn create(&mut self, path: &NamePath) -> Result<(), TreeFault>
@@ -277,7 +277,7 @@ impl<'a, S: System> Dest for HostDest<'a, S> {
             self.longest,
             &mut self.writing,
         );
-        counted(&mut self.failures, made)
+        count_failure(&mut self.failures, made)
     }
 
     fn append(&mut self, piece: &[u8]) -> Result<(), TreeFault>
@@ -294,7 +294,7 @@ impl<'a, S: System> Dest for HostDest<'a, S> {
             return self.refuse();
         }
         let added = add(&mut self.desk, &self.folder, &mut self.writing, piece);
-        counted(&mut self.failures, added)
+        count_failure(&mut self.failures, added)
     }
 
     fn finish(&mut self) -> Result<(), TreeFault>
@@ -318,7 +318,7 @@ impl<'a, S: System> Dest for HostDest<'a, S> {
             self.synced,
             &mut self.stuck,
         );
-        counted(&mut self.failures, closed)
+        count_failure(&mut self.failures, closed)
     }
 
     fn rename(&mut self, from: &NamePath, to: &NamePath) -> Result<(), TreeFault>
@@ -338,8 +338,8 @@ impl<'a, S: System> Dest for HostDest<'a, S> {
         }
         let synced = self.synced;
         let asked = Move { from, to, synced };
-        let moved = moved(&mut self.desk, &self.folder, &asked, &mut self.stuck);
+        let moved = move_entry(&mut self.desk, &self.folder, &asked, &mut self.stuck);
         close_moved(&mut self.writing, from, &moved);
-        counted(&mut self.failures, moved)
+        count_failure(&mut self.failures, moved)
     }
 }

@@ -12,7 +12,7 @@ use std::{fmt, io};
 
 /// Why a call of a folder failed: the system's own error, or one of the folder's own rules.
 #[derive(Clone, Copy, Debug)]
-pub enum Cause {
+pub enum FailureReason {
     /// The system's answer.
     System(io::Error),
     /// The folder's own path is empty, so nothing was asked.
@@ -33,18 +33,18 @@ pub enum Cause {
     NotFile,
 }
 
-impl fmt::Display for Cause {
+impl fmt::Display for FailureReason {
     fn fmt<W: fmt::Write>(&self, f: &mut fmt::Formatter<W>) -> fmt::Result {
         match self {
-            Cause::System(error) => fmt::Display::fmt(error, f),
-            Cause::Empty => f.write_str("the path is empty"),
-            Cause::Long => f.write_str("the path would be too long at its place in ocfl"),
-            Cause::Name => f.write_str("a name in it is not UTF-8"),
-            Cause::Entries => f.write_str("it has more than 16777216 entries"),
-            Cause::Endless => f.write_str("its names do not end"),
-            Cause::Twice => f.write_str("it gives a name twice"),
-            Cause::Closed => f.write_str("no file is open"),
-            Cause::NotFile => f.write_str("it is no longer a file"),
+            FailureReason::System(error) => fmt::Display::fmt(error, f),
+            FailureReason::Empty => f.write_str("the path is empty"),
+            FailureReason::Long => f.write_str("the path would be too long at its place in ocfl"),
+            FailureReason::Name => f.write_str("a name in it is not UTF-8"),
+            FailureReason::Entries => f.write_str("it has more than 16777216 entries"),
+            FailureReason::Endless => f.write_str("its names do not end"),
+            FailureReason::Twice => f.write_str("it gives a name twice"),
+            FailureReason::Closed => f.write_str("no file is open"),
+            FailureReason::NotFile => f.write_str("it is no longer a file"),
         }
     }
 }
@@ -53,12 +53,12 @@ impl fmt::Display for Cause {
 #[derive(Debug, Drop)]
 pub struct Failure {
     path: String,
-    cause: Cause,
+    cause: FailureReason,
 }
 
 impl Failure {
     /// A failure of a call on a path.
-    pub fn at(path: String, cause: Cause) -> Failure
+    pub fn at(path: String, cause: FailureReason) -> Failure
         ensures { result ≡ record { path = path; cause = cause } }
     {
         Failure { path, cause }
@@ -72,7 +72,7 @@ impl Failure {
     }
 
     /// Why it failed.
-    pub fn cause(&self) -> Cause
+    pub fn cause(&self) -> FailureReason
         ensures { result ≡ self.now.cause }
     {
         self.cause
@@ -88,14 +88,14 @@ pub struct Last {
 
 impl Last {
     /// Keeps a failure at a path.
-    pub fn keep(&mut self, path: String, cause: Cause)
+    pub fn keep(&mut self, path: String, cause: FailureReason)
         ensures { self.new.failure ≡ Some (record { path = path; cause = cause }) }
     {
         self.failure = Some(Failure::at(path, cause));
     }
 
     /// Keeps a failure at a copy of a path; none is kept where there is no memory for the copy.
-    pub fn keep_copy(&mut self, path: &str, cause: Cause)
+    pub fn keep_copy(&mut self, path: &str, cause: FailureReason)
         ensures { IfSome self.new.failure (IsAt path.now cause) }
     {
         self.failure = match String::from_str(self.alloc, path) {
@@ -105,30 +105,30 @@ impl Last {
     }
 
     /// Keeps the system's error at a path, and gives what it is answered: `Memory` for want of memory, else `Device`.
-    pub fn heard(&mut self, path: String, error: io::Error) -> TreeFault
+    pub fn record_error(&mut self, path: String, error: io::Error) -> TreeFault
         ensures fault { result ≡ fault_of_kind (error_kind error) }
-        ensures kept { self.new.failure ≡ Some (record { path = path; cause = Cause.System error }) }
+        ensures kept { self.new.failure ≡ Some (record { path = path; cause = FailureReason.System error }) }
     {
-        self.keep(path, Cause::System(error));
+        self.keep(path, FailureReason::System(error));
         fault_of(error)
     }
 
     /// The same at a copy of a path: nothing is kept where there is no memory for the copy.
-    pub fn heard_at_copy(&mut self, path: &str, error: io::Error) -> TreeFault
+    pub fn record_error_at_copy(&mut self, path: &str, error: io::Error) -> TreeFault
         ensures fault { result ≡ fault_of_kind (error_kind error) }
-        ensures kept { IfSome self.new.failure (IsAt path.now (Cause.System error)) }
+        ensures kept { IfSome self.new.failure (IsAt path.now (FailureReason.System error)) }
     {
-        self.keep_copy(path, Cause::System(error));
+        self.keep_copy(path, FailureReason::System(error));
         fault_of(error)
     }
 
     /// Keeps the system's error at a path where a sync failed, and gives what that is answered: `Device`, whatever the error.
     /// The system has done its part by then, and no growth of ours was refused.
-    pub fn unsynced(&mut self, path: String, error: io::Error) -> TreeFault
+    pub fn record_unsynced(&mut self, path: String, error: io::Error) -> TreeFault
         ensures fault { result ≡ Device }
-        ensures kept { self.new.failure ≡ Some (record { path = path; cause = Cause.System error }) }
+        ensures kept { self.new.failure ≡ Some (record { path = path; cause = FailureReason.System error }) }
     {
-        self.keep(path, Cause::System(error));
+        self.keep(path, FailureReason::System(error));
         TreeFault::Device
     }
 }

@@ -9,7 +9,7 @@ ghost use Rattle.pt_folder.specs.Calls.{CannotMake};
 ghost use Rattle.pt_folder.specs.Failure.{IsAt, IsUnasked, KeepsUnmade, OnDevice};
 ghost use Rattle.pt_folder.specs.Settings.{greatest_length};
 
-use crate::failure::{Cause, Failure, Last};
+use crate::failure::{Failure, FailureReason, Last};
 use pt_tree::{MemoryFault, Name, NamePath, TreeFault};
 use std::alloc::{AllocError, Global};
 use std::io;
@@ -51,7 +51,7 @@ impl<'a> Folder<'a> {
         ensures kept { OnDevice result (IsSomeAnd last.new.failure (IsUnasked self.now.path.now)) }
     {
         if self.path.is_empty() {
-            last.keep(String::new(last.alloc), Cause::Empty);
+            last.keep(String::new(last.alloc), FailureReason::Empty);
             return Err(TreeFault::Device);
         }
         Ok(path_text(last.alloc, self.path, path, room)?)
@@ -76,7 +76,7 @@ impl<'a> Folder<'a> {
     {
         let text = self.text(path, last)?;
         if text.len() > longest {
-            last.keep(text, Cause::Long);
+            last.keep(text, FailureReason::Long);
             return Err(TreeFault::Device);
         }
         Ok(text)
@@ -84,13 +84,13 @@ impl<'a> Folder<'a> {
 
     /// Keeps the system's error at the path of an entry, and gives what it is answered. None is kept where there is no
     /// memory for the path.
-    pub fn heard_at(&self, path: &NamePath, error: io::Error, last: &mut Last) -> TreeFault
+    pub fn record_error_at(&self, path: &NamePath, error: io::Error, last: &mut Last) -> TreeFault
         ensures fault { result ≡ fault_of_kind (error_kind error) }
         ensures kept { IfSome last.new.failure
-            (IsAt (entry_text self.now.path.now path.now) (Cause.System error)) }
+            (IsAt (entry_text self.now.path.now path.now) (FailureReason.System error)) }
     {
         last.failure = match kept_text(last.alloc, self.path, path) {
-            Ok(text) => Some(Failure::at(text, Cause::System(error))),
+            Ok(text) => Some(Failure::at(text, FailureReason::System(error))),
             Err(_) => None,
         };
         fault_of(error)
@@ -179,7 +179,7 @@ pub fn is_absent(error: &io::Error) -> bool
 }
 
 /// Counts an answer `Device` as a failure, up to 2^64 - 1, and gives the answer.
-pub fn counted<T>(failures: &mut u64, answer: Result<T, TreeFault>) -> Result<T, TreeFault>
+pub fn count_failure<T>(failures: &mut u64, answer: Result<T, TreeFault>) -> Result<T, TreeFault>
     ensures same { result ≡ answer }
     ensures counted { IsCounted failures.old failures.new answer }
 {

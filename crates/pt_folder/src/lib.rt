@@ -23,7 +23,7 @@
 //!   16,777,216. It answers `Device` only with a cause (`FailsToList`). What is behind a `Memory` of `list` isn't said.
 //! - `with_sync`: `finish` asks for the file to be put onto the disk before it is closed (`FinishesBy`), and `rename` for the directory that
 //!   holds what was moved (`IsMovedBy`). A failed sync is always the device's failure (`IsSyncAnswer`). What is closed or moved all the same is
-//!   stuck (`Stuck`): it tells what was told before (`told_with`), and each further call is refused.
+//!   stuck (`UnsyncedChange`): it tells what was told before (`told_with`), and each further call is refused.
 //! - After any number of calls a `HostDest` is over the same folder and set as it was, and the system is in the state to which those calls led,
 //!   one after another (`Steps`).
 //! - `last_failure`: after each call that answers `Device` just that failure, its path and its cause (`KeepsCall`, `KeepsMaking`,
@@ -36,7 +36,6 @@
 #![tactic(auto)]
 
 mod bytes;
-mod desk;
 mod dest;
 mod failure;
 mod folder;
@@ -45,12 +44,13 @@ mod moving;
 mod reading;
 mod runtime;
 mod source;
-mod stuck;
+mod syscalls;
 mod system;
+mod unsynced_change;
 mod writing;
 
 pub use dest::HostDest;
-pub use failure::{Cause, Failure};
+pub use failure::{Failure, FailureReason};
 pub use runtime::HostFile;
 pub use source::HostSource;
 pub use system::{Handle, Input, System};

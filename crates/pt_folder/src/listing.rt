@@ -13,10 +13,10 @@ ghost use Rattle.pt_folder.specs.Calls.{IsDueTo, fault_of as fault_for};
 ghost use Rattle.pt_folder.specs.Listing.{FailsToGet, FailsToList, FailsToLook, GetsNames, IsListedBy, LooksAt, LooksIn, dir_front, most_entries};
 ghost use Rattle.pt_folder.specs.Names.{AddsNames, GivesNames, IsRefusedName, RefusesBytes, is_entry};
 
-use crate::bytes::Room;
-use crate::desk::Desk;
-use crate::failure::{Cause, Last};
+use crate::bytes::ReadBuffer;
+use crate::failure::{FailureReason, Last};
 use crate::folder::{Folder, name_text};
+use crate::syscalls::Syscalls;
 use crate::system::{Input, System};
 use pt_tree::{Kind, Listing, ListingFault, Name, NameFault, NamePath, TreeFault};
 
@@ -31,10 +31,10 @@ const LONGEST_NAME: usize = 255;
 /// that an entry may have or has no NUL behind it, there are more than 16,777,216 entries, or 2^64 - 1 reads found no end.
 /// `Memory` where a growth was refused.
 pub fn list<S: System>(
-    desk: &mut Desk<S>,
+    desk: &mut Syscalls<S>,
     folder: &Folder<'_>,
     path: &NamePath,
-    piece: &mut Room,
+    piece: &mut ReadBuffer,
 ) -> Result<Listing, TreeFault>
     requires { ForSome (S.forest desk.old.system folder.now.path.now)
         (λ f. IsSome (dir_at f path.now)) }
@@ -62,9 +62,9 @@ pub fn list<S: System>(
 }
 
 fn names_in<S: System>(
-    desk: &mut Desk<S>,
+    desk: &mut Syscalls<S>,
     text: &str,
-    piece: &mut Room,
+    piece: &mut ReadBuffer,
 ) -> Result<Vec<Name>, TreeFault>
     ensures most { IfOk result (λ names. vec_len names ≤ most_entries) }
     ensures asked { (reply : _) × S.opens_dir desk.old.system text.now reply desk.new.system
@@ -75,9 +75,9 @@ fn names_in<S: System>(
         (λ e. result ≡ Err (fault_for e)) }
     ensures kept { OnDevice result (IfSome desk.new.last.failure (IsOfNames text.now)) }
 {
-    match desk.system.open_names(text) {
+    match desk.system.read_dir(text) {
         Ok(mut dir) => read_names(&mut dir, piece, most(), text, &mut desk.last),
-        Err(error) => Err(desk.last.heard_at_copy(text, error)),
+        Err(error) => Err(desk.last.record_error_at_copy(text, error)),
     }
 }
 
@@ -93,7 +93,7 @@ fn most() -> usize
 /// What fails is kept at the directory's path.
 pub fn read_names<D: Input>(
     dir: &mut D,
-    piece: &mut Room,
+    piece: &mut ReadBuffer,
     most: usize,
     text: &str,
     last: &mut Last,
@@ -111,10 +111,10 @@ pub fn read_names<D: Input>(
         match dir.read_piece(piece) {
             Ok(0) => return Ok(names),
             Ok(count) => add_names(&mut names, &piece[..count], most, text, last)?,
-            Err(error) => return Err(last.heard_at_copy(text, error)),
+            Err(error) => return Err(last.record_error_at_copy(text, error)),
         }
     }
-    last.keep_copy(text, Cause::Endless);
+    last.keep_copy(text, FailureReason::Endless);
     Err(TreeFault::Device)
 }
 
@@ -141,7 +141,7 @@ fn add_names(
     if rest.is_empty() {
         Ok(())
     } else {
-        last.keep_copy(text, Cause::Endless);
+        last.keep_copy(text, FailureReason::Endless);
         Err(TreeFault::Device)
     }
 }
@@ -175,14 +175,14 @@ fn add_name(
         return Ok(());
     }
     if names.len() >= most {
-        last.keep_copy(text, Cause::Entries);
+        last.keep_copy(text, FailureReason::Entries);
         return Err(TreeFault::Device);
     }
     match Name::of(last.alloc, bytes) {
         Ok(name) => names.push(name).map_err(|_| TreeFault::Memory),
         Err(NameFault::Memory) => Err(TreeFault::Memory),
         Err(_) => {
-            last.keep_copy(text, Cause::Name);
+            last.keep_copy(text, FailureReason::Name);
             Err(TreeFault::Device)
         }
     }
@@ -190,7 +190,7 @@ fn add_name(
 
 // The entries of these names, in their order, with their kinds. The text is the directory's path, with `/` behind.
 fn with_kinds<S: System>(
-    desk: &mut Desk<S>,
+    desk: &mut Syscalls<S>,
     text: String,
     names: Vec<Name>,
 ) -> Result<Listing, TreeFault>
@@ -218,7 +218,11 @@ fn with_kinds<S: System>(
 }
 
 // The kind of an entry in the directory whose path, with `/` behind, is the text; links aren't followed.
-fn kind_in<S: System>(desk: &mut Desk<S>, text: &mut String, name: &Name) -> Result<Kind, TreeFault>
+fn kind_in<S: System>(
+    desk: &mut Syscalls<S>,
+    text: &mut String,
+    name: &Name,
+) -> Result<Kind, TreeFault>
     ensures text { OnOk result (string_bytes text.new ≡ string_bytes text.old) }
     ensures named { is_name name.now ≡ true }
     ensures asked { LooksIn S.looks (string_bytes text.old) name.now
@@ -243,13 +247,13 @@ fn add_entry(
 ) -> Result<(), TreeFault>
     ensures added { OnOk result (listing.new ≡ listing.old ++ (name, kind) ∷ []) }
     ensures fault { IfErr result (λ fault. IsDueTo fault (can_follow listing.old name ≡ false)) }
-    ensures kept { OnDevice result (IfSome last.new.failure (IsAt text.now Cause.Twice)) }
+    ensures kept { OnDevice result (IfSome last.new.failure (IsAt text.now FailureReason.Twice)) }
 {
     match listing.add(name, kind) {
         Ok(()) => Ok(()),
         Err(ListingFault::Memory) => Err(TreeFault::Memory),
         Err(ListingFault::NotRising) => {
-            last.keep_copy(text, Cause::Twice);
+            last.keep_copy(text, FailureReason::Twice);
             Err(TreeFault::Device)
         }
     }

@@ -3,13 +3,13 @@ ghost use Rattle.std.specs.Prelude.{◌≡◌, None, IfErr, IfOk, IsSomeAnd, len
 ghost use Rattle.pt_folder.specs.Calls.{IsDueTo};
 ghost use Rattle.pt_folder.specs.Failure.{IsUnasked, OnDevice};
 ghost use Rattle.pt_folder.specs.Moving.{IsGone, IsOfGoing, IsOfMove, IsReady, MovesOnce, holder_text};
-ghost use Rattle.pt_folder.specs.Stuck.{move_to_sync};
+ghost use Rattle.pt_folder.specs.UnsyncedChange.{move_to_sync};
 
-use crate::desk::Desk;
 use crate::failure::Last;
 use crate::folder::Folder;
-use crate::stuck::Stuck;
+use crate::syscalls::Syscalls;
 use crate::system::System;
+use crate::unsynced_change::UnsyncedChange;
 use pt_tree::{MemoryFault, NamePath, TreeFault};
 use std::alloc::{AllocError, Global};
 
@@ -28,7 +28,7 @@ pub struct Ready {
     pub from: String,
     pub to: String,
     pub holder: String,
-    pub left: Option<Stuck>,
+    pub left: Option<UnsyncedChange>,
 }
 
 impl<'a> Move<'a> {
@@ -53,20 +53,24 @@ impl<'a> Move<'a> {
     }
 
     // What the move is while its directory isn't put onto the disk yet; None where that isn't asked for.
-    fn to_sync(&self) -> Result<Option<Stuck>, MemoryFault>
+    fn to_sync(&self) -> Result<Option<UnsyncedChange>, MemoryFault>
         ensures { IfOk result (λ stuck. stuck
             ≡ move_to_sync self.now.synced self.now.from.now self.now.to.now) }
     {
         if !self.synced {
             return Ok(None);
         }
-        Ok(Some(Stuck::Moved(self.from.copy()?, self.to.copy()?)))
+        Ok(Some(UnsyncedChange::Moved(self.from.copy()?, self.to.copy()?)))
     }
 }
 
 impl Ready {
     // Moves what stands at the first path to the second. The move is stuck where its directory couldn't be put onto the disk.
-    fn go<S: System>(self, desk: &mut Desk<S>, stuck: &mut Option<Stuck>) -> Result<(), TreeFault>
+    fn go<S: System>(
+        self,
+        desk: &mut Syscalls<S>,
+        stuck: &mut Option<UnsyncedChange>,
+    ) -> Result<(), TreeFault>
         ensures gone { IsGone S.renames S.opens S.File.Handle.syncs self
             desk.old.system desk.new.system stuck.old stuck.new result }
         ensures kept { OnDevice result (IsSomeAnd desk.new.last.failure
@@ -74,7 +78,7 @@ impl Ready {
             desk.old.system desk.new.system)) }
     {
         if let Err(error) = desk.system.move_to(self.from.as_str(), self.to.as_str()) {
-            return Err(desk.last.heard(self.to, error));
+            return Err(desk.last.record_error(self.to, error));
         }
         *stuck = self.left;
         if stuck.is_none() {
@@ -87,11 +91,11 @@ impl Ready {
 }
 
 /// Moves what stands at one path to another. Nothing is asked where a growth was refused or the folder's path is empty.
-pub(crate) fn moved<S: System>(
-    desk: &mut Desk<S>,
+pub(crate) fn move_entry<S: System>(
+    desk: &mut Syscalls<S>,
     folder: &Folder<'_>,
     asked: &Move<'_>,
-    stuck: &mut Option<Stuck>,
+    stuck: &mut Option<UnsyncedChange>,
 ) -> Result<(), TreeFault>
     requires free { stuck.old ≡ None }
     ensures asked { MovesOnce S.renames S.opens S.File.Handle.syncs asked.now.synced

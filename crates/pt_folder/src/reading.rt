@@ -4,7 +4,7 @@ ghost use Rattle.std.specs.Prelude.{drop as drop_items};
 ghost use Rattle.std.specs.Option.{option_map};
 ghost use Rattle.pt_folder.specs.Reading.{FailsToGoBack, FailsToReadOn, GoesFirst, IsNext, ReadsNext, Stands, unread_of};
 
-use crate::bytes::{Room, read_block};
+use crate::bytes::{ReadBuffer, read_block};
 use crate::system::{Handle, Input};
 use pt_tree::{BLOCK, Block};
 use std::io;
@@ -36,7 +36,7 @@ impl<F: Handle> Reading<F> {
 
     /// The block becomes the next bytes, which may be read into `room` first; behind the end the system isn't asked again. On an
     /// error the block is empty, and the next call goes back to where this one began.
-    pub fn read(&mut self, block: &mut Block, room: &mut Room) -> io::Result<()>
+    pub fn read(&mut self, block: &mut Block, room: &mut ReadBuffer) -> io::Result<()>
         requires { Stands F.bytes F.left self.old }
         ensures stands { Stands F.bytes F.left self.new }
         ensures block { OnOk result (IsNext (unread_of F.bytes self.old) block.new.items) }
@@ -83,7 +83,7 @@ impl<F: Handle> Reading<F> {
         ensures error { IfErr result (λ e. FailsToGoBack F.goes self.old e self.new) }
     {
         if self.lost {
-            self.file.go_to(self.place)?;
+            self.file.seek(self.place)?;
             self.lost = false;
         }
         Ok(())

@@ -44,7 +44,7 @@ impl<F: Read + Seek + OpenFile> Handle for HostFile<F> {
 
     ghost syncs = { λ _ _ _. ⊤ };
 
-    fn go_to(&mut self, place: u64) -> io::Result<u64> {
+    fn seek(&mut self, place: u64) -> io::Result<u64> {
         self.file.seek(SeekFrom::Start(place))
     }
 
@@ -102,7 +102,7 @@ impl<'a, R: Files> System for &'a R {
 
     ghost tree_law = { λ s folder t is. untold_tree t is };
 
-    fn look(&mut self, path: &str) -> io::Result<Kind> {
+    fn lstat(&mut self, path: &str) -> io::Result<Kind> {
         match self.symlink_metadata(path) {
             Ok(metadata) => Ok(kind_of(&metadata)),
             Err(error) => Err(error),
@@ -116,14 +116,14 @@ impl<'a, R: Files> System for &'a R {
         }
     }
 
-    fn make_file(&mut self, path: &str) -> io::Result<HostFile<R::File>> {
+    fn create_new(&mut self, path: &str) -> io::Result<HostFile<R::File>> {
         match self.open_file(&making(), path) {
             Ok(file) => Ok(HostFile::new(file)),
             Err(error) => Err(error),
         }
     }
 
-    fn open_names(&mut self, path: &str) -> io::Result<HostFile<R::Dir>> {
+    fn read_dir(&mut self, path: &str) -> io::Result<HostFile<R::Dir>> {
         match self.open_dir(path) {
             Ok(dir) => Ok(HostFile::new(dir)),
             Err(error) => Err(error),

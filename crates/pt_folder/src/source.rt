@@ -7,18 +7,18 @@ ghost use Rattle.pt_folder.specs.Calls.{AsksOnce, LeadsToKind};
 ghost use Rattle.pt_tree.specs.Failures.{IsCounted};
 ghost use Rattle.pt_tree.specs.Forest.{Dir, dir_at, kind_of, node_at};
 ghost use Rattle.pt_tree.specs.Path.{parent};
-ghost use Rattle.pt_folder.specs.Desk.{new_desk};
+ghost use Rattle.pt_folder.specs.Syscalls.{new_desk};
 ghost use Rattle.pt_folder.specs.Failure.{OnDevice};
 ghost use Rattle.pt_folder.specs.Folder.{entry_text};
 ghost use Rattle.pt_folder.specs.Opening.{KeepsOpening, OpensOnce};
 ghost use Rattle.pt_folder.specs.Reading.{IsNext, IsOfReading, ReadsBy, StandsOpen, unread_open};
 
-use crate::bytes::Room;
-use crate::desk::Desk;
-use crate::failure::{Cause, Failure, Last};
-use crate::folder::{Folder, counted};
+use crate::bytes::ReadBuffer;
+use crate::failure::{Failure, FailureReason, Last};
+use crate::folder::{Folder, count_failure};
 use crate::listing;
 use crate::reading::Reading;
+use crate::syscalls::Syscalls;
 use crate::system::{Handle, Input, System};
 use pt_tree::{BLOCK, Block, Kind, Listing, NamePath, Source, TreeFault};
 use std::alloc::Global;
@@ -26,13 +26,13 @@ use std::alloc::Global;
 /// A folder of the system as a source. It tells the tree that the system keeps there, where it keeps one.
 #[derive(Drop)]
 pub struct HostSource<'a, S: System> {
-    desk: Desk<S>,
+    desk: Syscalls<S>,
     folder: Folder<'a>,
     reading: Option<Reading<S::File>>,
     at: String,
     looked: String,
     // What the names of a directory and the bytes of a file are read into.
-    room: Room,
+    room: ReadBuffer,
     failures: u64,
     calls: u64,
     ghost stands: { StandsOpen ⟦<S::File as Input>⟧.bytes ⟦<S::File as Input>⟧.left reading },
@@ -52,7 +52,7 @@ impl<'a, S: System> HostSource<'a, S> {
         ensures looked { string_bytes result.looked ≡ [] }
     {
         HostSource {
-            desk: Desk::new(system, alloc),
+            desk: Syscalls::new(system, alloc),
             folder: Folder { path },
             reading: None,
             at: String::new(alloc),
@@ -77,7 +77,7 @@ impl<'a, S: System> HostSource<'a, S> {
         self.at.as_str()
     }
 
-    /// The path that `look` answered last; empty before the first.
+    /// The path that `lstat` answered last; empty before the first.
     pub fn looked_path(&self) -> &str
         ensures { result.now ≡ string_bytes self.now.looked }
     {
@@ -87,7 +87,7 @@ impl<'a, S: System> HostSource<'a, S> {
     /// The kind of what stands at a path, links not followed; None where nothing does.
     ///
     /// Where the system keeps a tree, a directory has to be above the path. The open file stays as it is.
-    pub fn look(&mut self, path: &NamePath) -> Result<Option<Kind>, TreeFault>
+    pub fn lstat(&mut self, path: &NamePath) -> Result<Option<Kind>, TreeFault>
         requires { ForSome (S.forest self.old.desk.system self.old.folder.path.now)
             (λ f. IsSome (dir_at f (parent path.now))) }
         ensures kind { IfOk result (λ here.
@@ -105,7 +105,7 @@ impl<'a, S: System> HostSource<'a, S> {
         ensures failures { IsCounted self.old.failures self.new.failures result }
     {
         let kind = self.desk.kind_at(&self.folder, path, &mut self.looked);
-        counted(&mut self.failures, kind)
+        count_failure(&mut self.failures, kind)
     }
 
     /// The system, as the calls left it; the open file is closed.
@@ -155,7 +155,7 @@ impl<'a, S: System> Source for HostSource<'a, S> {
     {
         self.calls = self.calls.wrapping_add(1);
         let listing = listing::list(&mut self.desk, &self.folder, path, &mut self.room);
-        counted(&mut self.failures, listing)
+        count_failure(&mut self.failures, listing)
     }
 
     fn open(&mut self, path: &NamePath) -> Result<(), TreeFault>
@@ -178,7 +178,7 @@ impl<'a, S: System> Source for HostSource<'a, S> {
             &mut self.reading,
             &mut self.at,
         );
-        counted(&mut self.failures, opened)
+        count_failure(&mut self.failures, opened)
     }
 
     fn next(&mut self, block: &mut Block) -> Result<(), TreeFault>
@@ -199,14 +199,14 @@ impl<'a, S: System> Source for HostSource<'a, S> {
             self.at.as_str(),
             &mut self.desk.last,
         );
-        counted(&mut self.failures, read)
+        count_failure(&mut self.failures, read)
     }
 }
 
 // Opens an entry for reading, and makes it the open file. It is looked at first: what is no file now isn't opened, since
 // opening a pipe waits for its writer.
 fn open<S: System>(
-    desk: &mut Desk<S>,
+    desk: &mut Syscalls<S>,
     folder: &Folder<'_>,
     path: &NamePath,
     opened: &mut Option<Reading<S::File>>,
@@ -228,7 +228,7 @@ fn open<S: System>(
             *at = text;
             Ok(())
         }
-        Err(error) => Err(desk.last.heard(text, error)),
+        Err(error) => Err(desk.last.record_error(text, error)),
     }
 }
 
@@ -238,7 +238,7 @@ fn open<S: System>(
 fn read_on<F: Handle + Drop>(
     reading: &mut Option<Reading<F>>,
     block: &mut Block,
-    room: &mut Room,
+    room: &mut ReadBuffer,
     at: &str,
     last: &mut Last,
 ) -> Result<(), TreeFault>
@@ -257,11 +257,11 @@ fn read_on<F: Handle + Drop>(
     match reading {
         Some(open) => match open.read(block, room) {
             Ok(()) => Ok(()),
-            Err(error) => Err(last.heard_at_copy(at, error)),
+            Err(error) => Err(last.record_error_at_copy(at, error)),
         },
         None => {
             block.clear();
-            last.keep_copy(at, Cause::Closed);
+            last.keep_copy(at, FailureReason::Closed);
             Err(TreeFault::Device)
         }
     }

@@ -42,7 +42,7 @@ pub trait Handle: Input {
     ghost syncs: { Self → Result (Unit {0}) Error → Self → Type 0 };
 
     /// Goes to a place, counted from the file's start.
-    fn go_to(&mut self, place: u64) -> io::Result<u64>
+    fn seek(&mut self, place: u64) -> io::Result<u64>
         ensures same { Self.bytes self.new ≡ Self.bytes self.old }
         ensures there { OnOk result (GoesRight (Self.bytes self.new) (Self.left self.new) place) }
         ensures gone { goes self.old place result self.new };
@@ -86,7 +86,7 @@ pub trait System {
     ghost writes: { Self → Self.File → List ℕ → Result ℕ Error → Self → Self.File → Type 0 };
 
     /// The kind of what is at a path itself; links aren't followed.
-    fn look(&mut self, path: &str) -> io::Result<Kind>
+    fn lstat(&mut self, path: &str) -> io::Result<Kind>
         ensures { looks self.old path.now result self.new };
 
     /// Opens a file for reading.
@@ -94,11 +94,11 @@ pub trait System {
         ensures { opens self.old path.now result self.new };
 
     /// Makes a file where nothing stands, and opens it: each write goes to its end.
-    fn make_file(&mut self, path: &str) -> io::Result<Self::File>
+    fn create_new(&mut self, path: &str) -> io::Result<Self::File>
         ensures { makes_file self.old path.now result self.new };
 
     /// Opens a directory.
-    fn open_names(&mut self, path: &str) -> io::Result<Self::Dir>
+    fn read_dir(&mut self, path: &str) -> io::Result<Self::Dir>
         ensures { opens_dir self.old path.now result self.new };
 
     /// Makes a directory.

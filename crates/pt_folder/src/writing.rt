@@ -4,15 +4,15 @@ ghost use Rattle.pt_tree.specs.declared.faults.TreeFault.TheVariants.{Device};
 ghost use Rattle.pt_folder.specs.Folder.{entry_text};
 ghost use Rattle.pt_folder.specs.Calls.{MakesOnce};
 ghost use Rattle.pt_folder.specs.Failure.{KeepsMaking, OnDevice};
-ghost use Rattle.pt_folder.specs.Stuck.{stuck_by_close};
+ghost use Rattle.pt_folder.specs.UnsyncedChange.{stuck_by_close};
 ghost use Rattle.pt_folder.specs.Writing.{ClosesBy, FailsToAdd, IsMadeAt, IsOfWriting, MakesAt, WritesTo, open_unless_within};
 
 use crate::bytes::write_out;
-use crate::desk::Desk;
-use crate::failure::{Cause, Last};
+use crate::failure::{FailureReason, Last};
 use crate::folder::Folder;
-use crate::stuck::Stuck;
+use crate::syscalls::Syscalls;
 use crate::system::{Handle, System};
+use crate::unsynced_change::UnsyncedChange;
 use pt_tree::{NamePath, TreeFault};
 
 /// The open file of a folder that is written, and its path.
@@ -24,7 +24,7 @@ pub struct Writing<F> {
 
 // Makes an empty file where nothing stands, and makes it the open one.
 pub(crate) fn create<S: System>(
-    desk: &mut Desk<S>,
+    desk: &mut Syscalls<S>,
     folder: &Folder<'_>,
     path: &NamePath,
     longest: usize,
@@ -41,18 +41,18 @@ pub(crate) fn create<S: System>(
 {
     let text = folder.text_to_make(path, longest, &mut desk.last)?;
     let path = path.copy()?;
-    match desk.system.make_file(text.as_str()) {
+    match desk.system.create_new(text.as_str()) {
         Ok(file) => {
             *writing = Some(Writing { file, path });
             Ok(())
         }
-        Err(error) => Err(desk.last.heard(text, error)),
+        Err(error) => Err(desk.last.record_error(text, error)),
     }
 }
 
 // Adds a piece to the open file, which stays open; where none is open, it is a failure.
 pub(crate) fn add<S: System>(
-    desk: &mut Desk<S>,
+    desk: &mut Syscalls<S>,
     folder: &Folder<'_>,
     writing: &mut Option<Writing<S::File>>,
     piece: &[u8],
@@ -67,11 +67,11 @@ pub(crate) fn add<S: System>(
     match writing {
         Some(open) => match write_out(&mut desk.system, &mut open.file, piece) {
             Ok(()) => Ok(()),
-            Err(error) => Err(folder.heard_at(&open.path, error, &mut desk.last)),
+            Err(error) => Err(folder.record_error_at(&open.path, error, &mut desk.last)),
         },
         None => {
             let alloc = desk.last.alloc;
-            desk.last.keep(String::new(alloc), Cause::Closed);
+            desk.last.keep(String::new(alloc), FailureReason::Closed);
             Err(TreeFault::Device)
         }
     }
@@ -84,7 +84,7 @@ pub(crate) fn close<F: Handle + Drop>(
     folder: &Folder<'_>,
     writing: &mut Option<Writing<F>>,
     synced: bool,
-    stuck: &mut Option<Stuck>,
+    stuck: &mut Option<UnsyncedChange>,
 ) -> Result<(), TreeFault>
     ensures closed { ClosesBy F.syncs synced writing.old result }
     ensures kept { OnDevice result (IfSome last.new.failure (IsOfWriting folder.now.path.now
@@ -93,7 +93,7 @@ pub(crate) fn close<F: Handle + Drop>(
     ensures stuck { stuck.new ≡ stuck_by_close stuck.old writing.old result }
 {
     let Some(mut open) = writing.take() else {
-        last.keep(String::new(last.alloc), Cause::Closed);
+        last.keep(String::new(last.alloc), FailureReason::Closed);
         return Err(TreeFault::Device);
     };
     if !synced {
@@ -102,8 +102,8 @@ pub(crate) fn close<F: Handle + Drop>(
     match open.file.sync() {
         Ok(()) => Ok(()),
         Err(error) => {
-            folder.heard_at(&open.path, error, last);
-            *stuck = Some(Stuck::Closed(open.path));
+            folder.record_error_at(&open.path, error, last);
+            *stuck = Some(UnsyncedChange::Closed(open.path));
             Err(TreeFault::Device)
         }
     }

@@ -1,6 +1,6 @@
 pub mod Apart
 pub mod Declaration
 pub mod Guard
-pub mod Hold
+pub mod LockAttempt
 pub mod Paths
 pub mod Wanting

@@ -4,7 +4,7 @@ ghost use Rattle.std.specs.IoError.{error_kind};
 ghost use Rattle.std.specs.Path.{path_buf_bytes};
 ghost use Rattle.pt_guard.specs.Apart.{Climbs, Finds, InEither, IsHeld, IsUnresolved, LiesIn, Overlaps, lie_of};
 
-use crate::places::{Folder, Places, is_wanting};
+use crate::places::{FileId, Places, is_wanting};
 use std::alloc::{AllocError, Global};
 use std::io;
 use std::path::PathBuf;
@@ -17,7 +17,7 @@ const STAGING: &str = "/staging";
 
 /// How one folder lies to another.
 #[derive(Clone, Copy, Debug, PartialEq, Eq)]
-pub(crate) enum Lie {
+pub(crate) enum Nesting {
     /// It is not in it, or one of the two isn't there.
     Apart,
     /// It is the other, or lies in it.
@@ -29,81 +29,81 @@ pub(crate) enum Lie {
 }
 
 // What an error of the system says: that memory was wanting, or else this.
-fn said_by(error: &io::Error, otherwise: Lie) -> Lie
+fn nesting_of_error(error: &io::Error, otherwise: Nesting) -> Nesting
     ensures { result ≡ lie_of otherwise (error_kind error.now) }
 {
     if error.kind() == io::ErrorKind::OutOfMemory {
-        Lie::Wanting
+        Nesting::Wanting
     } else {
         otherwise
     }
 }
 
 // Whether a path leads to a folder, or to something that lies in it; asked of the path and of each folder above, at most `left` of them.
-fn climb<S: Places>(system: &mut S, path: PathBuf, target: Folder, left: usize) -> Lie
+fn has_ancestor<S: Places>(system: &mut S, path: PathBuf, target: FileId, left: usize) -> Nesting
     ensures { Climbs S.identifies target left (path_buf_bytes path) system.old system.new result }
 {
     if left == 0 {
-        return Lie::Unknown;
+        return Nesting::Unknown;
     }
     match system.identify(path.as_str()) {
         Ok(found) => {
             if found == target {
-                return Lie::Inside;
+                return Nesting::Inside;
             }
             let mut above = path;
             if above.pop() {
-                climb(system, above, target, left - 1)
+                has_ancestor(system, above, target, left - 1)
             } else {
-                Lie::Apart
+                Nesting::Apart
             }
         }
-        Err(error) => said_by(&error, Lie::Unknown),
+        Err(error) => nesting_of_error(&error, Nesting::Unknown),
     }
 }
 
 // The same of a resolved path and the folder at another path, which was resolved too.
-fn held_against<S: Places>(system: &mut S, inner: PathBuf, outer: &str) -> Lie
+fn held_against<S: Places>(system: &mut S, inner: PathBuf, outer: &str) -> Nesting
     ensures { IsHeld S.identifies outer.now (path_buf_bytes inner) system.old system.new result }
 {
     match system.identify(outer) {
         Ok(target) => {
             let left = inner.as_str().len();
-            climb(system, inner, target, left)
+            has_ancestor(system, inner, target, left)
         }
-        Err(error) => said_by(&error, Lie::Unknown),
+        Err(error) => nesting_of_error(&error, Nesting::Unknown),
     }
 }
 
 // What is said of a path that can't be resolved, for this error: memory was wanting, nothing lies there, or it isn't known where it is.
-fn unresolved<S: Places>(system: &mut S, path: &str, error: io::Error) -> Lie
+fn judge_unresolved<S: Places>(system: &mut S, path: &str, error: io::Error) -> Nesting
     ensures { IsUnresolved S.identifies path.now error system.old system.new result }
 {
     if is_wanting(&error) {
-        return Lie::Wanting;
+        return Nesting::Wanting;
     }
     match system.identify(path) {
-        Ok(_) => Lie::Unknown,
-        Err(error) => said_by(&error, Lie::Apart),
+        Ok(_) => Nesting::Unknown,
+        Err(error) => nesting_of_error(&error, Nesting::Apart),
     }
 }
 
 // How what a path leads to lies to what another leads to.
-fn lies_in<S: Places>(system: &mut S, alloc: Global, inner: &str, outer: &str) -> Lie
+fn lies_in<S: Places>(system: &mut S, alloc: Global, inner: &str, outer: &str) -> Nesting
     ensures { LiesIn S.resolves S.identifies inner.now outer.now system.old system.new result }
 {
     match system.resolve(alloc, inner) {
         Ok(place) => match system.resolve(alloc, outer) {
             Ok(other) => {
                 if place.starts_with(other.as_str()) {
-                    Lie::Inside
+                    Nesting::Inside
                 } else {
                     held_against(system, place, outer)
                 }
             }
-            Err(error) => unresolved(system, outer, error),
+            Err(error) => judge_unresolved(system, outer, error),
         },
-        Err(error) => unresolved(system, inner, error),
+        Err(error) => judge_unresolved(system, inner, error),
     }
 }
 
@@ -114,7 +114,7 @@ pub(crate) fn overlap<S: Places>(
     alloc: Global,
     source: &str,
     dest: &str,
-) -> Result<Lie, AllocError>
+) -> Result<Nesting, AllocError>
     ensures err { IfErr result (λ _. system.new ≡ system.old) }
     ensures ok { IfOk result (λ lie.
         Overlaps S.resolves S.identifies source.now dest.now system.old system.new lie) }
@@ -142,33 +142,39 @@ fn first_found<S: Places>(
     dest: &str,
     root: &str,
     staging: &str,
-) -> Lie
+) -> Nesting
     ensures { Finds S.resolves S.identifies source.now tree.now dest.now root.now staging.now
         system.old system.new result }
 {
     match in_either(system, alloc, dest, source, tree) {
-        Lie::Apart => match in_either(system, alloc, source, root, staging) {
-            Lie::Apart => in_either(system, alloc, tree, root, staging),
-            Lie::Inside => Lie::Inside,
-            Lie::Unknown => Lie::Unknown,
-            Lie::Wanting => Lie::Wanting,
+        Nesting::Apart => match in_either(system, alloc, source, root, staging) {
+            Nesting::Apart => in_either(system, alloc, tree, root, staging),
+            Nesting::Inside => Nesting::Inside,
+            Nesting::Unknown => Nesting::Unknown,
+            Nesting::Wanting => Nesting::Wanting,
         },
-        Lie::Inside => Lie::Inside,
-        Lie::Unknown => Lie::Unknown,
-        Lie::Wanting => Lie::Wanting,
+        Nesting::Inside => Nesting::Inside,
+        Nesting::Unknown => Nesting::Unknown,
+        Nesting::Wanting => Nesting::Wanting,
     }
 }
 
 // How what a path leads to lies to one folder, and where it is apart from that, to another.
-fn in_either<S: Places>(system: &mut S, alloc: Global, inner: &str, one: &str, other: &str) -> Lie
+fn in_either<S: Places>(
+    system: &mut S,
+    alloc: Global,
+    inner: &str,
+    one: &str,
+    other: &str,
+) -> Nesting
     ensures { InEither S.resolves S.identifies inner.now one.now other.now
         system.old system.new result }
 {
     match lies_in(system, alloc, inner, one) {
-        Lie::Apart => lies_in(system, alloc, inner, other),
-        Lie::Inside => Lie::Inside,
-        Lie::Unknown => Lie::Unknown,
-        Lie::Wanting => Lie::Wanting,
+        Nesting::Apart => lies_in(system, alloc, inner, other),
+        Nesting::Inside => Nesting::Inside,
+        Nesting::Unknown => Nesting::Unknown,
+        Nesting::Wanting => Nesting::Wanting,
     }
 }
 

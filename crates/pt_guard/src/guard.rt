@@ -2,8 +2,8 @@
 ghost use Rattle.std.specs.Prelude.{◌≡◌};
 ghost use Rattle.pt_guard.specs.Guard.{Begins};
 
-use crate::apart::{Lie, overlap};
-use crate::places::{Claim, Hold, Places, is_wanting};
+use crate::apart::{Nesting, overlap};
+use crate::places::{Claim, LockAttempt, Places, is_wanting};
 use std::alloc::{AllocError, Global};
 use std::io;
 use thiserror::Error;
@@ -58,15 +58,15 @@ pub fn begin<S: Places>(
         system.old system.new result }
 {
     match overlap(system, alloc, source, dest)? {
-        Lie::Inside => Err(GuardFault::Overlap),
-        Lie::Unknown => Err(GuardFault::Hidden),
-        Lie::Wanting => Err(GuardFault::Memory),
-        Lie::Apart => match system.hold(dest, claim) {
-            Hold::Held(lock) => Ok(Ok(lock)),
-            Hold::Taken => Err(GuardFault::Taken),
-            Hold::Root => Err(GuardFault::Root),
-            Hold::Unknown(error) if is_wanting(&error) => Err(GuardFault::Memory),
-            Hold::Unknown(error) => Ok(Err(error)),
+        Nesting::Inside => Err(GuardFault::Overlap),
+        Nesting::Unknown => Err(GuardFault::Hidden),
+        Nesting::Wanting => Err(GuardFault::Memory),
+        Nesting::Apart => match system.hold(dest, claim) {
+            LockAttempt::Held(lock) => Ok(Ok(lock)),
+            LockAttempt::Taken => Err(GuardFault::Taken),
+            LockAttempt::Root => Err(GuardFault::Root),
+            LockAttempt::Unknown(error) if is_wanting(&error) => Err(GuardFault::Memory),
+            LockAttempt::Unknown(error) => Ok(Err(error)),
         },
     }
 }

@@ -16,7 +16,7 @@
 //! - `is_declared`, over any reader that tells its bytes, which are a folder's names, each ended by a NUL: true exactly where `0=ocfl_` stands
 //!   at the start of one (`IsDeclared`).
 //! - A lock that is held is no value that may be dropped: it is given back by `release` (`Places`).
-//! - `held`: the lock is asked for as it is to be had, and what the question is answered is told so: held, another's, or that it can't be asked
+//! - `lock_opened`: the lock is asked for as it is to be had, and what the question is answered is told so: held, another's, or that it can't be asked
 //!   for (`hold_of`). The runtime's own instance asks so too (`AsksLock`).
 #![tactic(auto)]
 
@@ -26,4 +26,4 @@ mod guard;
 mod places;
 
 pub use guard::{GuardFault, begin};
-pub use places::{Claim, Folder, Hold, Lockable, Places};
+pub use places::{Claim, FileId, LockAttempt, Lockable, Places};

@@ -5,9 +5,9 @@ ghost use Rattle.std.specs.declared.io.Error.{Error};
 ghost use Rattle.pt_guard.specs.Paths.{Place};
 ghost use Rattle.std.specs.declared.result.Result.{Result};
 ghost use Rattle.pt_guard.specs.declared.places.Claim.{Claim};
-ghost use Rattle.pt_guard.specs.declared.places.Folder.{Folder};
-ghost use Rattle.pt_guard.specs.declared.places.Hold.{Hold};
-ghost use Rattle.pt_guard.specs.Hold.{AsksFolder, AsksLock, HoldsBy, hold_of};
+ghost use Rattle.pt_guard.specs.declared.places.FileId.{FileId};
+ghost use Rattle.pt_guard.specs.declared.places.LockAttempt.{LockAttempt};
+ghost use Rattle.pt_guard.specs.LockAttempt.{AsksFolder, AsksLock, HoldsBy, hold_of};
 ghost use Rattle.pt_guard.specs.Wanting.{IsWanting};
 
 use crate::declared::declares;
@@ -29,7 +29,7 @@ pub enum Claim {
 
 /// What asking for a folder's lock came to.
 #[derive(Debug, Drop)]
-pub enum Hold<L> {
+pub enum LockAttempt<L> {
     /// The lock is held, until this is dropped.
     Held(L),
     /// Another holds it, so that it can't be had as it was asked for.
@@ -42,7 +42,7 @@ pub enum Hold<L> {
 
 /// What the system knows a file or folder by, whatever path leads to it: its device, and its number there.
 #[derive(Clone, Copy, Debug, PartialEq, Eq)]
-pub struct Folder {
+pub struct FileId {
     /// The number of the device.
     pub device: u64,
     /// The number of the inode on it.
@@ -84,10 +84,10 @@ pub trait Places {
     ghost resolves: { Self → List ℕ → Result Place Error → Self → Type 0 };
 
     /// What a path leads to may be told to be this.
-    ghost identifies: { Self → List ℕ → Result Folder Error → Self → Type 0 };
+    ghost identifies: { Self → List ℕ → Result FileId Error → Self → Type 0 };
 
     /// Asking so for the lock of the folder at a path may come to this.
-    ghost holds: { Claim → Self → List ℕ → Hold Self.Lock → Self → Type 0 };
+    ghost holds: { Claim → Self → List ℕ → LockAttempt Self.Lock → Self → Type 0 };
 
     /// Giving a lock back may leave it so.
     ghost releases: { Self → Self.Lock → Self → Type 0 };
@@ -97,11 +97,11 @@ pub trait Places {
         ensures { resolves self.old path.now result self.new };
 
     /// What a path leads to, links followed.
-    fn identify(&mut self, path: &str) -> io::Result<Folder>
+    fn identify(&mut self, path: &str) -> io::Result<FileId>
         ensures { identifies self.old path.now result self.new };
 
     /// Asks for the lock of the folder at a path, unless that is a storage root or an object itself.
-    fn hold(&mut self, path: &str, claim: Claim) -> Hold<Self::Lock>
+    fn hold(&mut self, path: &str, claim: Claim) -> LockAttempt<Self::Lock>
         ensures { holds claim self.old path.now result self.new };
 
     /// Gives a lock back, which isn't held from then on.
@@ -127,15 +127,15 @@ where
         self.canonicalize(alloc, path)
     }
 
-    fn identify(&mut self, path: &str) -> io::Result<Folder> {
+    fn identify(&mut self, path: &str) -> io::Result<FileId> {
         let metadata = self.metadata(path)?;
-        Ok(Folder {
+        Ok(FileId {
             device: metadata.dev(),
             inode: metadata.ino(),
         })
     }
 
-    fn hold(&mut self, path: &str, claim: Claim) -> Hold<R::File> {
+    fn hold(&mut self, path: &str, claim: Claim) -> LockAttempt<R::File> {
         let told = declares(*self, path);
         held_by(*self, told, path, claim)
     }
@@ -146,28 +146,33 @@ where
 }
 
 // What asking so for the lock of the folder at a path comes to, by what is told of its names.
-fn held_by<R: Files>(rt: &R, told: io::Result<bool>, path: &str, claim: Claim) -> Hold<R::File>
+fn held_by<R: Files>(
+    rt: &R,
+    told: io::Result<bool>,
+    path: &str,
+    claim: Claim,
+) -> LockAttempt<R::File>
 where
     R::File: Lockable,
     ensures { HoldsBy R.File.answers claim told result }
 {
     match told {
-        Ok(true) => Hold::Root,
-        Ok(false) => locked(rt, path, claim),
-        Err(error) if is_wanting(&error) => Hold::Unknown(error),
-        Err(_) => locked(rt, path, claim),
+        Ok(true) => LockAttempt::Root,
+        Ok(false) => lock_path(rt, path, claim),
+        Err(error) if is_wanting(&error) => LockAttempt::Unknown(error),
+        Err(_) => lock_path(rt, path, claim),
     }
 }
 
 // Opens the folder at a path, and asks so for its lock.
-fn locked<R: Files>(rt: &R, path: &str, claim: Claim) -> Hold<R::File>
+fn lock_path<R: Files>(rt: &R, path: &str, claim: Claim) -> LockAttempt<R::File>
 where
     R::File: Lockable,
     ensures { AsksLock R.File.answers claim result }
 {
     let mut options = OpenOptions::new();
     options.read(true);
-    held(rt.open_file(&options, path), claim)
+    lock_opened(rt.open_file(&options, path), claim)
 }
 
 /// Whether an error says that memory was wanting.
@@ -178,25 +183,25 @@ pub(crate) fn is_wanting(error: &io::Error) -> bool
 }
 
 // Asks so for the lock of a folder, if it could be opened.
-fn held<F: Lockable + Drop>(opened: io::Result<F>, claim: Claim) -> Hold<F>
+fn lock_opened<F: Lockable + Drop>(opened: io::Result<F>, claim: Claim) -> LockAttempt<F>
     ensures { MatchResult opened (λ folder. (answer : Result Bool Error)
         × F.answers claim folder answer × (result ≡ hold_of folder answer))
-        (λ error. result ≡ Hold.Unknown error) }
+        (λ error. result ≡ LockAttempt.Unknown error) }
 {
     match opened {
-        Ok(folder) => asked(folder, claim),
-        Err(error) => Hold::Unknown(error),
+        Ok(folder) => lock_folder(folder, claim),
+        Err(error) => LockAttempt::Unknown(error),
     }
 }
 
 // Asks so for the lock of a folder that was opened.
-fn asked<F: Lockable + Drop>(folder: F, claim: Claim) -> Hold<F>
+fn lock_folder<F: Lockable + Drop>(folder: F, claim: Claim) -> LockAttempt<F>
     ensures { (answer : Result Bool Error)
         × F.answers claim folder answer × (result ≡ hold_of folder answer) }
 {
     match folder.ask_lock(claim) {
-        Ok(true) => Hold::Held(folder),
-        Ok(false) => Hold::Taken,
-        Err(error) => Hold::Unknown(error),
+        Ok(true) => LockAttempt::Held(folder),
+        Ok(false) => LockAttempt::Taken,
+        Err(error) => LockAttempt::Unknown(error),
     }
 }

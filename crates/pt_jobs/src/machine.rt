@@ -3,13 +3,13 @@ ghost use Rattle.std.specs.Prelude.{⊤};
 
 use crate::system::MadeSystem;
 use crate::trace::Trace;
-use pt_guard::{Claim, Folder, Hold, Places};
+use pt_guard::{Claim, FileId, LockAttempt, Places};
+use pt_host::{
+    AuditOptions, Feedback, Host, HostIo, Progress, RunOptions, Syncs, audit_guarded, run_guarded,
+};
 use pt_move::Job;
 use pt_name::{Layout, Share};
 use pt_object::{Algorithm, Meta};
-use pt_run::{
-    AuditOptions, Feedback, Ground, Host, Progress, RunOptions, Syncs, audit_guarded, run_guarded,
-};
 use pt_tree::{Ignored, Name};
 use pt_walk::Limits;
 use std::alloc::{AllocGlobal, Global};
@@ -90,12 +90,12 @@ impl<'a> Places for Machine<'a> {
         Err(io::Error::from(ErrorKind::NotFound))
     }
 
-    fn identify(&mut self, _: &str) -> io::Result<Folder> {
+    fn identify(&mut self, _: &str) -> io::Result<FileId> {
         Err(io::Error::from(ErrorKind::NotFound))
     }
 
-    fn hold(&mut self, _: &str, _: Claim) -> Hold<u8> {
-        Hold::Held(7)
+    fn hold(&mut self, _: &str, _: Claim) -> LockAttempt<u8> {
+        LockAttempt::Held(7)
     }
 
     fn release(&mut self, _: u8) {}
@@ -120,15 +120,15 @@ impl<'a> Host for Machine<'a> {
         Ok(None)
     }
 
-    fn lend(&mut self) -> Ground<MadeSystem<'a>, MadeSystem<'a>, Sink<'a>> {
-        Ground {
+    fn lend(&mut self) -> HostIo<MadeSystem<'a>, MadeSystem<'a>, Sink<'a>> {
+        HostIo {
             store: self.store.take(),
             folder: self.root.take(),
             output: Sink(self.trace),
         }
     }
 
-    fn take_back(&mut self, ground: Ground<MadeSystem<'a>, MadeSystem<'a>, Sink<'a>>)
+    fn take_back(&mut self, ground: HostIo<MadeSystem<'a>, MadeSystem<'a>, Sink<'a>>)
         ensures { ⊤ }
     {
         self.store = ground.store;

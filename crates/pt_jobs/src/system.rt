@@ -164,7 +164,7 @@ impl<'a> Handle for MadeFile<'a> {
 
     ghost syncs = { λ _ _ _. ⊤ };
 
-    fn go_to(&mut self, place: u64) -> io::Result<u64> {
+    fn seek(&mut self, place: u64) -> io::Result<u64> {
         self.place = place;
         Ok(place)
     }
@@ -254,7 +254,7 @@ impl<'a> System for MadeSystem<'a> {
 
     ghost tree_law = { λ s folder t is. untold_tree t is };
 
-    fn look(&mut self, path: &str) -> io::Result<Kind> {
+    fn lstat(&mut self, path: &str) -> io::Result<Kind> {
         self.called(1, path);
         match self.tree.kind(path.as_bytes()) {
             Some(kind) => Ok(kind),
@@ -279,7 +279,7 @@ impl<'a> System for MadeSystem<'a> {
         })
     }
 
-    fn make_file(&mut self, path: &str) -> io::Result<MadeFile<'a>> {
+    fn create_new(&mut self, path: &str) -> io::Result<MadeFile<'a>> {
         self.called(3, path);
         let mut taken = None;
         let mut held = Held::Untold;
@@ -296,7 +296,7 @@ impl<'a> System for MadeSystem<'a> {
         })
     }
 
-    fn open_names(&mut self, path: &str) -> io::Result<MadeNames<'a>> {
+    fn read_dir(&mut self, path: &str) -> io::Result<MadeNames<'a>> {
         self.called(4, path);
         match self.tree.names(self.alloc, path.as_bytes())? {
             Some(bytes) => Ok(MadeNames {

@@ -3,7 +3,7 @@ use Rattle.std.proofs.Common.{◌≡◌, ◌<◌, ◌≤◌, ◌-◌, ◌==◌, 
 use Rattle.std.specs.Prelude.{Some, Ok, Err, IsErrAnd, slice_get}
 use Rattle.std.specs.Str.{bytes_eq}
 use Rattle.std.proofs.lemmas.Bool.{le-ltb, lt-ltb}
-use Rattle.pt_state.proofs.Words.{digest_of, HasBeenFed, Algorithm, Content, Hasher, Row, Answer, Did, LeavesSome, Make, content_at, Adds, Finishes, Reads, World, asks, does, Fault, Object, Part, Position, Turned, KeepsAll}
+use Rattle.pt_state.proofs.Words.{digest_of, HasBeenFed, Algorithm, Content, Hasher, Row, Answer, Did, FailsPartway, Make, content_at, Adds, Finishes, Reads, DeviceStates, asks, does, Fault, Object, Part, Position, Turned, KeepsAll}
 use Rattle.pt_state.proofs.Words.fault
 use Rattle.pt_state.proofs.Words.phase
 use Rattle.pt_state.proofs.Words.stage
@@ -16,7 +16,7 @@ use Rattle.pt_make.specs.Making.{IsAsRead, IsOther}
 -- ---- a block was read
 
 -- an empty block is the end
-pub read_nothing : (block : List ℕ) (w w' : World) → Did (asks (Reads block)) w w' → true ≡ (length block == 0) → Did (asks (Reads [])) w w'
+pub read_nothing : (block : List ℕ) (w w' : DeviceStates) → Did (asks (Reads block)) w w' → true ≡ (length block == 0) → Did (asks (Reads [])) w w'
 read_nothing [] w w' did is = did
 read_nothing (byte ∷ block) w w' did is = absurd (grind (arith, is))
 
@@ -44,20 +44,20 @@ digest_fed s hasher digest fed same ends was = ends s.job.algorithm fed (rw same
 
 -- ---- turns
 
-module _ (s s' : State) (a b : World) (object : Object) (position : Position) (left : ℕ) (keeps : KeepsAll s s') where
+module _ (s s' : State) (a b : DeviceStates) (object : Object) (position : Position) (left : ℕ) (keeps : KeepsAll s s') where
   pub reads_more : (block : List ℕ) → Did (asks (Reads block)) a b → 0 < length block → left < length block → Turned (phase.Carrying object (stage.Copy position left)) s s' a b (Err fault.Changed)
   reads_more [] read some more = absurd (omega (arith, some))
   reads_more (byte ∷ block) read some more = refused a b (λ fed was. Make (ReadsMore _ object position left byte block (lt-ltb left (length (byte ∷ block)) more))) read keeps
 
   -- a block that is within what is left is added and fed
-  pub copies_on : (c : World) (block : List ℕ) → Did (asks (Reads block)) a b → Did (does (Adds block)) b c → 0 < length block → length block ≤ left
+  pub copies_on : (c : DeviceStates) (block : List ℕ) → Did (asks (Reads block)) a b → Did (does (Adds block)) b c → 0 < length block → length block ≤ left
       → ((algorithm : Algorithm) (fed : List ℕ) → HasBeenFed algorithm s.hasher fed → HasBeenFed algorithm s'.hasher (fed ++ block)) → Turned (phase.Carrying object (stage.Copy position left)) s s' a c (Ok (phase.Carrying object (stage.Copy position (left - length block))))
   copies_on c [] read added some most feeds = absurd (omega (arith, some))
   copies_on c (byte ∷ block) read added some most feeds =
       went a c (λ fed. fed ++ byte ∷ block) (λ fed _. Make (CopiesOn _ object position left byte block (le-ltb left (length (byte ∷ block)) most))) (then_did _ _ a b c read added) refl (feeds s.job.algorithm) keeps
 
   -- a part of the block was added
-  pub copies_part : (c : World) (block : List ℕ) (f : Fault) (result : Answer) → IsErrAnd result (λ h. h ≡ f) → Did (asks (Reads block)) a b → LeavesSome (does (Adds block)) f b c → 0 < length block → length block ≤ left → Turned (phase.Carrying object (stage.Copy position left)) s s' a c result
+  pub copies_part : (c : DeviceStates) (block : List ℕ) (f : Fault) (result : Answer) → IsErrAnd result (λ h. h ≡ f) → Did (asks (Reads block)) a b → FailsPartway (does (Adds block)) f b c → 0 < length block → length block ≤ left → Turned (phase.Carrying object (stage.Copy position left)) s s' a c result
   copies_part c [] f result is read part some most = absurd (omega (arith, some))
   copies_part c (byte ∷ block) f result is read part some most =
       left_some a c f result is (λ fed. Make (CopiesOn _ object position left byte block (le-ltb left (length (byte ∷ block)) most))) (then_leaves _ _ f a b c read part) keeps
@@ -71,7 +71,7 @@ module _ (s s' : State) (a b : World) (object : Object) (position : Position) (l
         (λ fed was. Make (ReadsOther _ object position row left at (rw (digest_fed s hasher digest fed same ends was) at differs)))
         read keeps
 
-    pub copy_ended : (c : World) (next : Part) → Did (does Finishes) b c → IsAsRead s.rows s.contents position left digest next → HasBeenFed s.job.algorithm s'.hasher [] → Turned (phase.Carrying object (stage.Copy position left)) s s' a c (Ok (phase.Carrying object (stage.Make next)))
+    pub copy_ended : (c : DeviceStates) (next : Part) → Did (does Finishes) b c → IsAsRead s.rows s.contents position left digest next → HasBeenFed s.job.algorithm s'.hasher [] → Turned (phase.Carrying object (stage.Copy position left)) s s' a c (Ok (phase.Carrying object (stage.Make next)))
     unfolding IsAsRead
     copy_ended c next finished (row, (at, is, then)) started =
         rw then

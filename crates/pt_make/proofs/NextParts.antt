@@ -4,12 +4,12 @@ use Rattle.std.specs.Prelude.{Option, None, Some, Ok, IsErrAnd, slice_get}
 use Rattle.std.specs.Option.{option_map}
 use Rattle.std.proofs.lemmas.Bool.{le-ltb, lt-ltb}
 use Rattle.std.proofs.lemmas.List.{take_all}
-use Rattle.pt_state.proofs.Words.{HasBeenFed, MakeFolder, Row, Writing, MayMake, Path, Reading, CanOpen, after_open, Answer, Did, LeavesSome, Make, Stays, content_at, in_pairtree, Answers, Calls, Changes, Creates, Makes, NewFile, Opens, Puts, World, asks, dest_tree, does, source_tree, Fault, Object, Part, Position, KeepsAll, held_of, Turned}
+use Rattle.pt_state.proofs.Words.{HasBeenFed, MakeFolder, Row, Writing, MayMake, Path, Reading, CanOpen, after_open, Answer, Did, FailsPartway, Make, FailsUnchanged, content_at, in_pairtree, Answers, Calls, Changes, Creates, Makes, NewFile, Opens, Puts, DeviceStates, asks, dest_tree, does, source_tree, Fault, Object, Part, Position, KeepsAll, held_of, Turned}
 use Rattle.pt_state.proofs.Words.part
 use Rattle.pt_state.proofs.Words.phase
 use Rattle.pt_state.proofs.Words.stage
 use Rattle.pt_state.specs.declared.state.State.{State}
-use Rattle.pt_plan.specs.Permits.{MayMakeContent, MayOpenRow}
+use Rattle.pt_plan.specs.Enabled.{MayMakeContent, MayOpenRow}
 use Rattle.pt_plan.specs.TurnMake.{MakesFolder, OpensCopy, PassesRow, behind, in_content, is_stored, path_of_source, with_folder}
 use Rattle.pt_state.proofs.Together.{did_nothing, none_of_file}
 use Rattle.pt_state.proofs.Turns.{keeps_same, left_some, went}
@@ -38,7 +38,7 @@ is_next_copy s object position row to from left names at stored long most is sou
 
 -- ---- a row that is passed
 
-pub passed_row : (s : State) (w : World) (object : Object) (position : Position) (next : Part) → IsPassed s position next → Turned (phase.Carrying object (stage.Make (part.Content position))) s s w w (Ok (phase.Carrying object (stage.Make next)))
+pub passed_row : (s : State) (w : DeviceStates) (object : Object) (position : Position) (next : Part) → IsPassed s position next → Turned (phase.Carrying object (stage.Make (part.Content position))) s s w w (Ok (phase.Carrying object (stage.Make next)))
 unfolding IsPassed
 passed_row s w object position next (row, (at, other, then)) =
     rw then
@@ -54,7 +54,7 @@ pub may_folder : (s : State) (reading : Option Reading) (writing : Option Writin
 unfolding MayMakeContent IsNextFolder
 may_folder s reading writing object position path may (row, (at, stored, less, few, is)) = rw is ((may row at stored).0 less)
 
-pub made_folder : (s : State) (a b : World) (object : Object) (position : Position) (path : Path) → Did (does (Makes (MakeFolder path))) a b → IsNextFolder s position path → Turned (phase.Carrying object (stage.Make (part.Content position))) s s a b (Ok (phase.Carrying object (stage.Make (part.Content (with_folder position)))))
+pub made_folder : (s : State) (a b : DeviceStates) (object : Object) (position : Position) (path : Path) → Did (does (Makes (MakeFolder path))) a b → IsNextFolder s position path → Turned (phase.Carrying object (stage.Make (part.Content position))) s s a b (Ok (phase.Carrying object (stage.Make (part.Content (with_folder position)))))
 unfolding IsNextFolder
 made_folder s a b object position path did (row, (at, stored, less, few, is)) =
     went a b (λ fed. fed) (λ fed _. Make (MakesFolder _ object position row at stored less)) (rw is at did) refl (λ fed was. was) keeps_same
@@ -65,7 +65,7 @@ pub may_create : (s : State) (reading : Option Reading) (writing : Option Writin
 unfolding MayMakeContent IsNextCopy
 may_create s reading writing object position copied may (row, (at, stored, most, there, here, same)) = rw there ((may row at stored).1 most).0
 
-pub can_open_still : (a b : World) (to from : Path) → CanOpen a.source from → Did (does (Creates to)) a b → CanOpen b.source from
+pub can_open_still : (a b : DeviceStates) (to from : Path) → CanOpen a.source from → Did (does (Creates to)) a b → CanOpen b.source from
 unfolding Did Answers
 can_open_still a b to from can did = rw did.0.source can
 
@@ -73,7 +73,7 @@ can_open_still a b to from can did = rw did.0.source can
 abbrev opens_copy : Path → Path → Calls
 opens_copy to from = record { asked = Opens from; change = Creates to; line = None }
 
-both_did : (to from : Path) (a b c : World) → Did (does (Creates to)) a b → Did (asks (Opens from)) b c → Did (opens_copy to from) a c
+both_did : (to from : Path) (a b c : DeviceStates) → Did (does (Creates to)) a b → Did (asks (Opens from)) b c → Did (opens_copy to from) a c
 unfolding Did Answers Changes Puts
 both_did to from a b c made opened = (
   record {
@@ -84,7 +84,7 @@ both_did to from a b c made opened = (
   opened.1 ∙ made.1,
 )
 
-pub copy_opened : (s s' : State) (a b c : World) (object : Object) (position : Position) (copied : Copied) → Did (does (Creates copied.to)) a b → Did (asks (Opens copied.from)) b c → IsNextCopy s object position copied → HasBeenFed s.job.algorithm s'.hasher [] → KeepsAll s s'
+pub copy_opened : (s s' : State) (a b c : DeviceStates) (object : Object) (position : Position) (copied : Copied) → Did (does (Creates copied.to)) a b → Did (asks (Opens copied.from)) b c → IsNextCopy s object position copied → HasBeenFed s.job.algorithm s'.hasher [] → KeepsAll s s'
     → Turned (phase.Carrying object (stage.Make (part.Content position))) s s' a c (Ok (phase.Carrying object (stage.Copy position copied.length)))
 unfolding IsNextCopy
 copy_opened s s' a b c object position copied created opened (row, (at, stored, most, there, here, same)) started keeps =
@@ -93,8 +93,8 @@ copy_opened s s' a b c object position copied created opened (row, (at, stored, 
     (both_did _ _ a b c (rw there at created) (rw here at opened)) refl (λ _ _. started) keeps)
 
 -- the file was made, and the other not opened
-left_new : (to from : Path) (f : Fault) (a b c : World) → Did (does (Creates to)) a b → Stays f b c → LeavesSome (opens_copy to from) f a c
-unfolding Did Stays LeavesSome Answers Changes Puts
+left_new : (to from : Path) (f : Fault) (a b c : DeviceStates) → Did (does (Creates to)) a b → FailsUnchanged f b c → FailsPartway (opens_copy to from) f a c
+unfolding Did FailsUnchanged FailsPartway Answers Changes Puts
 left_new to from f a b c created stays = (
   record {
     read = tt;
@@ -107,14 +107,14 @@ left_new to from f a b c created stays = (
   stays.4,
 )
 
-pub copy_unopened : (s s' : State) (a b c : World) (object : Object) (position : Position) (copied : Copied) (f : Fault) (result : Answer) → IsErrAnd result (λ h. h ≡ f) → Did (does (Creates copied.to)) a b → Stays f b c → IsNextCopy s object position copied → KeepsAll s s'
+pub copy_unopened : (s s' : State) (a b c : DeviceStates) (object : Object) (position : Position) (copied : Copied) (f : Fault) (result : Answer) → IsErrAnd result (λ h. h ≡ f) → Did (does (Creates copied.to)) a b → FailsUnchanged f b c → IsNextCopy s object position copied → KeepsAll s s'
     → Turned (phase.Carrying object (stage.Make (part.Content position))) s s' a c result
 unfolding IsNextCopy
 copy_unopened s s' a b c object position copied f result is created stays (row, (at, stored, most, there, here, same)) keeps =
     left_some a c f result is (λ fed. Make (OpensCopy _ object position row at stored most))
     (left_new _ _ f a b c (rw there at created) stays) keeps
 
-pub may_open_copy : (s : State) (w : World) (object : Object) (position : Position) (copied : Copied) → MayMakeContent w.source w.dest object (held_of s []) position → IsNextCopy s object position copied → CanOpen w.source copied.from
+pub may_open_copy : (s : State) (w : DeviceStates) (object : Object) (position : Position) (copied : Copied) → MayMakeContent w.source w.dest object (held_of s []) position → IsNextCopy s object position copied → CanOpen w.source copied.from
 unfolding MayMakeContent MayOpenRow IsNextCopy
 may_open_copy s w object position copied may (row, (at, stored, most, there, here, same)) = rw here ((may row at stored).1 most).1
 

@@ -7,14 +7,14 @@ use Rattle.std.specs.Prelude.{Err, IfErr, IsErrAnd, None, Ok, Option, Result, So
 use Rattle.pt_object.proofs.Ways.{path_itself}
 use Rattle.pt_object.specs.InPieces.{InPieces, TakesPiece}
 use Rattle.pt_object.specs.Script.{done}
-use Rattle.pt_plan.specs.World.{LeavesPart, OfFile, after_make}
-use Rattle.pt_state.proofs.Words.{Adds, Answers, Bytes, Change, Changes, Creates, Did, Fault, Finishes, HasBeenFed, Hasher, Algorithm, LeavesSome, MakeFile, Makes, OfPiece, Path, Puts, Stays, Tree, Untouched, World, Writing, dest_tree, does, same_path, source_tree}
+use Rattle.pt_plan.specs.DeviceStates.{LeavesPart, OfFile, after_make}
+use Rattle.pt_state.proofs.Words.{Adds, Answers, Bytes, Change, Changes, Creates, Did, Fault, Finishes, HasBeenFed, Hasher, Algorithm, FailsPartway, MakeFile, Makes, OfPiece, Path, Puts, FailsUnchanged, Tree, Untouched, DeviceStates, Writing, dest_tree, does, same_path, source_tree}
 use Rattle.pt_state.proofs.Words.fault
 use Rattle.pt_tree.specs.Dest.{CanWrite, added_to, after_append, after_finish}
 use Rattle.pt_tree.specs.Tree.{edited_by, put}
 use Rattle.pt_make.specs.Making.{HasFedAt, IsFedMore, makes_file}
-use Rattle.pt_make.specs.declared.inventories.Folder.{Folder}
-use Rattle.pt_make.specs.declared.inventories.Folder.TheVariants as folder
+use Rattle.pt_make.specs.declared.inventories.InventoryFolder.{InventoryFolder}
+use Rattle.pt_make.specs.declared.inventories.InventoryFolder.TheVariants as folder
 
 -- ---- the open file
 
@@ -51,7 +51,7 @@ can_write_at None p given = λ s e. absurd (cc)
 can_write_at (Some w) p given = λ s e. let it : s ≡ writing_at p given w = cc in rw it refl
 
 -- a file was made at the path and holds this front of the text, behind which this is left; the hasher was fed the front
-pub record HasPut (p : Path) (text rest : List ℕ) (h h' : Option Hasher) (old new : World) : Type 0 where
+pub record HasPut (p : Path) (text rest : List ℕ) (h h' : Option Hasher) (old new : DeviceStates) : Type 0 where
   pub given : List ℕ
   pub whole : text ≡ given ++ rest
   pub source : new.source ≡ old.source
@@ -62,11 +62,11 @@ pub record HasPut (p : Path) (text rest : List ℕ) (h h' : Option Hasher) (old 
 
 -- ---- hashers
 
-pub started_at : (here : Folder) (a : Algorithm) (h : Hasher) → here ≡ folder.Version → HasBeenFed a h [] → HasFedAt here a (Some h) []
+pub started_at : (here : InventoryFolder) (a : Algorithm) (h : Hasher) → here ≡ folder.Version → HasBeenFed a h [] → HasFedAt here a (Some h) []
 unfolding HasFedAt
 started_at here a h is started = rw is started
 
-pub none_at : (here : Folder) (a : Algorithm) → here ≡ folder.Top → HasFedAt here a None []
+pub none_at : (here : InventoryFolder) (a : Algorithm) → here ≡ folder.Top → HasFedAt here a None []
 unfolding HasFedAt
 none_at here a is = rw is tt
 
@@ -83,7 +83,7 @@ pub fed_one : (h h' : Hasher) (bytes : List ℕ) → ((algorithm : Algorithm) (f
 unfolding IsFedMore HasFedAt
 fed_one h h' bytes feeds = λ here algorithm fed was. by here algorithm fed was
   where
-    by : (here : Folder) (algorithm : Algorithm) (fed : List ℕ) → HasFedAt here algorithm (Some h) fed → HasFedAt here algorithm (Some h') (fed ++ bytes)
+    by : (here : InventoryFolder) (algorithm : Algorithm) (fed : List ℕ) → HasFedAt here algorithm (Some h) fed → HasFedAt here algorithm (Some h') (fed ++ bytes)
     by folder.Version algorithm fed was = feeds algorithm fed was
     by folder.Top algorithm fed was = was
 
@@ -91,13 +91,13 @@ pub fed_none : (bytes : List ℕ) → IsFedMore None None bytes
 unfolding IsFedMore HasFedAt
 fed_none bytes = λ here algorithm fed was. by here algorithm fed was
   where
-    by : (here : Folder) (algorithm : Algorithm) (fed : List ℕ) → HasFedAt here algorithm None fed → HasFedAt here algorithm None (fed ++ bytes)
+    by : (here : InventoryFolder) (algorithm : Algorithm) (fed : List ℕ) → HasFedAt here algorithm None fed → HasFedAt here algorithm None (fed ++ bytes)
     by folder.Version algorithm fed was = was
     by folder.Top algorithm fed was = tt
 
 -- ---- the pieces
 
-pub begun : (p : Path) (text : List ℕ) (h : Option Hasher) (a b : World) → Did (does (Creates p)) a b → HasPut p text text h h a b
+pub begun : (p : Path) (text : List ℕ) (h : Option Hasher) (a b : DeviceStates) → Did (does (Creates p)) a b → HasPut p text text h h a b
 unfolding Did Answers Changes Puts
 begun p text h a b did = record {
   given = [];
@@ -109,7 +109,7 @@ begun p text h a b did = record {
   fed = fed_nothing h;
 }
 
-pub one_more_piece : (p : Path) (text rest piece rest' : List ℕ) (h h' h'' : Option Hasher) (a b c : World) → HasPut p text rest h h' a b → rest ≡ piece ++ rest' → Did (does (Adds piece)) b c → IsFedMore h' h'' piece → HasPut p text rest' h h'' a c
+pub one_more_piece : (p : Path) (text rest piece rest' : List ℕ) (h h' h'' : Option Hasher) (a b c : DeviceStates) → HasPut p text rest h h' a b → rest ≡ piece ++ rest' → Did (does (Adds piece)) b c → IsFedMore h' h'' piece → HasPut p text rest' h h'' a c
 unfolding Did Answers Changes Puts
 one_more_piece p text rest piece rest' h h' h'' a b c put is did fed = record {
   given = put.given ++ piece;
@@ -130,7 +130,7 @@ pub none_taken : (is_made : Bool) (t t' : InPieces) → is_made ≡ false → Ta
 none_taken true t t' is takes = absurd (cc)
 none_taken false t t' is takes = takes.0
 
-pub can_write_on : (p : Path) (text rest : List ℕ) (h h' : Option Hasher) (a b : World) → HasPut p text rest h h' a b → CanWrite b.dest
+pub can_write_on : (p : Path) (text rest : List ℕ) (h h' : Option Hasher) (a b : DeviceStates) → HasPut p text rest h h' a b → CanWrite b.dest
 can_write_on p text rest h h' a b put = rw put.dest (can_write_at a.dest p put.given)
 
 -- ---- how it ends
@@ -144,7 +144,7 @@ answers_with (Err h) f P is here = rw is here
 all_given : (text given rest : List ℕ) → text ≡ given ++ rest → rest ≡ [] → given ≡ text
 all_given text given rest whole none = sym (whole ∙ ap (λ (l : List ℕ). given ++ l) none ∙ append-nil given)
 
-pub all_put : (p : Path) (text rest : List ℕ) (h h' : Option Hasher) (a b c : World) → HasPut p text rest h h' a b → rest ≡ [] → Did (does Finishes) b c → Did (makes_file p text) a c
+pub all_put : (p : Path) (text rest : List ℕ) (h h' : Option Hasher) (a b c : DeviceStates) → HasPut p text rest h h' a b → rest ≡ [] → Did (does Finishes) b c → Did (makes_file p text) a c
 unfolding Did Answers Changes Puts
 all_put p text rest h h' a b c put none did = (
   record {
@@ -155,7 +155,7 @@ all_put p text rest h h' a b c put none did = (
   did.1 ∙ put.failures,
 )
 
-pub all_fed : (p : Path) (text rest : List ℕ) (h h' : Option Hasher) (a b : World) → HasPut p text rest h h' a b → rest ≡ [] → IsFedMore h h' text
+pub all_fed : (p : Path) (text rest : List ℕ) (h h' : Option Hasher) (a b : DeviceStates) → HasPut p text rest h h' a b → rest ≡ [] → IsFedMore h h' text
 all_fed p text rest h h' a b put none = rw (← all_given text put.given rest put.whole none) put.fed
 
 -- a front of the text is there
@@ -164,8 +164,8 @@ front_left o o' p text front more whole is =
     OfFile p text (length front) (is ∙ ap (λ (l : List ℕ). option_map (done (MakeFile p l)) (dest_tree o)) (sym (ap (take (length front)) whole ∙ take-append_seam front more)))
 
 -- a call that changes nothing failed
-pub stopped : (p : Path) (text rest : List ℕ) (h h' : Option Hasher) (a b c : World) (f : Fault) → HasPut p text rest h h' a b → Stays f b c → LeavesSome (makes_file p text) f a c
-unfolding Stays LeavesSome
+pub stopped : (p : Path) (text rest : List ℕ) (h h' : Option Hasher) (a b c : DeviceStates) (f : Fault) → HasPut p text rest h h' a b → FailsUnchanged f b c → FailsPartway (makes_file p text) f a c
+unfolding FailsUnchanged FailsPartway
 stopped p text rest h h' a b c f put stays = (
   record {
     read = tt;
@@ -179,8 +179,8 @@ stopped p text rest h h' a b c f put stays = (
 )
 
 -- memory was short before a further piece
-pub stopped_short : (p : Path) (text rest : List ℕ) (h h' : Option Hasher) (a b : World) → HasPut p text rest h h' a b → LeavesSome (makes_file p text) fault.Memory a b
-unfolding Stays
+pub stopped_short : (p : Path) (text rest : List ℕ) (h h' : Option Hasher) (a b : DeviceStates) → HasPut p text rest h h' a b → FailsPartway (makes_file p text) fault.Memory a b
+unfolding FailsUnchanged
 stopped_short p text rest h h' a b put = stopped p text rest h h' a b b fault.Memory put (refl, refl, refl, refl, tt)
 
 -- a part of a piece was added
@@ -193,8 +193,8 @@ part_left o b c p text given rest piece rest' part is whole next at (OfPiece byt
     front_left o c p text front (drop count bytes ++ rest') all (ap dest_tree (same ∙ ap (option_map (after_append (take count bytes))) at ∙ added_at o p given (take count bytes)) ∙ tree_at o p front)
 part_left _ _ _ _ _ _ _ _ _ _ is _ _ _ _ = absurd (cc)
 
-pub stopped_within : (p : Path) (text rest piece rest' : List ℕ) (h h' : Option Hasher) (a b c : World) (f : Fault) → HasPut p text rest h h' a b → rest ≡ piece ++ rest' → LeavesSome (does (Adds piece)) f b c → LeavesSome (makes_file p text) f a c
-unfolding LeavesSome
+pub stopped_within : (p : Path) (text rest piece rest' : List ℕ) (h h' : Option Hasher) (a b c : DeviceStates) (f : Fault) → HasPut p text rest h h' a b → rest ≡ piece ++ rest' → FailsPartway (does (Adds piece)) f b c → FailsPartway (makes_file p text) f a c
+unfolding FailsPartway
 stopped_within p text rest piece rest' h h' a b c f put next left = (
   record {
     read = tt;

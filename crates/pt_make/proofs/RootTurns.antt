@@ -5,7 +5,7 @@ use Rattle.std.specs.Option.{option_map}
 use Rattle.std.specs.Str.{bytes_eq}
 use Rattle.pt_name.specs.Tuples.{Tuples}
 use Rattle.pt_object.proofs.Ways.{same_name}
-use Rattle.pt_state.proofs.Words.{MakeFile, MakeFolder, staging, Answer, Did, LeavesSome, Start, Changes, Finds, Makes, Renames, World, does, Fault, Phase, Turned, KeepsAll, Writing, IsKindAt, MayMake, Path, Bytes, kind_of_entry, Kind}
+use Rattle.pt_state.proofs.Words.{MakeFile, MakeFolder, staging, Answer, Did, FailsPartway, Start, Changes, Finds, Makes, Renames, DeviceStates, does, Fault, Phase, Turned, KeepsAll, Writing, IsKindAt, MayMake, Path, Bytes, kind_of_entry, Kind}
 use Rattle.pt_state.specs.declared.state.State.{State}
 use Rattle.pt_state.proofs.Words.fault
 use Rattle.pt_state.proofs.Words.kind
@@ -14,10 +14,10 @@ use Rattle.pt_state.proofs.Words.phase
 use Rattle.pt_object.specs.RootFiles.{root_files_of}
 use Rattle.pt_object.specs.Script.{Item}
 use Rattle.pt_object.specs.Scripts.{root_script}
-use Rattle.pt_plan.specs.Permits.{MayMakeRootItem}
+use Rattle.pt_plan.specs.Enabled.{MayMakeRootItem}
 use Rattle.pt_plan.specs.Roots.{storage_root}
 use Rattle.pt_plan.specs.TurnStart.{HasNoStaging, HasStaging, HasNoRoot, HasRoot, IsNoRoot, MakesRoot, RenamesRoot, IsSame, IsNoFile, Differs, after_file, after_item, is_dir_kind, is_file_kind}
-use Rattle.pt_plan.specs.World.{Peeks}
+use Rattle.pt_plan.specs.DeviceStates.{Peeks}
 use Rattle.pt_make.specs.Root.{IsRootFile, IsRootItem}
 use Rattle.pt_state.proofs.Together.{looked_same, looked_then}
 use Rattle.pt_state.proofs.Turns.{keeps_same, left_some, turns}
@@ -27,7 +27,7 @@ use Rattle.pt_state.proofs.Starts.{StartsAt, goes, halts}
 
 -- ---- staging and the root
 
-module _ (s : State) (w w' : World) (path : Path) where
+module _ (s : State) (w w' : DeviceStates) (path : Path) where
   pub no_staging : path ≡ staging → Did (does (Finds path None)) w w' → Turned (phase.Opening opening.Staging) s s w w' (Ok (phase.Opening opening.Root))
   no_staging is did = goes w w' (HasNoStaging _) (rw is at did) refl keeps_same refl
 
@@ -100,14 +100,14 @@ makes_item : (s : State) (item : ℕ) (it : Item) → IsRootItem s.job.layout it
 unfolding IsRootItem
 makes_item s item it is = MakesRoot _ item it is
 
-pub made_item : (s : State) (w w' : World) (number : ℕ) (item : Item) (next : Phase) → Did (does (Makes item)) w w' → IsRootItem s.job.layout number item → next ≡ after_item number → Turned (phase.Opening (opening.RootMake number)) s s w w' (Ok next)
+pub made_item : (s : State) (w w' : DeviceStates) (number : ℕ) (item : Item) (next : Phase) → Did (does (Makes item)) w w' → IsRootItem s.job.layout number item → next ≡ after_item number → Turned (phase.Opening (opening.RootMake number)) s s w w' (Ok next)
 made_item s w w' number item next did is then =
     rw then (goes w w' (makes_item s number item is) did refl keeps_same refl)
 
-pub left_item : (s : State) (w w' : World) (number : ℕ) (item : Item) (f : Fault) (result : Answer) → IsErrAnd result (λ g. g ≡ f) → LeavesSome (does (Makes item)) f w w' → IsRootItem s.job.layout number item → Turned (phase.Opening (opening.RootMake number)) s s w w' result
+pub left_item : (s : State) (w w' : DeviceStates) (number : ℕ) (item : Item) (f : Fault) (result : Answer) → IsErrAnd result (λ g. g ≡ f) → FailsPartway (does (Makes item)) f w w' → IsRootItem s.job.layout number item → Turned (phase.Opening (opening.RootMake number)) s s w w' result
 left_item s w w' number item f result is part it = left_some w w' f result is (λ fed. Start (makes_item s number item it)) part keeps_same
 
-pub renamed_root : (s : State) (w w' : World) (from to : Path) → Did (does (Renames from to)) w w' → from ≡ staging → to ≡ storage_root → Turned (phase.Opening opening.RootRename) s s w w' (Ok (phase.Opening opening.OpenRoot))
+pub renamed_root : (s : State) (w w' : DeviceStates) (from to : Path) → Did (does (Renames from to)) w w' → from ≡ staging → to ≡ storage_root → Turned (phase.Opening opening.RootRename) s s w w' (Ok (phase.Opening opening.OpenRoot))
 renamed_root s w w' from to did is at =
     goes w w' (RenamesRoot _) (rw (is, (at)) at did) refl keeps_same refl
 
@@ -125,7 +125,7 @@ is_file (Some kind.File) is = refl
 is_file _ is = absurd (cc)
 
 -- a file is there
-pub can_peek_file : (w w' : World) (path : Path) (here : Option Kind) → Did (does (Finds path here)) w w' → true ≡ is_file_kind here → CanPeek w'.dest path
+pub can_peek_file : (w w' : DeviceStates) (path : Path) (here : Option Kind) → Did (does (Finds path here)) w w' → true ≡ is_file_kind here → CanPeek w'.dest path
 unfolding Did Changes IsKindAt CanPeek
 can_peek_file w w' path here did is = λ s e. by (s.tree path) (did.0.dest.0 s (sym did.0.dest.1 ∙ e) ∙ is_file here is)
   where
@@ -133,16 +133,16 @@ can_peek_file w w' path here did is = λ s e. by (s.tree path) (did.0.dest.0 s (
     by (Some (Bytes bytes)) at = refl
     by _ at = absurd (cc)
 
-pub no_file : (s : State) (w w' : World) (number : ℕ) (whole : Path) (bytes : List ℕ) (here : Option Kind) → Did (does (Finds whole here)) w w' → IsRootFile s.job.layout number whole bytes → false ≡ is_file_kind here → Turned (phase.Opening (opening.RootCheck number)) s s w w' (Err fault.Target)
+pub no_file : (s : State) (w w' : DeviceStates) (number : ℕ) (whole : Path) (bytes : List ℕ) (here : Option Kind) → Did (does (Finds whole here)) w w' → IsRootFile s.job.layout number whole bytes → false ≡ is_file_kind here → Turned (phase.Opening (opening.RootCheck number)) s s w w' (Err fault.Target)
 unfolding IsRootFile
 no_file s w w' number whole bytes here did file is =
     halts w w' (IsNoFile _ number file.0 bytes here file.1.1 (sym is)) (rw file.1.0 at did) keeps_same
 
 -- it was found, and then peeked into
-peeked : (a b c : World) (whole : Path) (at : Path) (here : Option Kind) (block : List ℕ) → whole ≡ at → Did (does (Finds whole here)) a b → Did (does (Peeks whole block)) b c → Did (does (Peeks at block)) a c
+peeked : (a b c : DeviceStates) (whole : Path) (at : Path) (here : Option Kind) (block : List ℕ) → whole ≡ at → Did (does (Finds whole here)) a b → Did (does (Peeks whole block)) b c → Did (does (Peeks at block)) a c
 peeked a b c whole at here block is found read = rw is at (rw (looked_same whole here a b found) at read)
 
-pub same_file : (s s' : State) (a b c : World) (number : ℕ) (whole : Path) (bytes block : List ℕ) (here : Option Kind) (next : Phase) → Did (does (Finds whole here)) a b → Did (does (Peeks whole block)) b c → IsRootFile s.job.layout number whole bytes → bytes_eq block bytes ≡ true → next ≡ after_file number → KeepsAll s s' → s'.hasher ≡ s.hasher
+pub same_file : (s s' : State) (a b c : DeviceStates) (number : ℕ) (whole : Path) (bytes block : List ℕ) (here : Option Kind) (next : Phase) → Did (does (Finds whole here)) a b → Did (does (Peeks whole block)) b c → IsRootFile s.job.layout number whole bytes → bytes_eq block bytes ≡ true → next ≡ after_file number → KeepsAll s s' → s'.hasher ≡ s.hasher
     → Turned (phase.Opening (opening.RootCheck number)) s s' a c (Ok next)
 unfolding IsRootFile
 same_file s s' a b c number whole bytes block here next found read file eq then keeps same =
@@ -150,7 +150,7 @@ same_file s s' a b c number whole bytes block here next found read file eq then 
     (goes a c (IsSame _ number file.0 bytes file.1.1)
     (rw (same_name block bytes eq) at (peeked a b c whole (storage_root ++ file.0) here block file.1.0 found read)) refl keeps same)
 
-pub other_file : (s s' : State) (a b c : World) (number : ℕ) (whole : Path) (bytes block : List ℕ) (here : Option Kind) → Did (does (Finds whole here)) a b → Did (does (Peeks whole block)) b c → IsRootFile s.job.layout number whole bytes → bytes_eq block bytes ≡ false → KeepsAll s s' → Turned (phase.Opening (opening.RootCheck number)) s s' a c (Err fault.Target)
+pub other_file : (s s' : State) (a b c : DeviceStates) (number : ℕ) (whole : Path) (bytes block : List ℕ) (here : Option Kind) → Did (does (Finds whole here)) a b → Did (does (Peeks whole block)) b c → IsRootFile s.job.layout number whole bytes → bytes_eq block bytes ≡ false → KeepsAll s s' → Turned (phase.Opening (opening.RootCheck number)) s s' a c (Err fault.Target)
 unfolding IsRootFile
 other_file s s' a b c number whole bytes block here found read file ne keeps =
     halts a c (Differs _ number file.0 bytes block file.1.1 ne) (peeked a b c whole (storage_root ++ file.0) here block file.1.0 found read) keeps

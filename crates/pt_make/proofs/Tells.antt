@@ -4,7 +4,7 @@ use Rattle.std.specs.Prelude.{Some, Ok, IsErrAnd, slice_get}
 use Rattle.std.specs.String.{string_bytes}
 use Rattle.std.proofs.lemmas.List.{take_all}
 use Rattle.std.proofs.lemmas.List.Sums.{sum_by-cons, sum_by-take-le}
-use Rattle.pt_state.proofs.Words.{Row, Path, sought, Answer, Done, End, Did, LeavesSome, Place, bytes_in_rows, World, tells, Fault, Object, KeepsAll, counts_of, Turned}
+use Rattle.pt_state.proofs.Words.{Row, Path, sought, Answer, Done, End, Did, FailsPartway, Place, bytes_in_rows, DeviceStates, tells, Fault, Object, KeepsAll, counts_of, Turned}
 use Rattle.pt_state.proofs.Words.phase
 use Rattle.pt_state.proofs.Words.stage
 use Rattle.pt_state.specs.declared.state.State.{State}
@@ -43,21 +43,21 @@ all_rows rows i bytes most so_far = so_far ∙ ap bytes_in_rows (take_all i rows
 
 -- ---- lines
 
-pub told_done : (s s' : State) (object : Object) (at : Path) (bytes : ℕ) (a b : World) → Did (tells (Done at bytes object.empty (length s.rows) object.id object.place)) a b → at ≡ path_of_source object s.trail → bytes ≡ bytes_in_rows s.rows
+pub told_done : (s s' : State) (object : Object) (at : Path) (bytes : ℕ) (a b : DeviceStates) → Did (tells (Done at bytes object.empty (length s.rows) object.id object.place)) a b → at ≡ path_of_source object s.trail → bytes ≡ bytes_in_rows s.rows
     → s'.trail ≡ sought 0 s.trail → s'.rows ≡ [] → s'.contents ≡ [] → s'.counts ≡ with_done s.counts → string_bytes s'.prefix ≡ string_bytes s.prefix → s'.hasher ≡ s.hasher → s'.job ≡ s.job → Turned (phase.Carrying object stage.Line) s s' a b (Ok phase.Walk)
 told_done s s' object at bytes a b did is sum trail rows contents counts prefix hasher job =
     turned_on s s' a b (λ fed. Place (TellsDone _ object)) (rw (is, sum) at did) trail rows contents (ap counts_of counts) prefix hasher job
 
-pub told_front : (s s' : State) (object : Object) (at : Path) (bytes : ℕ) (a b : World) (f : Fault) (result : Answer) → IsErrAnd result (λ h. h ≡ f) → LeavesSome (tells (Done at bytes object.empty (length s.rows) object.id object.place)) f a b → at ≡ path_of_source object s.trail → bytes ≡ bytes_in_rows s.rows → KeepsAll s s'
+pub told_front : (s s' : State) (object : Object) (at : Path) (bytes : ℕ) (a b : DeviceStates) (f : Fault) (result : Answer) → IsErrAnd result (λ h. h ≡ f) → FailsPartway (tells (Done at bytes object.empty (length s.rows) object.id object.place)) f a b → at ≡ path_of_source object s.trail → bytes ≡ bytes_in_rows s.rows → KeepsAll s s'
     → Turned (phase.Carrying object stage.Line) s s' a b result
 told_front s s' object at bytes a b f result is front there sum keeps =
     left_some a b f result is (λ fed. Place (TellsDone _ object)) (rw (there, sum) at front) keeps
 
-pub told_end : (s : State) (a b : World) → Did (tells (End s.counts.done s.counts.present s.counts.skipped)) a b → Turned phase.End s s a b (Ok phase.Ended)
+pub told_end : (s : State) (a b : DeviceStates) → Did (tells (End s.counts.done s.counts.present s.counts.skipped)) a b → Turned phase.End s s a b (Ok phase.Ended)
 told_end s a b did =
     turned_on s s a b (λ fed. Place (TellsEnd _)) did refl refl refl refl refl refl refl
 
-pub end_front : (s : State) (a b : World) (f : Fault) (result : Answer) → IsErrAnd result (λ h. h ≡ f) → LeavesSome (tells (End s.counts.done s.counts.present s.counts.skipped)) f a b → Turned phase.End s s a b result
+pub end_front : (s : State) (a b : DeviceStates) (f : Fault) (result : Answer) → IsErrAnd result (λ h. h ≡ f) → FailsPartway (tells (End s.counts.done s.counts.present s.counts.skipped)) f a b → Turned phase.End s s a b result
 end_front s a b f result is front =
     left_some a b f result is (λ fed. Place (TellsEnd _)) front keeps_same
 

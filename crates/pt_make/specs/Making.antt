@@ -17,12 +17,12 @@ use Rattle.pt_plan.specs.declared.object.Object.{Object}
 use Rattle.pt_plan.specs.declared.phase.Part.{Part}
 use Rattle.pt_plan.specs.declared.phase.Part.TheVariants as part
 use Rattle.pt_plan.specs.declared.phase.Position.{Position}
-use Rattle.pt_plan.specs.World.{Calls, Makes, does}
+use Rattle.pt_plan.specs.DeviceStates.{Calls, Makes, does}
 use Rattle.pt_make.specs.declared.contents.Copied.{Copied}
 use Rattle.pt_make.specs.declared.contents.Step.{Step}
 use Rattle.pt_make.specs.declared.contents.Step.TheVariants as step
-use Rattle.pt_make.specs.declared.inventories.Folder.{Folder}
-use Rattle.pt_make.specs.declared.inventories.Folder.TheVariants as folder
+use Rattle.pt_make.specs.declared.inventories.InventoryFolder.{InventoryFolder}
+use Rattle.pt_make.specs.declared.inventories.InventoryFolder.TheVariants as folder
 use Rattle.pt_state.specs.States.{job_of}
 use Rattle.pt_state.specs.declared.state.State.{State}
 
@@ -101,17 +101,17 @@ abbrev pub makes_file : Path → List ℕ → Calls
 makes_file path bytes = does (Makes (MakeFile path bytes))
 
 -- below a folder, in `staging`
-abbrev pub in_folder : Folder → Path → Path
+abbrev pub in_folder : InventoryFolder → Path → Path
 in_folder folder.Version names = in_version names
 in_folder folder.Top names = staging ++ names
 
 -- the part that makes its inventory
-abbrev pub inventory_part : Folder → Part
+abbrev pub inventory_part : InventoryFolder → Part
 inventory_part folder.Version = part.VersionInventory
 inventory_part folder.Top = part.Inventory
 
 -- the part that makes its sidecar
-abbrev pub sidecar_part : Folder → Part
+abbrev pub sidecar_part : InventoryFolder → Part
 sidecar_part folder.Version = part.VersionSidecar
 sidecar_part folder.Top = part.Sidecar
 
@@ -120,12 +120,12 @@ unfoldable pub HasFedInventory : State → Object → Type 0
 HasFedInventory s object = HasBeenFed s.job.algorithm s.hasher (inventory_held s object)
 
 -- so it has where the one at the top is to be made
-abbrev pub IsFedFor : Folder → State → Object → Type 0
+abbrev pub IsFedFor : InventoryFolder → State → Object → Type 0
 IsFedFor folder.Version s object = ⊤
 IsFedFor folder.Top s object = HasFedInventory s object
 
 -- in the version's folder there is a hasher, which has been fed these bytes; at the top there is none
-unfoldable pub HasFedAt : Folder → Algorithm → Option Hasher → List ℕ → Type 0
+unfoldable pub HasFedAt : InventoryFolder → Algorithm → Option Hasher → List ℕ → Type 0
 HasFedAt folder.Version algorithm (Some hasher) fed = HasBeenFed algorithm hasher fed
 HasFedAt folder.Version algorithm None fed = ⊥
 HasFedAt folder.Top algorithm (Some hasher) fed = ⊥
@@ -134,7 +134,7 @@ HasFedAt folder.Top algorithm None fed = ⊤
 -- what has been fed is these bytes more
 unfoldable pub IsFedMore : Option Hasher → Option Hasher → List ℕ → Type 0
 IsFedMore old new bytes =
-    (folder : Folder) (algorithm : Algorithm) (fed : List ℕ) → HasFedAt folder algorithm old fed
+    (folder : InventoryFolder) (algorithm : Algorithm) (fed : List ℕ) → HasFedAt folder algorithm old fed
     → HasFedAt folder algorithm new (fed ++ bytes)
 
 -- what the turn of a part needs of what is held

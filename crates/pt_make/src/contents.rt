@@ -1,7 +1,7 @@
 //! The turns that make an object's contents: a row whose content is stored is passed; of any other the folders on the
 //! way are made, one a turn, and then its file, for which the source's is opened.
 ghost use Rattle.std.specs.Prelude.{◌≡◌, ◌<◌, [], IfOk, length};
-ghost use Rattle.pt_plan.specs.Permits.{MayMakeContent};
+ghost use Rattle.pt_plan.specs.Enabled.{MayMakeContent};
 ghost use Rattle.pt_plan.specs.TurnMake.{content_at, is_stored as is_stored_of};
 ghost use Rattle.pt_plan.specs.declared.phase.Part.TheVariants as part;
 ghost use Rattle.pt_plan.specs.declared.phase.Phase.TheVariants as phase;
@@ -15,7 +15,7 @@ ghost use Rattle.pt_make.specs.Making.{IsNextCopy, IsNextFolder, IsStep};
 use pt_object::{Contents, Hasher, Rows};
 use pt_plan::{Fault, Object, Part, Phase, Position, Stage};
 use pt_state::paths::{content_path, source_path};
-use pt_state::{Outside, State};
+use pt_state::{Io, State};
 use pt_tree::{MemoryFault, NamePath};
 
 // The file of a content that is next to be made, with the one that it is copied from.
@@ -38,7 +38,7 @@ enum Step {
 }
 
 /// Passes a row whose content is stored already; else makes the next folder of its content path, or its file.
-pub(crate) fn make_content<O: Outside>(
+pub(crate) fn make_content<O: Io>(
     state: &mut State,
     object: Object,
     position: Position,
@@ -47,7 +47,7 @@ pub(crate) fn make_content<O: Outside>(
     requires row { position.row < length state.old.rows }
     requires may { MayMakeContent (O.world out.old).source (O.world out.old).dest object
         (held_of state.old []) position }
-    ensures turn { TakesTurn O.Outside (1, 0)
+    ensures turn { TakesTurn O.Io (1, 0)
         (phase.Carrying object (stage.Make (part.Content position)))
         (state.old, out.old) (state.new, out.new) result }
 {
@@ -105,7 +105,7 @@ fn is_stored(contents: &Contents, stored: usize, path: &NamePath) -> bool
 }
 
 // Makes the folder of this path, which is next on the way to a content.
-fn make_folder<O: Outside>(
+fn make_folder<O: Io>(
     state: &State,
     object: Object,
     position: Position,
@@ -114,7 +114,7 @@ fn make_folder<O: Outside>(
 ) -> Result<Phase, Fault>
     requires next { IsNextFolder state.now position path.now }
     requires may { MayMake (O.world out.old).dest path.now }
-    ensures turn { TakesTurn O.Outside (0, 0)
+    ensures turn { TakesTurn O.Io (0, 0)
         (phase.Carrying object (stage.Make (part.Content position)))
         (state.now, out.old) (state.now, out.new) result }
 {
@@ -128,7 +128,7 @@ fn make_folder<O: Outside>(
 }
 
 // Makes the file of a content, and opens the one that it is copied from.
-fn open_copy<O: Outside>(
+fn open_copy<O: Io>(
     state: &mut State,
     object: Object,
     position: Position,
@@ -138,7 +138,7 @@ fn open_copy<O: Outside>(
     requires next { IsNextCopy state.old object position copied.now }
     requires may { MayMake (O.world out.old).dest copied.now.to
         × CanOpen (O.world out.old).source copied.now.from }
-    ensures turn { TakesTurn O.Outside (1, 0)
+    ensures turn { TakesTurn O.Io (1, 0)
         (phase.Carrying object (stage.Make (part.Content position)))
         (state.old, out.old) (state.new, out.new) result }
 {

@@ -16,13 +16,13 @@ ghost use Rattle.pt_make.specs.Making.{HasContentsOfRows, HasFedAt, HasFedInvent
 use pt_object::{Algorithm, Digest, Hasher, InventoryPieces, WellKnownName, sidecar_of};
 use pt_plan::{Fault, Object, Part, Phase, Stage};
 use pt_state::files::put_file;
-use pt_state::{Outside, State};
+use pt_state::{Io, State};
 use pt_tree::{MemoryFault, NamePath};
 use std::alloc::Global;
 
 // A folder of an object that holds an inventory.
 #[derive(Clone, Copy)]
-pub(crate) enum Folder {
+pub(crate) enum InventoryFolder {
     // The version's.
     Version,
     // The object's own.
@@ -31,16 +31,16 @@ pub(crate) enum Folder {
 
 /// Makes the inventory in a folder (OCFL 1.1, "Inventory"), piece by piece. The hasher is fed the text of the version's,
 /// which is that of the one at the top too.
-pub(crate) fn make_inventory<O: Outside>(
+pub(crate) fn make_inventory<O: Io>(
     state: &mut State,
     object: Object,
-    folder: Folder,
+    folder: InventoryFolder,
     out: &mut O,
 ) -> Result<Phase, Fault>
     requires contents { HasContentsOfRows state.old }
     requires fed { IsFedFor folder state.old object }
     requires may { MayMake (O.world out.old).dest (in_folder folder (inventory_name ∷ [])) }
-    ensures turn { TakesTurn O.Outside (0, 0)
+    ensures turn { TakesTurn O.Io (0, 0)
         (phase.Carrying object (stage.Make (inventory_part folder)))
         (state.old, out.old) (state.new, out.new) result }
 {
@@ -57,12 +57,12 @@ pub(crate) fn make_inventory<O: Outside>(
 }
 
 // The hasher that the text of the inventory in the version's folder is fed to.
-fn hasher_for(folder: Folder, algorithm: Algorithm) -> Option<Hasher>
+fn hasher_for(folder: InventoryFolder, algorithm: Algorithm) -> Option<Hasher>
     ensures { HasFedAt folder algorithm result [] }
 {
     match folder {
-        Folder::Version => Some(Hasher::start(algorithm)),
-        Folder::Top => None,
+        InventoryFolder::Version => Some(Hasher::start(algorithm)),
+        InventoryFolder::Top => None,
     }
 }
 
@@ -83,14 +83,14 @@ fn text_of<'a>(state: &'a State, object: &'a Object) -> Result<InventoryPieces<'
 
 // Makes a file of the destination with a text, and feeds it to the hasher, if there is one. Each piece is written and fed
 // before the next is made, so that a text of many pieces is nowhere as a whole.
-fn put_text<O: Outside>(
+fn put_text<O: Io>(
     path: &NamePath,
     mut text: InventoryPieces<'_>,
     hasher: &mut Option<Hasher>,
     out: &mut O,
 ) -> Result<(), Fault>
     requires { MayMake (O.world out.old).dest path.now }
-    ensures wrote { WroteBy O.Outside (makes_file path.now text.entry.rest)
+    ensures wrote { WroteBy O.Io (makes_file path.now text.entry.rest)
         out.old out.new result }
     ensures fed { OnOk result (IsFedMore hasher.old hasher.new text.entry.rest) }
 {
@@ -113,24 +113,24 @@ fn feed(hasher: &mut Option<Hasher>, bytes: &[u8])
 }
 
 /// Makes the sidecar of the inventory in a folder. After the one at the top the object is whole.
-pub(crate) fn make_sidecar<O: Outside>(
+pub(crate) fn make_sidecar<O: Io>(
     state: &mut State,
     object: Object,
-    folder: Folder,
+    folder: InventoryFolder,
     out: &mut O,
 ) -> Result<Phase, Fault>
     requires fed { HasFedInventory state.old object }
     requires may { MayMake (O.world out.old).dest
         (in_folder folder (sidecar_name_of state.old.job.algorithm ∷ [])) }
-    ensures turn { TakesTurn O.Outside (0, 0)
+    ensures turn { TakesTurn O.Io (0, 0)
         (phase.Carrying object (stage.Make (sidecar_part folder)))
         (state.old, out.old) (state.new, out.new) result }
 {
     let path = sidecar_path(state.alloc, folder, state.job.algorithm)?;
     put_sidecar(state, &object, &path, out)?;
     match folder {
-        Folder::Version => Ok(Phase::Carrying(object, Stage::Make(Part::Inventory))),
-        Folder::Top => {
+        InventoryFolder::Version => Ok(Phase::Carrying(object, Stage::Make(Part::Inventory))),
+        InventoryFolder::Top => {
             state.hasher = Hasher::start(state.job.algorithm);
             Ok(after_object(state, object))
         }
@@ -149,7 +149,7 @@ fn after_object(state: &State, object: Object) -> Phase
 }
 
 // Makes the sidecar of the inventory whose text the hasher has been fed.
-fn put_sidecar<O: Outside>(
+fn put_sidecar<O: Io>(
     state: &State,
     object: &Object,
     path: &NamePath,
@@ -157,7 +157,7 @@ fn put_sidecar<O: Outside>(
 ) -> Result<(), Fault>
     requires fed { HasFedInventory state.now object.now }
     requires may { MayMake (O.world out.old).dest path.now }
-    ensures { WroteBy O.Outside (makes_file path.now
+    ensures { WroteBy O.Io (makes_file path.now
         (sidecar_text state.now.job.algorithm (inventory_held state.now object.now)))
         out.old out.new result }
 {
@@ -178,7 +178,7 @@ fn inventory_digest(state: &State, object: &Object) -> Result<Digest, MemoryFaul
 // The path of the sidecar in a folder (OCFL 1.1, "Inventory Digest").
 fn sidecar_path(
     alloc: Global,
-    folder: Folder,
+    folder: InventoryFolder,
     algorithm: Algorithm,
 ) -> Result<NamePath, MemoryFault>
     ensures { IfOk result (λ path. path ≡ in_folder folder (sidecar_name_of algorithm ∷ [])) }
@@ -187,14 +187,18 @@ fn sidecar_path(
 }
 
 // The path of what has this name in a folder.
-fn path_in(alloc: Global, folder: Folder, name: WellKnownName) -> Result<NamePath, MemoryFault>
+fn path_in(
+    alloc: Global,
+    folder: InventoryFolder,
+    name: WellKnownName,
+) -> Result<NamePath, MemoryFault>
     ensures { IfOk result (λ path. path ≡ in_folder folder (known_text name ∷ [])) }
 {
     match folder {
-        Folder::Version => NamePath::of_known(
+        InventoryFolder::Version => NamePath::of_known(
             alloc,
             &[WellKnownName::Staging, WellKnownName::Version, name],
         ),
-        Folder::Top => NamePath::of_known(alloc, &[WellKnownName::Staging, name]),
+        InventoryFolder::Top => NamePath::of_known(alloc, &[WellKnownName::Staging, name]),
     }
 }

@@ -2,7 +2,7 @@
 ghost use Rattle.std.specs.Prelude.{◌++◌, ◌∷◌, []};
 ghost use Rattle.pt_object.specs.Object.{object_declaration_name};
 ghost use Rattle.pt_object.specs.Scripts.{staging};
-ghost use Rattle.pt_plan.specs.Permits.{MayMakePart};
+ghost use Rattle.pt_plan.specs.Enabled.{MayMakePart};
 ghost use Rattle.pt_plan.specs.TurnMake.{in_version};
 ghost use Rattle.pt_plan.specs.declared.phase.Part.TheVariants as part;
 ghost use Rattle.pt_plan.specs.declared.phase.Phase.TheVariants as phase;
@@ -13,17 +13,17 @@ ghost use Rattle.pt_tree.specs.Dest.{MayMake};
 ghost use Rattle.pt_make.specs.Making.{IsReadyFor};
 
 use crate::contents::{make_content, next_content};
-use crate::inventories::{Folder, make_inventory, make_sidecar};
+use crate::inventories::{InventoryFolder, make_inventory, make_sidecar};
 use pt_object::{WellKnownName, object_declaration};
 use pt_plan::{Fault, Object, Part, Phase, Position, Stage};
 use pt_state::files::put_file;
-use pt_state::{Outside, State};
+use pt_state::{Io, State};
 use pt_tree::NamePath;
 
 /// Makes a part of an object: its folder in `staging`, the declaration, the version's folder, the contents one after
 /// another, and the inventory with its sidecar, first in the version's folder and then at the top (OCFL 1.1, "Object
 /// Structure").
-pub fn make<O: Outside>(
+pub fn make<O: Io>(
     state: &mut State,
     object: Object,
     part: Part,
@@ -32,7 +32,7 @@ pub fn make<O: Outside>(
     requires may { MayMakePart (job_of state.old.job) object part (held_of state.old [])
         (O.world out.old).source (O.world out.old).dest }
     requires ready { IsReadyFor part object state.old }
-    ensures turn { TakesTurn O.Outside (1, 0) (phase.Carrying object (stage.Make part))
+    ensures turn { TakesTurn O.Io (1, 0) (phase.Carrying object (stage.Make part))
         (state.old, out.old) (state.new, out.new) result }
 {
     match part {
@@ -40,17 +40,17 @@ pub fn make<O: Outside>(
         Part::Declaration => make_declaration(state, object, out),
         Part::Version => make_version(state, object, out),
         Part::Content(position) => make_content(state, object, position, out),
-        Part::VersionInventory => make_inventory(state, object, Folder::Version, out),
-        Part::VersionSidecar => make_sidecar(state, object, Folder::Version, out),
-        Part::Inventory => make_inventory(state, object, Folder::Top, out),
-        Part::Sidecar => make_sidecar(state, object, Folder::Top, out),
+        Part::VersionInventory => make_inventory(state, object, InventoryFolder::Version, out),
+        Part::VersionSidecar => make_sidecar(state, object, InventoryFolder::Version, out),
+        Part::Inventory => make_inventory(state, object, InventoryFolder::Top, out),
+        Part::Sidecar => make_sidecar(state, object, InventoryFolder::Top, out),
     }
 }
 
 // Makes `staging`.
-fn make_staging<O: Outside>(state: &State, object: Object, out: &mut O) -> Result<Phase, Fault>
+fn make_staging<O: Io>(state: &State, object: Object, out: &mut O) -> Result<Phase, Fault>
     requires may { MayMake (O.world out.old).dest staging }
-    ensures turn { TakesTurn O.Outside (0, 0) (phase.Carrying object (stage.Make part.Staging))
+    ensures turn { TakesTurn O.Io (0, 0) (phase.Carrying object (stage.Make part.Staging))
         (state.now, out.old) (state.now, out.new) result }
 {
     let path = NamePath::of_known(state.alloc, &[WellKnownName::Staging])?;
@@ -59,9 +59,9 @@ fn make_staging<O: Outside>(state: &State, object: Object, out: &mut O) -> Resul
 }
 
 // Makes the object's declaration (OCFL 1.1, "Object Conformance Declaration").
-fn make_declaration<O: Outside>(state: &State, object: Object, out: &mut O) -> Result<Phase, Fault>
+fn make_declaration<O: Io>(state: &State, object: Object, out: &mut O) -> Result<Phase, Fault>
     requires may { MayMake (O.world out.old).dest (staging ++ object_declaration_name ∷ []) }
-    ensures turn { TakesTurn O.Outside (0, 0) (phase.Carrying object (stage.Make part.Declaration))
+    ensures turn { TakesTurn O.Io (0, 0) (phase.Carrying object (stage.Make part.Declaration))
         (state.now, out.old) (state.now, out.new) result }
 {
     let path = NamePath::of_known(
@@ -73,9 +73,9 @@ fn make_declaration<O: Outside>(state: &State, object: Object, out: &mut O) -> R
 }
 
 // Makes the version's folder (OCFL 1.1, "Version Directories").
-fn make_version<O: Outside>(state: &State, object: Object, out: &mut O) -> Result<Phase, Fault>
+fn make_version<O: Io>(state: &State, object: Object, out: &mut O) -> Result<Phase, Fault>
     requires may { MayMake (O.world out.old).dest (in_version []) }
-    ensures turn { TakesTurn O.Outside (0, 0) (phase.Carrying object (stage.Make part.Version))
+    ensures turn { TakesTurn O.Io (0, 0) (phase.Carrying object (stage.Make part.Version))
         (state.now, out.old) (state.now, out.new) result }
 {
     let path = NamePath::of_known(

@@ -1,7 +1,7 @@
 //! The turns that bring an object from `staging` to its place in the storage root.
 ghost use Rattle.std.specs.Prelude.{◌≡◌, ◌<◌};
 ghost use Rattle.pt_object.specs.Scripts.{staging};
-ghost use Rattle.pt_plan.specs.Permits.{HasParent};
+ghost use Rattle.pt_plan.specs.Enabled.{HasParent};
 ghost use Rattle.pt_plan.specs.TurnPlace.{after_tuple as after_tuple_of, tuple_folder};
 ghost use Rattle.pt_plan.specs.TurnWalk.{in_root};
 ghost use Rattle.pt_plan.specs.declared.phase.Phase.TheVariants as phase;
@@ -13,11 +13,11 @@ ghost use Rattle.pt_tree.specs.Dest.{MayMove};
 use pt_object::WellKnownName;
 use pt_plan::{Fault, Object, Phase, Stage};
 use pt_state::paths::{front_in_storage_root, in_storage_root};
-use pt_state::{Outside, State};
+use pt_state::{Io, State};
 use pt_tree::{Kind, NamePath};
 
 /// Makes a tuple directory on the way to an object's place, where it is absent (extension 0003).
-pub fn make_tuple<O: Outside>(
+pub fn make_tuple<O: Io>(
     state: &State,
     object: Object,
     index: usize,
@@ -25,7 +25,7 @@ pub fn make_tuple<O: Outside>(
 ) -> Result<Phase, Fault>
     requires few { index < state.now.job.layout.count }
     requires may { HasParent (O.world out.old).dest (tuple_folder object index) }
-    ensures turn { TakesTurn O.Outside (0, 1) (phase.Carrying object (stage.Tuples index))
+    ensures turn { TakesTurn O.Io (0, 1) (phase.Carrying object (stage.Tuples index))
         (state.now, out.old) (state.now, out.new) result }
 {
     let _tuples = state.job.layout.count();
@@ -34,7 +34,7 @@ pub fn make_tuple<O: Outside>(
 }
 
 // Makes the tuple directory of this path, where it is absent.
-fn enter_tuple<O: Outside>(
+fn enter_tuple<O: Io>(
     state: &State,
     object: Object,
     index: usize,
@@ -44,7 +44,7 @@ fn enter_tuple<O: Outside>(
     requires few { index < state.now.job.layout.count }
     requires path { path.now ≡ tuple_folder object index }
     requires may { HasParent (O.world out.old).dest path.now }
-    ensures turn { TakesTurn O.Outside (0, 1) (phase.Carrying object (stage.Tuples index))
+    ensures turn { TakesTurn O.Io (0, 1) (phase.Carrying object (stage.Tuples index))
         (state.now, out.old) (state.now, out.new) result }
 {
     match out.kind(path)? {
@@ -71,9 +71,9 @@ fn after_tuple(state: &State, object: Object, index: usize) -> Phase
 }
 
 /// Renames `staging` to an object's place.
-pub fn rename<O: Outside>(state: &State, object: Object, out: &mut O) -> Result<Phase, Fault>
+pub fn rename<O: Io>(state: &State, object: Object, out: &mut O) -> Result<Phase, Fault>
     requires may { MayMove (O.world out.old).dest staging (in_root object.place) }
-    ensures turn { TakesTurn O.Outside (0, 0) (phase.Carrying object stage.Rename)
+    ensures turn { TakesTurn O.Io (0, 0) (phase.Carrying object stage.Rename)
         (state.now, out.old) (state.now, out.new) result }
 {
     let from = NamePath::of_known(state.alloc, &[WellKnownName::Staging])?;
@@ -82,7 +82,7 @@ pub fn rename<O: Outside>(state: &State, object: Object, out: &mut O) -> Result<
 }
 
 // Renames what is at one path to the object's place, which is the other.
-fn move_object<O: Outside>(
+fn move_object<O: Io>(
     state: &State,
     object: Object,
     from: &NamePath,
@@ -91,7 +91,7 @@ fn move_object<O: Outside>(
 ) -> Result<Phase, Fault>
     requires may { MayMove (O.world out.old).dest from.now to.now }
     requires paths { (from.now ≡ staging) × (to.now ≡ in_root object.place) }
-    ensures turn { TakesTurn O.Outside (0, 0) (phase.Carrying object stage.Rename)
+    ensures turn { TakesTurn O.Io (0, 0) (phase.Carrying object stage.Rename)
         (state.now, out.old) (state.now, out.new) result }
 {
     out.rename(from, to)?;

@@ -5,7 +5,7 @@ ghost use Rattle.std.specs.Prelude.{◌≡◌, ◌<◌, IfOk};
 ghost use Rattle.pt_name.specs.Tuples.{Tuples};
 ghost use Rattle.pt_object.specs.Script.{MakeFile, MakeFolder};
 ghost use Rattle.pt_object.specs.Scripts.{staging as staging_path};
-ghost use Rattle.pt_plan.specs.Permits.{MayMakeRootItem};
+ghost use Rattle.pt_plan.specs.Enabled.{MayMakeRootItem};
 ghost use Rattle.pt_plan.specs.Roots.{storage_root};
 ghost use Rattle.pt_plan.specs.TurnStart.{after_file as after_file_of, after_item as after_item_of};
 ghost use Rattle.pt_plan.specs.declared.phase.Opening.TheVariants as opening;
@@ -19,13 +19,13 @@ use pt_plan::{Fault, Opening, Phase};
 use pt_state::files::put_file;
 use pt_state::kinds::is_file;
 use pt_state::paths::{in_staging, in_storage_root};
-use pt_state::{Outside, State};
+use pt_state::{Io, State};
 use pt_tree::{Kind, MemoryFault, NamePath};
 use std::alloc::Global;
 
 /// Asks whether `staging` is there.
-pub fn staging<O: Outside>(state: &State, out: &mut O) -> Result<Phase, Fault>
-    ensures turn { TakesTurn O.Outside (0, 1) (phase.Opening opening.Staging)
+pub fn staging<O: Io>(state: &State, out: &mut O) -> Result<Phase, Fault>
+    ensures turn { TakesTurn O.Io (0, 1) (phase.Opening opening.Staging)
         (state.now, out.old) (state.now, out.new) result }
 {
     let path = NamePath::of_known(state.alloc, &[WellKnownName::Staging])?;
@@ -36,8 +36,8 @@ pub fn staging<O: Outside>(state: &State, out: &mut O) -> Result<Phase, Fault>
 }
 
 /// Asks whether the storage root is there.
-pub fn root<O: Outside>(state: &State, out: &mut O) -> Result<Phase, Fault>
-    ensures turn { TakesTurn O.Outside (0, 1) (phase.Opening opening.Root)
+pub fn root<O: Io>(state: &State, out: &mut O) -> Result<Phase, Fault>
+    ensures turn { TakesTurn O.Io (0, 1) (phase.Opening opening.Root)
         (state.now, out.old) (state.now, out.new) result }
 {
     let path = NamePath::of_known(state.alloc, &[WellKnownName::StorageRoot])?;
@@ -50,10 +50,10 @@ pub fn root<O: Outside>(state: &State, out: &mut O) -> Result<Phase, Fault>
 
 /// Makes one item of a storage root in `staging`: first the directories of the layout's configuration, then the three
 /// files, of which the declaration comes last.
-pub fn make_root<O: Outside>(state: &State, item: u8, out: &mut O) -> Result<Phase, Fault>
+pub fn make_root<O: Io>(state: &State, item: u8, out: &mut O) -> Result<Phase, Fault>
     requires may { MayMakeRootItem (O.world out.old).dest state.now.job.layout item }
     requires item { item < 6 }
-    ensures turn { TakesTurn O.Outside (0, 0) (phase.Opening (opening.RootMake item))
+    ensures turn { TakesTurn O.Io (0, 0) (phase.Opening (opening.RootMake item))
         (state.now, out.old) (state.now, out.new) result }
 {
     if item < 3 {
@@ -68,22 +68,17 @@ pub fn make_root<O: Outside>(state: &State, item: u8, out: &mut O) -> Result<Pha
     make_file(state, item, &whole, bytes, out)
 }
 
-fn make_folder<O: Outside>(
-    state: &State,
-    item: u8,
-    path: &NamePath,
-    out: &mut O,
-) -> Result<Phase, Fault>
+fn make_folder<O: Io>(state: &State, item: u8, path: &NamePath, out: &mut O) -> Result<Phase, Fault>
     requires may { MayMake (O.world out.old).dest path.now }
     requires here { IsItemAt state.now.job.layout item (MakeFolder path.now) }
-    ensures turn { TakesTurn O.Outside (0, 0) (phase.Opening (opening.RootMake item))
+    ensures turn { TakesTurn O.Io (0, 0) (phase.Opening (opening.RootMake item))
         (state.now, out.old) (state.now, out.new) result }
 {
     out.mkdir(path)?;
     Ok(after_item(item))
 }
 
-fn make_file<O: Outside>(
+fn make_file<O: Io>(
     state: &State,
     item: u8,
     path: &NamePath,
@@ -92,7 +87,7 @@ fn make_file<O: Outside>(
 ) -> Result<Phase, Fault>
     requires may { MayMake (O.world out.old).dest path.now }
     requires here { IsItemAt state.now.job.layout item (MakeFile path.now bytes.now) }
-    ensures turn { TakesTurn O.Outside (0, 0) (phase.Opening (opening.RootMake item))
+    ensures turn { TakesTurn O.Io (0, 0) (phase.Opening (opening.RootMake item))
         (state.now, out.old) (state.now, out.new) result }
 {
     put_file(out, path, bytes)?;
@@ -133,9 +128,9 @@ fn after_item(item: u8) -> Phase
 }
 
 /// Renames `staging` to the storage root.
-pub fn rename_root<O: Outside>(state: &State, out: &mut O) -> Result<Phase, Fault>
+pub fn rename_root<O: Io>(state: &State, out: &mut O) -> Result<Phase, Fault>
     requires { MayMove (O.world out.old).dest staging_path storage_root }
-    ensures turn { TakesTurn O.Outside (0, 0) (phase.Opening opening.RootRename)
+    ensures turn { TakesTurn O.Io (0, 0) (phase.Opening opening.RootRename)
         (state.now, out.old) (state.now, out.new) result }
 {
     let from = NamePath::of_known(state.alloc, &[WellKnownName::Staging])?;
@@ -143,7 +138,7 @@ pub fn rename_root<O: Outside>(state: &State, out: &mut O) -> Result<Phase, Faul
     move_root(state, &from, &to, out)
 }
 
-fn move_root<O: Outside>(
+fn move_root<O: Io>(
     state: &State,
     from: &NamePath,
     to: &NamePath,
@@ -151,7 +146,7 @@ fn move_root<O: Outside>(
 ) -> Result<Phase, Fault>
     requires may { MayMove (O.world out.old).dest from.now to.now }
     requires paths { (from.now ≡ staging_path) × (to.now ≡ storage_root) }
-    ensures turn { TakesTurn O.Outside (0, 0) (phase.Opening opening.RootRename)
+    ensures turn { TakesTurn O.Io (0, 0) (phase.Opening opening.RootRename)
         (state.now, out.old) (state.now, out.new) result }
 {
     out.rename(from, to)?;
@@ -159,9 +154,9 @@ fn move_root<O: Outside>(
 }
 
 /// Compares one of the three files of the storage root that stands with what this program writes.
-pub fn check_root<O: Outside>(state: &mut State, file: usize, out: &mut O) -> Result<Phase, Fault>
+pub fn check_root<O: Io>(state: &mut State, file: usize, out: &mut O) -> Result<Phase, Fault>
     requires { file < 3 }
-    ensures turn { TakesTurn O.Outside (0, 2) (phase.Opening (opening.RootCheck file))
+    ensures turn { TakesTurn O.Io (0, 2) (phase.Opening (opening.RootCheck file))
         (state.old, out.old) (state.new, out.new) result }
 {
     let files = root_files(state.alloc, state.job.layout)?;
@@ -172,7 +167,7 @@ pub fn check_root<O: Outside>(state: &mut State, file: usize, out: &mut O) -> Re
     compare(state, file, &whole, bytes, out)
 }
 
-fn compare<O: Outside>(
+fn compare<O: Io>(
     state: &mut State,
     file: usize,
     path: &NamePath,
@@ -180,7 +175,7 @@ fn compare<O: Outside>(
     out: &mut O,
 ) -> Result<Phase, Fault>
     requires here { IsFileAt state.old.job.layout file path.now bytes.now }
-    ensures turn { TakesTurn O.Outside (0, 2) (phase.Opening (opening.RootCheck file))
+    ensures turn { TakesTurn O.Io (0, 2) (phase.Opening (opening.RootCheck file))
         (state.old, out.old) (state.new, out.new) result }
 {
     let here = out.kind(path)?;

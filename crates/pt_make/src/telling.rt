@@ -11,12 +11,12 @@ use pt_plan::{Fault, Object, Phase};
 use pt_state::lines::{Done, put_done, put_end};
 use pt_state::paths::object_path;
 use pt_state::site::back_to_site;
-use pt_state::{Outside, State};
+use pt_state::{Io, State};
 
 /// Tells that an object is done, and walks on from its site.
-pub fn tell_done<O: Outside>(state: &mut State, object: Object, out: &mut O) -> Result<Phase, Fault>
+pub fn tell_done<O: Io>(state: &mut State, object: Object, out: &mut O) -> Result<Phase, Fault>
     requires { CanTellDone state.old }
-    ensures turn { TakesTurn O.Outside (0, 0) (phase.Carrying object stage.Line)
+    ensures turn { TakesTurn O.Io (0, 0) (phase.Carrying object stage.Line)
         (state.old, out.old) (state.new, out.new) result }
 {
     let at = object_path(&object, &state.trail)?;
@@ -34,8 +34,8 @@ pub fn tell_done<O: Outside>(state: &mut State, object: Object, out: &mut O) -> 
 }
 
 /// Tells that the run is done.
-pub fn tell_end<O: Outside>(state: &State, out: &mut O) -> Result<Phase, Fault>
-    ensures turn { TakesTurn O.Outside (0, 0) phase.End
+pub fn tell_end<O: Io>(state: &State, out: &mut O) -> Result<Phase, Fault>
+    ensures turn { TakesTurn O.Io (0, 0) phase.End
         (state.now, out.old) (state.now, out.new) result }
 {
     put_end(state.alloc, out, &state.counts)?;

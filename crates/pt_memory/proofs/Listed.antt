@@ -34,4 +34,4 @@ goes_on all f after items new name copy k memory x same follows so_far is answer
     let free : listing_refusal items copy ≡ None = ap (listing_refusal items) same ∙ ap (λ b. cond b None (Some NotRising)) follows in
     let added : new ≡ items ++ (copy, k) ∷ [] = taken (listing_refusal items copy) memory x (λ _. new ≡ items ++ (copy, k) ∷ []) free answer in
     ap (λ (l : List Item). l ++ listing_of after) (added ∙ ap (λ (n : List ℕ). items ++ (n, k) ∷ []) same) ∙ append_assoc items ((name, k) ∷ []) (listing_of after)
-        ∙ ap (λ (l : List Item). items ++ l) (sym (first_listing f after name k is)) ∙ so_far
+    ∙ ap (λ (l : List Item). items ++ l) (sym (first_listing f after name k is)) ∙ so_far

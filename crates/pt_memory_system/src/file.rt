@@ -79,7 +79,7 @@ impl<'a> Handle for MemFile<'a> {
     ghost syncs = { λ _ _ _. ⊤ };
 
     #[tactic(auto, using(std::proofs::lemmas::List::drop_min))]
-    fn go_to(&mut self, place: u64) -> io::Result<u64> {
+    fn seek(&mut self, place: u64) -> io::Result<u64> {
         if self.faults.fails() {
             return Err(failed());
         }

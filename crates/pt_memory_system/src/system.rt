@@ -190,7 +190,7 @@ impl<'a> System for MemorySystem<'a> {
 
     ghost tree_law = { trees };
 
-    fn look(&mut self, path: &str) -> io::Result<Kind> {
+    fn lstat(&mut self, path: &str) -> io::Result<Kind> {
         if self.faults.fails() {
             return Err(failed());
         }
@@ -212,7 +212,7 @@ impl<'a> System for MemorySystem<'a> {
         }
     }
 
-    fn open_names(&mut self, path: &str) -> io::Result<MemNames<'a>> {
+    fn read_dir(&mut self, path: &str) -> io::Result<MemNames<'a>> {
         if self.faults.fails() {
             return Err(failed());
         }
@@ -235,7 +235,7 @@ impl<'a> System for MemorySystem<'a> {
         }
     }
 
-    fn make_file(&mut self, path: &str) -> io::Result<MemFile<'a>> {
+    fn create_new(&mut self, path: &str) -> io::Result<MemFile<'a>> {
         if self.faults.fails() {
             return Err(failed());
         }

@@ -2,7 +2,7 @@
 use Rattle.std.proofs.Common.{◌≡◌, ◌≢◌, ◌<◌, ◌≤◌, ◌+◌, ◌==◌, Bool, cond, false, true, ℕ, List, [], refl, sym, ap, ◌∙◌, arith, inl, inr}
 use Rattle.std.proofs.lemmas.Bool.{OnFalse_at, OnFalse_from}
 use Rattle.std.specs.Prelude.{Option, None, Some, Ok, Err}
-use Rattle.pt_state.proofs.Words.{HasBeenFed, Algorithm, Hasher, Writing, Reading, Answer, phase_after, Job, Held, Run, new_run, Failures, World, source_tree, Fault, Phase, held_of, job_of, kept_of, IsLayout, Tree}
+use Rattle.pt_state.proofs.Words.{HasBeenFed, Algorithm, Hasher, Writing, Reading, Answer, phase_after, Job, Held, Run, new_run, Failures, DeviceStates, source_tree, Fault, Phase, held_of, job_of, kept_of, IsLayout, Tree}
 use Rattle.pt_state.proofs.Words.fault
 use Rattle.pt_state.proofs.Words.part
 use Rattle.pt_state.proofs.Words.opening
@@ -10,7 +10,7 @@ use Rattle.pt_state.proofs.Words.phase
 use Rattle.pt_state.proofs.Words.stage
 use Rattle.pt_state.specs.declared.state.State.{State}
 use Rattle.pt_state.specs.declared.job.Report.{Report}
-use Rattle.pt_plan.specs.Permits.{Permits}
+use Rattle.pt_plan.specs.Enabled.{Enabled}
 use Rattle.pt_move.specs.Bounds.{IsBounded, IsWithin, most_calls}
 use Rattle.pt_move.specs.Stands.{Stands}
 use Rattle.pt_move.specs.Turning.{HasFed, CountedTurn}
@@ -20,23 +20,23 @@ use Rattle.pt_plan.specs.RunFaults.{IsOfTurn, fault_number}
 use Rattle.pt_move.specs.Leaving.{TurnLeaves}
 use Rattle.pt_move.specs.Lines.{TellsFront}
 use Rattle.pt_move.specs.Promises.{TurnKeeps}
-use Rattle.pt_move.specs.Running.{BeganSomewhere, FedUntilEnd, HasBegun, InProgress, IsBegun, IsFresh, IsNew, IsWell, LeavesBehind, Running, as_told, fresh_kept, run_of}
-use Rattle.pt_move.specs.Stepping.{Any, BlamesRightly, EndsAs, IsCounted, IsTurn, MakesTurn, StepLeaves, Stays as StaysAs, most_calls_at}
+use Rattle.pt_move.specs.Running.{BeganSomewhere, FedUntilEnd, HasBegun, InProgress, IsBegun, IsFresh, IsNew, TypeInvariant, DestFaultStateTold, Running, as_told, fresh_kept, run_of}
+use Rattle.pt_move.specs.Stepping.{Any, BlamesRightly, EndsAs, IsCounted, IsTurn, MakesTurn, StepLeaves, SameDevice as StaysAs, most_calls_at}
 use Rattle.pt_move.proofs.Told.{to_told}
 use Rattle.pt_move.proofs.Going.{is_going}
 use Rattle.pt_move.proofs.Changes.{gains_same, moves_to}
 use Rattle.pt_move.proofs.Leaves.{turn_leaves}
 use Rattle.pt_move.proofs.Standing.{stands}
-use Rattle.pt_begun.specs.Begun.{Begun, IsWorld, Start, TellsAsBefore, start_of}
-use Rattle.pt_begun.specs.BegunDest.{DestPart, IsLeftBehind}
-use Rattle.pt_begun.proofs.faults.KeptNow.{kept_now}
-use Rattle.pt_begun.proofs.turns_left.EndsWithin.{stops_within_work}
-use Rattle.pt_begun.proofs.turns_left.Within.{new_run_is_within_work, within_work_is_begun}
-use Rattle.pt_begun.specs.BegunHeld.{HeldAt}
-use Rattle.pt_begun.specs.EndLaws.{is_ended}
-use Rattle.pt_begun.specs.Past.{Past}
-use Rattle.pt_begun.proofs.ends.Permitted.{begun_permits}
-use Rattle.pt_plan.specs.Permits.{MayMakeContent}
+use Rattle.pt_invariant.specs.RunInvariant.{RunInvariant, IsWorld, Start, TellsAsBefore, start_of}
+use Rattle.pt_invariant.specs.DestInvariant.{DestPart, DestFaultStateOfRun}
+use Rattle.pt_invariant.proofs.faults.KeptNow.{kept_now}
+use Rattle.pt_invariant.proofs.turns_left.EndsWithin.{stops_within_work}
+use Rattle.pt_invariant.proofs.turns_left.Within.{new_run_is_within_work, within_work_holds_invariant}
+use Rattle.pt_invariant.specs.HeldInvariant.{HeldAt}
+use Rattle.pt_invariant.specs.EndLaws.{is_ended}
+use Rattle.pt_invariant.specs.History.{History}
+use Rattle.pt_invariant.proofs.ends.Permitted.{invariant_enables}
+use Rattle.pt_plan.specs.Enabled.{MayMakeContent}
 use Rattle.pt_state.specs.declared.job.Job as own
 use Rattle.pt_move.specs.Leaving.{Blames}
 use Rattle.pt_move.specs.declared.mover.Turn as own_turn
@@ -51,18 +51,18 @@ pub fed_to_end : (here : Phase) (a : Algorithm) (h : Hasher) (fed : List ℕ) �
 fed_to_end here a h fed was = OnFalse_from (is_ended here) (HasBeenFed a h fed) (λ _. was)
 
 -- the hasher has no part in what the calls need
-permits_fed : (job : Job) (here : Phase) (s : State) (fed : List ℕ) (r : Option Reading) (w : Option Writing) → Permits job here (held_of s fed) r w → Permits job here (held_of s []) r w
+permits_fed : (job : Job) (here : Phase) (s : State) (fed : List ℕ) (r : Option Reading) (w : Option Writing) → Enabled job here (held_of s fed) r w → Enabled job here (held_of s []) r w
 unfolding MayMakeContent
 permits_fed job (phase.Carrying object (stage.Make part.Staging)) s fed r w may = may
 permits_fed job (phase.Opening opening.Begin) s fed r w may = may
 permits_fed job phase.Ended s fed r w may = tt
 permits_fed _ _ _ _ _ _ may = may
 
-held_at : {job : Job} (start : Start) (world : World) (run : Run) → Begun job start world run → (past : Past) × HeldAt job past run.phase run.kept.held
-unfolding Begun
+held_at : {job : Job} (start : Start) (world : DeviceStates) (run : Run) → RunInvariant job start world run → (past : History) × HeldAt job past run.phase run.kept.held
+unfolding RunInvariant
 held_at start world run (past, is) = (past, is.held)
 
-module _ (here : Phase) (s : State) (now : World) (going : here ≢ phase.Ended) (begun : BeganSomewhere now (record { phase = here; state = s })) where
+module _ (here : Phase) (s : State) (now : DeviceStates) (going : here ≢ phase.Ended) (begun : BeganSomewhere now (record { phase = here; state = s })) where
   -- the start, and that the run is in progress
   pub there : (start : Start) × InProgress start (as_told now) (record { phase = here; state = s })
   unfolding BeganSomewhere IsBegun
@@ -75,11 +75,11 @@ module _ (here : Phase) (s : State) (now : World) (going : here ≢ phase.Ended)
   abbrev run : Run
   run = record { phase = here; kept = kept_of s there.1.fed }
 
-  is_begun : Begun (job_of s.job) there.0 (as_told now) run
-  is_begun = within_work_is_begun (job_of s.job) there.0 (as_told now) run there.1.begun
+  is_begun : RunInvariant (job_of s.job) there.0 (as_told now) run
+  is_begun = within_work_holds_invariant (job_of s.job) there.0 (as_told now) run there.1.begun
 
-  pub may_turn : Permits (job_of s.job) here (held_of s []) now.source now.dest
-  may_turn = permits_fed (job_of s.job) here s there.1.fed now.source now.dest (begun_permits (job_of s.job) there.0 (as_told now) run is_begun)
+  pub may_turn : Enabled (job_of s.job) here (held_of s []) now.source now.dest
+  may_turn = permits_fed (job_of s.job) here s there.1.fed now.source now.dest (invariant_enables (job_of s.job) there.0 (as_told now) run is_begun)
 
   pub stands_there : Stands here s
   stands_there = stands here s going was_fed (held_at there.0 (as_told now) run is_begun).1
@@ -87,16 +87,16 @@ module _ (here : Phase) (s : State) (now : World) (going : here ≢ phase.Ended)
   pub has_fed : HasFed here s.job.algorithm s.hasher
   has_fed = OnFalse_from (is_ended here) ((fed : List ℕ) × HasBeenFed s.job.algorithm s.hasher fed) (λ _. (there.1.fed, was_fed))
 
-pub same_job : (here : Phase) (s s' : State) (old new : World) (answer : Answer) → CountedTurn here s s' old new answer → s'.job ≡ s.job
+pub same_job : (here : Phase) (s s' : State) (old new : DeviceStates) (answer : Answer) → CountedTurn here s s' old new answer → s'.job ≡ s.job
 unfolding CountedTurn
 same_job here s s' old new answer turned = turned.0
 
-pub is_bounded : (here : Phase) (s : State) → IsWell (record { phase = here; state = s }) → IsBounded (job_of s.job) here (kept_of s [])
+pub is_bounded : (here : Phase) (s : State) → TypeInvariant (record { phase = here; state = s }) → IsBounded (job_of s.job) here (kept_of s [])
 is_bounded here s well = well.bounded
 
 -- ---- what it leaves
 
-pub left_by_turn : (here : Phase) (s s' : State) (old new : World) (answer : Answer) → here ≢ phase.Ended → BeganSomewhere old (record { phase = here; state = s }) → CountedTurn here s s' old new answer
+pub left_by_turn : (here : Phase) (s s' : State) (old new : DeviceStates) (answer : Answer) → here ≢ phase.Ended → BeganSomewhere old (record { phase = here; state = s }) → CountedTurn here s s' old new answer
     → TurnLeaves s s' old.log new.log old.failures new.failures answer
 unfolding CountedTurn
 left_by_turn here s s' old new answer going begun turned =
@@ -118,8 +118,8 @@ not_first s s' fed' answer begins bounded turns =
     let none : s'.counts.turns ≡ 0 = rw begins at bounded.within in
     omega (arith, none, turns)
 
-pub well_after : (here : Phase) (s s' : State) (old new : World) (answer : Answer) → here ≢ phase.Ended → BeganSomewhere old (record { phase = here; state = s }) → IsWell (record { phase = here; state = s }) → s.counts.turns < s.job.limits.turns
-    → CountedTurn here s s' old new answer → IsWell (record { phase = phase_after answer; state = s' })
+pub well_after : (here : Phase) (s s' : State) (old new : DeviceStates) (answer : Answer) → here ≢ phase.Ended → BeganSomewhere old (record { phase = here; state = s }) → TypeInvariant (record { phase = here; state = s }) → s.counts.turns < s.job.limits.turns
+    → CountedTurn here s s' old new answer → TypeInvariant (record { phase = phase_after answer; state = s' })
 unfolding CountedTurn
 well_after here s s' old new answer going begun well more turned =
     let made = turned.1 _ (was_fed here s old going begun) in
@@ -132,7 +132,7 @@ well_after here s s' old new answer going begun well more turned =
 -- ---- a run that ends without a turn
 
 -- where the limit of turns was made, nothing was called
-pub begun_ends : (start : Start) (world : World) (r : Running) {t : Running} → t.phase ≡ phase.Ended → t.state ≡ r.state → IsBegun start world r → IsBegun start world t
+pub begun_ends : (start : Start) (world : DeviceStates) (r : Running) {t : Running} → t.phase ≡ phase.Ended → t.state ≡ r.state → IsBegun start world r → IsBegun start world t
 unfolding IsBegun
 begun_ends start world r {t} ended same is =
     rw (ended, same)
@@ -140,24 +140,24 @@ begun_ends start world r {t} ended same is =
 
 -- ---- what is left in the destination
 
-left_at : {job : Job} (start : Option Tree) (now : Option Writing) {past : Past} {here : Phase} {held : Held} → HeldAt job past here held → TellsAsBefore start now (DestPart job past here held) → TellsAsBefore start now (IsLeftBehind job)
+left_at : {job : Job} (start : Option Tree) (now : Option Writing) {past : History} {here : Phase} {held : Held} → HeldAt job past here held → TellsAsBefore start now (DestPart job past here held) → TellsAsBefore start now (DestFaultStateOfRun job)
 left_at None None at tells = tt
 left_at None (Some now) at tells = absurd tells
 left_at (Some start) None at tells = absurd tells
 left_at {job} (Some start) (Some now) {past} {here} {held} at tells = kept_now job past start here held now at tells
 
-left_in : (job : Job) (start : Start) (world : World) (r : Run) → Begun job start world r → TellsAsBefore start.dest world.dest (IsLeftBehind job)
-unfolding Begun
+left_in : (job : Job) (start : Start) (world : DeviceStates) (r : Run) → RunInvariant job start world r → TellsAsBefore start.dest world.dest (DestFaultStateOfRun job)
+unfolding RunInvariant
 left_in job start world r (past, is) = left_at start.dest world.dest is.held is.dest
 
-pub leaves_behind : (start : Start) (world : World) (r : Running) → IsBegun start world r → LeavesBehind r.state.job start.dest world.dest
-unfolding IsBegun LeavesBehind
-leaves_behind start world r is = left_in (job_of r.state.job) start (as_told world) (run_of r is.fed) (within_work_is_begun (job_of r.state.job) start (as_told world) (run_of r is.fed) is.begun)
+pub leaves_behind : (start : Start) (world : DeviceStates) (r : Running) → IsBegun start world r → DestFaultStateTold r.state.job start.dest world.dest
+unfolding IsBegun DestFaultStateTold
+leaves_behind start world r is = left_in (job_of r.state.job) start (as_told world) (run_of r is.fed) (within_work_holds_invariant (job_of r.state.job) start (as_told world) (run_of r is.fed) is.begun)
 
 -- ---- how often the source was called
 
 -- twice at most where the prefix is read, which is the second turn, and else once
-pub few_calls : (here : Phase) (s : State) → IsWell (record { phase = here; state = s }) → most_calls here ≤ most_calls_at (record { phase = here; state = s })
+pub few_calls : (here : Phase) (s : State) → TypeInvariant (record { phase = here; state = s }) → most_calls here ≤ most_calls_at (record { phase = here; state = s })
 few_calls here s well = by here well.bounded.within
   where
     least : (b : Bool) → 1 ≤ cond b 2 1
@@ -174,11 +174,11 @@ few_calls here s well = by here well.bounded.within
 -- ---- by the answer
 
 -- the counts of failures
-pub ok_blames : (s s' : State) (old new : World) (next : Phase) (t : own_turn.Turn) → TurnLeaves s s' old.log new.log old.failures new.failures (Ok next) → BlamesRightly old new (Ok t)
+pub ok_blames : (s s' : State) (old new : DeviceStates) (next : Phase) (t : own_turn.Turn) → TurnLeaves s s' old.log new.log old.failures new.failures (Ok next) → BlamesRightly old new (Ok t)
 unfolding BlamesRightly
 ok_blames s s' old new next t left = record { source = ap (λ (f : Failures). f.source) left.failures; dest = ap (λ (f : Failures). f.dest) left.failures; log = ap (λ (f : Failures). f.log) left.failures }
 
-none_blamed : (old new : World) (f : Fault) → new.failures ≡ old.failures → Rose (fault_number f == 1) old.failures.source new.failures.source ≡ (new.failures.source ≡ old.failures.source) → Rose (fault_number f == 2) old.failures.dest new.failures.dest ≡ (new.failures.dest ≡ old.failures.dest) → Rose (fault_number f == 3) old.failures.log new.failures.log ≡ (new.failures.log ≡ old.failures.log) → BlamesRightly {T = own_turn.Turn} old new (Err f)
+none_blamed : (old new : DeviceStates) (f : Fault) → new.failures ≡ old.failures → Rose (fault_number f == 1) old.failures.source new.failures.source ≡ (new.failures.source ≡ old.failures.source) → Rose (fault_number f == 2) old.failures.dest new.failures.dest ≡ (new.failures.dest ≡ old.failures.dest) → Rose (fault_number f == 3) old.failures.log new.failures.log ≡ (new.failures.log ≡ old.failures.log) → BlamesRightly {T = own_turn.Turn} old new (Err f)
 unfolding BlamesRightly
 none_blamed old new f same a b c = record {
   source = rw a (ap (λ (f : Failures). f.source) same);
@@ -186,21 +186,21 @@ none_blamed old new f same a b c = record {
   log = rw c (ap (λ (f : Failures). f.log) same);
 }
 
-blames_by : (why : Fault) (old new : World) → Blames why old.failures new.failures → BlamesRightly {T = own_turn.Turn} old new (Err why)
+blames_by : (why : Fault) (old new : DeviceStates) → Blames why old.failures new.failures → BlamesRightly {T = own_turn.Turn} old new (Err why)
 unfolding BlamesRightly
 blames_by fault.Source old new is = record { source = is.0; dest = is.1; log = is.2 }
 blames_by fault.Dest old new is = record { source = is.0; dest = is.1; log = is.2 }
 blames_by fault.Log old new is = record { source = is.0; dest = is.1; log = is.2 }
 blames_by why old new is = none_blamed old new why is refl refl refl
 
-pub err_blames : (s s' : State) (old new : World) (why : Fault) → TurnLeaves s s' old.log new.log old.failures new.failures (Err why) → BlamesRightly {T = own_turn.Turn} old new (Err why)
+pub err_blames : (s s' : State) (old new : DeviceStates) (why : Fault) → TurnLeaves s s' old.log new.log old.failures new.failures (Err why) → BlamesRightly {T = own_turn.Turn} old new (Err why)
 err_blames s s' old new why left = blames_by why old new left.failures
 
-pub none_blamed_for_turns : (w : World) → BlamesRightly {T = own_turn.Turn} w w (Err fault.Turns)
+pub none_blamed_for_turns : (w : DeviceStates) → BlamesRightly {T = own_turn.Turn} w w (Err fault.Turns)
 unfolding BlamesRightly
 none_blamed_for_turns w = record { source = refl; dest = refl; log = refl }
 
-pub none_blamed_for_ended : (w : World) → BlamesRightly {T = own_turn.Turn} w w (Err fault.Ended)
+pub none_blamed_for_ended : (w : DeviceStates) → BlamesRightly {T = own_turn.Turn} w w (Err fault.Ended)
 unfolding BlamesRightly
 none_blamed_for_ended w = record { source = refl; dest = refl; log = refl }
 
@@ -226,10 +226,10 @@ new_bounded job = record { lines = omega (arith); turns = omega (arith); few = r
 pub is_fresh : {job : own.Job} {r : Running} → IsNew job r → IsFresh r.state
 is_fresh new = record { kept = new.kept; fed = rw new.job_is new.fed }
 
-pub new_well : (job : own.Job) (r : Running) → IsNew job r → IsWell r
+pub new_well : (job : own.Job) (r : Running) → IsNew job r → TypeInvariant r
 new_well job r new = record { bounded = rw (new.kept, new.phase) (new_bounded (job_of r.state.job)); fresh = λ begins. is_fresh new }
 
-pub same_begun : (start : Start) (world : World) {r t : Running} → t ≡ r → IsBegun start world r → IsBegun start world t
+pub same_begun : (start : Start) (world : DeviceStates) {r t : Running} → t ≡ r → IsBegun start world r → IsBegun start world t
 same_begun start world same is = rw same is
 
 -- nothing was put
@@ -237,14 +237,14 @@ pub told_nothing : {g : Option (List ℕ)} (g' : Option (List ℕ)) {c : Report}
 unfolding TellsFront
 told_nothing g' c' same counts = (inl same, (ap (λ (k : Report). k.done) counts, ap (λ (k : Report). k.present) counts, ap (λ (k : Report). k.skipped) counts))
 
-pub ended_well : (r : Running) (s : Running) → IsWell r → s.phase ≡ phase.Ended → s.state ≡ r.state → IsWell s
+pub ended_well : (r : Running) (s : Running) → TypeInvariant r → s.phase ≡ phase.Ended → s.state ≡ r.state → TypeInvariant s
 ended_well r s well ended same = record {
   bounded = rw (ended, same) (record { lines = well.bounded.lines; turns = well.bounded.turns; few = record { rows = well.bounded.few.rows; lengths = well.bounded.few.lengths }; within = tt; prefix = well.bounded.prefix });
   fresh = λ begins. absurd (let no : phase.Ended ≡ (phase.Opening opening.Begin) = sym ended ∙ begins in cc);
 }
 
 -- one that is to begin began where the devices stand
-pub first_begun : (r : Running) (world : World) → r.phase ≡ phase.Opening opening.Begin → IsFresh r.state → IsLayout r.state.job.layout → IsWorld world → IsBegun (start_of world) world r
+pub first_begun : (r : Running) (world : DeviceStates) → r.phase ≡ phase.Opening opening.Begin → IsFresh r.state → IsLayout r.state.job.layout → IsWorld world → IsBegun (start_of world) world r
 unfolding IsBegun
 first_begun r world begins fresh layout is = record {
   fed = [];
@@ -256,40 +256,40 @@ first_begun r world begins fresh layout is = record {
     run_is = λ i. record { phase = begins i; kept = fresh.kept i }
 
 -- a run that is to begin, or began somewhere, began somewhere
-pub begun_somewhere : {r : Running} {world : World} → HasBegun world r → IsWell r → IsLayout r.state.job.layout → IsWorld world → BeganSomewhere world r
+pub begun_somewhere : {r : Running} {world : DeviceStates} → HasBegun world r → TypeInvariant r → IsLayout r.state.job.layout → IsWorld world → BeganSomewhere world r
 unfolding HasBegun BeganSomewhere
 begun_somewhere (inr begun) well layout is = begun
 begun_somewhere {r} {world} (inl begins) well layout is = (start_of world, first_begun r world begins (well.fresh begins) layout is)
 
-pub begun_seen : (r t : Running) (world : World) → t ≡ r → HasBegun world r → IsWell t → IsLayout t.state.job.layout → IsWorld world → BeganSomewhere world r
+pub begun_seen : (r t : Running) (world : DeviceStates) → t ≡ r → HasBegun world r → TypeInvariant t → IsLayout t.state.job.layout → IsWorld world → BeganSomewhere world r
 begun_seen r t world same begun well layout is = begun_somewhere begun (rw same at well) (rw same at layout) is
 
-pub has_begun : (start : Start) (world : World) (r : Running) → IsBegun start world r → HasBegun world r
+pub has_begun : (start : Start) (world : DeviceStates) (r : Running) → IsBegun start world r → HasBegun world r
 unfolding HasBegun
 has_begun start world r begun = inr (start, begun)
 
-pub goes_on_after : (here next : Phase) (s s' : State) (old new : World) → BeganSomewhere old (record { phase = here; state = s }) → ((start : Start) → IsBegun start old (record { phase = here; state = s }) → TurnKeeps start old new s s' (Ok next)) → HasBegun new (record { phase = next; state = s' })
+pub goes_on_after : (here next : Phase) (s s' : State) (old new : DeviceStates) → BeganSomewhere old (record { phase = here; state = s }) → ((start : Start) → IsBegun start old (record { phase = here; state = s }) → TurnKeeps start old new s s' (Ok next)) → HasBegun new (record { phase = next; state = s' })
 unfolding HasBegun BeganSomewhere TurnKeeps
 goes_on_after here next s s' old new (start, begun) on = inr (start, (on start begun).begun)
 
-pub goes_on_halted : (here after : Phase) (s s' : State) (old new : World) (why : Fault) → after ≡ phase.Ended → BeganSomewhere old (record { phase = here; state = s }) → ((start : Start) → IsBegun start old (record { phase = here; state = s }) → TurnKeeps start old new s s' (Err why)) → HasBegun new (record { phase = after; state = s' })
+pub goes_on_halted : (here after : Phase) (s s' : State) (old new : DeviceStates) (why : Fault) → after ≡ phase.Ended → BeganSomewhere old (record { phase = here; state = s }) → ((start : Start) → IsBegun start old (record { phase = here; state = s }) → TurnKeeps start old new s s' (Err why)) → HasBegun new (record { phase = after; state = s' })
 unfolding HasBegun BeganSomewhere TurnKeeps
 goes_on_halted here after s s' old new why ended (start, begun) on = inr (start, rw ended (on start begun).begun)
 
-pub goes_on_ended : (r t : Running) (world : World) → BeganSomewhere world r → t.phase ≡ phase.Ended → t.state ≡ r.state → HasBegun world t
+pub goes_on_ended : (r t : Running) (world : DeviceStates) → BeganSomewhere world r → t.phase ≡ phase.Ended → t.state ≡ r.state → HasBegun world t
 unfolding HasBegun BeganSomewhere
 goes_on_ended r t world (start, begun) ended same = inr (start, begun_ends start world r ended same begun)
 
-pub goes_on_same : (r t : Running) (world : World) → t ≡ r → HasBegun world r → HasBegun world t
+pub goes_on_same : (r t : Running) (world : DeviceStates) → t ≡ r → HasBegun world r → HasBegun world t
 goes_on_same r t world same is = rw same is
 
-pub begins_begun : (r : Running) (world : World) → r.phase ≡ phase.Opening opening.Begin → HasBegun world r
+pub begins_begun : (r : Running) (world : DeviceStates) → r.phase ≡ phase.Opening opening.Begin → HasBegun world r
 unfolding HasBegun
 begins_begun r world begins = inl begins
 
 -- ---- what a step leaves
 
-module _ (before after : Running) (old new : World) (job : after.state.job ≡ before.state.job) (tree : source_tree new.source ≡ source_tree old.source) where
+module _ (before after : Running) (old new : DeviceStates) (job : after.state.job ≡ before.state.job) (tree : source_tree new.source ≡ source_tree old.source) where
   pub leaves_more : (next : Phase) → TurnLeaves before.state after.state old.log new.log old.failures new.failures (Ok next) → StepLeaves old new before after (Ok turn.More)
   unfolding StepLeaves
   leaves_more next left = record { tree = tree; job = job; turns = (left.turns, left.lines); told = left.told; finished = tt; trail = left.trail; rows = left.rows; contents = left.contents }
@@ -305,7 +305,7 @@ module _ (before after : Running) (old new : World) (job : after.state.job ≡ b
   leaves_halted why own left = record { tree = tree; job = job; turns = err_counted before after _ _ _ why own left; told = left.told; finished = tt; trail = left.trail; rows = left.rows; contents = left.contents }
 
 -- no turn was made
-same_left : (before after : Running) (w : World) (f : Fault) → IsCounted before after (Err f) → after.state ≡ before.state → StepLeaves w w before after (Err f)
+same_left : (before after : Running) (w : DeviceStates) (f : Fault) → IsCounted before after (Err f) → after.state ≡ before.state → StepLeaves w w before after (Err f)
 unfolding StepLeaves
 same_left before after w f counted same = record {
   tree = refl;
@@ -318,33 +318,33 @@ same_left before after w f counted same = record {
   contents = gains_same (ap (λ (s : State). s.contents) same);
 }
 
-pub leaves_at_limit : (before after : Running) (w : World) → after.state ≡ before.state → StepLeaves w w before after (Err fault.Turns)
+pub leaves_at_limit : (before after : Running) (w : DeviceStates) → after.state ≡ before.state → StepLeaves w w before after (Err fault.Turns)
 leaves_at_limit before after w same = same_left before after w fault.Turns (ap (λ (s : State). s.counts) same) same
 
-pub leaves_ended : (before after : Running) (w : World) → after.state ≡ before.state → StepLeaves w w before after (Err fault.Ended)
+pub leaves_ended : (before after : Running) (w : DeviceStates) → after.state ≡ before.state → StepLeaves w w before after (Err fault.Ended)
 leaves_ended before after w same = same_left before after w fault.Ended (ap (λ (s : State). s.counts) same) same
 
 -- ---- the turn that it made
 
-pub turned_more : (here next : Phase) (s s' : State) (old new : World) → CountedTurn here s s' old new (Ok next) → MakesTurn old new (record { phase = here; state = s }) (record { phase = next; state = s' }) (Ok turn.More)
+pub turned_more : (here next : Phase) (s s' : State) (old new : DeviceStates) → CountedTurn here s s' old new (Ok next) → MakesTurn old new (record { phase = here; state = s }) (record { phase = next; state = s' }) (Ok turn.More)
 unfolding MakesTurn
 turned_more here next s s' old new turned = turned
 
-pub turned_last : (here next : Phase) (s s' : State) (old new : World) → next ≡ phase.Ended → CountedTurn here s s' old new (Ok next) → MakesTurn old new (record { phase = here; state = s }) (record { phase = phase.Ended; state = s' }) (Ok turn.Finished)
+pub turned_last : (here next : Phase) (s s' : State) (old new : DeviceStates) → next ≡ phase.Ended → CountedTurn here s s' old new (Ok next) → MakesTurn old new (record { phase = here; state = s }) (record { phase = phase.Ended; state = s' }) (Ok turn.Finished)
 unfolding MakesTurn
 turned_last here next s s' old new ended turned = rw ended at turned
 
-pub turned_halted : (why : Fault) (before after : Running) (old new : World) → IsOfTurn why → CountedTurn before.phase before.state after.state old new (Err why) → MakesTurn old new before after (Err why)
+pub turned_halted : (why : Fault) (before after : Running) (old new : DeviceStates) → IsOfTurn why → CountedTurn before.phase before.state after.state old new (Err why) → MakesTurn old new before after (Err why)
 unfolding MakesTurn
 turned_halted fault.Turns before after old new own turned = absurd own
 turned_halted fault.Ended before after old new own turned = absurd own
 turned_halted _ _ _ _ _ _ turned = turned
 
-pub no_turn_at_limit : (before after : Running) (w : World) → IsWell before → before.state.job.limits.turns ≤ before.state.counts.turns → after.state ≡ before.state → MakesTurn w w before after (Err fault.Turns)
+pub no_turn_at_limit : (before after : Running) (w : DeviceStates) → TypeInvariant before → before.state.job.limits.turns ≤ before.state.counts.turns → after.state ≡ before.state → MakesTurn w w before after (Err fault.Turns)
 unfolding MakesTurn
 no_turn_at_limit before after w well made same = (same, refl, let most = well.bounded.turns in omega (arith, most, made))
 
-pub no_turn_ended : (before after : Running) (w : World) → after ≡ before → MakesTurn w w before after (Err fault.Ended)
+pub no_turn_ended : (before after : Running) (w : DeviceStates) → after ≡ before → MakesTurn w w before after (Err fault.Ended)
 unfolding MakesTurn
 no_turn_ended before after w same = (same, refl)
 

@@ -7,7 +7,7 @@ use Rattle.pt_name.specs.declared.prefix.PrefixFault.TheVariants as fault
 use Rattle.std.proofs.lemmas.Bool.{ltb-false, leb-false}
 use Rattle.std.proofs.lemmas.List.{length-append}
 use Rattle.std.proofs.lemmas.List.Sums.{sum_by-append}
-use Rattle.pt_state.proofs.Words.{Row, Item, Answer, phase_after, Job, Line, Done, Counts, Held, Kept, turning, Follows, FailsAtFirst, FailsLater, GoesOn, IsHalted, IsRefused, Make, Place, Scan, Start, Turn, Walk, counted, bytes_in_rows, Calls, World, Phase}
+use Rattle.pt_state.proofs.Words.{Row, Item, Answer, phase_after, Job, Line, Done, Counts, Held, Kept, turning, Next, FailsAtFirst, FailsLater, GoesOn, IsHalted, IsRefused, Make, Place, Scan, Start, Turn, Walk, counted, bytes_in_rows, Calls, DeviceStates, Phase}
 use Rattle.pt_state.proofs.Words.opening
 use Rattle.pt_state.proofs.Words.phase
 use Rattle.pt_state.proofs.Words.stage
@@ -47,7 +47,7 @@ no_rows job held none = record { rows = let long = ap length none in omega (arit
 few_same : {job : Job} {held new : Held} → AreFew job held → new.rows ≡ held.rows → AreFew job new
 few_same {job} few same = record { rows = rw same few.rows; lengths = rw same few.lengths }
 
-follows_few : {job : Job} {counts : Counts} {here : Phase} {prefix read : List ℕ} {held new : Held} {calls : Calls} {answer : Answer} (turns : ℕ) → Follows job counts here prefix held read new calls answer → AreFew job held → IsWithin job here held turns → AreFew job new
+follows_few : {job : Job} {counts : Counts} {here : Phase} {prefix read : List ℕ} {held new : Held} {calls : Calls} {answer : Answer} (turns : ℕ) → Next job counts here prefix held read new calls answer → AreFew job held → IsWithin job here held turns → AreFew job new
 follows_few _ (Start (start.IsStore _ _ _)) few _ = few
 follows_few _ (Walk (walk.OpensRoot _ _)) few _ = few_same few refl
 follows_few _ (Scan (scan.IsTooDeep _ _ _ _)) _ _ = no_rows _ _ refl
@@ -74,7 +74,7 @@ either_within : (job : Job) (held : Held) (turns : ℕ) (is : Bool) (first secon
 either_within job held turns true first second within _ = within
 either_within job held turns false first second _ within = within
 
-follows_within : {job : Job} {counts : Counts} {here : Phase} {prefix read : List ℕ} {held new : Held} {calls : Calls} {next : Phase} (turns : ℕ) → Follows job counts here prefix held read new calls (Ok next) → IsWithin job here held turns → IsWithin job next new (turns + 1)
+follows_within : {job : Job} {counts : Counts} {here : Phase} {prefix read : List ℕ} {held new : Held} {calls : Calls} {next : Phase} (turns : ℕ) → Next job counts here prefix held read new calls (Ok next) → IsWithin job here held turns → IsWithin job next new (turns + 1)
 follows_within turns (Start (start.IsStore _ entries is)) within = omega (arith, within)
 follows_within {job} {held} turns (Start (start.MakesRoot _ number _ _)) _ = either_within job held (turns + 1) (number == 5) (phase.Opening opening.RootRename) (phase.Opening (opening.RootMake (number + 1))) tt tt
 follows_within {job} {held} turns (Start (start.IsSame _ number _ _ _)) _ = either_within job held (turns + 1) (number == 2) (phase.Opening opening.OpenRoot) (phase.Opening (opening.RootCheck (number + 1))) tt tt
@@ -113,7 +113,7 @@ good_length block is = let short = by (nat_lt 1024 (length block)) refl is in le
     by true e is = absurd (cc)
     by false e is = ltb-false 1024 (length block) e
 
-follows_prefix : {job : Job} {counts : Counts} {here : Phase} {prefix read : List ℕ} {held new : Held} {calls : Calls} {answer : Answer} → Follows job counts here prefix held read new calls answer → length prefix ≤ 1024 → length read ≤ 1024
+follows_prefix : {job : Job} {counts : Counts} {here : Phase} {prefix read : List ℕ} {held new : Held} {calls : Calls} {answer : Answer} → Next job counts here prefix held read new calls answer → length prefix ≤ 1024 → length read ≤ 1024
 follows_prefix (Start (start.HasPrefix _ block is)) _ = good_length block is
 follows_prefix _ few = few
 
@@ -126,7 +126,7 @@ halted_bounds bounded more few same halted =
     let made = ap (λ (c : Counts). c.turns) halted.counts in
     record { lines = omega (arith, lines, put, made); turns = omega (arith, more, made); few = few_same few (halted.rows_are ∙ sym same); within = tt; prefix = rw halted.prefix bounded.prefix }
 
-pub turn_keeps_bounds : {job : Job} {here : Phase} {kept after : Kept} {old new : World} {answer : Answer} → IsBounded job here kept → kept.counts.turns < job.limits.turns → Turn job here (turning kept) after old new answer → IsBounded job (phase_after answer) after
+pub turn_keeps_bounds : {job : Job} {here : Phase} {kept after : Kept} {old new : DeviceStates} {answer : Answer} → IsBounded job here kept → kept.counts.turns < job.limits.turns → Turn job here (turning kept) after old new answer → IsBounded job (phase_after answer) after
 turn_keeps_bounds {job} {kept} {after} bounded more (GoesOn calls next follows did counts) =
     let lines = bounded.lines in
     let one = (counted_more calls.line (turning kept).counts).0 in

@@ -2,7 +2,7 @@
 use Rattle.std.proofs.Common.{◌≡◌, ℕ, ◌+◌, ◌==◌, Bool, true, false, List, [], ◌∷◌, ◌++◌, drop, refl, ◌∙◌, inl, inr, cond, zero, suc}
 use Rattle.std.specs.Prelude.{Option, None, Some, Ok, Err, nat_lt, ⊤}
 use Rattle.pt_object.specs.Contents.{content_of, is_noted, noted}
-use Rattle.pt_state.proofs.Words.{Content, is_first, Item, Path, advanced, entered, names_to, parent, sought, Cause, Frame, Answer, Job, Line, End, Skipped, Counts, Held, Follows, Make, Place, Scan, Start, Walk, Calls, Fault, Phase}
+use Rattle.pt_state.proofs.Words.{Content, is_first, Item, Path, advanced, entered, names_to, parent, sought, Cause, Frame, Answer, Job, Line, End, Skipped, Counts, Held, Next, Make, Place, Scan, Start, Walk, Calls, Fault, Phase}
 use Rattle.pt_state.proofs.Words.cause
 use Rattle.pt_state.proofs.Words.fault
 use Rattle.pt_state.proofs.Words.opening
@@ -110,7 +110,7 @@ changes_trail moves rows contents = record { trail = moves; rows = gains_same ro
 changes_back : {held new : Held} → Moves held.trail new.trail → new.rows ≡ [] → new.contents ≡ [] → Changes held new
 changes_back {held} moves rows contents = record { trail = moves; rows = rw rows (gains_empty held.rows); contents = rw contents (gains_empty held.contents) }
 
-pub follows_change : {job : Job} {counts : Counts} {here : Phase} {prefix read : List ℕ} {held new : Held} {calls : Calls} {answer : Answer} → Follows job counts here prefix held read new calls answer → Changes held new
+pub follows_change : {job : Job} {counts : Counts} {here : Phase} {prefix read : List ℕ} {held new : Held} {calls : Calls} {answer : Answer} → Next job counts here prefix held read new calls answer → Changes held new
 follows_change {held} (Walk (walk.OpensRoot _ items)) = changes_trail (moves_entered items held.trail) refl refl
 follows_change {held} (Walk (walk.IsNew _ index _ _)) = changes_trail (moves_object index held.trail) refl refl
 follows_change {held} (Walk (walk.IsPast _ _ _ _ _)) = changes_trail (moves_advanced held.trail) refl refl
@@ -144,7 +144,7 @@ IsRefusal fault.Log = ⊥
 IsRefusal fault.Memory = ⊥
 IsRefusal _ = ⊤
 
-pub follows_refuse : {job : Job} {counts : Counts} {here : Phase} {prefix read : List ℕ} {held new : Held} {calls : Calls} {why : Fault} → Follows job counts here prefix held read new calls (Err why) → IsRefusal why × (calls.line ≡ None)
+pub follows_refuse : {job : Job} {counts : Counts} {here : Phase} {prefix read : List ℕ} {held new : Held} {calls : Calls} {why : Fault} → Next job counts here prefix held read new calls (Err why) → IsRefusal why × (calls.line ≡ None)
 follows_refuse (Start (start.IsNoStore _ _ _)) = (tt, refl)
 follows_refuse (Walk walks) = elim walks [ ]
 follows_refuse (Scan scans) = elim scans [ ]
@@ -164,7 +164,7 @@ skip_line : (counts : Counts) (told : Bool) (at : Path) (why : Cause) → LineOf
 skip_line counts true at why = tt
 skip_line counts false at why = tt
 
-pub follows_line : {job : Job} {counts : Counts} {here : Phase} {prefix read : List ℕ} {held new : Held} {calls : Calls} {answer : Answer} → Follows job counts here prefix held read new calls answer → LineOf counts calls.line
+pub follows_line : {job : Job} {counts : Counts} {here : Phase} {prefix read : List ℕ} {held new : Held} {calls : Calls} {answer : Answer} → Next job counts here prefix held read new calls answer → LineOf counts calls.line
 follows_line (Start (start.IsStore _ _ _)) = tt
 follows_line {job} {counts} {held} (Walk (walk.IsPast _ _ _ _ _)) = skip_line counts (is_first job.share) (names_to held.trail) cause.Past
 follows_line {job} {counts} {held} (Walk (walk.IsDeep _ _ _ _ _ _)) = skip_line counts (is_first job.share) (names_to held.trail) cause.Limit
@@ -184,7 +184,7 @@ either_end : (counts : Counts) (is : Bool) (first second : Phase) → EndsWith c
 either_end counts true first second ends _ = ends
 either_end counts false first second _ ends = ends
 
-pub follows_end : {job : Job} {counts : Counts} {here : Phase} {prefix read : List ℕ} {held new : Held} {calls : Calls} {next : Phase} → Follows job counts here prefix held read new calls (Ok next) → EndsWith counts next calls.line
+pub follows_end : {job : Job} {counts : Counts} {here : Phase} {prefix read : List ℕ} {held new : Held} {calls : Calls} {next : Phase} → Next job counts here prefix held read new calls (Ok next) → EndsWith counts next calls.line
 follows_end {counts} (Start (start.MakesRoot _ number _ _)) = either_end counts (number == 5) (phase.Opening opening.RootRename) (phase.Opening (opening.RootMake (number + 1))) tt tt
 follows_end {counts} (Start (start.IsSame _ number _ _ _)) = either_end counts (number == 2) (phase.Opening opening.OpenRoot) (phase.Opening (opening.RootCheck (number + 1))) tt tt
 follows_end (Walk (walk.OpensRoot _ _)) = tt

@@ -1,10 +1,10 @@
 -- What the steps of a run say of the whole.
 use Rattle.std.proofs.Common.{◌≡◌, inl, sym, ◌∙◌}
 use Rattle.std.specs.Prelude.{Err, ◌≢◌}
-use Rattle.pt_state.proofs.Words.{IsLayout, World}
+use Rattle.pt_state.proofs.Words.{IsLayout, DeviceStates}
 use Rattle.pt_state.proofs.Words.opening
 use Rattle.pt_state.proofs.Words.phase
-use Rattle.pt_begun.specs.Begun.{IsWorld, start_of}
+use Rattle.pt_invariant.specs.RunInvariant.{IsWorld, start_of}
 use Rattle.pt_state.specs.declared.job.Job.{Job}
 use Rattle.pt_move.specs.Running.{HasBegun, IsBegun, IsNew, Running}
 use Rattle.pt_move.proofs.Answering.{first_begun, is_fresh}
@@ -24,10 +24,10 @@ not_ended f old new going ends is = absurd (going (told (rw is at ends)))
     told both = both.0
 
 -- it began where the devices stand
-pub new_is_begun : (job : Job) (r : Running) (now : World) → IsNew job r → IsLayout job.layout → IsWorld now → IsBegun (start_of now) now r
+pub new_is_begun : (job : Job) (r : Running) (now : DeviceStates) → IsNew job r → IsLayout job.layout → IsWorld now → IsBegun (start_of now) now r
 new_is_begun job r now new layout is = first_begun r now new.phase (is_fresh new) (rw new.job_is layout) is
 
-pub new_has_begun : (job : Job) (r : Running) (now : World) → IsNew job r → HasBegun now r
+pub new_has_begun : (job : Job) (r : Running) (now : DeviceStates) → IsNew job r → HasBegun now r
 unfolding HasBegun
 new_has_begun job r now new = inl new.phase
 

@@ -1,6 +1,6 @@
 -- A phase at which a run goes on.
 use Rattle.std.proofs.Common.{◌≡◌, ◌≢◌, false, refl}
-use Rattle.pt_begun.specs.EndLaws.{is_ended}
+use Rattle.pt_invariant.specs.EndLaws.{is_ended}
 use Rattle.pt_state.proofs.Words.{Phase}
 use Rattle.pt_state.proofs.Words.phase
 

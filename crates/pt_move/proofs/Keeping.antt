@@ -1,24 +1,24 @@
 -- That a run keeps its promises in a step, by what the step answers.
 use Rattle.std.proofs.Common.{◌≡◌, ◌≢◌, ◌<◌, ◌≤◌, ℕ, List, arith}
 use Rattle.std.specs.Prelude.{Option, Some, Ok, Err}
-use Rattle.pt_state.proofs.Words.{Forest, Reading, Tree, Answer, phase_after, Job, Run, turning, World, source_tree, Fault, Phase, job_of, kept_of}
+use Rattle.pt_state.proofs.Words.{Forest, Reading, Tree, Answer, phase_after, Job, Run, turning, DeviceStates, source_tree, Fault, Phase, job_of, kept_of}
 use Rattle.pt_state.proofs.Words.fault
 use Rattle.pt_state.proofs.Words.phase
 use Rattle.pt_state.specs.declared.state.State.{State}
 use Rattle.pt_plan.specs.Roots.{root_in}
 use Rattle.pt_plan.specs.Work.{work}
-use Rattle.pt_begun.specs.Begun.{Begun, Start}
-use Rattle.pt_begun.proofs.ends.TurnEnds.{stops_leave}
-use Rattle.pt_begun.proofs.faults.StandingStill.{begun_stands_still}
-use Rattle.pt_begun.proofs.bounds.WithinBound.{begun_is_within_bound}
-use Rattle.pt_begun.proofs.turns_left.EndsWithin.{turn_tree}
-use Rattle.pt_begun.proofs.turns_left.Within.{turn_is_left, within_work_is_begun}
-use Rattle.pt_begun.specs.WorkLaws.{BegunWithinWork}
+use Rattle.pt_invariant.specs.RunInvariant.{RunInvariant, Start}
+use Rattle.pt_invariant.proofs.ends.TurnEnds.{stops_leave}
+use Rattle.pt_invariant.proofs.faults.StandingStill.{invariant_stands_still}
+use Rattle.pt_invariant.proofs.bounds.WithinBound.{invariant_is_within_bound}
+use Rattle.pt_invariant.proofs.turns_left.EndsWithin.{turn_tree}
+use Rattle.pt_invariant.proofs.turns_left.Within.{turn_is_left, within_work_holds_invariant}
+use Rattle.pt_invariant.specs.WorkLaws.{InvariantWithinWork}
 use Rattle.pt_state.proofs.Whole.{holds_nothing_else}
 use Rattle.pt_state.specs.Outside.{FedAfter}
 use Rattle.pt_state.specs.declared.job.Job as own
 use Rattle.pt_move.specs.Turning.{CountedTurn}
-use Rattle.pt_move.specs.Outcome.{FaultLeaves, HoldsWithinBound, IfEarly, IfLog, LeavesAll, LeavesNoStaging, MadeWithinWork, SaysRightly, StandsStillIn, WantsMemory}
+use Rattle.pt_move.specs.Outcome.{FaultStateTold, HoldsWithinBound, IfEarly, IfLog, LeavesAll, LeavesNoStaging, MadeWithinWork, SaysRightly, StandsStillIn, WantsMemory}
 use Rattle.pt_move.specs.Promises.{IfHalted, Keeps, TurnKeeps, UnlessEnded}
 use Rattle.pt_move.specs.Running.{BeganSomewhere, FedUntilEnd, InProgress, IsBegun, Running, as_told, run_of}
 use Rattle.pt_move.specs.declared.mover.Turn.TheVariants as turn
@@ -29,7 +29,7 @@ use Rattle.pt_move.proofs.Outcomes.{reading_of, turn_keeps, within_after}
 
 -- ---- the source's tree stays
 
-pub tree_stays : (here : Phase) (s s' : State) (old new : World) (answer : Answer) → here ≢ phase.Ended → BeganSomewhere old (record { phase = here; state = s })
+pub tree_stays : (here : Phase) (s s' : State) (old new : DeviceStates) (answer : Answer) → here ≢ phase.Ended → BeganSomewhere old (record { phase = here; state = s })
     → CountedTurn here s s' old new answer → source_tree new.source ≡ source_tree old.source
 unfolding CountedTurn
 tree_stays here s s' old new answer going begun turned =
@@ -42,7 +42,7 @@ fed_after : (answer : Answer) (s s' : State) (fed : List ℕ) → s'.job ≡ s.j
 fed_after (Ok next) s s' fed job was = fed_to_end next s'.job.algorithm s'.hasher fed (rw job was)
 fed_after (Err why) s s' fed job was = tt
 
-pub keeps_after : (here : Phase) (s s' : State) (old new : World) (answer : Answer) → here ≢ phase.Ended → CountedTurn here s s' old new answer
+pub keeps_after : (here : Phase) (s s' : State) (old new : DeviceStates) (answer : Answer) → here ≢ phase.Ended → CountedTurn here s s' old new answer
     → (start : Start) → IsBegun start old (record { phase = here; state = s }) → TurnKeeps start old new s s' answer
 unfolding IsBegun CountedTurn
 keeps_after here s s' old new answer going turned start is =
@@ -68,7 +68,7 @@ unless_ended : (P : Type 0) (why : Fault) → P → UnlessEnded (Err why) P
 unless_ended _ fault.Ended _ = tt
 unless_ended _ _ p = p
 
-module _ (start : Start) (old new : World) (before : Running) (s' : State) where
+module _ (start : Start) (old new : DeviceStates) (before : Running) (s' : State) where
   -- there is more to do
   pub keeps_more : (next : Phase) → TurnKeeps start old new before.state s' (Ok next) → Keeps start old new before (record { phase = next; state = s' }) (Ok turn.More)
   unfolding Keeps TurnKeeps
@@ -114,12 +114,12 @@ module _ (start : Start) (old new : World) (before : Running) (s' : State) where
 
 -- ---- no turn was made
 
-so_far : (job : Job) (start : Start) (now : World) (run : Run) {s : Reading} {t : Tree} → BegunWithinWork job start now run → now.source ≡ Some s → start.dest ≡ Some t → run.kept.counts.turns ≤ work job s.tree (root_in t)
-unfolding BegunWithinWork
+so_far : (job : Job) (start : Start) (now : DeviceStates) (run : Run) {s : Reading} {t : Tree} → InvariantWithinWork job start now run → now.source ≡ Some s → start.dest ≡ Some t → run.kept.counts.turns ≤ work job s.tree (root_in t)
+unfolding InvariantWithinWork
 so_far job start now run {s} {t} (past, is, within) source_is start_is = let few = (within s source_is t start_is).within in omega (arith, few)
 
 -- of a run in progress
-module _ (start : Start) (now : World) (r : Running) (is : IsBegun start now r) where
+module _ (start : Start) (now : DeviceStates) (r : Running) (is : IsBegun start now r) where
   there : InProgress start (as_told now) r
   unfolding IsBegun
   there = is
@@ -130,12 +130,12 @@ module _ (start : Start) (now : World) (r : Running) (is : IsBegun start now r) 
   abbrev run : Run
   run = run_of r there.fed
 
-  begun : Begun job start (as_told now) run
-  begun = within_work_is_begun job start (as_told now) run there.begun
+  begun : RunInvariant job start (as_told now) run
+  begun = within_work_holds_invariant job start (as_told now) run there.begun
 
   pub stands_there : StandsStillIn start.dest now.dest
   unfolding StandsStillIn
-  stands_there = λ t w start_is dest_is. begun_stands_still job start (as_told now) run t w begun start_is dest_is
+  stands_there = λ t w start_is dest_is. invariant_stands_still job start (as_told now) run t w begun start_is dest_is
 
   made_there : MadeWithinWork r.state.job (source_tree now.source) start.dest r.state.counts
   unfolding MadeWithinWork
@@ -147,10 +147,10 @@ module _ (start : Start) (now : World) (r : Running) (is : IsBegun start now r) 
   unfolding HoldsWithinBound
   bound_there going = λ f source_is.
       let reading = reading_of now.source source_is in
-      rw reading.2 at (begun_is_within_bound job start (as_told now) run reading.0 begun (is_going r.phase going) reading.1)
+      rw reading.2 at (invariant_is_within_bound job start (as_told now) run reading.0 begun (is_going r.phase going) reading.1)
 
-  left_there : FaultLeaves r.state.job (source_tree now.source) start now.dest now.log
-  unfolding FaultLeaves
+  left_there : FaultStateTold r.state.job (source_tree now.source) start now.dest now.log
+  unfolding FaultStateTold
   left_there = λ f t w first last source_is start_is dest_is first_is last_is.
       let reading = reading_of now.source source_is in
       rw reading.2 at
@@ -175,7 +175,7 @@ same_counts : (job : own.Job) (source : Option Forest) (start : Option Tree) {s 
 same_counts job source start s' same made = rw same made
 
 -- the limit of turns was made
-pub keeps_at_limit : (start : Start) (now : World) (before after : Running) → before.phase ≢ phase.Ended → before.state.job.limits.turns ≤ before.state.counts.turns → after.phase ≡ phase.Ended → after.state ≡ before.state → IsBegun start now before
+pub keeps_at_limit : (start : Start) (now : DeviceStates) (before after : Running) → before.phase ≢ phase.Ended → before.state.job.limits.turns ≤ before.state.counts.turns → after.phase ≡ phase.Ended → after.state ≡ before.state → IsBegun start now before
     → Keeps start now now before after (Err fault.Turns)
 unfolding Keeps SaysRightly
 keeps_at_limit start now before after going made ended same is = record {
@@ -195,7 +195,7 @@ keeps_at_limit start now before after going made ended same is = record {
 }
 
 -- it had ended
-pub keeps_ended : (start : Start) (now : World) (before after : Running) → after ≡ before → IsBegun start now before → Keeps start now now before after (Err fault.Ended)
+pub keeps_ended : (start : Start) (now : DeviceStates) (before after : Running) → after ≡ before → IsBegun start now before → Keeps start now now before after (Err fault.Ended)
 unfolding Keeps
 keeps_ended start now before after same is = record {
   begun = same_begun start now same is;

@@ -1,12 +1,12 @@
 -- What a turn of the run's definitions leaves.
 use Rattle.std.proofs.Common.{◌≡◌, ℕ, ◌+◌, List, refl, ap, ◌∙◌, inl, inr, arith}
 use Rattle.std.specs.Prelude.{Option, None, Some, Err}
-use Rattle.pt_state.proofs.Words.{Row, Answer, Job, Line, End, Counts, turning, Did, FailsAtFirst, FailsLater, GoesOn, HasFailed, IsHalted, IsRefused, LeavesSome, Stays, Turn, counted, Failures, Puts, World, Fault, Phase, counts_of, kept_of}
+use Rattle.pt_state.proofs.Words.{Row, Answer, Job, Line, End, Counts, turning, Did, FailsAtFirst, FailsLater, GoesOn, HasFailed, IsHalted, IsRefused, FailsPartway, FailsUnchanged, Turn, counted, Failures, Puts, DeviceStates, Fault, Phase, counts_of, kept_of}
 use Rattle.pt_state.proofs.Words.fault
 use Rattle.pt_state.proofs.Words.phase
 use Rattle.pt_state.specs.declared.job.Report.{Report}
 use Rattle.pt_state.specs.declared.state.State.{State}
-use Rattle.pt_plan.specs.World.{LeavesFront}
+use Rattle.pt_plan.specs.DeviceStates.{LeavesFront}
 use Rattle.pt_move.specs.Bounds.{lines_put}
 use Rattle.pt_move.proofs.Bounding.{counted_more}
 use Rattle.pt_move.proofs.Changes.{EndsWith, IsRefusal, LineOf, follows_change, follows_end, follows_line, follows_refuse, gains_same, moves_to}
@@ -83,10 +83,10 @@ halted_leaves {s} s' fed' {rows} g' halted gains blames told =
 
 -- ---- a turn
 
-pub turn_leaves : {job : Job} {here : Phase} {s : State} (s' : State) {fed : List ℕ} (fed' : List ℕ) {old new : World} {answer : Answer}
+pub turn_leaves : {job : Job} {here : Phase} {s : State} (s' : State) {fed : List ℕ} (fed' : List ℕ) {old new : DeviceStates} {answer : Answer}
     → Turn job here (turning (kept_of s fed)) (kept_of s' fed') old new answer
     → TurnLeaves s s' old.log new.log old.failures new.failures answer
-unfolding Did LeavesSome Stays counted_turn Puts
+unfolding Did FailsPartway FailsUnchanged counted_turn Puts
 turn_leaves {s} s' {fed} fed' {old} {new} (GoesOn calls next follows did counts) =
     let changes = follows_change follows in
     let more = counted_more calls.line (turning (kept_of s fed)).counts in

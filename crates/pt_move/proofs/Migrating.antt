@@ -1,8 +1,8 @@
 -- What a whole run promises, from its steps.
 use Rattle.std.proofs.Common.{◌≡◌, ◌≢◌, refl, ◌∙◌}
 use Rattle.std.specs.Prelude.{IsErrAnd, Ok, Err, Result}
-use Rattle.pt_begun.specs.Begun.{start_of}
-use Rattle.pt_state.proofs.Words.{World, source_tree}
+use Rattle.pt_invariant.specs.RunInvariant.{start_of}
+use Rattle.pt_state.proofs.Words.{DeviceStates, source_tree}
 use Rattle.pt_state.proofs.Words.phase
 use Rattle.pt_state.specs.declared.job.Report.{Report}
 use Rattle.pt_state.specs.declared.job.Job.{Job}
@@ -10,7 +10,7 @@ use Rattle.pt_move.specs.Lines.{HasTold}
 use Rattle.pt_move.specs.Migrates.{Migrates}
 use Rattle.pt_move.specs.Outcome.{IfEarly, IfLog, LeavesAll, LeavesNoStaging, SaysRightly, WantsMemory}
 use Rattle.pt_move.specs.Promises.{IfHalted, Keeps, TakesStep}
-use Rattle.pt_move.specs.Running.{IsBegun, IsNew, IsWell, Running}
+use Rattle.pt_move.specs.Running.{IsBegun, IsNew, TypeInvariant, Running}
 use Rattle.pt_move.specs.Stepping.{Blamed, BlamesRightly, EndsAs, StepLeaves}
 use Rattle.pt_plan.specs.declared.fault.Fault.{Fault}
 use Rattle.pt_plan.specs.declared.fault.Fault.TheVariants as fault
@@ -23,7 +23,7 @@ use Rattle.pt_move.proofs.WholeLog.{told_finished, told_front, told_more, told_n
 -- ---- between two steps
 
 -- what holds of a run that goes on
-pub record SoFar (job : Job) (first now : World) (r : Running) : Type 0 where
+pub record SoFar (job : Job) (first now : DeviceStates) (r : Running) : Type 0 where
   pub begun : IsBegun (start_of first) now r
   pub tree : source_tree now.source ≡ source_tree first.source
   pub failures : now.failures ≡ first.failures
@@ -32,7 +32,7 @@ pub record SoFar (job : Job) (first now : World) (r : Running) : Type 0 where
   pub told : HasTold first.log now.log r.state.counts
   pub ran : RanSoFar job first now r
 
-pub new_so_far : (job : Job) (r : Running) (w : World) → IsNew job r → IsBegun (start_of w) w r → SoFar job w w r
+pub new_so_far : (job : Job) (r : Running) (w : DeviceStates) → IsNew job r → IsBegun (start_of w) w r → SoFar job w w r
 new_so_far job r w new begun = record {
   begun = begun;
   tree = refl;
@@ -48,7 +48,7 @@ if_halted : (P : Fault → Type 0) (f : Fault) → f ≢ fault.Ended → IfHalte
 if_halted P fault.Ended going p = absurd (going refl)
 if_halted _ _ _ p = p
 
-module _ (job : Job) (first old new : World) (a b : Running) (so_far : SoFar job first old a) where
+module _ (job : Job) (first old new : DeviceStates) (a b : Running) (so_far : SoFar job first old a) where
   -- it goes on
   pub so_far_on : (t : Turn) → t ≡ turn.More → TakesStep old new a b (Ok t) → SoFar job first new b
   unfolding Keeps StepLeaves
@@ -66,7 +66,7 @@ module _ (job : Job) (first old new : World) (a b : Running) (so_far : SoFar job
       more = rw is at step.steps.answer
 
   -- it comes to its end
-  pub migrates_whole : (t : Turn) (report : Report) → t ≡ turn.Finished → report ≡ b.state.counts → IsWell b → TakesStep old new a b (Ok t) → Migrates job first new (Ok report)
+  pub migrates_whole : (t : Turn) (report : Report) → t ≡ turn.Finished → report ≡ b.state.counts → TypeInvariant b → TakesStep old new a b (Ok t) → Migrates job first new (Ok report)
   unfolding BlamesRightly Keeps StepLeaves
   migrates_whole t report is counts well step =
       let blames : Blamed {T = Report} first new (Ok report) = blames_ok first old new t report so_far.failures step.steps.blames in

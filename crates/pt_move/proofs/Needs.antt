@@ -1,7 +1,7 @@
 -- What a turn needs, from what always holds of a run.
 use Rattle.std.proofs.Common.{◌≡◌, ◌<◌, ◌≤◌, ◌*◌, ◌^◌, ℕ, List, [], ◌∙◌, arith, rules}
 use Rattle.std.specs.Prelude.{IfErr, IsTrue, Ok, Err}
-use Rattle.pt_state.proofs.Words.{Answer, Job, Held, turning, Phase, job_of, kept_of, World, Turned}
+use Rattle.pt_state.proofs.Words.{Answer, Job, Held, turning, Phase, job_of, kept_of, DeviceStates, Turned}
 use Rattle.pt_state.proofs.Words.part
 use Rattle.pt_state.proofs.Words.opening
 use Rattle.pt_state.proofs.Words.phase
@@ -14,7 +14,7 @@ use Rattle.pt_make.specs.Making.{HasContentsOfRows, HasFedInventory}
 use Rattle.pt_move.specs.Stands.{AddsWithin, CanAdd, Stands}
 use Rattle.pt_move.specs.Turning.{CountedTurn, HasFed}
 use Rattle.pt_plan.specs.RunFaults.{IsOfTurn}
-use Rattle.pt_begun.proofs.refusals.Reasons.{of_turn}
+use Rattle.pt_invariant.proofs.refusals.Reasons.{of_turn}
 
 limits_files : (b : Bounds) → IsTrue (are_limits b) → b.files ≤ 1000000
 limits_files b are = search rules
@@ -57,7 +57,7 @@ pub can_count : (s : State) → s.counts.turns < s.job.limits.turns → IsTrue (
 can_count s more are = let most = limits_turns s.job.limits are in omega (arith, more, most)
 
 -- the turn that was made after it was counted
-pub counted_turn : (here : Phase) (s t s' : State) (old new : World) (answer : Answer) → Turned here t s' old new answer → t.job ≡ s.job → t.hasher ≡ s.hasher → ((fed : List ℕ) → kept_of t fed ≡ turning (kept_of s fed)) → CountedTurn here s s' old new answer
+pub counted_turn : (here : Phase) (s t s' : State) (old new : DeviceStates) (answer : Answer) → Turned here t s' old new answer → t.job ≡ s.job → t.hasher ≡ s.hasher → ((fed : List ℕ) → kept_of t fed ≡ turning (kept_of s fed)) → CountedTurn here s s' old new answer
 unfolding Turned CountedTurn
 counted_turn here s t s' old new answer turned job hasher kept = (
   turned.0 ∙ job,
@@ -79,7 +79,7 @@ stands_on (phase.Carrying object (stage.Make part.Staging)) s counts stands = st
 stands_on _ _ _ stands = stands
 
 -- a turn answers none of the faults that are the run's own
-pub own_fault : (here : Phase) (s s' : State) (old new : World) (answer : Answer) → Stands here s → HasFed here s.job.algorithm s.hasher → CountedTurn here s s' old new answer → IfErr answer IsOfTurn
+pub own_fault : (here : Phase) (s s' : State) (old new : DeviceStates) (answer : Answer) → Stands here s → HasFed here s.job.algorithm s.hasher → CountedTurn here s s' old new answer → IfErr answer IsOfTurn
 unfolding CountedTurn
 own_fault _ _ _ _ _ (Ok next) _ _ _ = tt
 own_fault phase.Ended _ _ _ _ (Err why) stands _ _ = absurd stands

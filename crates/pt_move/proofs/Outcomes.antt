@@ -1,33 +1,33 @@
 -- What a turn of a run leaves and says, from what it is of the definitions.
 use Rattle.std.proofs.Common.{◌≡◌, ℕ, List, false, true, refl, ◌∙◌}
 use Rattle.std.specs.Prelude.{Option, None, Some, Ok, Err}
-use Rattle.pt_state.proofs.Words.{Forest, Reading, Tree, Answer, phase_after, Job, Kept, Run, turning, Turn, World, source_tree, Fault, Phase, job_of, kept_of}
+use Rattle.pt_state.proofs.Words.{Forest, Reading, Tree, Answer, phase_after, Job, Kept, Run, turning, Turn, DeviceStates, source_tree, Fault, Phase, job_of, kept_of}
 use Rattle.pt_state.proofs.Words.fault
 use Rattle.pt_state.proofs.Words.phase
 use Rattle.pt_state.specs.declared.state.State.{State}
-use Rattle.pt_begun.specs.Begun.{Begun, Start}
-use Rattle.pt_begun.specs.EndLaws.{is_ended}
-use Rattle.pt_begun.specs.RefusalLaws as law
-use Rattle.pt_begun.proofs.refusals.EarlyHalts.{early_leaves_dest, early_leaves_log}
-use Rattle.pt_begun.proofs.faults.LogHalts.{failed_log_leaves_no_staging}
+use Rattle.pt_invariant.specs.RunInvariant.{RunInvariant, Start}
+use Rattle.pt_invariant.specs.EndLaws.{is_ended}
+use Rattle.pt_invariant.specs.RefusalLaws as law
+use Rattle.pt_invariant.proofs.refusals.EarlyHalts.{early_leaves_dest, early_leaves_log}
+use Rattle.pt_invariant.proofs.faults.LogHalts.{failed_log_leaves_no_staging}
 use Rattle.pt_move.proofs.Answering.{leaves_behind}
 use Rattle.pt_move.proofs.LateLog.{BlamesLogLate, turn_late}
-use Rattle.pt_begun.proofs.ends.Ending.{ends_well}
-use Rattle.pt_begun.proofs.ends.EndStates.{ends_with_states}
-use Rattle.pt_begun.proofs.refusals.GoodStarts.{nothing_is_refused}
-use Rattle.pt_begun.proofs.refusals.Reasons.{of_turn}
+use Rattle.pt_invariant.proofs.ends.Ending.{ends_well}
+use Rattle.pt_invariant.proofs.ends.EndStates.{ends_with_states}
+use Rattle.pt_invariant.proofs.refusals.GoodStarts.{nothing_is_refused}
+use Rattle.pt_invariant.proofs.refusals.Reasons.{of_turn}
 use Rattle.pt_plan.specs.RunFaults.{IsOfTurn}
-use Rattle.pt_begun.proofs.source.InPairtree.{some_same}
-use Rattle.pt_begun.proofs.refusals.Refusing.{refuses_rightly}
-use Rattle.pt_begun.proofs.refusals.StagingFound.{finds_staging}
-use Rattle.pt_begun.proofs.faults.StandingStill.{begun_stands_still}
-use Rattle.pt_begun.proofs.refusals.TargetFound.{finds_target, finds_target_of}
-use Rattle.pt_begun.proofs.ends.TurnEnds.{stops_leave}
-use Rattle.pt_begun.proofs.bounds.TurnBound.{turn_is_within_bound}
-use Rattle.pt_begun.proofs.turns_left.EndsWithin.{turn_ends_within_work, turn_tree}
-use Rattle.pt_begun.proofs.turns_left.Within.{turn_keeps_within_work, turns_are_within_work, within_work_is_begun}
-use Rattle.pt_begun.specs.WorkLaws.{BegunWithinWork}
-use Rattle.pt_move.specs.Outcome.{EndsWhole, FaultLeaves, HoldsWithinBound, IfEarly, IfLog, LeavesAll, LeavesNoStaging, MadeWithinWork, SaysOfBoth, SaysOfDest, SaysRightly, StandsStillIn, StatesAreFiles, WantsMemory}
+use Rattle.pt_invariant.proofs.source.InPairtree.{some_same}
+use Rattle.pt_invariant.proofs.refusals.Refusing.{refuses_rightly}
+use Rattle.pt_invariant.proofs.refusals.StagingFound.{finds_staging}
+use Rattle.pt_invariant.proofs.faults.StandingStill.{invariant_stands_still}
+use Rattle.pt_invariant.proofs.refusals.TargetFound.{finds_target, finds_target_of}
+use Rattle.pt_invariant.proofs.ends.TurnEnds.{stops_leave}
+use Rattle.pt_invariant.proofs.bounds.TurnBound.{turn_is_within_bound}
+use Rattle.pt_invariant.proofs.turns_left.EndsWithin.{turn_ends_within_work, turn_tree}
+use Rattle.pt_invariant.proofs.turns_left.Within.{turn_keeps_within_work, turns_are_within_work, within_work_holds_invariant}
+use Rattle.pt_invariant.specs.WorkLaws.{InvariantWithinWork}
+use Rattle.pt_move.specs.Outcome.{EndsWhole, FaultStateTold, HoldsWithinBound, IfEarly, IfLog, LeavesAll, LeavesNoStaging, MadeWithinWork, SaysOfBoth, SaysOfDest, SaysRightly, StandsStillIn, StatesAreFiles, WantsMemory}
 use Rattle.pt_move.specs.Promises.{AnswerSays, TurnKeeps}
 use Rattle.pt_move.specs.Running.{IsBegun}
 
@@ -57,7 +57,7 @@ if_early _ _ _ = tt
 
 -- ---- a turn
 
-module _ (s s' : State) (here : Phase) (fed fed' : List ℕ) (old new : World) (start : Start) (within : BegunWithinWork (job_of s.job) start old (record { phase = here; kept = kept_of s fed })) (going : is_ended here ≡ false) where
+module _ (s s' : State) (here : Phase) (fed fed' : List ℕ) (old new : DeviceStates) (start : Start) (within : InvariantWithinWork (job_of s.job) start old (record { phase = here; kept = kept_of s fed })) (going : is_ended here ≡ false) where
   abbrev pub MadeTurn : Answer → Type 0
   MadeTurn answer = Turn (job_of s.job) here (turning (kept_of s fed)) (kept_of s' fed') old new answer
 
@@ -70,11 +70,11 @@ module _ (s s' : State) (here : Phase) (fed fed' : List ℕ) (old new : World) (
   abbrev after : Kept
   after = kept_of s' fed'
 
-  begun : Begun job start old run
-  begun = within_work_is_begun job start old run within
+  begun : RunInvariant job start old run
+  begun = within_work_holds_invariant job start old run within
 
   -- the run is in progress within its work, or has ended so
-  pub within_after : (answer : Answer) → MadeTurn answer → BegunWithinWork job start new (record { phase = phase_after answer; kept = after })
+  pub within_after : (answer : Answer) → MadeTurn answer → InvariantWithinWork job start new (record { phase = phase_after answer; kept = after })
   within_after (Ok next) turn = turn_keeps_within_work job start old new run after next within turn
   within_after (Err why) turn = turn_ends_within_work job start old new run after why within going turn
 
@@ -82,7 +82,7 @@ module _ (s s' : State) (here : Phase) (fed fed' : List ℕ) (old new : World) (
   unfolding StandsStillIn
   stands_after {answer} turn = λ t w start_is dest_is.
       let later : Run = record { phase = phase_after answer; kept = after } in
-      begun_stands_still job start new later t w (within_work_is_begun job start new later (within_after answer turn)) start_is dest_is
+      invariant_stands_still job start new later t w (within_work_holds_invariant job start new later (within_after answer turn)) start_is dest_is
 
   work_after : {answer : Answer} → MadeTurn answer → MadeWithinWork s.job (source_tree old.source) start.dest s'.counts
   unfolding MadeWithinWork
@@ -97,13 +97,13 @@ module _ (s s' : State) (here : Phase) (fed fed' : List ℕ) (old new : World) (
       let reading = reading_of old.source source_is in
       rw reading.2 at (turn_is_within_bound job start old new run after answer reading.0 begun going turn reading.1)
 
-  left_after : {answer : Answer} → MadeTurn answer → FaultLeaves s.job (source_tree old.source) start new.dest new.log
-  unfolding FaultLeaves
+  left_after : {answer : Answer} → MadeTurn answer → FaultStateTold s.job (source_tree old.source) start new.dest new.log
+  unfolding FaultStateTold
   left_after {answer} turn = λ f t now first last source_is start_is dest_is first_is last_is.
       let reading = reading_of new.source (turn_tree job here (turning (kept_of s fed)) after old new answer turn ∙ source_is) in
       let later : Run = record { phase = phase_after answer; kept = after } in
       rw reading.2 at
-      (stops_leave job start new later reading.0 t now first last (within_work_is_begun job start new later (within_after answer turn)) reading.1 start_is dest_is first_is last_is)
+      (stops_leave job start new later reading.0 t now first last (within_work_holds_invariant job start new later (within_after answer turn)) reading.1 start_is dest_is first_is last_is)
 
   -- the turn that ends the run
   end_whole : MadeTurn (Ok phase.Ended) → EndsWhole s.job (source_tree old.source) start new.dest new.log s'.counts

@@ -1,7 +1,7 @@
 -- What the steps of a run over the devices as one say of the whole.
 use Rattle.std.proofs.Common.{◌≡◌, ◌≢◌, ◌<◌, ◌-◌, ◌+◌, arith, List, [], ℕ, refl, ap, ◌∙◌, subst, sym}
 use Rattle.std.specs.Prelude.{Ok, Err}
-use Rattle.pt_state.proofs.Words.{HasBeenFed, new_run, Fault, Phase, World, job_of, kept_of, Run, turning, Turn}
+use Rattle.pt_state.proofs.Words.{HasBeenFed, new_run, Fault, Phase, DeviceStates, job_of, kept_of, Run, turning, Turn}
 use Rattle.pt_state.proofs.Words.phase
 use Rattle.pt_state.specs.declared.job.Report.{Report}
 use Rattle.pt_move.specs.Running.{FedUntilEnd, IsNew, Running, run_of}
@@ -16,20 +16,20 @@ use Rattle.pt_state.specs.declared.job.Job.{Job}
 use Rattle.pt_move.specs.Turning.{CountedTurn}
 
 -- where none failed before, the step's blame is the run's
-pub none_failed : (old new : World) (t : Motion) → BlamesRightly old new (Ok t) → new.failures ≡ old.failures
+pub none_failed : (old new : DeviceStates) (t : Motion) → BlamesRightly old new (Ok t) → new.failures ≡ old.failures
 unfolding BlamesRightly
 none_failed old new t blames = λ i. record { source = blames.source i; dest = blames.dest i; log = blames.log i }
 
-pub blames_ok : (first old new : World) (t : Motion) (report : Report) → old.failures ≡ first.failures → BlamesRightly old new (Ok t) → BlamesRightly first new (Ok report)
+pub blames_ok : (first old new : DeviceStates) (t : Motion) (report : Report) → old.failures ≡ first.failures → BlamesRightly old new (Ok t) → BlamesRightly first new (Ok report)
 unfolding BlamesRightly
 blames_ok first old new t report same blames = record { source = rw same at blames.source; dest = rw same at blames.dest; log = rw same at blames.log }
 
-pub blames_err : (first old new : World) (f : Fault) → old.failures ≡ first.failures → BlamesRightly {T = Motion} old new (Err f) → BlamesRightly {T = Report} first new (Err f)
+pub blames_err : (first old new : DeviceStates) (f : Fault) → old.failures ≡ first.failures → BlamesRightly {T = Motion} old new (Err f) → BlamesRightly {T = Report} first new (Err f)
 unfolding BlamesRightly
 blames_err first old new f same blames = record { source = rw same at blames.source; dest = rw same at blames.dest; log = rw same at blames.log }
 
 -- a turn less is left to make
-pub smaller : (old new : World) (a b : Running) (t : Motion) → t ≡ motion.More → StepLeaves old new a b (Ok t) → EndsAs a b (Ok t) → b.state.job.limits.turns - b.state.counts.turns < a.state.job.limits.turns - a.state.counts.turns
+pub smaller : (old new : DeviceStates) (a b : Running) (t : Motion) → t ≡ motion.More → StepLeaves old new a b (Ok t) → EndsAs a b (Ok t) → b.state.job.limits.turns - b.state.counts.turns < a.state.job.limits.turns - a.state.counts.turns
 unfolding StepLeaves
 smaller old new a b t is left ends =
     let made : EndsAs a b (Ok motion.More) = rw is at ends in
@@ -41,13 +41,13 @@ smaller old new a b t is left ends =
 -- ---- turns so far
 
 -- so many turns were made as are counted
-pub record RanSoFar (job : Job) (first now : World) (r : Running) : Type 0 where
+pub record RanSoFar (job : Job) (first now : DeviceStates) (r : Running) : Type 0 where
   pub fed : List ℕ
   pub was : FedUntilEnd r.phase r.state.job.algorithm r.state.hasher fed
   pub turns : Turns (job_of job) first r.state.counts.turns (run_of r fed) now
 
 -- none
-pub ran_nothing : (job : Job) (w : World) (r : Running) → IsNew job r → RanSoFar job w w r
+pub ran_nothing : (job : Job) (w : DeviceStates) (r : Running) → IsNew job r → RanSoFar job w w r
 ran_nothing job w r new = record {
   fed = [];
   was = fed_to_end r.phase r.state.job.algorithm r.state.hasher [] (rw new.job_is new.fed);
@@ -58,7 +58,7 @@ ran_nothing job w r new = record {
     run_is = λ i. record { phase = new.phase i; kept = new.kept i }
 
 -- the turn that a step made, where the hasher was fed what it was
-module _ (job : Job) (first old new : World) (a b : Running) (same : a.state.job ≡ job) (going : a.phase ≢ phase.Ended) (so_far : RanSoFar job first old a) where
+module _ (job : Job) (first old new : DeviceStates) (a b : Running) (same : a.state.job ≡ job) (going : a.phase ≢ phase.Ended) (so_far : RanSoFar job first old a) where
   fed_now : HasBeenFed a.state.job.algorithm a.state.hasher so_far.fed
   fed_now = fed_going a.state.job.algorithm a.state.hasher so_far.fed going so_far.was
 
@@ -104,7 +104,7 @@ module _ (job : Job) (first old new : World) (a b : Running) (same : a.state.job
   at_limit (kept, still, made) = record {
     run = run_of a so_far.fed;
     going = is_going a.phase going;
-    turns = subst (λ (w : World). Turns (job_of job) first job.limits.turns (run_of a so_far.fed) w) (sym still)
+    turns = subst (λ (w : DeviceStates). Turns (job_of job) first job.limits.turns (run_of a so_far.fed) w) (sym still)
         (subst (λ (n : ℕ). Turns (job_of job) first n (run_of a so_far.fed) old) (made ∙ ap (λ (j : Job). j.limits.turns) same) so_far.turns);
   }
 

@@ -9,9 +9,9 @@ use Rattle.pt_state.proofs.Words.opening
 use Rattle.pt_state.proofs.Words.phase
 use Rattle.pt_state.proofs.Words.stage
 use Rattle.pt_state.specs.declared.state.State.{State}
-use Rattle.pt_begun.specs.BegunHeld.{HeldAt}
-use Rattle.pt_begun.specs.Past.{Past}
-use Rattle.pt_begun.specs.PartsMade.{IsAtStoredRow}
+use Rattle.pt_invariant.specs.HeldInvariant.{HeldAt}
+use Rattle.pt_invariant.specs.History.{History}
+use Rattle.pt_invariant.specs.PartsMade.{IsAtStoredRow}
 use Rattle.pt_make.specs.Making.{HasContentsOfRows, HasFedInventory, IsReadyFor}
 use Rattle.pt_scan.specs.Scanning.{IsSite}
 use Rattle.pt_move.specs.Stands.{Stands}
@@ -29,7 +29,7 @@ in_object : (object : Object) (trail : List Frame) → 0 < object.site → objec
 unfolding IsSite
 in_object object trail some within = (some, within)
 
-ready : (here : Part) {object : Object} (s : State) {fed : List ℕ} {past : Past} → HasBeenFed s.job.algorithm s.hasher fed → HeldAt (job_of s.job) past (phase.Carrying object (stage.Make here)) (held_of s fed) → IsReadyFor here object s
+ready : (here : Part) {object : Object} (s : State) {fed : List ℕ} {past : History} → HasBeenFed s.job.algorithm s.hasher fed → HeldAt (job_of s.job) past (phase.Carrying object (stage.Make here)) (held_of s fed) → IsReadyFor here object s
 unfolding HasContentsOfRows HasFedInventory
 ready part.Staging s was held = tt
 ready part.Declaration s was held = tt
@@ -48,7 +48,7 @@ stored_there {held} {position} at = by (slice_get held.contents position.stored)
     by None is absent = absurd (cc)
     by (Some content) is there = slice_get_within held.contents position.stored content is
 
-pub stands : (here : Phase) (s : State) {fed : List ℕ} {past : Past} → here ≢ phase.Ended → HasBeenFed s.job.algorithm s.hasher fed → HeldAt (job_of s.job) past here (held_of s fed) → Stands here s
+pub stands : (here : Phase) (s : State) {fed : List ℕ} {past : History} → here ≢ phase.Ended → HasBeenFed s.job.algorithm s.hasher fed → HeldAt (job_of s.job) past here (held_of s fed) → Stands here s
 stands (phase.Opening (opening.RootMake item)) s going was held = held.numbers
 stands (phase.Opening (opening.RootCheck file)) s going was held = held.numbers
 stands (phase.Opening opening.OpenRoot) s going was held = held.trail.none

@@ -1,15 +1,15 @@
 -- What `migrate` promises, over the world of its devices before and after. Each promise says itself which devices have to tell.
 use Rattle.std.specs.Prelude.{◌≡◌, ◌≢◌, ◌≤◌, IfErr, IfOk, OnErr, Result}
-use Rattle.pt_begun.specs.Begun.{start_of}
-use Rattle.pt_plan.specs.World.{World, dest_tree, source_tree}
+use Rattle.pt_invariant.specs.RunInvariant.{start_of}
+use Rattle.pt_plan.specs.DeviceStates.{DeviceStates, dest_tree, source_tree}
 use Rattle.pt_state.specs.States.{counts_of}
 use Rattle.pt_state.specs.declared.job.Job.{Job}
 use Rattle.pt_state.specs.declared.job.Report.{Report}
 use Rattle.pt_move.specs.Bounds.{lines_put}
 use Rattle.pt_move.specs.Counting.{Counts}
 use Rattle.pt_move.specs.Lines.{HasToldAll, HasToldFront}
-use Rattle.pt_move.specs.Outcome.{EndsWhole, FaultLeaves, IfEarly, IfLog, LeavesAll, LeavesNoStaging, MadeWithinWork, SaysRightly, StandsStillIn, StatesAreFiles, WantsMemory}
-use Rattle.pt_move.specs.Running.{LeavesBehind}
+use Rattle.pt_move.specs.Outcome.{EndsWhole, FaultStateTold, IfEarly, IfLog, LeavesAll, LeavesNoStaging, MadeWithinWork, SaysRightly, StandsStillIn, StatesAreFiles, WantsMemory}
+use Rattle.pt_move.specs.Running.{DestFaultStateTold}
 use Rattle.pt_move.specs.Runs.{IsRun}
 use Rattle.pt_plan.specs.declared.fault.Fault.{Fault}
 use Rattle.pt_plan.specs.declared.fault.Fault.TheVariants as fault
@@ -20,8 +20,8 @@ use Rattle.pt_plan.specs.declared.fault.Fault.TheVariants as fault
 --   left: left_after (Outcomes), by stops_leave (TurnEnds), halts_leave (TurnEnds), rerun_leaves_the_same (LaterTrees)
 --   early: leaves_all (Outcomes), by early_leaves_dest (EarlyHalts), early_leaves_log (EarlyHalts)
 --   unstaged: unstaged_after (Outcomes), by failed_log_leaves_no_staging (LogHalts)
---   leaves: leaves_behind (Answering), by turn_ends_begun (TurnEnds)
---   stands: stands_after (Outcomes), by left_behind_stands_still (StandingStill), begun_stands_still (StandingStill)
+--   leaves: leaves_behind (Answering), by turn_ends_invariant (TurnEnds)
+--   stands: stands_after (Outcomes), by left_behind_stands_still (StandingStill), invariant_stands_still (StandingStill)
 --   says: halt_says (Outcomes), by refuses_rightly (Refusing), finds_staging (StagingFound), finds_target_of (TargetFound)
 --   good: halt_good (Outcomes), by nothing_is_refused (GoodStarts)
 --   work: work_after (Outcomes), by turns_are_within_work (Within)
@@ -32,20 +32,20 @@ use Rattle.pt_plan.specs.declared.fault.Fault.TheVariants as fault
 --   turns, lines, never_ended: turn_keeps_bounds (Bounding), not_ended (Ending)
 --
 -- what a run promises, by what its devices told before and after
-pub record Migrates (job : Job) (old new : World) (result : Result Report Fault) : Type 0 where
+pub record Migrates (job : Job) (old new : DeviceStates) (result : Result Report Fault) : Type 0 where
   -- at its end the root holds all objects that are carried, each whole, nothing else is changed, and the log has all lines
   pub ends : IfOk result (EndsWhole job (source_tree old.source) (start_of old) new.dest new.log)
   -- and the state of the version of each is its files
   pub states : IfOk result
       (λ report. StatesAreFiles job (source_tree old.source) (start_of old) new.dest new.log)
   -- however it ends, destination and log are such as a fault may leave
-  pub left : FaultLeaves job (source_tree old.source) (start_of old) new.dest new.log
+  pub left : FaultStateTold job (source_tree old.source) (start_of old) new.dest new.log
   -- and as they were after an early fault
   pub early : IfErr result (λ f. IfEarly f (LeavesAll (start_of old) new.dest new.log))
   -- and with nothing at `staging` where the log failed
   pub unstaged : IfErr result (λ f. IfLog f (LeavesNoStaging new.dest))
   -- whatever the source gives, the destination holds only whole objects at places where nothing stood, and a part of one more in `staging`
-  pub leaves : LeavesBehind job (dest_tree old.dest) new.dest
+  pub leaves : DestFaultStateTold job (dest_tree old.dest) new.dest
   -- and what stood in it stands
   pub stands : StandsStillIn (dest_tree old.dest) new.dest
   -- the source's tree is as it was

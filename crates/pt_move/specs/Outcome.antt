@@ -12,15 +12,15 @@ use Rattle.pt_plan.specs.Roots.{root_in}
 use Rattle.pt_plan.specs.Run.{Counts}
 use Rattle.pt_plan.specs.TurnPlace.{last_line}
 use Rattle.pt_plan.specs.WholeLaws.{HasItsFiles}
-use Rattle.pt_begun.specs.Begun.{Start}
+use Rattle.pt_invariant.specs.RunInvariant.{Start}
 use Rattle.pt_plan.specs.Work.{work}
-use Rattle.pt_plan.specs.World.{Failures}
-use Rattle.pt_begun.specs.BegunSource.{IsWithinBound}
-use Rattle.pt_begun.specs.EndLaws.{IsEnd}
-use Rattle.pt_begun.specs.GoodStart.{NoneRose}
-use Rattle.pt_begun.specs.FaultLeft.{IsLeftByFault}
-use Rattle.pt_begun.specs.RefusalLaws.{IsBadTarget, IsCarriedOf, SaysOfSource}
-use Rattle.pt_begun.specs.StillLaws.{StandsStill}
+use Rattle.pt_plan.specs.DeviceStates.{Failures}
+use Rattle.pt_invariant.specs.SourceInvariant.{IsWithinBound}
+use Rattle.pt_invariant.specs.EndLaws.{IsEnd}
+use Rattle.pt_invariant.specs.GoodStart.{NoneRose}
+use Rattle.pt_invariant.specs.FaultState.{FaultStateAndLog}
+use Rattle.pt_invariant.specs.RefusalLaws.{IsBadTarget, IsCarriedOf, SaysOfSource}
+use Rattle.pt_invariant.specs.StillLaws.{StandsStill}
 use Rattle.pt_state.specs.States.{counts_of, held_of, job_of}
 use Rattle.pt_state.specs.declared.job.Job.{Job}
 use Rattle.pt_state.specs.declared.job.Report.{Report}
@@ -49,11 +49,11 @@ StatesAreFiles job source start dest log =
     → All (HasItsFiles (job_of job) now.tree) (all_carried (job_of job) s (root_in t))
 
 -- what a run leaves that a fault ended, where all three tell: destination and log such as any fault may leave
-unfoldable pub FaultLeaves : Job → Option Forest → Start → Option Writing → Option (List ℕ) → Type 0
-FaultLeaves job source start dest log =
+unfoldable pub FaultStateTold : Job → Option Forest → Start → Option Writing → Option (List ℕ) → Type 0
+FaultStateTold job source start dest log =
     (s : Forest) (t : Tree) (now : Writing) (first last : List ℕ) → source ≡ Some s
     → start.dest ≡ Some t → dest ≡ Some now → start.log ≡ Some first → log ≡ Some last
-    → IsLeftByFault (job_of job) s t now.tree first last
+    → FaultStateAndLog (job_of job) s t now.tree first last
 
 -- the destination is as it was at the start, where it tells, and so is the log
 unfoldable pub LeavesAll : Start → Option Writing → Option (List ℕ) → Type 0

@@ -1,13 +1,13 @@
 -- What holds of a run after each of its steps, against the start at which it began. Each fact says itself which devices have to tell.
 use Rattle.std.specs.Prelude.{◌≡◌, Result, Ok, Err, ⊤}
 use Rattle.pt_plan.specs.Answer.{Answer, phase_after}
-use Rattle.pt_plan.specs.World.{World, source_tree}
+use Rattle.pt_plan.specs.DeviceStates.{DeviceStates, source_tree}
 use Rattle.pt_plan.specs.declared.phase.Phase.TheVariants as phase
-use Rattle.pt_begun.specs.Begun.{Start}
+use Rattle.pt_invariant.specs.RunInvariant.{Start}
 use Rattle.pt_state.specs.Fields.{HoldsNothingElse}
 use Rattle.pt_state.specs.declared.state.State.{State}
-use Rattle.pt_move.specs.Outcome.{EndsWhole, FaultLeaves, HoldsWithinBound, IfEarly, IfLog, LeavesAll, LeavesNoStaging, MadeWithinWork, SaysRightly, StandsStillIn, StatesAreFiles, WantsMemory}
-use Rattle.pt_move.specs.Running.{HasBegun, IsBegun, LeavesBehind, Running}
+use Rattle.pt_move.specs.Outcome.{EndsWhole, FaultStateTold, HoldsWithinBound, IfEarly, IfLog, LeavesAll, LeavesNoStaging, MadeWithinWork, SaysRightly, StandsStillIn, StatesAreFiles, WantsMemory}
+use Rattle.pt_move.specs.Running.{HasBegun, IsBegun, DestFaultStateTold, Running}
 use Rattle.pt_move.specs.Stepping.{Steps}
 use Rattle.pt_plan.specs.declared.fault.Fault.{Fault}
 use Rattle.pt_plan.specs.declared.fault.Fault.TheVariants as fault
@@ -37,12 +37,12 @@ UnlessEnded (Err f) P = P
 -- ---- a step
 
 -- what holds after a step, whatever it answers
-pub record StepPromises (start : Start) (old new : World) (before after : Running)
+pub record StepPromises (start : Start) (old new : DeviceStates) (before after : Running)
     (answer : Result Turn Fault) : Type 0 where
   -- the run is in progress still, or has ended, and began at that start
   pub begun : IsBegun start new after
   -- the destination holds only whole objects at places where nothing stood, and a part of one more in `staging`
-  pub leaves : LeavesBehind before.state.job start.dest new.dest
+  pub leaves : DestFaultStateTold before.state.job start.dest new.dest
   -- and what stood in it stands
   pub stands : StandsStillIn start.dest new.dest
   -- no more turns were made than the work
@@ -59,7 +59,7 @@ pub record StepPromises (start : Start) (old new : World) (before after : Runnin
   pub states : IfFinished answer
       (StatesAreFiles before.state.job (source_tree old.source) start new.dest new.log)
   -- destination and log are such as a fault may leave
-  pub left : FaultLeaves before.state.job (source_tree old.source) start new.dest new.log
+  pub left : FaultStateTold before.state.job (source_tree old.source) start new.dest new.log
   -- and as they were at the start after an early fault
   pub early : IfHalted answer (λ f. IfEarly f (LeavesAll start new.dest new.log))
   -- and with nothing at `staging` where the log failed
@@ -71,11 +71,11 @@ pub record StepPromises (start : Start) (old new : World) (before after : Runnin
       (WantsMemory before.state.job (source_tree old.source) start.dest old.failures new.failures)
 
 -- the run keeps its promises in this step
-unfoldable pub Keeps : Start → World → World → Running → Running → Result Turn Fault → Type 0
+unfoldable pub Keeps : Start → DeviceStates → DeviceStates → Running → Running → Result Turn Fault → Type 0
 Keeps start old new before after answer = StepPromises start old new before after answer
 
 -- a step of a run in progress, or of one that is to begin
-pub record TakesStep (old new : World) (before after : Running) (answer : Result Turn Fault) : Type 0 where
+pub record TakesStep (old new : DeviceStates) (before after : Running) (answer : Result Turn Fault) : Type 0 where
   -- it keeps the promises of the run so far, against whatever start that began at
   pub keeps : (start : Start) → IsBegun start old before → Keeps start old new before after answer
   -- the run is in progress still, or has ended
@@ -86,32 +86,32 @@ pub record TakesStep (old new : World) (before after : Running) (answer : Result
 -- ---- the turn in it
 
 -- what a turn leaves that was the last one
-pub record EndPromises (start : Start) (old new : World) (s s' : State) : Type 0 where
+pub record EndPromises (start : Start) (old new : DeviceStates) (s s' : State) : Type 0 where
   pub ends : EndsWhole s.job (source_tree old.source) start new.dest new.log s'.counts
   pub states : StatesAreFiles s.job (source_tree old.source) start new.dest new.log
 
 -- what one leaves and says that halted the run
-pub record HaltPromises (start : Start) (old new : World) (s : State) (f : Fault) : Type 0 where
+pub record HaltPromises (start : Start) (old new : DeviceStates) (s : State) (f : Fault) : Type 0 where
   pub early : IfEarly f (LeavesAll start new.dest new.log)
   pub unstaged : IfLog f (LeavesNoStaging new.dest)
   pub says : SaysRightly s.job (source_tree old.source) start.dest f
   pub good : WantsMemory s.job (source_tree old.source) start.dest old.failures new.failures f
 
 -- what holds besides, by the answer: where the run ended, or where it was halted
-abbrev pub AnswerSays : World → Start → World → State → State → Answer → Type 0
+abbrev pub AnswerSays : DeviceStates → Start → DeviceStates → State → State → Answer → Type 0
 AnswerSays old start new s s' (Ok next) = next ≡ phase.Ended → EndPromises start old new s s'
 AnswerSays old start new s s' (Err why) = HaltPromises start old new s why
 
 -- what holds after a turn
-pub record TurnPromises (start : Start) (old new : World) (s s' : State) (answer : Answer) : Type 0 where
+pub record TurnPromises (start : Start) (old new : DeviceStates) (s s' : State) (answer : Answer) : Type 0 where
   pub begun : IsBegun start new (record { phase = phase_after answer; state = s' })
-  pub leaves : LeavesBehind s.job start.dest new.dest
+  pub leaves : DestFaultStateTold s.job start.dest new.dest
   pub stands : StandsStillIn start.dest new.dest
   pub work : MadeWithinWork s.job (source_tree old.source) start.dest s'.counts
   pub bound : HoldsWithinBound s.job (source_tree old.source) s'
-  pub left : FaultLeaves s.job (source_tree old.source) start new.dest new.log
+  pub left : FaultStateTold s.job (source_tree old.source) start new.dest new.log
   pub says : AnswerSays old start new s s' answer
 
 -- the run keeps its promises in this turn
-unfoldable pub TurnKeeps : Start → World → World → State → State → Answer → Type 0
+unfoldable pub TurnKeeps : Start → DeviceStates → DeviceStates → State → State → Answer → Type 0
 TurnKeeps start old new s s' answer = TurnPromises start old new s s' answer

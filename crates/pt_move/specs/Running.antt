@@ -10,11 +10,11 @@ use Rattle.pt_plan.specs.Run.{Kept, Run}
 use Rattle.pt_plan.specs.declared.phase.Phase.{Phase}
 use Rattle.pt_plan.specs.declared.phase.Opening.TheVariants as opening
 use Rattle.pt_plan.specs.declared.phase.Phase.TheVariants as phase
-use Rattle.pt_begun.specs.Begun.{Start, TellsAsBefore}
-use Rattle.pt_begun.specs.EndLaws.{is_ended}
-use Rattle.pt_begun.specs.BegunDest.{IsLeftBehind}
-use Rattle.pt_plan.specs.World.{World, dest_tree}
-use Rattle.pt_begun.specs.WorkLaws.{BegunWithinWork}
+use Rattle.pt_invariant.specs.RunInvariant.{Start, TellsAsBefore}
+use Rattle.pt_invariant.specs.EndLaws.{is_ended}
+use Rattle.pt_invariant.specs.DestInvariant.{DestFaultStateOfRun}
+use Rattle.pt_plan.specs.DeviceStates.{DeviceStates, dest_tree}
+use Rattle.pt_invariant.specs.WorkLaws.{InvariantWithinWork}
 use Rattle.pt_state.specs.States.{job_of, kept_of}
 use Rattle.pt_state.specs.declared.job.Job.{Job}
 use Rattle.pt_state.specs.declared.job.Report.{Report}
@@ -52,7 +52,7 @@ pub record IsFresh (s : State) : Type 0 where
   pub fed : HasBeenFed s.job.algorithm s.hasher []
 
 -- what always holds of a run: its numbers are within their bounds, and one that is to begin holds nothing
-pub record IsWell (r : Running) : Type 0 where
+pub record TypeInvariant (r : Running) : Type 0 where
   pub bounded : IsBounded (job_of r.state.job) r.phase (kept_of r.state [])
   pub fresh : r.phase ≡ phase.Opening opening.Begin → IsFresh r.state
 
@@ -69,27 +69,27 @@ abbrev pub start_with : Option Writing → Option (List ℕ) → Start
 start_with dest log = record { dest = dest_tree dest; log = log }
 
 -- the run began at this start, and this is the world that it is in progress in, within its work, or has left
-pub record InProgress (start : Start) (world : World) (r : Running) : Type 0 where
+pub record InProgress (start : Start) (world : DeviceStates) (r : Running) : Type 0 where
   pub fed : List ℕ
   pub was : FedUntilEnd r.phase r.state.job.algorithm r.state.hasher fed
-  pub begun : BegunWithinWork (job_of r.state.job) start world (run_of r fed)
+  pub begun : InvariantWithinWork (job_of r.state.job) start world (run_of r fed)
 
 -- what the devices of a world tell; how often they failed has no part in it, so a device that tells nothing may be another one
-abbrev pub as_told : World → World
+abbrev pub as_told : DeviceStates → DeviceStates
 as_told world = record world { failures = record { source = 0; dest = 0; log = 0 } }
 
 -- this run is in progress, or has ended, and began at this start
-unfoldable pub IsBegun : Start → World → Running → Type 0
+unfoldable pub IsBegun : Start → DeviceStates → Running → Type 0
 IsBegun start world r = InProgress start (as_told world) r
 
 -- it is to begin, or it began at some start
-unfoldable pub HasBegun : World → Running → Type 0
+unfoldable pub HasBegun : DeviceStates → Running → Type 0
 HasBegun world r = (r.phase ≡ phase.Opening opening.Begin) ⊎ ((start : Start) × IsBegun start world r)
 
 -- it began at some start
-unfoldable pub BeganSomewhere : World → Running → Type 0
+unfoldable pub BeganSomewhere : DeviceStates → Running → Type 0
 BeganSomewhere world r = (start : Start) × IsBegun start world r
 
 -- where the destination tells: what a run leaves whatever its source gives (only whole objects at places where nothing stood, and a part of one more in `staging`), and all as it was where something stood at `staging` at the start
-unfoldable pub LeavesBehind : Job → Option Tree → Option Writing → Type 0
-LeavesBehind job start now = TellsAsBefore start now (IsLeftBehind (job_of job))
+unfoldable pub DestFaultStateTold : Job → Option Tree → Option Writing → Type 0
+DestFaultStateTold job start now = TellsAsBefore start now (DestFaultStateOfRun (job_of job))

@@ -3,47 +3,47 @@ use Rattle.std.specs.Prelude.{◌≡◌, ◌+◌, ◌<◌, ℕ, Result, Ok, Err,
 use Rattle.pt_plan.specs.Job as plan
 use Rattle.pt_plan.specs.Run.{Kept, Run, new_run, turning}
 use Rattle.pt_plan.specs.Turn.{Turn}
-use Rattle.pt_plan.specs.World.{World}
+use Rattle.pt_plan.specs.DeviceStates.{DeviceStates}
 use Rattle.pt_plan.specs.declared.fault.Fault.{Fault}
 use Rattle.pt_plan.specs.declared.phase.Phase.{Phase}
 use Rattle.pt_plan.specs.declared.phase.Phase.TheVariants as phase
-use Rattle.pt_begun.specs.EndLaws.{is_ended}
+use Rattle.pt_invariant.specs.EndLaws.{is_ended}
 use Rattle.pt_state.specs.States.{counts_of, job_of}
 use Rattle.pt_state.specs.declared.job.Job.{Job}
 use Rattle.pt_state.specs.declared.job.Report.{Report}
 use Rattle.pt_plan.specs.declared.fault.Fault.TheVariants as fault
 
 -- so many turns lead from a run that is to begin, over this world, to this run over that one
-pub data Turns (job : plan.Job) (first : World) : ℕ → Run → World → Type 0 where
+pub data Turns (job : plan.Job) (first : DeviceStates) : ℕ → Run → DeviceStates → Type 0 where
   NoTurn : Turns job first 0 new_run first
-  OneMore : (n : ℕ) (run : Run) (old new : World) (after : Kept) (next : Phase)
+  OneMore : (n : ℕ) (run : Run) (old new : DeviceStates) (after : Kept) (next : Phase)
       → Turns job first n run old → Turn job run.phase (turning run.kept) after old new (Ok next)
       → Turns job first (n + 1) (record { phase = next; kept = after }) new
 
 -- the run came to its end by as many turns as it reports
-pub record Finished (job : Job) (old new : World) (report : Report) : Type 0 where
+pub record Finished (job : Job) (old new : DeviceStates) (report : Report) : Type 0 where
   pub kept : Kept
   pub counts : kept.counts ≡ counts_of report
   pub turns : Turns (job_of job) old report.turns (record { phase = phase.Ended; kept = kept }) new
 
 -- it was halted by this turn, after fewer turns than the limit
-pub record Halted (job : Job) (old new : World) (f : Fault) : Type 0 where
+pub record Halted (job : Job) (old new : DeviceStates) (f : Fault) : Type 0 where
   pub count : ℕ
   pub run : Run
-  pub world : World
+  pub world : DeviceStates
   pub after : Kept
   pub turns : Turns (job_of job) old count run world
   pub within : count < job.limits.turns
   pub turn : Turn (job_of job) run.phase (turning run.kept) after world new (Err f)
 
 -- exactly as many turns as the limit were made, and it hadn't ended
-pub record AtLimit (job : Job) (old new : World) : Type 0 where
+pub record AtLimit (job : Job) (old new : DeviceStates) : Type 0 where
   pub run : Run
   pub going : is_ended run.phase ≡ false
   pub turns : Turns (job_of job) old job.limits.turns run new
 
 -- by the answer, which turns a whole run made: after Ok as many as are reported, after `Turns` as many as the limit, after any other fault fewer, and the one that halted it
-unfoldable pub IsRun : Job → World → World → Result Report Fault → Type 0
+unfoldable pub IsRun : Job → DeviceStates → DeviceStates → Result Report Fault → Type 0
 IsRun job old new (Ok report) = Finished job old new report
 IsRun job old new (Err fault.Turns) = AtLimit job old new
 IsRun job old new (Err fault.Ended) = ⊥

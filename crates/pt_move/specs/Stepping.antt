@@ -2,12 +2,12 @@
 use Rattle.std.specs.Prelude.{◌≡◌, ◌≢◌, ◌+◌, ◌<◌, ◌==◌, ◌≤◌, ℕ, IfErr, IfOk, Result, Ok, Err, cond, ⊤}
 use Rattle.pt_plan.specs.Answer.{Answer, phase_after}
 use Rattle.pt_plan.specs.RunFaults.{IsOfTurn}
-use Rattle.pt_plan.specs.World.{World, source_tree}
+use Rattle.pt_plan.specs.DeviceStates.{DeviceStates, source_tree}
 use Rattle.pt_plan.specs.declared.fault.Fault.{Fault}
 use Rattle.pt_plan.specs.declared.phase.Phase.{Phase}
 use Rattle.pt_plan.specs.declared.phase.Phase.TheVariants as phase
 use Rattle.pt_state.specs.States.{counts_of}
-use Rattle.pt_state.specs.declared.outside.Outside.{Ghosts as OfOutside}
+use Rattle.pt_state.specs.declared.outside.Io.{Ghosts as OfOutside}
 use Rattle.pt_state.specs.declared.state.State.{State}
 use Rattle.pt_move.specs.Bounds.{lines_put}
 use Rattle.pt_move.specs.Turning.{CountedTurn}
@@ -15,7 +15,7 @@ use Rattle.pt_move.specs.Counting.{Counts}
 use Rattle.pt_move.specs.Held.{Gains, Moves}
 use Rattle.pt_move.specs.Leaving.{TurnLeaves}
 use Rattle.pt_move.specs.Lines.{FinishTold, Tells}
-use Rattle.pt_move.specs.Running.{BeganSomewhere, IsWell, Running}
+use Rattle.pt_move.specs.Running.{BeganSomewhere, TypeInvariant, Running}
 use Rattle.pt_plan.specs.declared.fault.Fault.TheVariants as fault
 use Rattle.pt_move.specs.declared.mover.Turn.{Turn}
 use Rattle.pt_move.specs.declared.mover.Turn.TheVariants as turn
@@ -26,9 +26,9 @@ pub record IsTurn (old : Running) : Type 0 where
   pub within : old.state.counts.turns < old.state.job.limits.turns
 
 -- and it began at some start over this world
-pub record IsReady (world : World) (r : Running) : Type 0 where
+pub record IsReady (world : DeviceStates) (r : Running) : Type 0 where
   pub begun : BeganSomewhere world r
-  pub well : IsWell r
+  pub well : TypeInvariant r
   pub turn : IsTurn r
 
 -- the answer is given in its states alone: Ended after the end, Turns where the limit of turns was made before it, and any other after a turn; unless there is more to do, the run has ended
@@ -48,10 +48,10 @@ IsCounted old new r = (new.state.counts.turns ≡ old.state.counts.turns + 1)
     × (lines_put (counts_of new.state.counts) ≤ lines_put (counts_of old.state.counts) + 1)
 
 -- where no turn was made, the device is the very value that it was; else it is the same device, as its calls left it
-abbrev pub Stays : {X : Type 0} → (X → X → Type 0) → Result Turn Fault → X → X → Type 0
-Stays keeps (Err fault.Ended) old new = new ≡ old
-Stays keeps (Err fault.Turns) old new = new ≡ old
-Stays keeps r old new = keeps old new
+abbrev pub SameDevice : {X : Type 0} → (X → X → Type 0) → Result Turn Fault → X → X → Type 0
+SameDevice keeps (Err fault.Ended) old new = new ≡ old
+SameDevice keeps (Err fault.Turns) old new = new ≡ old
+SameDevice keeps r old new = keeps old new
 
 -- what is kept of the devices as one is said with their calls
 abbrev pub Any : {X : Type 0} → X → X → Type 0
@@ -64,7 +64,7 @@ most_calls_at r = cond (r.state.counts.turns == 1) 2 1
 -- ---- the turn
 
 -- by the answer it is one of the definitions' turns. After the end, and where exactly as many as the limit were made, it is none: what the run holds and the devices are as they were
-unfoldable pub MakesTurn : World → World → Running → Running → Result Turn Fault → Type 0
+unfoldable pub MakesTurn : DeviceStates → DeviceStates → Running → Running → Result Turn Fault → Type 0
 MakesTurn old new before after (Ok turn.More) =
     CountedTurn before.phase before.state after.state old new (Ok after.phase)
 MakesTurn old new before after (Ok turn.Finished) =
@@ -78,17 +78,17 @@ MakesTurn old new before after (Err f) =
 -- ---- what it leaves
 
 -- each device is blamed only where it failed
-pub record Blamed {T : Type 0} (old new : World) (result : Result T Fault) : Type 0 where
+pub record Blamed {T : Type 0} (old new : DeviceStates) (result : Result T Fault) : Type 0 where
   pub source : Counts 1 old.failures.source new.failures.source result
   pub dest : Counts 2 old.failures.dest new.failures.dest result
   pub log : Counts 3 old.failures.log new.failures.log result
 
 -- a device is blamed only where its count of failures rose, and else its count stayed
-unfoldable pub BlamesRightly : {T : Type 0} → World → World → Result T Fault → Type 0
+unfoldable pub BlamesRightly : {T : Type 0} → DeviceStates → DeviceStates → Result T Fault → Type 0
 BlamesRightly old new result = Blamed old new result
 
 -- what a step leaves, over any devices
-pub record Left (old new : World) (before after : Running) (result : Result Turn Fault) : Type 0 where
+pub record Left (old new : DeviceStates) (before after : Running) (result : Result Turn Fault) : Type 0 where
   -- the source's tree stays, and so does the job
   pub tree : source_tree new.source ≡ source_tree old.source
   pub job : after.state.job ≡ before.state.job
@@ -102,7 +102,7 @@ pub record Left (old new : World) (before after : Running) (result : Result Turn
   pub contents : Gains before.state.contents after.state.contents
 
 -- what one step leaves outside, and of what is held
-unfoldable pub StepLeaves : World → World → Running → Running → Result Turn Fault → Type 0
+unfoldable pub StepLeaves : DeviceStates → DeviceStates → Running → Running → Result Turn Fault → Type 0
 StepLeaves old new before after result = Left old new before after result
 
 -- ---- the turn of a step
@@ -113,7 +113,7 @@ pub record Made {O : Type 0} (of : OfOutside O) (most : ℕ × ℕ) (here : Phas
   pub tree : source_tree (of.world new.1).source ≡ source_tree (of.world old.1).source
   pub turn : CountedTurn here old.0 new.0 (of.world old.1) (of.world new.1) answer
   pub own : IfErr answer IsOfTurn
-  pub well : IsWell (record { phase = phase_after answer; state = new.0 })
+  pub well : TypeInvariant (record { phase = phase_after answer; state = new.0 })
   pub leaves : TurnLeaves old.0 new.0 (of.world old.1).log (of.world new.1).log
       (of.world old.1).failures (of.world new.1).failures answer
   pub few : of.within most.0 most.1 old.1 new.1
@@ -121,7 +121,7 @@ pub record Made {O : Type 0} (of : OfOutside O) (most : ℕ × ℕ) (here : Phas
 -- ---- a step over three devices
 
 -- what a step answers, whom it blames, what it leaves, and that it made a turn
-pub record Steps (old new : World) (before after : Running) (result : Result Turn Fault) : Type 0 where
+pub record Steps (old new : DeviceStates) (before after : Running) (result : Result Turn Fault) : Type 0 where
   pub answer : EndsAs before after result
   pub blames : BlamesRightly old new result
   pub leaves : StepLeaves old new before after result

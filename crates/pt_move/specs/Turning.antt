@@ -4,21 +4,21 @@ use Rattle.std.specs.Prelude.{◌≡◌, IfErr, ℕ, List}
 use Rattle.pt_object.specs.Hasher.{HasBeenFed}
 use Rattle.pt_object.specs.declared.algorithm.Algorithm.{Algorithm}
 use Rattle.pt_object.specs.declared.hasher.Hasher.{Hasher}
-use Rattle.pt_begun.specs.EndLaws.{is_ended}
+use Rattle.pt_invariant.specs.EndLaws.{is_ended}
 use Rattle.pt_plan.specs.Answer.{Answer}
 use Rattle.pt_plan.specs.Run.{turning}
 use Rattle.pt_plan.specs.RunFaults.{IsOfTurn}
 use Rattle.pt_plan.specs.Turn.{Turn}
-use Rattle.pt_plan.specs.World.{World}
+use Rattle.pt_plan.specs.DeviceStates.{DeviceStates}
 use Rattle.pt_plan.specs.declared.phase.Phase.{Phase}
 use Rattle.pt_scan.specs.Blocks.{ReadsNext}
 use Rattle.pt_state.specs.Outside.{FedAfter}
 use Rattle.pt_state.specs.States.{job_of, kept_of}
-use Rattle.pt_state.specs.declared.outside.Outside.{Ghosts as OfOutside}
+use Rattle.pt_state.specs.declared.outside.Io.{Ghosts as OfOutside}
 use Rattle.pt_state.specs.declared.state.State.{State}
 
 -- of what was held at a phase, and what is held after it, over the world of the devices. The turn is counted as it begins; the job stays
-unfoldable pub CountedTurn : Phase → State → State → World → World → Answer → Type 0
+unfoldable pub CountedTurn : Phase → State → State → DeviceStates → DeviceStates → Answer → Type 0
 CountedTurn here s s' old new answer =
     (s'.job ≡ s.job)
     × ((fed : List ℕ) → HasBeenFed s.job.algorithm s.hasher fed

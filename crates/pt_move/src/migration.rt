@@ -4,7 +4,7 @@ ghost use Rattle.pt_state.specs.Outside.{world_of};
 ghost use Rattle.pt_move.specs.Migrates.{Migrates};
 
 use crate::{Fault, Mover, Observer, Turn, Unobserved};
-use pt_state::{Devices, Job, Outside, Report};
+use pt_state::{Devices, Io, Job, Report};
 use pt_tree::{Dest, Log, Source};
 use std::alloc::Global;
 
@@ -56,7 +56,7 @@ pub fn migrate_observed<S: Source, D: Dest, L: Log, O: Observer<Report>>(
 }
 
 // Makes the turns of a run to its end, or to its first fault.
-fn run<O: Outside, W: Observer<Report>>(
+fn run<O: Io, W: Observer<Report>>(
     alloc: Global,
     out: &mut O,
     job: Job,

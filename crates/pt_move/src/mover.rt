@@ -1,18 +1,18 @@
 // A run under way, made turn by turn.
 ghost use Rattle.std.specs.Prelude.{◌≡◌, ◌+◌, length};
-ghost use Rattle.pt_begun.specs.Begun.{IsWorld, Start, start_of};
-ghost use Rattle.pt_plan.specs.World.{World};
+ghost use Rattle.pt_invariant.specs.RunInvariant.{IsWorld, Start, start_of};
+ghost use Rattle.pt_plan.specs.DeviceStates.{DeviceStates};
 ghost use Rattle.pt_state.specs.Counting.{AtMostCalls};
 ghost use Rattle.pt_state.specs.Outside.{world_of};
 ghost use Rattle.pt_walk.specs.Trail.{entries_held};
 ghost use Rattle.pt_move.specs.Bounds.{most_looks};
 ghost use Rattle.pt_move.specs.Promises.{TakesStep, TurnKeeps};
-ghost use Rattle.pt_move.specs.Running.{BeganSomewhere, HasBegun, IsBegun, IsNew, IsWell};
-ghost use Rattle.pt_move.specs.Stepping.{Any, IsReady, Made, Stays, most_calls_at};
+ghost use Rattle.pt_move.specs.Running.{BeganSomewhere, HasBegun, IsBegun, IsNew, TypeInvariant};
+ghost use Rattle.pt_move.specs.Stepping.{Any, IsReady, Made, SameDevice, most_calls_at};
 
 use crate::turning::{new_state, turn};
 use pt_plan::{Fault, Opening, Phase};
-use pt_state::{Devices, Job, Outside, Report, State};
+use pt_state::{Devices, Io, Job, Report, State};
 use pt_tree::{Dest, Log, Source};
 use std::alloc::Global;
 use std::marker::Model;
@@ -36,13 +36,13 @@ pub struct Mover {
 }
 
 impl Model for Mover {
-    ghost use Rattle.pt_move.specs.Running.{IsWell, Running};
+    ghost use Rattle.pt_move.specs.Running.{TypeInvariant, Running};
 
     ghost Value = { Running };
 
     ghost view = { λ m. record { phase = m.phase; state = m.state } };
 
-    ghost invariant = { λ m. IsWell (record { phase = m.phase; state = m.state }) };
+    ghost invariant = { λ m. TypeInvariant (record { phase = m.phase; state = m.state }) };
 
     ghost use Rattle.pt_move.specs.Movers.{mover_of};
 
@@ -54,8 +54,8 @@ impl Mover {
     /// they hold as they stand.
     pub fn start(alloc: Global, job: Job) -> Mover
         ensures new { IsNew job result }
-        ensures begun { (world : World) → HasBegun world result }
-        ensures in_progress { (world : World) → IsWorld world
+        ensures begun { (world : DeviceStates) → HasBegun world result }
+        ensures in_progress { (world : DeviceStates) → IsWorld world
             → IsBegun (start_of world) world result }
     {
         // (`count` says for the proof what holds of each layout, a type of another crate)
@@ -93,20 +93,20 @@ impl Mover {
         ensures calls { AtMostCalls (most_calls_at self.old)
             (S.called source.old) (S.called source.new)
             × AtMostCalls (most_looks self.old.phase) (D.looked dest.old) (D.looked dest.new) }
-        ensures source_stays { Stays S.keeps result source.old source.new }
-        ensures dest_stays { Stays D.keeps result dest.old dest.new }
-        ensures log_stays { Stays L.keeps result log.old log.new }
+        ensures source_stays { SameDevice S.keeps result source.old source.new }
+        ensures dest_stays { SameDevice D.keeps result dest.old dest.new }
+        ensures log_stays { SameDevice L.keeps result log.old log.new }
     {
         self.advance(&mut Devices { source, dest, log })
     }
 
     // Makes one turn over the devices as one.
-    pub(crate) fn advance<O: Outside>(&mut self, out: &mut O) -> Result<Turn, Fault>
+    pub(crate) fn advance<O: Io>(&mut self, out: &mut O) -> Result<Turn, Fault>
         requires { HasBegun (O.world out.old) self.old }
         ensures step { TakesStep (O.world out.old) (O.world out.new) self.old self.new result }
         ensures calls { O.within (most_calls_at self.old) (most_looks self.old.phase)
             out.old out.new }
-        ensures stays { Stays Any result out.old out.new }
+        ensures stays { SameDevice Any result out.old out.new }
     {
         self.begun(out);
         let phase = match mem::replace(&mut self.phase, Phase::Ended) {
@@ -127,7 +127,7 @@ impl Mover {
 
     // Where the run is to begin, it begins at these devices as they stand. The proof of that needs what `count` says of the
     // job's layout.
-    fn begun<O: Outside>(&self, out: &O)
+    fn begun<O: Io>(&self, out: &O)
         requires { HasBegun (O.world out.now) self.now }
         ensures { BeganSomewhere (O.world out.now) self.now }
     {
@@ -147,7 +147,7 @@ impl Mover {
     /// The lines of each kind whose `put` was answered Ok, and the turns made, a faulty one among them.
     pub fn report(&self) -> Report
         ensures counts { result ≡ self.now.state.counts }
-        ensures well { IsWell self.now }
+        ensures well { TypeInvariant self.now }
     {
         self.state.counts
     }
@@ -155,12 +155,12 @@ impl Mover {
 
 // Makes the turn of a phase, and gives the next one. `turn` is promised of every state that permits it, a survey's too; here it
 // is said what it comes to for a run in progress, so that `advance` isn't proved by what each turn does.
-fn made_turn<O: Outside>(state: &mut State, here: Phase, out: &mut O) -> Result<Phase, Fault>
+fn made_turn<O: Io>(state: &mut State, here: Phase, out: &mut O) -> Result<Phase, Fault>
     requires { IsReady (O.world out.old) (record { phase = here; state = state.old }) }
     ensures keeps { (start : Start)
         → IsBegun start (O.world out.old) (record { phase = here; state = state.old })
         → TurnKeeps start (O.world out.old) (O.world out.new) state.old state.new result }
-    ensures made { Made O.Outside
+    ensures made { Made O.Io
         (most_calls_at (record { phase = here; state = state.old }), most_looks here) here
         (state.old, out.old) (state.new, out.new) result }
 {

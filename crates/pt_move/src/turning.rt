@@ -3,7 +3,7 @@ ghost use Rattle.std.specs.Prelude.{◌<◌, []};
 ghost use Rattle.pt_plan.specs.declared.phase.Opening.TheVariants as opening;
 ghost use Rattle.pt_plan.specs.declared.phase.Phase.TheVariants as phase;
 ghost use Rattle.pt_move.specs.Running.{IsNew};
-ghost use Rattle.pt_plan.specs.Permits.{Permits};
+ghost use Rattle.pt_plan.specs.Enabled.{Enabled};
 ghost use Rattle.pt_scan.specs.Blocks.{ReadsNext};
 ghost use Rattle.pt_state.specs.Turns.{TakesTurn};
 ghost use Rattle.pt_state.specs.States.{held_of, job_of, kept_of};
@@ -15,7 +15,7 @@ use pt_make::{copying, making, placing, root, telling};
 use pt_object::{Contents, Hasher, Rows};
 use pt_plan::{Fault, Opening, Phase, Stage};
 use pt_scan::{judging, reading, scanning, store, walking};
-use pt_state::{Job, Outside, Report, State};
+use pt_state::{Io, Job, Report, State};
 use pt_tree::Block;
 use pt_walk::Trail;
 use std::alloc::Global;
@@ -46,14 +46,14 @@ pub fn new_state(alloc: Global, job: Job) -> State
 /// Makes the turn of a phase, which is counted as it begins, and gives the next phase, or why the run halts: `Source`,
 /// `Dest` and `Log` where that device failed, `Memory` where a growth was refused, the others where the definition of a
 /// turn says so (`Turn` of pt_plan), and never `Turns` or `Ended`. It is such a turn, whatever the devices tell.
-pub fn turn<O: Outside>(state: &mut State, phase: Phase, out: &mut O) -> Result<Phase, Fault>
-    requires permits { Permits (job_of state.old.job) phase (held_of state.old [])
+pub fn turn<O: Io>(state: &mut State, phase: Phase, out: &mut O) -> Result<Phase, Fault>
+    requires permits { Enabled (job_of state.old.job) phase (held_of state.old [])
         (O.world out.old).source (O.world out.old).dest }
     requires stands { Stands phase state.old }
     requires fed { HasFed phase state.old.job.algorithm state.old.hasher }
     requires bounded { IsBounded (job_of state.old.job) phase (kept_of state.old []) }
     requires within { state.old.counts.turns < state.old.job.limits.turns }
-    ensures turn { TakesCounted O.Outside (most_calls phase, most_looks phase) phase
+    ensures turn { TakesCounted O.Io (most_calls phase, most_looks phase) phase
         (state.old, out.old) (state.new, out.new) result }
 {
     // (it says for the proof that the limit is at most 2^40, so that one turn more can be counted)
@@ -63,12 +63,12 @@ pub fn turn<O: Outside>(state: &mut State, phase: Phase, out: &mut O) -> Result<
 }
 
 // Makes the turn of a phase, and gives the next one.
-fn turn_at<O: Outside>(state: &mut State, phase: Phase, out: &mut O) -> Result<Phase, Fault>
-    requires permits { Permits (job_of state.old.job) phase (held_of state.old [])
+fn turn_at<O: Io>(state: &mut State, phase: Phase, out: &mut O) -> Result<Phase, Fault>
+    requires permits { Enabled (job_of state.old.job) phase (held_of state.old [])
         (O.world out.old).source (O.world out.old).dest }
     requires stands { Stands phase state.old }
     requires adds { CanAdd phase state.old }
-    ensures turn { TakesTurn O.Outside (most_calls phase, most_looks phase) phase
+    ensures turn { TakesTurn O.Io (most_calls phase, most_looks phase) phase
         (state.old, out.old) (state.new, out.new) result }
     ensures block { ReadsNext phase (O.world out.old).source state.new.block.items result }
 {

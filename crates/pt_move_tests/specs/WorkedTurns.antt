@@ -10,9 +10,9 @@ use Rattle.pt_walk.specs.declared.frame.Frame.{Frame}
 use Rattle.pt_plan.specs.Job.{Job}
 use Rattle.pt_plan.specs.Lines.{End}
 use Rattle.pt_plan.specs.Run.{Held, no_counts, nothing_held, with_fed, with_trail}
-use Rattle.pt_plan.specs.Turn.{Follows}
+use Rattle.pt_plan.specs.Turn.{Next}
 use Rattle.pt_plan.specs.Roots.{storage_root}
-use Rattle.pt_plan.specs.World.{Calls, Finds, Lists, Makes, Opens, Reads, Renames, asks, does, no_calls, tells}
+use Rattle.pt_plan.specs.DeviceStates.{Calls, Finds, Lists, Makes, Opens, Reads, Renames, asks, does, no_calls, tells}
 use Rattle.pt_move_tests.specs.WorkedStores.{empty_store, flat_job, worked_job}
 use Rattle.pt_plan.specs.declared.object.Object.{Object}
 use Rattle.pt_plan.specs.declared.phase.Phase.{Phase}
@@ -22,7 +22,7 @@ use Rattle.pt_plan.specs.declared.phase.Stage.TheVariants as stage
 
 -- a turn from this phase to that one, of a run that read no prefix
 abbrev pub Leads : Job → Phase → Held → Calls → Phase → Held → Type 0
-Leads job here held calls next after = Follows job no_counts here [] held [] after calls (Ok next)
+Leads job here held calls next after = Next job no_counts here [] held [] after calls (Ok next)
 
 -- what is held at `pairtree_root` of the empty store
 abbrev pub at_empty_root : Held

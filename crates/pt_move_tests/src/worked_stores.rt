@@ -2,7 +2,7 @@
 ghost use Rattle.pt_move_tests.specs.WorkedRuns.{BadNamesLog, BoundOfEmptyStore, BoundOfEqualContents, BoundOfGathering, DepthsAreLimited, DepthsOfChains, DividedLog, DividedSitesAreGathered, EmptyDirectoriesAreCounted, EmptyStoreLog, ExtensionsLog, FirstBadEntryCounts, LengthsAreLimited, LineFeedLog, LinesComeInOrder, OneIdentifierFlatLog, OneObjectFlatLog, OneObjectIsCarried, OneObjectIsNamed, OneObjectLog, PrefixIsRead, PresentComesFirst, SecondRunCarriesNothing, StoresAreKnown, StraysLog, UsableRootsAreTold, WaysAreTold, WorkOfFirstRuns, WorkOfGathering, WorkOfSecondRun, WorkOfSkips, WorkWithOtherTuples};
 ghost use Rattle.pt_move_tests.specs.WorkedTurns.{EmptyStoreTurns, OneObjectTurns};
 
-use pt_begun::laws as begun_laws;
+use pt_invariant::laws as begun_laws;
 use pt_plan::laws;
 
 fn stores()
@@ -117,12 +117,12 @@ fn each_law_can_be_called() {
 
 #[test]
 fn each_law_of_a_run_in_progress_can_be_called() {
-    begun_laws::new_run_is_begun();
-    begun_laws::begun_permits();
-    begun_laws::turn_keeps_begun();
-    begun_laws::turn_ends_begun();
+    begun_laws::new_run_holds_invariant();
+    begun_laws::invariant_enables();
+    begun_laws::turn_keeps_invariant();
+    begun_laws::turn_ends_invariant();
     begun_laws::ends_well();
-    begun_laws::begun_is_within_bound();
+    begun_laws::invariant_is_within_bound();
     begun_laws::refuses_rightly();
     begun_laws::finds_staging();
     begun_laws::starting_keeps_source();

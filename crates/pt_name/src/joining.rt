@@ -8,7 +8,7 @@ use std::alloc::Global;
 /// of its pairpath may fall inside a spelling.
 ///
 /// `Memory` where a growth was refused.
-pub fn concatenated(alloc: Global, path: &NamePath) -> Result<Vec<u8>, MemoryFault>
+pub fn concatenate(alloc: Global, path: &NamePath) -> Result<Vec<u8>, MemoryFault>
     ensures { IfOk result (λ text. text.items ≡ concat path.now) }
 {
     let mut text = Vec::new(alloc);

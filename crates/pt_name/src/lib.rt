@@ -14,7 +14,7 @@
 //!   one share of one. `holds`: exactly whether the number of the share that the identifier's SHA-256 gives (`share_number`) is its own;
 //!   `is_first`: whether it is 1.
 //! - `unclean`: reads a cleaned text back: gives an identifier exactly where the text reads it and it is UTF-8, and says of each other text
-//!   exactly whether it reads nothing or bytes that aren't UTF-8. `concatenated`: joins the names of a pairpath for it.
+//!   exactly whether it reads nothing or bytes that aren't UTF-8. `concatenate`: joins the names of a pairpath for it.
 //! - `read_prefix`: exactly the prefix of a store, refused exactly where it is too long or not UTF-8.
 //! - Laws: a text reads at most one list of bytes (`one_reading`); what was cleaned reads back (`cleaned_reads_back`); reading as a relation
 //!   and as a function say the same (`reading_is_computed`); two different identifiers share a place only where both encodings are shortened,
@@ -33,7 +33,7 @@ mod share;
 
 pub use cleaning::{clean, pairpath};
 pub use encoding::{encoded, last_name};
-pub use joining::concatenated;
+pub use joining::concatenate;
 pub use layout::{Layout, LayoutFault};
 pub use prefix::{PrefixFault, read_prefix};
 pub use reading::{UncleanFault, unclean};

@@ -7,7 +7,7 @@ use Rattle.std.proofs.lemmas.Bool.{cases_lt, cases_eq}
 use Rattle.std.proofs.lemmas.List.{get_or-map, get_or_append_left, get_or-append_right, take_more_set, get_or-set_same, set-set, take-set, map-set, get_or_push, length-set, length-map, map_push, length_push}
 use Rattle.std.proofs.lemmas.List.Edits.{length-insert, insert_end, insert-append_left, insert-append_right}
 use Rattle.std.proofs.Math.Seq.{map-set_same}
-use Rattle.pt_object.specs.Positions.{AreRows, HasRoom, row_length}
+use Rattle.pt_object.specs.SortedIndex.{AreRows, HasRoom, row_length}
 
 -- how many stand before a row, where all rows before it have n
 before : (xss : List (List ℕ)) (n r : ℕ) → r ≤ length xss → ((k : ℕ) → k < r → slice_index (map length xss) k ≡ n) → length (concat (take r xss)) ≡ r * n

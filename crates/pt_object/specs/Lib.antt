@@ -18,12 +18,12 @@ pub mod MetaParts
 pub mod Moment
 pub mod Object
 pub mod ObjectLaws
-pub mod Positions
 pub mod Root
 pub mod RootFiles
 pub mod Rows
 pub mod Script
 pub mod Scripts
+pub mod SortedIndex
 pub mod Tables
 pub mod Tokens
 pub mod VersionLaws

@@ -3,7 +3,7 @@ use Rattle.std.specs.Prelude.{ℕ, List}
 use Rattle.std.specs.Global.{Vec}
 use Rattle.pt_object.specs.declared.contents.Content.{Content}
 use Rattle.pt_object.specs.declared.contents.Contents.TheInside as contents
-use Rattle.pt_object.specs.declared.positions.Positions.TheInside as positions
+use Rattle.pt_object.specs.declared.sorted_index.SortedIndex.TheInside as positions
 use Rattle.pt_object.specs.declared.rows.Row.{Row}
 use Rattle.pt_object.specs.declared.rows.Rows.TheInside as rows
 

@@ -5,7 +5,7 @@ ghost use Rattle.pt_object.specs.Index.{IsAt, IsIndex, IsWithinBinaryDigits};
 
 use crate::Digest;
 use crate::index::search;
-use crate::positions::Positions;
+use crate::sorted_index::SortedIndex;
 use pt_tree::{MemoryFault, NamePath};
 use std::alloc::Global;
 use std::fmt;
@@ -25,7 +25,7 @@ pub struct Contents {
     // The keys of the items' digests, in the order of the items.
     keys: Vec<u64>,
     // The positions of the items, in the order of their digests.
-    index: Positions,
+    index: SortedIndex,
 }
 
 // The keys, which the items tell, aren't shown.
@@ -58,7 +58,7 @@ impl Contents {
         Contents {
             items: Vec::new(alloc),
             keys: Vec::new(alloc),
-            index: Positions::new(alloc),
+            index: SortedIndex::new(alloc),
         }
     }
 
@@ -148,7 +148,7 @@ impl Contents {
     }
 
     // The positions of the items in the order of their digests.
-    pub(crate) fn index(&self) -> &Positions
+    pub(crate) fn index(&self) -> &SortedIndex
         ensures { IsIndex self.now result.now }
     {
         &self.index

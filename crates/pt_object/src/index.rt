@@ -6,7 +6,7 @@ ghost use Rattle.pt_object.specs.Contents.{is_noted};
 ghost use Rattle.pt_object.specs.Index.{IsAt, IsIndex, IsPlaceOf, IsWithinBinaryDigits};
 ghost use Rattle.pt_object.specs.Keys.{key_of, keys_of};
 
-use crate::positions::Positions;
+use crate::sorted_index::SortedIndex;
 use crate::{Content, Digest};
 use std::cmp::Ordering;
 
@@ -23,7 +23,7 @@ pub(crate) struct Searched {
 pub(crate) fn search(
     items: &[Content],
     keys: &[u64],
-    index: &Positions,
+    index: &SortedIndex,
     digest: &Digest,
 ) -> Searched
     requires index { IsIndex items.now index.now }

@@ -11,7 +11,7 @@ ghost use Rattle.pt_object.specs.Inventory.{inventory_text, inventory_tree};
 use crate::index::tell_bytes;
 use crate::output::Output;
 use crate::parts::{Parts, Step};
-use crate::state::grouped;
+use crate::state::group_rows;
 use crate::{Algorithm, Content, Contents, Meta, Rows};
 use pt_tree::MemoryFault;
 use std::alloc::Global;
@@ -97,7 +97,7 @@ impl<'a> InventoryPieces<'a> {
                 algorithm,
                 items,
                 index: contents.index(),
-                groups: grouped(alloc, rows.as_slice(), contents)?,
+                groups: group_rows(alloc, rows.as_slice(), contents)?,
             },
             next: Step::Head,
             text: Vec::with_capacity(alloc, ROOM)?,

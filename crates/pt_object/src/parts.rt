@@ -5,7 +5,7 @@ ghost use Rattle.pt_object.specs.InPieces.{AreParts, Puts, is_before_end, is_beh
 use crate::document::{put_back, put_head, put_middle};
 use crate::manifest::put_stored;
 use crate::output::Output;
-use crate::positions::Positions;
+use crate::sorted_index::SortedIndex;
 use crate::state::{Group, put_grouped};
 use crate::{Algorithm, Content, Meta, Rows};
 use pt_tree::MemoryFault;
@@ -22,7 +22,7 @@ pub(crate) struct Parts<'a> {
     // The contents of the rows.
     pub(crate) items: &'a [Content],
     // Their positions in the order of their digests.
-    pub(crate) index: &'a Positions,
+    pub(crate) index: &'a SortedIndex,
     // What the rows have of each.
     pub(crate) groups: Vec<Group<'a>>,
 }

@@ -75,7 +75,7 @@ fn put_paths(out: &mut Output, content: &Content, later: &[&NamePath]) -> Result
 }
 
 // For each content, what the rows have of it.
-pub(crate) fn grouped<'a>(
+pub(crate) fn group_rows<'a>(
     alloc: Global,
     rows: &'a [Row],
     contents: &Contents,

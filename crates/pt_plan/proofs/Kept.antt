@@ -13,9 +13,9 @@ use Rattle.pt_tree.specs.Forest.{Forest, is_proper}
 use Rattle.pt_tree.specs.Path.{Path}
 use Rattle.pt_tree.specs.Tree.{Tree}
 use Rattle.pt_plan.specs.Carried.{Carried, Marked, carried, carried_among, carried_by, carried_by_outcome, marked, with_objects}
-use Rattle.pt_plan.specs.Faults.{AsItWas, Between, Carrying, IsCarriedAs, IsLeft, MakingRoot}
+use Rattle.pt_plan.specs.Faults.{AsItWas, Between, Carrying, IsCarriedAs, FaultStateOfFree, MakingRoot}
 use Rattle.pt_plan.specs.FileLaws.{comes_in_order}
-use Rattle.pt_plan.specs.Fixity.{Holding, IsKept, Making, come_to_free_places, is_place_free, is_whole}
+use Rattle.pt_plan.specs.Fixity.{Holding, DestFaultState, Making, come_to_free_places, is_place_free, is_whole}
 use Rattle.pt_plan.specs.Fixity as kept
 use Rattle.pt_plan.specs.FixityLaws.{FaultsLeaveWhatIsKept, RowsMakeWholeObjects}
 use Rattle.pt_plan.specs.GrowthLaws.{HasNoGaps}
@@ -100,7 +100,7 @@ all_come job source {root} (suc k) proper gaps = by (slice_get (marked job sourc
         either (inl none) = ap (come_to_free_places job (base job.tuples root)) (grown [] none ∙ append_nil (carried_among job source root k)) ∙ come
         either (inr (object, is)) = ap (come_to_free_places job (base job.tuples root)) (grown (object ∷ []) is) ∙ next_comes job source k proper gaps (m, at, is) come
 
-kept_left : {job : Job} {source : Forest} {start now : Tree} {log : List ℕ} → is_proper source ≡ true → HasNoGaps (root_in start) → IsLeft job source start now log → IsKept job start now
+kept_left : {job : Job} {source : Forest} {start now : Tree} {log : List ℕ} → is_proper source ≡ true → HasNoGaps (root_in start) → FaultStateOfFree job source start now log → DestFaultState job start now
 kept_left _ _ AsItWas = kept.AsItWas
 kept_left _ _ (MakingRoot now free at) = kept.MakingRoot now free at
 kept_left {job} {source} {start} proper gaps (Between k _ _ _) = Holding (carried_among job source (root_in start) k) (all_come job source k proper gaps)

@@ -18,7 +18,7 @@ use Rattle.pt_tree.specs.Forest.{Forest}
 use Rattle.pt_tree.specs.Path.{Path}
 use Rattle.pt_tree.specs.Tree.{Bytes, Entry, Tree}
 use Rattle.pt_plan.specs.Carried.{Carried, after, all_carried, carried, carried_among, entry_of_objects, folder_where, is_folder_or_free, is_on_the_way, is_way_free, marked, with_objects}
-use Rattle.pt_plan.specs.Faults.{AsItWas, Between, Carrying, IsCarriedAs, IsLeft, MakingRoot, on_the_way_to}
+use Rattle.pt_plan.specs.Faults.{AsItWas, Between, Carrying, IsCarriedAs, FaultStateOfFree, MakingRoot, on_the_way_to}
 use Rattle.pt_plan.specs.Items.{items}
 use Rattle.pt_plan.specs.Job.{Job}
 use Rattle.pt_plan.specs.PlaceLaws.{IsRooted}
@@ -160,7 +160,7 @@ ends_same rooted target = record { rooted = rooted; target = target; same = refl
 along : {job : Job} {source : Forest} {root later now : Tree} → now ≡ later → EndsAlike job source root later → EndsAlike job source root now
 along {job} {source} {root} same ends = rw same ends
 
-ends_left : {job : Job} {source : Forest} {start now : Tree} {log : List ℕ} → IsRooted (root_in start) → IsTarget job source (root_in start) → IsLeft job source start now log → EndsAlike job source (root_in start) (root_in now)
+ends_left : {job : Job} {source : Forest} {start now : Tree} {log : List ℕ} → IsRooted (root_in start) → IsTarget job source (root_in start) → FaultStateOfFree job source start now log → EndsAlike job source (root_in start) (root_in now)
 ends_left rooted target AsItWas = ends_same rooted target
 ends_left {job} rooted target (MakingRoot _ _ at) =
     along (root_at_prefix (root_items job.tuples) at) (ends_same rooted target)

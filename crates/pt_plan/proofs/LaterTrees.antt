@@ -12,7 +12,7 @@ use Rattle.pt_tree.specs.Forest.{Forest}
 use Rattle.pt_tree.specs.Path.{Path, rest_below, same_path}
 use Rattle.pt_tree.specs.Tree.{Tree, without, without_at}
 use Rattle.pt_plan.specs.Carried.{after, after_all}
-use Rattle.pt_plan.specs.Faults.{AsItWas, Between, Carrying, IsLeft, MakingRoot, MayBeLeft, on_the_way_to}
+use Rattle.pt_plan.specs.Faults.{AsItWas, Between, Carrying, FaultStateOfFree, MakingRoot, FaultState, on_the_way_to}
 use Rattle.pt_plan.specs.Job.{Job}
 use Rattle.pt_plan.specs.RerunLaws.{EndsAlike, RerunLeavesTheSame}
 use Rattle.pt_plan.specs.Roots.{root_in, storage_root, with_root}
@@ -46,7 +46,7 @@ prefix_beside items start _ at path beside =
 root_beside : (t root : Tree) {path : Path} → rest_below storage_root path ≡ None → with_root t root path ≡ t path
 root_beside _ _ beside = rw beside refl
 
-left_beside : {job : Job} {source : Forest} {start now : Tree} {log : List ℕ} → IsLeft job source start now log → {path : Path} → rest_below storage_root path ≡ None → rest_below staging path ≡ None → now path ≡ start path
+left_beside : {job : Job} {source : Forest} {start now : Tree} {log : List ℕ} → FaultStateOfFree job source start now log → {path : Path} → rest_below storage_root path ≡ None → rest_below staging path ≡ None → now path ≡ start path
 left_beside AsItWas _ _ = refl
 left_beside {job} {start} (MakingRoot now _ at) {path} _ out = prefix_beside (root_items job.tuples) start now at path out
 left_beside {job} {source} {start} (Between k _ _ _) off _ = root_beside start (after job source (root_in start) k) off
@@ -56,13 +56,13 @@ left_beside {job} {source} {start} (Carrying k tuples object now _ _ _ at) {path
     let later = on_the_way_to job source (root_in start) k object tuples in
     prefix_beside made _ now at path out ∙ root_beside start later off
 
-may_beside : {job : Job} {source : Forest} {start now : Tree} {log : List ℕ} → MayBeLeft job source start now log → {path : Path} → rest_below storage_root path ≡ None → rest_below staging path ≡ None → now path ≡ start path
+may_beside : {job : Job} {source : Forest} {start now : Tree} {log : List ℕ} → FaultState job source start now log → {path : Path} → rest_below storage_root path ≡ None → rest_below staging path ≡ None → now path ≡ start path
 may_beside (inl same) {path} _ _ = ap (λ (t : Tree). t path) same.0
 may_beside (inr left) off out = left_beside left.1 off out
 
 -- ---- the run after it
 
-module _ (job : Job) (source : Forest) (start now : Tree) (log : List ℕ) (left : MayBeLeft job source start now log) (alike : EndsAlike job source (root_in start) (root_in now)) where
+module _ (job : Job) (source : Forest) (start now : Tree) (log : List ℕ) (left : FaultState job source start now log) (alike : EndsAlike job source (root_in start) (root_in now)) where
   same_at : (path : Path) → with_root (without now staging) (after_all job source (root_in (without now staging))) path ≡ with_root (without start staging) (after_all job source (root_in start)) path
   same_at path = by (rest_below storage_root path) refl
     where

@@ -42,25 +42,25 @@ on_the_way_to job source root k object tuples =
     with_folders (take tuples (tuple_folders job object)) (after job source root k)
 
 -- what a fault leaves of a start, and what was told: all as it was; a part of a new root in `staging`, nothing told; the root after k items, with the lines of all but the last of them and some of what comes next; or that and, of an object that is carried next, some tuple directories and a part of its script in `staging`
-pub data IsLeft (job : Job) (source : Forest) (start : Tree) : Tree → List ℕ → Type 0 where
-  AsItWas : IsLeft job source start start []
+pub data FaultStateOfFree (job : Job) (source : Forest) (start : Tree) : Tree → List ℕ → Type 0 where
+  AsItWas : FaultStateOfFree job source start start []
   MakingRoot : (now : Tree) → IsFree (root_in start) []
-      → StandsAtPrefix (root_script job.tuples) start now → IsLeft job source start now []
+      → StandsAtPrefix (root_script job.tuples) start now → FaultStateOfFree job source start now []
   Between : (k : ℕ) (log : List ℕ) → k ≤ length (items job source)
       → IsLogAfter job source (root_in start) k log
-      → IsLeft job source start (with_root start (after job source (root_in start) k)) log
+      → FaultStateOfFree job source start (with_root start (after job source (root_in start) k)) log
   Carrying : (k tuples : ℕ) (object : Carried) (now : Tree) (log : List ℕ)
       → IsCarriedAs job source (root_in start) k object
       → IsLogAfter job source (root_in start) k log
       → StandsAtPrefix (script_of object.id object.files job.meta job.algorithm)
       (with_root start (on_the_way_to job source (root_in start) k object tuples)) now
-      → IsLeft job source start now log
+      → FaultStateOfFree job source start now log
 
 -- nothing was changed, and nothing told
 abbrev pub IsUntouched : Tree → Tree → List ℕ → Type 0
 IsUntouched start now log = (now ≡ start) × (log ≡ [])
 
 -- what any fault may leave; where something stands at `staging`, all as it was
-abbrev pub MayBeLeft : Job → Forest → Tree → Tree → List ℕ → Type 0
-MayBeLeft job source start now log =
-    IsUntouched start now log ⊎ (IsFree start staging × IsLeft job source start now log)
+abbrev pub FaultState : Job → Forest → Tree → Tree → List ℕ → Type 0
+FaultState job source start now log =
+    IsUntouched start now log ⊎ (IsFree start staging × FaultStateOfFree job source start now log)

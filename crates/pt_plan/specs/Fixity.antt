@@ -42,13 +42,13 @@ come_to_free_places job root (object ∷ objects) =
     && come_to_free_places job (with_objects job (object ∷ []) root) objects)
 
 -- what is left of a start whatever the source gives: all as it was; a part of a new root in `staging`; the root, or a new one, with objects that came one after another to free places; or that and some tuple directories of one more object, and a part of it in `staging`, whose last item, if it is a content, may hold any bytes
-pub data IsKept (job : Job) (start : Tree) : Tree → Type 0 where
-  AsItWas : IsKept job start start
+pub data DestFaultState (job : Job) (start : Tree) : Tree → Type 0 where
+  AsItWas : DestFaultState job start start
   MakingRoot : (now : Tree) → IsFree (root_in start) []
-      → StandsAtPrefix (root_script job.tuples) start now → IsKept job start now
+      → StandsAtPrefix (root_script job.tuples) start now → DestFaultState job start now
   Holding : (objects : List Carried)
       → come_to_free_places job (base job.tuples (root_in start)) objects ≡ true
-      → IsKept job start (with_root start (with_objects job objects (base job.tuples (root_in start))))
+      → DestFaultState job start (with_root start (with_objects job objects (base job.tuples (root_in start))))
   Making : (objects : List Carried) (next : Carried) (tuples : ℕ) (now : Tree)
       → come_to_free_places job (base job.tuples (root_in start)) (objects ++ next ∷ []) ≡ true
       → StandsAtPrefix (script_of next.id next.files job.meta job.algorithm)
@@ -59,4 +59,4 @@ pub data IsKept (job : Job) (start : Tree) : Tree → Type 0 where
       (with_root start
       (with_folders (take tuples (tuple_folders job next))
       (with_objects job objects (base job.tuples (root_in start))))) now
-      → IsKept job start now
+      → DestFaultState job start now

@@ -6,8 +6,8 @@ use Rattle.pt_object.specs.declared.rows.Row.{Row}
 use Rattle.pt_tree.specs.Forest.{Forest, is_proper}
 use Rattle.pt_tree.specs.Path.{Path}
 use Rattle.pt_tree.specs.Tree.{Tree}
-use Rattle.pt_plan.specs.Faults.{MayBeLeft}
-use Rattle.pt_plan.specs.Fixity.{IsKept, is_whole}
+use Rattle.pt_plan.specs.Faults.{FaultState}
+use Rattle.pt_plan.specs.Fixity.{DestFaultState, is_whole}
 use Rattle.pt_plan.specs.GrowthLaws.{HasNoGaps}
 use Rattle.pt_plan.specs.Job.{Job}
 use Rattle.pt_plan.specs.Roots.{root_in}
@@ -16,7 +16,7 @@ use Rattle.pt_plan.specs.Roots.{root_in}
 abbrev pub FaultsLeaveWhatIsKept : Type 0
 FaultsLeaveWhatIsKept =
     (job : Job) (source : Forest) (start now : Tree) (log : List ℕ) → is_proper source ≡ true
-    → HasNoGaps (root_in start) → MayBeLeft job source start now log → IsKept job start now
+    → HasNoGaps (root_in start) → FaultState job source start now log → DestFaultState job start now
 
 -- an object made of rows of which none leads to another is whole, with what is held where their contents are stored
 abbrev pub RowsMakeWholeObjects : Type 0

@@ -5,7 +5,7 @@ use Rattle.pt_object.specs.Scripts.{staging}
 use Rattle.pt_tree.specs.Forest.{Forest}
 use Rattle.pt_tree.specs.Tree.{IsTree, Tree, without}
 use Rattle.pt_plan.specs.Carried.{IsStart, IsUsable, after_all}
-use Rattle.pt_plan.specs.Faults.{MayBeLeft}
+use Rattle.pt_plan.specs.Faults.{FaultState}
 use Rattle.pt_plan.specs.Job.{Job}
 use Rattle.pt_plan.specs.Lines.{all_lines}
 use Rattle.pt_plan.specs.PlaceLaws.{IsRooted}
@@ -25,7 +25,7 @@ pub record EndsAlike (job : Job) (source : Forest) (first later : Tree) : Type 0
 abbrev pub RerunEndsAlike : Type 0
 RerunEndsAlike =
     (job : Job) (source : Forest) (start now : Tree) (log : List ℕ) → IsRooted (root_in start)
-    → IsTarget job source (root_in start) → MayBeLeft job source start now log
+    → IsTarget job source (root_in start) → FaultState job source start now log
     → EndsAlike job source (root_in start) (root_in now)
 
 -- a run over what is left, once `staging` is taken away: it may end well, nothing stands at `staging`, and what it then leaves is what one undisturbed run leaves
@@ -39,7 +39,7 @@ pub record RerunEnds (job : Job) (source : Forest) (start now : Tree) : Type 0 w
 abbrev pub RerunLeavesTheSame : Type 0
 RerunLeavesTheSame =
     (job : Job) (source : Forest) (start now : Tree) (log : List ℕ) → IsTree start
-    → IsStart job source (root_in start) → MayBeLeft job source start now log
+    → IsStart job source (root_in start) → FaultState job source start now log
     → RerunEnds job source start now
 
 -- taking `staging` away leaves the root

@@ -18,7 +18,7 @@ use Rattle.pt_plan.specs.declared.fault.Fault.TheVariants as fault
 use Rattle.pt_plan.specs.Job.{Job}
 use Rattle.pt_plan.specs.Run.{Held, with_fed}
 use Rattle.pt_plan.specs.TurnWalk.{in_pairtree}
-use Rattle.pt_plan.specs.World.{Adds, Calls, Creates, Finishes, Makes, Opens, Reads, asks, does, no_calls}
+use Rattle.pt_plan.specs.DeviceStates.{Adds, Calls, Creates, Finishes, Makes, Opens, Reads, asks, does, no_calls}
 use Rattle.pt_plan.specs.declared.object.Object.{Object}
 use Rattle.pt_plan.specs.declared.phase.Part.{Part}
 use Rattle.pt_plan.specs.declared.phase.Part.TheVariants as part
@@ -110,30 +110,30 @@ is_as_read job row left fed = (left == 0) && bytes_eq (digest_of job.algorithm f
 -- ---- the turns
 
 -- from the phase and what is held to what is held after, with the calls and the answer
-pub data Makings (job : Job) : Phase → Held → Held → Calls → Answer → Type 0 where
+pub data MakeStep (job : Job) : Phase → Held → Held → Calls → Answer → Type 0 where
   MakesStaging : (held : Held) (object : Object)
-      → Makings job (phase.Carrying object (stage.Make part.Staging)) held held (does (Makes (MakeFolder staging)))
+      → MakeStep job (phase.Carrying object (stage.Make part.Staging)) held held (does (Makes (MakeFolder staging)))
       (Ok (phase.Carrying object (stage.Make part.Declaration)))
   MakesDeclaration : (held : Held) (object : Object)
-      → Makings job (phase.Carrying object (stage.Make part.Declaration)) held held
+      → MakeStep job (phase.Carrying object (stage.Make part.Declaration)) held held
       (does (Makes (MakeFile (staging ++ object_declaration_name ∷ []) object_declaration_bytes)))
       (Ok (phase.Carrying object (stage.Make part.Version)))
   MakesVersion : (held : Held) (object : Object)
-      → Makings job (phase.Carrying object (stage.Make part.Version)) held held
+      → MakeStep job (phase.Carrying object (stage.Make part.Version)) held held
       (does (Makes (MakeFolder (in_version []))))
       (Ok (phase.Carrying object (stage.Make (content_at held.rows (record { row = 0; stored = 0; directories = 0 })))))
   -- a row whose content is stored already is passed
   PassesRow : (held : Held) (object : Object) (position : Position) (row : Row)
       → slice_get held.rows position.row ≡ Some row
       → is_stored held.contents position.stored row.path ≡ false
-      → Makings job (phase.Carrying object (stage.Make (part.Content position))) held held no_calls
+      → MakeStep job (phase.Carrying object (stage.Make (part.Content position))) held held no_calls
       (Ok (phase.Carrying object (stage.Make (content_at held.rows (behind position)))))
   -- of any other the folders on the way are made
   MakesFolder : (held : Held) (object : Object) (position : Position) (row : Row)
       → slice_get held.rows position.row ≡ Some row
       → is_stored held.contents position.stored row.path ≡ true
       → nat_lt position.directories (length row.path) ≡ true
-      → Makings job (phase.Carrying object (stage.Make (part.Content position))) held held
+      → MakeStep job (phase.Carrying object (stage.Make (part.Content position))) held held
       (does (Makes (MakeFolder (in_content (take position.directories row.path)))))
       (Ok (phase.Carrying object (stage.Make (part.Content (with_folder position)))))
   -- then its file is made, and the source's is opened
@@ -141,7 +141,7 @@ pub data Makings (job : Job) : Phase → Held → Held → Calls → Answer → 
       → slice_get held.rows position.row ≡ Some row
       → is_stored held.contents position.stored row.path ≡ true
       → nat_lt position.directories (length row.path) ≡ false
-      → Makings job (phase.Carrying object (stage.Make (part.Content position))) held (with_fed held [])
+      → MakeStep job (phase.Carrying object (stage.Make (part.Content position))) held (with_fed held [])
       (record {
         asked = Opens (in_pairtree (path_of_source object held.trail ++ row.path));
         change = Creates (in_content row.path);
@@ -150,41 +150,41 @@ pub data Makings (job : Job) : Phase → Held → Held → Calls → Answer → 
   -- a block is copied
   CopiesOn : (held : Held) (object : Object) (position : Position) (left byte : ℕ) (block : List ℕ)
       → nat_lt left (length (byte ∷ block)) ≡ false
-      → Makings job (phase.Carrying object (stage.Copy position left)) held (with_fed held (held.fed ++ byte ∷ block))
+      → MakeStep job (phase.Carrying object (stage.Copy position left)) held (with_fed held (held.fed ++ byte ∷ block))
       (record { asked = Reads (byte ∷ block); change = Adds (byte ∷ block); line = None })
       (Ok (phase.Carrying object (stage.Copy position (left - length (byte ∷ block)))))
   -- unless there are more bytes than the row says
   ReadsMore : (held : Held) (object : Object) (position : Position) (left byte : ℕ) (block : List ℕ)
       → nat_lt left (length (byte ∷ block)) ≡ true
-      → Makings job (phase.Carrying object (stage.Copy position left)) held held (asks (Reads (byte ∷ block)))
+      → MakeStep job (phase.Carrying object (stage.Copy position left)) held held (asks (Reads (byte ∷ block)))
       (Err fault.Changed)
   -- at the end the file is closed
   EndsCopy : (held : Held) (object : Object) (position : Position) (row : Row) (left : ℕ)
       → slice_get held.rows position.row ≡ Some row → is_as_read job row left held.fed ≡ true
-      → Makings job (phase.Carrying object (stage.Copy position left)) held (with_fed held [])
+      → MakeStep job (phase.Carrying object (stage.Copy position left)) held (with_fed held [])
       (record { asked = Reads []; change = Finishes; line = None })
       (Ok (phase.Carrying object (stage.Make (content_at held.rows (behind_stored held.contents position row.path)))))
   -- unless the bytes are fewer, or others
   ReadsOther : (held : Held) (object : Object) (position : Position) (row : Row) (left : ℕ)
       → slice_get held.rows position.row ≡ Some row → is_as_read job row left held.fed ≡ false
-      → Makings job (phase.Carrying object (stage.Copy position left)) held held (asks (Reads [])) (Err fault.Changed)
+      → MakeStep job (phase.Carrying object (stage.Copy position left)) held held (asks (Reads [])) (Err fault.Changed)
   -- an inventory's text is fed to the hasher as well
   MakesVersionInventory : (held : Held) (object : Object)
-      → Makings job (phase.Carrying object (stage.Make part.VersionInventory)) held
+      → MakeStep job (phase.Carrying object (stage.Make part.VersionInventory)) held
       (with_fed held (text_of_inventory job object held.rows))
       (does (Makes (inventory_file job object held.rows (in_version []))))
       (Ok (phase.Carrying object (stage.Make part.VersionSidecar)))
   -- and the hasher's digest is taken for its sidecar; the inventory at the top has the same text, which isn't fed again
   MakesVersionSidecar : (held : Held) (object : Object)
-      → Makings job (phase.Carrying object (stage.Make part.VersionSidecar)) held
+      → MakeStep job (phase.Carrying object (stage.Make part.VersionSidecar)) held
       (with_fed held (text_of_inventory job object held.rows))
       (does (Makes (sidecar_file job object held.rows (in_version []))))
       (Ok (phase.Carrying object (stage.Make part.Inventory)))
   MakesInventory : (held : Held) (object : Object)
-      → Makings job (phase.Carrying object (stage.Make part.Inventory)) held
+      → MakeStep job (phase.Carrying object (stage.Make part.Inventory)) held
       (with_fed held (text_of_inventory job object held.rows))
       (does (Makes (inventory_file job object held.rows staging)))
       (Ok (phase.Carrying object (stage.Make part.Sidecar)))
   MakesSidecar : (held : Held) (object : Object)
-      → Makings job (phase.Carrying object (stage.Make part.Sidecar)) held (with_fed held [])
+      → MakeStep job (phase.Carrying object (stage.Make part.Sidecar)) held (with_fed held [])
       (does (Makes (sidecar_file job object held.rows staging))) (Ok (after_last job object))

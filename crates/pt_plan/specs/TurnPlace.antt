@@ -14,7 +14,7 @@ use Rattle.pt_plan.specs.Run.{Counts, Held}
 use Rattle.pt_plan.specs.TurnMake.{path_of_source}
 use Rattle.pt_plan.specs.TurnStart.{is_dir_kind}
 use Rattle.pt_plan.specs.TurnWalk.{in_root}
-use Rattle.pt_plan.specs.World.{Calls, Finds, FindsNoneAndMakes, Renames, does, tells}
+use Rattle.pt_plan.specs.DeviceStates.{Calls, Finds, FindsNoneAndMakes, Renames, does, tells}
 use Rattle.pt_plan.specs.declared.object.Object.{Object}
 use Rattle.pt_plan.specs.declared.phase.Phase.{Phase}
 use Rattle.pt_plan.specs.declared.phase.Phase.TheVariants as phase
@@ -49,27 +49,27 @@ abbrev pub last_line : Counts → Line
 last_line counts = End counts.done counts.present counts.skipped
 
 -- from the phase and what is held to what is held after, with the calls and the answer, at these counts
-pub data Places (job : Job) (counts : Counts) : Phase → Held → Held → Calls → Answer → Type 0 where
+pub data PlaceStep (job : Job) (counts : Counts) : Phase → Held → Held → Calls → Answer → Type 0 where
   -- a tuple directory is made, or stands already
   MakesTuple : (held : Held) (object : Object) (number : ℕ)
-      → Places job counts (phase.Carrying object (stage.Tuples number)) held held
+      → PlaceStep job counts (phase.Carrying object (stage.Tuples number)) held held
       (does (FindsNoneAndMakes (tuple_folder object number))) (Ok (after_tuple job object number))
   FindsTuple : (held : Held) (object : Object) (number : ℕ)
-      → Places job counts (phase.Carrying object (stage.Tuples number)) held held
+      → PlaceStep job counts (phase.Carrying object (stage.Tuples number)) held held
       (does (Finds (tuple_folder object number) (Some kind.Dir)))
       (Ok (after_tuple job object number))
   -- unless its name is taken by something else
   IsInTheWay : (held : Held) (object : Object) (number : ℕ) (here : Kind) → is_dir_kind (Some here) ≡ false
-      → Places job counts (phase.Carrying object (stage.Tuples number)) held held
+      → PlaceStep job counts (phase.Carrying object (stage.Tuples number)) held held
       (does (Finds (tuple_folder object number) (Some here))) (Err fault.Target)
   -- `staging` becomes the object at its place
   RenamesObject : (held : Held) (object : Object)
-      → Places job counts (phase.Carrying object stage.Rename) held held
+      → PlaceStep job counts (phase.Carrying object stage.Rename) held held
       (does (Renames staging (in_root object.place))) (Ok (phase.Carrying object stage.Line))
   -- the object is told, and the walk goes on at its site
   TellsDone : (held : Held) (object : Object)
-      → Places job counts (phase.Carrying object stage.Line) held (restarted held) (tells (done_line object held))
+      → PlaceStep job counts (phase.Carrying object stage.Line) held (restarted held) (tells (done_line object held))
       (Ok phase.Walk)
   -- the end is told
   TellsEnd : (held : Held)
-      → Places job counts phase.End held held (tells (last_line counts)) (Ok phase.Ended)
+      → PlaceStep job counts phase.End held held (tells (last_line counts)) (Ok phase.Ended)

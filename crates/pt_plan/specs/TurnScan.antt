@@ -16,8 +16,8 @@ use Rattle.pt_plan.specs.Job.{Job}
 use Rattle.pt_plan.specs.Lines.{Line, Skipped}
 use Rattle.pt_plan.specs.Run.{Held, with_fed, with_trail}
 use Rattle.pt_plan.specs.TurnWalk.{in_pairtree}
-use Rattle.pt_plan.specs.World.{Calls, Lists, Opens, Reads, asks, no_calls, tells}
-use Rattle.pt_plan.specs.World as call
+use Rattle.pt_plan.specs.DeviceStates.{Calls, Lists, Opens, Reads, asks, no_calls, tells}
+use Rattle.pt_plan.specs.DeviceStates as call
 use Rattle.pt_plan.specs.declared.object.Object.{Object}
 use Rattle.pt_plan.specs.declared.phase.Part.TheVariants as part
 use Rattle.pt_plan.specs.declared.phase.Phase.{Phase}
@@ -86,33 +86,33 @@ with_file job object held bytes = record {
 -- ---- the turns
 
 -- from the phase and what is held to what is held after, with the calls and the answer
-pub data Scans (job : Job) : Phase → Held → Held → Calls → Answer → Type 0 where
+pub data ScanStep (job : Job) : Phase → Held → Held → Calls → Answer → Type 0 where
   -- a gathered object starts in its site
   StartsInSite : (held : Held) (object : Object) → object.gathered ≡ true
-      → Scans job (phase.Carrying object stage.Open) held (with_trail held (sought 0 held.trail)) no_calls
+      → ScanStep job (phase.Carrying object stage.Open) held (with_trail held (sought 0 held.trail)) no_calls
       (Ok (phase.Carrying object stage.Scan))
   -- any other in its directory, which is listed and entered
   EntersObject : (held : Held) (object : Object) (items : List Item) → object.gathered ≡ false
       → nat_lt job.limits.depth (length held.trail) ≡ false
-      → Scans job (phase.Carrying object stage.Open) held (with_trail held (entered items held.trail))
+      → ScanStep job (phase.Carrying object stage.Open) held (with_trail held (entered items held.trail))
       (asks (Lists (in_pairtree (names_to held.trail)) items))
       (Ok (phase.Carrying (with_directory object items) stage.Scan))
   -- unless that is too deep
   IsTooDeep : (held : Held) (object : Object) → object.gathered ≡ false
       → nat_lt job.limits.depth (length held.trail) ≡ true
-      → Scans job (phase.Carrying object stage.Open) held (back_at_site object held)
+      → ScanStep job (phase.Carrying object stage.Open) held (back_at_site object held)
       (tells (skipped object held cause.Limit)) (Ok phase.Walk)
   -- a shorty of the site is passed
   PassesShorty : (held : Held) (object : Object) (item : Item)
       → current_entry held.trail ≡ Some item → is_passed object held.trail item ≡ true
-      → Scans job (phase.Carrying object stage.Scan) held (with_trail held (advanced held.trail)) no_calls
+      → ScanStep job (phase.Carrying object stage.Scan) held (with_trail held (advanced held.trail)) no_calls
       (Ok (phase.Carrying object stage.Scan))
   -- a directory is listed and entered
   EntersDirectory : (held : Held) (object : Object) (name : List ℕ) (items : List Item)
       → current_entry held.trail ≡ Some (name, kind.Dir)
       → is_passed object held.trail (name, kind.Dir) ≡ false
       → nat_lt job.limits.depth (length held.trail) ≡ false
-      → Scans job (phase.Carrying object stage.Scan) held (with_trail held (entered items held.trail))
+      → ScanStep job (phase.Carrying object stage.Scan) held (with_trail held (entered items held.trail))
       (asks (Lists (in_pairtree (names_to held.trail)) items))
       (Ok (phase.Carrying (with_directory object items) stage.Scan))
   -- unless it is too deep
@@ -120,48 +120,48 @@ pub data Scans (job : Job) : Phase → Held → Held → Calls → Answer → Ty
       → current_entry held.trail ≡ Some (name, kind.Dir)
       → is_passed object held.trail (name, kind.Dir) ≡ false
       → nat_lt job.limits.depth (length held.trail) ≡ true
-      → Scans job (phase.Carrying object stage.Scan) held (back_at_site object held)
+      → ScanStep job (phase.Carrying object stage.Scan) held (back_at_site object held)
       (tells (skipped object held cause.Limit)) (Ok phase.Walk)
   -- a file is opened
   OpensFile : (held : Held) (object : Object) (name : List ℕ)
       → current_entry held.trail ≡ Some (name, kind.File)
       → is_beyond job held (logical_path object held.trail) ≡ false
-      → Scans job (phase.Carrying object stage.Scan) held (with_fed held [])
+      → ScanStep job (phase.Carrying object stage.Scan) held (with_fed held [])
       (asks (Opens (in_pairtree (names_to held.trail)))) (Ok (phase.Carrying object (stage.Read 0)))
   -- unless there are too many, or its path is too long
   MeetsLimit : (held : Held) (object : Object) (name : List ℕ)
       → current_entry held.trail ≡ Some (name, kind.File)
       → is_beyond job held (logical_path object held.trail) ≡ true
-      → Scans job (phase.Carrying object stage.Scan) held (back_at_site object held)
+      → ScanStep job (phase.Carrying object stage.Scan) held (back_at_site object held)
       (tells (skipped object held cause.Limit)) (Ok phase.Walk)
   -- what is neither file nor directory is a cause against the object
   MeetsOther : (held : Held) (object : Object) (name : List ℕ)
       → current_entry held.trail ≡ Some (name, kind.Other)
-      → Scans job (phase.Carrying object stage.Scan) held (back_at_site object held)
+      → ScanStep job (phase.Carrying object stage.Scan) held (back_at_site object held)
       (tells (skipped object held cause.Other)) (Ok phase.Walk)
   -- at the end of its site a gathered object is made
   EndsSite : (held : Held) (object : Object) → current_entry held.trail ≡ None
       → is_in_site object held.trail ≡ true
-      → Scans job (phase.Carrying object stage.Scan) held held no_calls (Ok (phase.Carrying object (stage.Make part.Staging)))
+      → ScanStep job (phase.Carrying object stage.Scan) held held no_calls (Ok (phase.Carrying object (stage.Make part.Staging)))
   -- and any other at the end of its directory, which is left
   EndsObject : (held : Held) (object : Object) → current_entry held.trail ≡ None
       → is_in_site object held.trail ≡ false → is_own_directory object held.trail ≡ true
-      → Scans job (phase.Carrying object stage.Scan) held (with_trail held (parent held.trail)) no_calls
+      → ScanStep job (phase.Carrying object stage.Scan) held (with_trail held (parent held.trail)) no_calls
       (Ok (phase.Carrying object (stage.Make part.Staging)))
   -- at the end of any other directory the scan goes on behind it
   LeavesDirectory : (held : Held) (object : Object) → current_entry held.trail ≡ None
       → is_in_site object held.trail ≡ false → is_own_directory object held.trail ≡ false
-      → Scans job (phase.Carrying object stage.Scan) held (with_trail held (advanced (parent held.trail))) no_calls
+      → ScanStep job (phase.Carrying object stage.Scan) held (with_trail held (advanced (parent held.trail))) no_calls
       (Ok (phase.Carrying object stage.Scan))
   -- a block of the file is read
   ReadsOn : (held : Held) (object : Object) (bytes byte : ℕ) (block : List ℕ)
       → nat_lt job.limits.file_bytes (bytes + length (byte ∷ block)) ≡ false
-      → Scans job (phase.Carrying object (stage.Read bytes)) held (with_fed held (held.fed ++ byte ∷ block))
+      → ScanStep job (phase.Carrying object (stage.Read bytes)) held (with_fed held (held.fed ++ byte ∷ block))
       (asks (Reads (byte ∷ block))) (Ok (phase.Carrying object (stage.Read (bytes + length (byte ∷ block)))))
   -- unless the file is too long
   IsTooLong : (held : Held) (object : Object) (bytes byte : ℕ) (block : List ℕ)
       → nat_lt job.limits.file_bytes (bytes + length (byte ∷ block)) ≡ true
-      → Scans job (phase.Carrying object (stage.Read bytes)) held (back_at_site object held)
+      → ScanStep job (phase.Carrying object (stage.Read bytes)) held (back_at_site object held)
       (record {
         asked = Reads (byte ∷ block);
         change = call.ChangesNothing;
@@ -169,5 +169,5 @@ pub data Scans (job : Job) : Phase → Held → Held → Calls → Answer → Ty
       }) (Ok phase.Walk)
   -- at its end its row is noted
   EndsFile : (held : Held) (object : Object) (bytes : ℕ)
-      → Scans job (phase.Carrying object (stage.Read bytes)) held (with_file job object held bytes) (asks (Reads []))
+      → ScanStep job (phase.Carrying object (stage.Read bytes)) held (with_file job object held bytes) (asks (Reads []))
       (Ok (phase.Carrying object stage.Scan))

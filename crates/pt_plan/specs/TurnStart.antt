@@ -15,7 +15,7 @@ use Rattle.pt_plan.specs.declared.fault.Fault.TheVariants as fault
 use Rattle.pt_plan.specs.Job.{Job}
 use Rattle.pt_plan.specs.Roots.{storage_root}
 use Rattle.pt_plan.specs.Store.{pairtree_root, prefix_file, version_file}
-use Rattle.pt_plan.specs.World.{Calls, Finds, Lists, Makes, OpensAndReads, Peeks, Renames, asks, does, no_calls}
+use Rattle.pt_plan.specs.DeviceStates.{Calls, Finds, Lists, Makes, OpensAndReads, Peeks, Renames, asks, does, no_calls}
 use Rattle.pt_plan.specs.declared.phase.Phase.{Phase}
 use Rattle.pt_plan.specs.declared.phase.Opening.TheVariants as opening
 use Rattle.pt_plan.specs.declared.phase.Phase.TheVariants as phase
@@ -53,55 +53,55 @@ abbrev pub after_file : ℕ → Phase
 after_file file = cond (file == 2) (phase.Opening opening.OpenRoot) (phase.Opening (opening.RootCheck (file + 1)))
 
 -- from the phase and the prefix to the prefix after, with the calls and the answer
-pub data Starts (job : Job) : Phase → List ℕ → List ℕ → Calls → Answer → Type 0 where
+pub data StartStep (job : Job) : Phase → List ℕ → List ℕ → Calls → Answer → Type 0 where
   -- the top is listed
   IsStore : (prefix : List ℕ) (entries : List Entry) → lists_store entries ≡ true
-      → Starts job (phase.Opening opening.Begin) prefix prefix (asks (Lists [] entries))
+      → StartStep job (phase.Opening opening.Begin) prefix prefix (asks (Lists [] entries))
       (Ok (phase.Opening (opening.Prefix (kind_in entries prefix_file))))
   IsNoStore : (prefix : List ℕ) (entries : List Entry) → lists_store entries ≡ false
-      → Starts job (phase.Opening opening.Begin) prefix prefix (asks (Lists [] entries)) (Err fault.NotPairtree)
+      → StartStep job (phase.Opening opening.Begin) prefix prefix (asks (Lists [] entries)) (Err fault.NotPairtree)
   -- the prefix is read, if there is a file for it
   HasNoPrefix : (prefix : List ℕ)
-      → Starts job (phase.Opening (opening.Prefix None)) prefix prefix no_calls (Ok (phase.Opening opening.Staging))
+      → StartStep job (phase.Opening (opening.Prefix None)) prefix prefix no_calls (Ok (phase.Opening opening.Staging))
   IsNoPrefixFile : (prefix : List ℕ) (here : Option Kind) → here ≢ None → is_file_kind here ≡ false
-      → Starts job (phase.Opening (opening.Prefix here)) prefix prefix no_calls (Err fault.Prefix)
+      → StartStep job (phase.Opening (opening.Prefix here)) prefix prefix no_calls (Err fault.Prefix)
   HasPrefix : (prefix block : List ℕ) → prefix_refusal block ≡ None
-      → Starts job (phase.Opening (opening.Prefix (Some kind.File))) prefix (without_line_ends block)
+      → StartStep job (phase.Opening (opening.Prefix (Some kind.File))) prefix (without_line_ends block)
       (asks (OpensAndReads (prefix_file ∷ []) block)) (Ok (phase.Opening opening.Staging))
   IsNoPrefix : (prefix block : List ℕ) (why : PrefixFault) → prefix_refusal block ≡ Some why
-      → Starts job (phase.Opening (opening.Prefix (Some kind.File))) prefix prefix
+      → StartStep job (phase.Opening (opening.Prefix (Some kind.File))) prefix prefix
       (asks (OpensAndReads (prefix_file ∷ []) block)) (Err fault.Prefix)
   -- nothing may stand at `staging`
   HasNoStaging : (prefix : List ℕ)
-      → Starts job (phase.Opening opening.Staging) prefix prefix (does (Finds staging None)) (Ok (phase.Opening opening.Root))
+      → StartStep job (phase.Opening opening.Staging) prefix prefix (does (Finds staging None)) (Ok (phase.Opening opening.Root))
   HasStaging : (prefix : List ℕ) (here : Kind)
-      → Starts job (phase.Opening opening.Staging) prefix prefix (does (Finds staging (Some here))) (Err fault.StagingLeft)
+      → StartStep job (phase.Opening opening.Staging) prefix prefix (does (Finds staging (Some here))) (Err fault.StagingLeft)
   -- the root is made where nothing stands, and compared where a directory does
   HasNoRoot : (prefix : List ℕ)
-      → Starts job (phase.Opening opening.Root) prefix prefix (does (Finds storage_root None)) (Ok (phase.Opening (opening.RootMake 0)))
+      → StartStep job (phase.Opening opening.Root) prefix prefix (does (Finds storage_root None)) (Ok (phase.Opening (opening.RootMake 0)))
   HasRoot : (prefix : List ℕ)
-      → Starts job (phase.Opening opening.Root) prefix prefix (does (Finds storage_root (Some kind.Dir)))
+      → StartStep job (phase.Opening opening.Root) prefix prefix (does (Finds storage_root (Some kind.Dir)))
       (Ok (phase.Opening (opening.RootCheck 0)))
   IsNoRoot : (prefix : List ℕ) (here : Kind) → is_dir_kind (Some here) ≡ false
-      → Starts job (phase.Opening opening.Root) prefix prefix (does (Finds storage_root (Some here))) (Err fault.Target)
+      → StartStep job (phase.Opening opening.Root) prefix prefix (does (Finds storage_root (Some here))) (Err fault.Target)
   -- one item of the root's script is made
   MakesRoot : (prefix : List ℕ) (number : ℕ) (item : Item)
       → slice_get (root_script job.tuples) number ≡ Some item
-      → Starts job (phase.Opening (opening.RootMake number)) prefix prefix (does (Makes item)) (Ok (after_item number))
+      → StartStep job (phase.Opening (opening.RootMake number)) prefix prefix (does (Makes item)) (Ok (after_item number))
   -- `staging` becomes the root
   RenamesRoot : (prefix : List ℕ)
-      → Starts job (phase.Opening opening.RootRename) prefix prefix (does (Renames staging storage_root)) (Ok (phase.Opening opening.OpenRoot))
+      → StartStep job (phase.Opening opening.RootRename) prefix prefix (does (Renames staging storage_root)) (Ok (phase.Opening opening.OpenRoot))
   -- one of the root's three files is compared
   IsSame : (prefix : List ℕ) (number : ℕ) (path : Path) (bytes : List ℕ)
       → slice_get (root_files_of job.tuples) number ≡ Some (path, bytes)
-      → Starts job (phase.Opening (opening.RootCheck number)) prefix prefix
+      → StartStep job (phase.Opening (opening.RootCheck number)) prefix prefix
       (does (Peeks (storage_root ++ path) bytes)) (Ok (after_file number))
   IsNoFile : (prefix : List ℕ) (number : ℕ) (path : Path) (bytes : List ℕ) (here : Option Kind)
       → slice_get (root_files_of job.tuples) number ≡ Some (path, bytes) → is_file_kind here ≡ false
-      → Starts job (phase.Opening (opening.RootCheck number)) prefix prefix (does (Finds (storage_root ++ path) here))
+      → StartStep job (phase.Opening (opening.RootCheck number)) prefix prefix (does (Finds (storage_root ++ path) here))
       (Err fault.Target)
   Differs : (prefix : List ℕ) (number : ℕ) (path : Path) (bytes block : List ℕ)
       → slice_get (root_files_of job.tuples) number ≡ Some (path, bytes)
       → bytes_eq block bytes ≡ false
-      → Starts job (phase.Opening (opening.RootCheck number)) prefix prefix
+      → StartStep job (phase.Opening (opening.RootCheck number)) prefix prefix
       (does (Peeks (storage_root ++ path) block)) (Err fault.Target)

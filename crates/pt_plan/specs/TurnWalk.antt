@@ -25,7 +25,7 @@ use Rattle.pt_plan.specs.Lines.{Present, Skipped}
 use Rattle.pt_plan.specs.Run.{Held, with_trail}
 use Rattle.pt_plan.specs.Store.{pairtree_root}
 use Rattle.pt_plan.specs.Roots.{storage_root}
-use Rattle.pt_plan.specs.World.{AsksNothing, Calls, Finds, Lists, asks, does, no_calls, tells, tells_if}
+use Rattle.pt_plan.specs.DeviceStates.{AsksNothing, Calls, Finds, Lists, asks, does, no_calls, tells, tells_if}
 use Rattle.pt_plan.specs.declared.object.Object.{Object}
 use Rattle.pt_plan.specs.declared.phase.Phase.{Phase}
 use Rattle.pt_plan.specs.declared.phase.Opening.TheVariants as opening
@@ -108,21 +108,21 @@ abbrev pub in_pairtree : Path → Path
 in_pairtree path = pairtree_root ∷ path
 
 -- from the phase and what is held to what is held after, with the calls and the answer, where the store has this prefix
-pub data Walks (job : Job) (prefix : List ℕ) : Phase → Held → Held → Calls → Answer → Type 0 where
+pub data WalkStep (job : Job) (prefix : List ℕ) : Phase → Held → Held → Calls → Answer → Type 0 where
   -- the pairtree's directory is listed and entered
   OpensRoot : (held : Held) (items : List Item)
-      → Walks job prefix (phase.Opening opening.OpenRoot) held (with_trail held (entered items held.trail))
+      → WalkStep job prefix (phase.Opening opening.OpenRoot) held (with_trail held (entered items held.trail))
       (asks (Lists (in_pairtree []) items)) (Ok phase.Judge)
   -- the site only leads on, or is of another share
   LeadsOn : (held : Held) → judged_at job prefix held.trail ≡ Interior
-      → Walks job prefix phase.Judge held held no_calls (Ok phase.Walk)
+      → WalkStep job prefix phase.Judge held held no_calls (Ok phase.Walk)
   -- there is a cause against the site, or its object has no identifier that can be carried
   IsSkipped : (held : Held) (why : Cause) → judged_at job prefix held.trail ≡ Skip why
-      → Walks job prefix phase.Judge held held (tells (Skipped (trail_path held.trail) why)) (Ok phase.Walk)
+      → WalkStep job prefix phase.Judge held held (tells (Skipped (trail_path held.trail) why)) (Ok phase.Walk)
   -- its place is taken
   IsPresent : (held : Held) (index : Option ℕ) (id : List ℕ) (here : Kind)
       → judged_at job prefix held.trail ≡ Named id index
-      → Walks job prefix phase.Judge held held
+      → WalkStep job prefix phase.Judge held held
       (record {
         asked = AsksNothing;
         change = Finds (in_root (place_of job.tuples id)) (Some here);
@@ -130,34 +130,34 @@ pub data Walks (job : Job) (prefix : List ℕ) : Phase → Held → Held → Cal
       }) (Ok phase.Walk)
   -- its place is free
   IsNew : (held : Held) (index : Option ℕ) (id : List ℕ) → judged_at job prefix held.trail ≡ Named id index
-      → Walks job prefix phase.Judge held (with_trail held (at_object index held.trail))
+      → WalkStep job prefix phase.Judge held (with_trail held (at_object index held.trail))
       (does (Finds (in_root (place_of job.tuples id)) None))
       (Ok (phase.Carrying (new_object job id index held.trail) stage.Open))
   -- a shorty below a name of one byte, which the first share tells
   IsPast : (held : Held) (name : List ℕ) → current_entry held.trail ≡ Some (name, kind.Dir)
       → is_short name ≡ true → is_last (at_of (trail_path held.trail)) ≡ true
-      → Walks job prefix phase.Walk held (with_trail held (advanced held.trail))
+      → WalkStep job prefix phase.Walk held (with_trail held (advanced held.trail))
       (tells_if (is_first job.share) (Skipped (names_to held.trail) cause.Past)) (Ok phase.Walk)
   -- a shorty that is too deep, which the first share tells
   IsDeep : (held : Held) (name : List ℕ) → current_entry held.trail ≡ Some (name, kind.Dir)
       → is_short name ≡ true → is_last (at_of (trail_path held.trail)) ≡ false
       → nat_lt job.limits.depth (length held.trail) ≡ true
-      → Walks job prefix phase.Walk held (with_trail held (advanced held.trail))
+      → WalkStep job prefix phase.Walk held (with_trail held (advanced held.trail))
       (tells_if (is_first job.share) (Skipped (names_to held.trail) cause.Limit)) (Ok phase.Walk)
   -- any other shorty is listed and entered
   EntersSite : (held : Held) (name : List ℕ) (items : List Item)
       → current_entry held.trail ≡ Some (name, kind.Dir) → is_short name ≡ true
       → is_last (at_of (trail_path held.trail)) ≡ false
       → nat_lt job.limits.depth (length held.trail) ≡ false
-      → Walks job prefix phase.Walk held (with_trail held (entered items held.trail))
+      → WalkStep job prefix phase.Walk held (with_trail held (entered items held.trail))
       (asks (Lists (in_pairtree (names_to held.trail)) items)) (Ok phase.Judge)
   -- any other entry is passed
   PassesEntry : (held : Held) (item : Item) → current_entry held.trail ≡ Some item → is_shorty item ≡ false
-      → Walks job prefix phase.Walk held (with_trail held (advanced held.trail)) no_calls (Ok phase.Walk)
+      → WalkStep job prefix phase.Walk held (with_trail held (advanced held.trail)) no_calls (Ok phase.Walk)
   -- at its end the listing is left
   LeavesSite : (held : Held) → current_entry held.trail ≡ None → nat_lt 1 (length held.trail) ≡ true
-      → Walks job prefix phase.Walk held (with_trail held (advanced (parent held.trail))) no_calls
+      → WalkStep job prefix phase.Walk held (with_trail held (advanced (parent held.trail))) no_calls
       (Ok phase.Walk)
   -- at the end of the outermost the walk is done
   EndsWalk : (held : Held) → current_entry held.trail ≡ None → nat_lt 1 (length held.trail) ≡ false
-      → Walks job prefix phase.Walk held held no_calls (Ok phase.End)
+      → WalkStep job prefix phase.Walk held held no_calls (Ok phase.End)

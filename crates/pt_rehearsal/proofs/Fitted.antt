@@ -9,7 +9,7 @@ use Rattle.pt_tree.specs.Name.{AreNames}
 use Rattle.pt_tree.specs.Path.{Path, joined, same_path}
 use Rattle.pt_tree.specs.Tree.{CanMake, Entry, Folder, Tree, put}
 use Rattle.pt_tree.proofs.Below.{gap_below}
-use Rattle.pt_begun.proofs.dest.Trees.{tree_added, tree_put}
+use Rattle.pt_invariant.proofs.dest.Trees.{tree_added, tree_put}
 use Rattle.pt_object.proofs.Ways.{is_same, name_itself, same_name}
 use Rattle.pt_rehearsal.specs.Texts.{with_text}
 use Rattle.pt_rehearsal.specs.Seeing.{View, Within, is_folder, is_hidden, is_inside, is_itself, is_met, met_in, with_folder, with_met}

@@ -5,3 +5,4 @@ pub mod Staying
 mod Steps
 mod TextSets
 mod Walks
+pub mod Moved

@@ -8,7 +8,7 @@ use Rattle.pt_tree.specs.Name.{AreNames}
 use Rattle.pt_tree.specs.Path.{Path, joined, rest_below}
 use Rattle.pt_tree.specs.Tree.{CanMove, Folder, Tree, moved, moved_at}
 use Rattle.pt_tree.proofs.Below.{gap_below, rest_of, whole_of}
-use Rattle.pt_begun.proofs.dest.Trees.{tree_moved}
+use Rattle.pt_invariant.proofs.dest.Trees.{tree_moved}
 use Rattle.pt_object.proofs.Ways.{bytes_eq-sym, name_itself}
 use Rattle.pt_plan.proofs.Growing.{append_nil}
 use Rattle.pt_rehearsal.specs.Texts.{with_text}

@@ -185,7 +185,7 @@ impl Remembered {
                 }
                 let name = name.copy()?;
                 self.note(to, text)?;
-                self.filled = renamed(self.filling.take(), name);
+                self.filled = rename_inner(self.filling.take(), name);
                 Ok(true)
             }
             names => {
@@ -234,7 +234,7 @@ fn meet_in(alloc: Global, inner: &mut Inner, names: &[Name]) -> Result<(), Memor
 }
 
 // The directory under another name.
-fn renamed(inner: Option<Inner>, name: Name) -> Option<Inner>
+fn rename_inner(inner: Option<Inner>, name: Name) -> Option<Inner>
     ensures { option_map inner_of result ≡ renamed_to name (option_map inner_of inner) }
 {
     let Inner { names, .. } = inner?;

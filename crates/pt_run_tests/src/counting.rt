@@ -142,7 +142,7 @@ impl<'a> System for Counted<'a> {
 
     ghost tree_law = { λ s folder t is. untold_tree t is };
 
-    fn look(&mut self, _: &str) -> io::Result<Kind> {
+    fn lstat(&mut self, _: &str) -> io::Result<Kind> {
         one_more(&self.counts.looks);
         if self.counts.no_look.get() {
             return Err(io::Error::from(ErrorKind::NotFound));
@@ -156,14 +156,14 @@ impl<'a> System for Counted<'a> {
         }))
     }
 
-    fn make_file(&mut self, _: &str) -> io::Result<HostFile<CountedFile<'a>>> {
+    fn create_new(&mut self, _: &str) -> io::Result<HostFile<CountedFile<'a>>> {
         one_more(&self.counts.changes);
         Ok(HostFile::new(CountedFile {
             counts: self.counts,
         }))
     }
 
-    fn open_names(&mut self, _: &str) -> io::Result<HostFile<NoNames>> {
+    fn read_dir(&mut self, _: &str) -> io::Result<HostFile<NoNames>> {
         one_more(&self.counts.looks);
         Ok(HostFile::new(NoNames))
     }

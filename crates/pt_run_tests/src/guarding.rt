@@ -1,7 +1,7 @@
 //! Whether a run may begin.
 ghost use Rattle.std.specs.Prelude.{⊤};
 
-use pt_guard::{Claim, Folder, GuardFault, Hold, Places, begin};
+use pt_guard::{Claim, FileId, GuardFault, LockAttempt, Places, begin};
 use std::alloc::Global;
 use std::cell::Cell;
 use std::io;
@@ -63,13 +63,13 @@ impl<'a> Places for &'a Paths {
     }
 
     // A folder is known by its number, or else by the length of its path.
-    fn identify(&mut self, path: &str) -> io::Result<Folder> {
+    fn identify(&mut self, path: &str) -> io::Result<FileId> {
         for (at, inode) in self.numbers {
             if *at == path && *inode == NO_ROOM {
                 return Err(io::Error::from(ErrorKind::OutOfMemory));
             }
             if *at == path {
-                return Ok(Folder {
+                return Ok(FileId {
                     device: 1,
                     inode: *inode,
                 });
@@ -78,20 +78,22 @@ impl<'a> Places for &'a Paths {
         if !path.starts_with("/") {
             return Err(io::Error::from(ErrorKind::NotFound));
         }
-        Ok(Folder {
+        Ok(FileId {
             device: 2,
             inode: path.len() as u64,
         })
     }
 
-    fn hold(&mut self, _: &str, claim: Claim) -> Hold<u8> {
+    fn hold(&mut self, _: &str, claim: Claim) -> LockAttempt<u8> {
         self.asked.set(true);
         match (self.lock, claim) {
-            (Lock::Held, _) | (Lock::Shared, Claim::Shared) => Hold::Held(7),
-            (Lock::Taken, _) | (Lock::Shared, Claim::Alone) => Hold::Taken,
-            (Lock::Root, _) => Hold::Root,
-            (Lock::Unknown, _) => Hold::Unknown(io::Error::from(ErrorKind::PermissionDenied)),
-            (Lock::Wanting, _) => Hold::Unknown(io::Error::from(ErrorKind::OutOfMemory)),
+            (Lock::Held, _) | (Lock::Shared, Claim::Shared) => LockAttempt::Held(7),
+            (Lock::Taken, _) | (Lock::Shared, Claim::Alone) => LockAttempt::Taken,
+            (Lock::Root, _) => LockAttempt::Root,
+            (Lock::Unknown, _) => LockAttempt::Unknown(io::Error::from(
+                ErrorKind::PermissionDenied,
+            )),
+            (Lock::Wanting, _) => LockAttempt::Unknown(io::Error::from(ErrorKind::OutOfMemory)),
         }
     }
 

@@ -1,6 +1,6 @@
 //! Tests as data: steps of a destination over a system whose calls are counted.
 use crate::counting::{Counted, Counts};
-use pt_folder::{Cause, Failure, HostDest};
+use pt_folder::{Failure, FailureReason, HostDest};
 use pt_memory::texts::path;
 use pt_rehearsal::Rehearsal;
 use pt_tree::{Block, Dest, Kind, NamePath, TreeFault};
@@ -190,7 +190,8 @@ fn is_found(counts: &Counts, failures: u64, last: Option<&Failure>, step: Step) 
 // Whether the last failure was at this path, and, where that is asked, because it is too long.
 fn has_failed(last: Option<&Failure>, at: &str, long: bool) -> bool {
     match last {
-        Some(failure) => failure.path() == at && (!long || matches!(failure.cause(), Cause::Long)),
+        Some(failure) => failure.path() == at
+            && (!long || matches!(failure.cause(), FailureReason::Long)),
         None => false,
     }
 }

@@ -82,7 +82,7 @@ fn goes(system: &mut MemorySystem<'_>, faults: &Faults, step: Step) -> io::Resul
 fn is_answered(system: &mut MemorySystem<'_>, step: Step) -> bool {
     match step {
         Step::Look(at, answer) => kind(system, at) == answer,
-        Step::NoNames(at, error) => fault(system.open_names(at)) == Some(error),
+        Step::NoNames(at, error) => fault(system.read_dir(at)) == Some(error),
         Step::NoFile(at, error) => fault(system.open_to_read(at)) == Some(error),
         Step::MakeDir(at, error) => fault(system.make_dir(at)) == error,
         Step::Move(from, to, error) => fault(system.move_to(from, to)) == error,
@@ -99,7 +99,7 @@ fn fault<T: Drop>(answer: io::Result<T>) -> Option<ErrorKind> {
 }
 
 fn kind(system: &mut MemorySystem<'_>, at: &str) -> Result<Kind, ErrorKind> {
-    match system.look(at) {
+    match system.lstat(at) {
         Ok(kind) => Ok(kind),
         Err(error) => Err(error.kind()),
     }
@@ -111,7 +111,7 @@ fn are_names(
     room: usize,
     pieces: &[&str],
 ) -> io::Result<bool> {
-    let mut names = system.open_names(at)?;
+    let mut names = system.read_dir(at)?;
     are_pieces(&mut names, room, pieces)
 }
 
@@ -145,7 +145,7 @@ fn holds(file: &mut MemFile<'_>, pieces: &[(Option<u64>, &str)]) -> io::Result<b
 fn goes_there(file: &mut MemFile<'_>, place: Option<u64>) -> io::Result<bool> {
     match place {
         None => Ok(true),
-        Some(place) => Ok(file.go_to(place)? == place),
+        Some(place) => Ok(file.seek(place)? == place),
     }
 }
 
@@ -161,7 +161,7 @@ fn is_written(
     at: &str,
     pieces: &[(&str, usize)],
 ) -> io::Result<bool> {
-    let mut file = system.make_file(at)?;
+    let mut file = system.create_new(at)?;
     takes(system, &mut file, pieces)
 }
 
@@ -236,16 +236,16 @@ fn folders_are_read_and_written(rt: HostRuntime) -> Result<(), Fail> {
 
 // Seven calls, one after another.
 fn seven_calls(system: &mut MemorySystem<'_>) -> io::Result<()> {
-    system.look("root/")?;
+    system.lstat("root/")?;
     system.make_dir("root/staging")?;
     write_staged(system)?;
     system.move_to("root/staging", "root/place")?;
-    system.look("root/place/a")?;
+    system.lstat("root/place/a")?;
     Ok(())
 }
 
 fn write_staged(system: &mut MemorySystem<'_>) -> io::Result<()> {
-    let mut file = system.make_file("root/staging/a")?;
+    let mut file = system.create_new("root/staging/a")?;
     system.write_piece(&mut file, b"bytes".as_slice())?;
     file.sync()
 }
@@ -282,7 +282,7 @@ fn each_call_fails_in_turn(rt: HostRuntime) -> Result<(), Fail> {
 }
 
 fn declare(system: &mut MemorySystem<'_>) -> io::Result<()> {
-    let mut file = system.make_file("root/0=ocfl_1.1")?;
+    let mut file = system.create_new("root/0=ocfl_1.1")?;
     system.write_piece(&mut file, b"ocfl_1.1\n".as_slice())?;
     Ok(())
 }

@@ -3,11 +3,11 @@ use Rattle.std.specs.Prelude.{◌≡◌, Bool, true, false, IfOk, List, ℕ, Opt
 use Rattle.std.specs.Bool.{OnTrue}
 use Rattle.pt_plan.specs.Answer.{Answer}
 use Rattle.pt_plan.specs.Turn.{Did}
-use Rattle.pt_plan.specs.World.{Answers, Reads, World, asks}
+use Rattle.pt_plan.specs.DeviceStates.{Answers, Reads, DeviceStates, asks}
 use Rattle.pt_scan.specs.Blocks.{IsNextBlock, KeepsBlock, is_reading}
 use Rattle.pt_tree.specs.Source.{IsRead, Reading}
 
-pub read_by : (block : List ℕ) (before after : World) → Did (asks (Reads block)) before after → IsRead before.source block
+pub read_by : (block : List ℕ) (before after : DeviceStates) → Did (asks (Reads block)) before after → IsRead before.source block
 unfolding Did Answers
 read_by block before after did = did.0.source.0
 

@@ -2,10 +2,10 @@
 use Rattle.std.proofs.Common.{◌≡◌, ℕ, List, refl, ap, ◌∙◌}
 use Rattle.std.specs.Prelude.{Option, Some, Ok}
 use Rattle.std.specs.String.{string_bytes}
-use Rattle.pt_state.proofs.Words.{Writing, Path, Kind, Frame, Line, with_trail, Did, LeavesSome, counted, Answers, Calls, Change, Changes, Finds, Puts, Reads, Untouched, World, asks, dest_tree, does, source_tree, tells, Fault, Phase, Turned, counts_of, held_of}
+use Rattle.pt_state.proofs.Words.{Writing, Path, Kind, Frame, Line, with_trail, Did, FailsPartway, counted, Answers, Calls, Change, Changes, Finds, Puts, Reads, Untouched, DeviceStates, asks, dest_tree, does, source_tree, tells, Fault, Phase, Turned, counts_of, held_of}
 use Rattle.pt_state.specs.declared.job.Report.{Report}
 use Rattle.pt_state.specs.declared.state.State.{State}
-use Rattle.pt_plan.specs.World.{AsksNothing, ChangesNothing, LeavesPart}
+use Rattle.pt_plan.specs.DeviceStates.{AsksNothing, ChangesNothing, LeavesPart}
 use Rattle.pt_scan.specs.Scanning.{Moved}
 use Rattle.pt_state.proofs.Together.{asked_tree}
 use Rattle.pt_state.proofs.Turns.{Leads, turned_on}
@@ -15,7 +15,7 @@ use Rattle.pt_state.proofs.Turns.{Leads, turned_on}
 abbrev pub reads_and_tells : List ℕ → Line → Calls
 reads_and_tells block line = record { asked = Reads block; change = ChangesNothing; line = Some line }
 
-pub read_told : (block : List ℕ) (line : Line) (a b c : World) → Did (asks (Reads block)) a b → Did (tells line) b c → Did (reads_and_tells block line) a c
+pub read_told : (block : List ℕ) (line : Line) (a b c : DeviceStates) → Did (asks (Reads block)) a b → Did (tells line) b c → Did (reads_and_tells block line) a c
 unfolding Did Answers Changes Puts
 read_told block line a b c first next = (
   record {
@@ -26,8 +26,8 @@ read_told block line a b c first next = (
   next.1 ∙ first.1,
 )
 
-pub read_left : (block : List ℕ) (line : Line) (f : Fault) (a b c : World) → Did (asks (Reads block)) a b → LeavesSome (tells line) f b c → LeavesSome (reads_and_tells block line) f a c
-unfolding Did LeavesSome Answers Changes Puts
+pub read_left : (block : List ℕ) (line : Line) (f : Fault) (a b c : DeviceStates) → Did (asks (Reads block)) a b → FailsPartway (tells line) f b c → FailsPartway (reads_and_tells block line) f a c
+unfolding Did FailsPartway Answers Changes Puts
 read_left block line f a b c first next = (
   record {
     read = first.0.source.0;
@@ -43,7 +43,7 @@ read_left block line f a b c first next = (
 abbrev pub finds_and_tells : Path → Option Kind → Line → Calls
 finds_and_tells path here line = record { asked = AsksNothing; change = Finds path here; line = Some line }
 
-pub looked_told : (path : Path) (here : Option Kind) (line : Line) (a b c : World) → Did (does (Finds path here)) a b → Did (tells line) b c → Did (finds_and_tells path here line) a c
+pub looked_told : (path : Path) (here : Option Kind) (line : Line) (a b c : DeviceStates) → Did (does (Finds path here)) a b → Did (tells line) b c → Did (finds_and_tells path here line) a c
 unfolding Did Answers Changes Puts
 looked_told path here line a b c first next = (
   record {
@@ -58,8 +58,8 @@ untouched : {o o' : Option Writing} {change : Change} → change ≡ ChangesNoth
 untouched is (Untouched it same) = same
 untouched is _ = absurd (cc)
 
-pub looked_left : (path : Path) (here : Option Kind) (line : Line) (f : Fault) (a b c : World) → Did (does (Finds path here)) a b → LeavesSome (tells line) f b c → LeavesSome (finds_and_tells path here line) f a c
-unfolding Did LeavesSome Answers Changes Puts
+pub looked_left : (path : Path) (here : Option Kind) (line : Line) (f : Fault) (a b c : DeviceStates) → Did (does (Finds path here)) a b → FailsPartway (tells line) f b c → FailsPartway (finds_and_tells path here line) f a c
+unfolding Did FailsPartway Answers Changes Puts
 looked_left path here line f a b c first next = (
   record {
     read = tt;
@@ -80,7 +80,7 @@ moved job prefix trail_is rows contents counts_are hasher = record { job = job; 
 -- ---- turns
 
 -- and the trail is this
-pub moves : {here next : Phase} {s s' : State} (w w' : World) {calls : Calls} {trail : List Frame} {counts : Report}
+pub moves : {here next : Phase} {s s' : State} (w w' : DeviceStates) {calls : Calls} {trail : List Frame} {counts : Report}
     → ((fed : List ℕ) → Leads here s fed (with_trail (held_of s fed) trail) calls (Ok next))
     → Did calls w w' → Moved trail counts s s' → counts_of counts ≡ counted calls.line (counts_of s.counts) → Turned here s s' w w' (Ok next)
 moves w w' follows did to counts_are =

@@ -12,7 +12,7 @@ use Rattle.std.proofs.lemmas.Str.{IsUtf8-from_is_utf8, IsUtf8-string_bytes, is_u
 use Rattle.pt_name.specs.Place.{place_of}
 use Rattle.pt_name.specs.Tuples.{Tuples}
 use Rattle.pt_name.specs.Reading.{GivesReading, before, hex_value, read_character, reading_of}
-use Rattle.pt_state.proofs.Words.{is_first, Item, Path, same_path, Kind, is_dir_entry, names_to, trail_path, Cause, Frame, Answer, Job, Present, Skipped, with_trail, Did, LeavesSome, Walk, Finds, World, does, tells, Fault, Phase, with_skipped, Turned, KeepsAll, held_of, job_of}
+use Rattle.pt_state.proofs.Words.{is_first, Item, Path, same_path, Kind, is_dir_entry, names_to, trail_path, Cause, Frame, Answer, Job, Present, Skipped, with_trail, Did, FailsPartway, Walk, Finds, DeviceStates, does, tells, Fault, Phase, with_skipped, Turned, KeepsAll, held_of, job_of}
 use Rattle.pt_state.proofs.Words.cause
 use Rattle.pt_state.proofs.Words.fault
 use Rattle.pt_state.proofs.Words.phase
@@ -64,7 +64,7 @@ pub skips_site : (s : State) (why : Cause) → finding.Skip why ≡ found_at (fo
 unfolding PassesSite
 skips_site s why is = ap (judged_by_finding (job_of s.job) (string_bytes s.prefix) (trail_path s.trail)) (sym is)
 
-pub led_on : (s s' : State) (w : World) → finding.Interior ≡ found_at (form_of (job_of s.job)) s.trail → Moved s.trail s.counts s s' → Turned phase.Judge s s' w w (Ok phase.Walk)
+pub led_on : (s s' : State) (w : DeviceStates) → finding.Interior ≡ found_at (form_of (job_of s.job)) s.trail → Moved s.trail s.counts s s' → Turned phase.Judge s s' w w (Ok phase.Walk)
 led_on s s' w is to =
     moves w w (λ fed. Walk (LeadsOn _ (ap (λ (f : Finding). ours s.job.share (judged_by_finding (job_of s.job) (string_bytes s.prefix) (trail_path s.trail) f)) (sym is)))) (did_nothing w) to refl
 
@@ -79,15 +79,15 @@ skipped_other : (s : State) (why : Cause) → PassesSite s why → false ≡ is_
 unfolding PassesSite
 skipped_other s why is other = ap (ours s.job.share) is ∙ ap (λ b. cond b (Skip why) Interior) (sym other)
 
-pub passed_site : (s s' : State) (a b : World) (path : Path) (why : Cause) → PassesSite s why → true ≡ is_first s.job.share → Did (tells (Skipped path why)) a b → path ≡ trail_path s.trail → Moved s.trail (with_skipped s.counts) s s' → Turned phase.Judge s s' a b (Ok phase.Walk)
+pub passed_site : (s s' : State) (a b : DeviceStates) (path : Path) (why : Cause) → PassesSite s why → true ≡ is_first s.job.share → Did (tells (Skipped path why)) a b → path ≡ trail_path s.trail → Moved s.trail (with_skipped s.counts) s s' → Turned phase.Judge s s' a b (Ok phase.Walk)
 passed_site s s' a b path why line first told is to =
     moves a b (λ fed. Walk (IsSkipped _ why (skipped_first s why line first))) (rw is at told) to refl
 
-pub passed_site_front : (s s' : State) (a b : World) (path : Path) (why : Cause) (f : Fault) (result : Answer) → IsErrAnd result (λ h. h ≡ f) → PassesSite s why → true ≡ is_first s.job.share → LeavesSome (tells (Skipped path why)) f a b → path ≡ trail_path s.trail → KeepsAll s s' → Turned phase.Judge s s' a b result
+pub passed_site_front : (s s' : State) (a b : DeviceStates) (path : Path) (why : Cause) (f : Fault) (result : Answer) → IsErrAnd result (λ h. h ≡ f) → PassesSite s why → true ≡ is_first s.job.share → FailsPartway (tells (Skipped path why)) f a b → path ≡ trail_path s.trail → KeepsAll s s' → Turned phase.Judge s s' a b result
 passed_site_front s s' a b path why f result is line first front there keeps =
     left_some a b f result is (λ fed. Walk (IsSkipped _ why (skipped_first s why line first))) (rw there at front) keeps
 
-pub passed_site_quietly : (s s' : State) (w : World) (why : Cause) → PassesSite s why → false ≡ is_first s.job.share → Moved s.trail s.counts s s' → Turned phase.Judge s s' w w (Ok phase.Walk)
+pub passed_site_quietly : (s s' : State) (w : DeviceStates) (why : Cause) → PassesSite s why → false ≡ is_first s.job.share → Moved s.trail s.counts s s' → Turned phase.Judge s s' w w (Ok phase.Walk)
 passed_site_quietly s s' w why line other to =
     moves w w (λ fed. Walk (LeadsOn _ (skipped_other s why line other))) (did_nothing w) to refl
 
@@ -240,7 +240,7 @@ unfolding IsNamed PassesSite
 skips_unnamed s index why found named = by_object s index (Err why) found named
 
 -- another share passes it
-pub passed_object : (s s' : State) (w : World) (index : Option ℕ) (candidate : Candidate) → FindsObject s index → IsNamed s (verdict.Carry candidate) → false ≡ holds s.job.share candidate.id → Moved s.trail s.counts s s' → Turned phase.Judge s s' w w (Ok phase.Walk)
+pub passed_object : (s s' : State) (w : DeviceStates) (index : Option ℕ) (candidate : Candidate) → FindsObject s index → IsNamed s (verdict.Carry candidate) → false ≡ holds s.job.share candidate.id → Moved s.trail s.counts s s' → Turned phase.Judge s s' w w (Ok phase.Walk)
 unfolding IsNamed
 passed_object s s' w index candidate found (named, place) other to =
     let judged = ap (ours s.job.share) (by_object s index (Ok candidate.id) found named) ∙ ap (λ b. cond b (Named candidate.id index) Interior) (sym other) in
@@ -249,7 +249,7 @@ passed_object s s' w index candidate found (named, place) other to =
 -- ---- an object whose place was asked for
 
 -- memory was short after it was asked for
-pub looked_short : (s s' : State) (a b : World) (path : Path) (here : Option Kind) (result : Answer) → IsErrAnd result (λ h. h ≡ fault.Memory) → Did (does (Finds path here)) a b → KeepsAll s s' → Turned phase.Judge s s' a b result
+pub looked_short : (s s' : State) (a b : DeviceStates) (path : Path) (here : Option Kind) (result : Answer) → IsErrAnd result (λ h. h ≡ fault.Memory) → Did (does (Finds path here)) a b → KeepsAll s s' → Turned phase.Judge s s' a b result
 looked_short s s' a b path here result is did keeps = stayed phase.Judge s s' a b fault.Memory result is (looked_stays path here a b did) keeps
 
 length-object : (index : Option ℕ) (trail : List Frame) → length (at_object index trail) ≡ length trail
@@ -267,11 +267,11 @@ module _ (s : State) (index : Option ℕ) (candidate : Candidate) (found : Finds
   unfolding IsNamed
   present_follows here fed = rw named.1 (Walk (IsPresent (held_of s fed) index candidate.id here named_at))
 
-  pub told_present : (s' : State) (a b c : World) (path at : Path) (here : Option Kind) (it : Kind) → Did (does (Finds path here)) a b → here ≡ Some it → path ≡ in_root candidate.place → Did (tells (Present at candidate.id candidate.place)) b c → at ≡ path_of_object index s.trail → Moved s.trail (with_present s.counts) s s'
+  pub told_present : (s' : State) (a b c : DeviceStates) (path at : Path) (here : Option Kind) (it : Kind) → Did (does (Finds path here)) a b → here ≡ Some it → path ≡ in_root candidate.place → Did (tells (Present at candidate.id candidate.place)) b c → at ≡ path_of_object index s.trail → Moved s.trail (with_present s.counts) s s'
       → Turned phase.Judge s s' a c (Ok phase.Walk)
   told_present s' a b c path at here it did is there told place to = moves a c (present_follows it) (looked_told _ _ _ a b c (rw (is, there) at did) (rw place at told)) to refl
 
-  pub told_present_front : (s' : State) (a b c : World) (path at : Path) (here : Option Kind) (it : Kind) (f : Fault) (result : Answer) → IsErrAnd result (λ h. h ≡ f) → Did (does (Finds path here)) a b → here ≡ Some it → path ≡ in_root candidate.place → LeavesSome (tells (Present at candidate.id candidate.place)) f b c → at ≡ path_of_object index s.trail → KeepsAll s s'
+  pub told_present_front : (s' : State) (a b c : DeviceStates) (path at : Path) (here : Option Kind) (it : Kind) (f : Fault) (result : Answer) → IsErrAnd result (λ h. h ≡ f) → Did (does (Finds path here)) a b → here ≡ Some it → path ≡ in_root candidate.place → FailsPartway (tells (Present at candidate.id candidate.place)) f b c → at ≡ path_of_object index s.trail → KeepsAll s s'
       → Turned phase.Judge s s' a c result
   told_present_front s' a b c path at here it f result error did is there front place keeps = left_some a c f result error (present_follows it) (looked_left _ _ _ f a b c (rw (is, there) at did) (rw place at front)) keeps
 
@@ -279,7 +279,7 @@ module _ (s : State) (index : Option ℕ) (candidate : Candidate) (found : Finds
   unfolding IsNamed
   new_follows fed = rw named.1 (Walk (IsNew (held_of s fed) index candidate.id named_at))
 
-  pub found_new : (s' : State) (a b : World) (path : Path) (here : Option Kind) (gathered : Bool) (site : ℕ) (next : Phase) → Did (does (Finds path here)) a b → here ≡ None → path ≡ in_root candidate.place → next ≡ phase.Carrying (record { id = candidate.id; place = candidate.place; gathered = gathered; site = site; empty = 0 }) stage.Open → gathered ≡ is_none index → site ≡ length s'.trail
+  pub found_new : (s' : State) (a b : DeviceStates) (path : Path) (here : Option Kind) (gathered : Bool) (site : ℕ) (next : Phase) → Did (does (Finds path here)) a b → here ≡ None → path ≡ in_root candidate.place → next ≡ phase.Carrying (record { id = candidate.id; place = candidate.place; gathered = gathered; site = site; empty = 0 }) stage.Open → gathered ≡ is_none index → site ≡ length s'.trail
       → Moved (at_object index s.trail) s.counts s s' → Turned phase.Judge s s' a b (Ok next)
   found_new s' a b path here gathered site next did is there then gather deep to =
       let object_is : next ≡ phase.Carrying (record { id = candidate.id; place = candidate.place; gathered = is_none index; site = length s.trail; empty = 0 }) stage.Open =

@@ -10,11 +10,11 @@ use Rattle.pt_walk.specs.declared.cause.Cause.TheVariants as cause
 use Rattle.pt_walk.specs.declared.frame.Frame.{Frame}
 use Rattle.pt_plan.specs.Run.{with_trail}
 use Rattle.pt_plan.specs.Lines.{Skipped}
-use Rattle.pt_plan.specs.Permits.{MayEnter}
-use Rattle.pt_plan.specs.Turn.{Did, LeavesSome, Stays}
-use Rattle.pt_plan.specs.TurnScan.{Scans, back_at_site, is_passed, own_listings, skipped, to_site, with_directory}
+use Rattle.pt_plan.specs.Enabled.{MayEnter}
+use Rattle.pt_plan.specs.Turn.{Did, FailsPartway, FailsUnchanged}
+use Rattle.pt_plan.specs.TurnScan.{ScanStep, back_at_site, is_passed, own_listings, skipped, to_site, with_directory}
 use Rattle.pt_plan.specs.TurnWalk.{in_pairtree}
-use Rattle.pt_plan.specs.World.{Lists, World, asks, tells}
+use Rattle.pt_plan.specs.DeviceStates.{Lists, DeviceStates, asks, tells}
 use Rattle.pt_plan.specs.declared.fault.Fault.{Fault}
 use Rattle.pt_plan.specs.declared.object.Object.{Object}
 use Rattle.pt_plan.specs.declared.phase.Phase.{Phase}
@@ -23,7 +23,7 @@ use Rattle.pt_plan.specs.declared.phase.Stage.TheVariants as stage
 use Rattle.pt_state.specs.Lines.{with_skipped}
 use Rattle.pt_state.specs.States.{KeepsAll, held_of, job_of}
 use Rattle.pt_state.specs.declared.job.Report.{Report}
-use Rattle.pt_state.specs.declared.outside.Outside.{Ghosts as OfOutside}
+use Rattle.pt_state.specs.declared.outside.Io.{Ghosts as OfOutside}
 use Rattle.pt_state.specs.declared.state.State.{State}
 
 -- the object's site is on the trail
@@ -78,13 +78,13 @@ IsAtFile trail = (name : List ℕ) × (current_entry trail ≡ Some (name, kind.
 -- at this phase the object is to be passed over for this cause
 unfoldable pub GivesUp : Phase → Object → Cause → State → Type 0
 GivesUp here object why s = (fed : List ℕ)
-    → Scans (job_of s.job) here (held_of s fed) (back_at_site object (held_of s fed))
+    → ScanStep (job_of s.job) here (held_of s fed) (back_at_site object (held_of s fed))
     (tells (skipped object (held_of s fed) why)) (Ok phase.Walk)
 
 -- at this phase the directory at the trail's place is to be entered
 unfoldable pub EntersNext : Phase → Object → State → Type 0
 EntersNext here object s = (fed : List ℕ) (items : List Item)
-    → Scans (job_of s.job) here (held_of s fed) (with_trail (held_of s fed) (entered items s.trail))
+    → ScanStep (job_of s.job) here (held_of s fed) (with_trail (held_of s fed) (entered items s.trail))
     (asks (Lists (in_pairtree (names_to s.trail)) items))
     (Ok (phase.Carrying (with_directory object items) stage.Scan))
 
@@ -114,7 +114,7 @@ pub record IsBackAtSite (object : Object) (s s' : State) : Type 0 where
   pub hasher : s'.hasher ≡ s.hasher
 
 -- the directory at the trail's place was listed and entered, and this says whether it has no entries
-pub record Enters (s s' : State) (old new : World) (is_empty : Bool) : Type 0 where
+pub record Enters (s s' : State) (old new : DeviceStates) (is_empty : Bool) : Type 0 where
   pub items : List Item
   pub listed : Did (asks (Lists (in_pairtree (names_to s.trail)) items)) old new
   pub empty : is_empty ≡ (length items == 0)
@@ -124,7 +124,7 @@ pub record Enters (s s' : State) (old new : World) (is_empty : Bool) : Type 0 wh
 pub record Entered {O : Type 0} (of : OfOutside O) (old new : State × O)
     (result : Result Bool Fault) : Type 0 where
   pub did : IfOk result (Enters old.0 new.0 (of.world old.1) (of.world new.1))
-  pub failed : IfErr result (λ why. Stays why (of.world old.1) (of.world new.1))
+  pub failed : IfErr result (λ why. FailsUnchanged why (of.world old.1) (of.world new.1))
   pub same : OnErr result (KeepsAll old.0 new.0)
   pub few : of.within 1 0 old.1 new.1
 
@@ -134,7 +134,7 @@ pub record GaveUp {O T : Type 0} (of : OfOutside O) (object : Object) (why : Cau
   pub did : OnOk result (Did (tells (Skipped (trail_path (to_site object old.0.trail)) why))
       (of.world old.1) (of.world new.1))
   pub back : OnOk result (IsBackAtSite object old.0 new.0)
-  pub left : IfErr result (λ f. LeavesSome (tells (Skipped (trail_path (to_site object old.0.trail)) why)) f
+  pub left : IfErr result (λ f. FailsPartway (tells (Skipped (trail_path (to_site object old.0.trail)) why)) f
       (of.world old.1) (of.world new.1))
   pub same : OnErr result (KeepsAll old.0 new.0)
   pub few : of.within 0 0 old.1 new.1

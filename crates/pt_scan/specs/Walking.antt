@@ -10,8 +10,8 @@ use Rattle.pt_walk.specs.declared.cause.Cause.{Cause}
 use Rattle.pt_walk.specs.declared.frame.Frame.{Frame}
 use Rattle.pt_plan.specs.Lines.{Skipped}
 use Rattle.pt_plan.specs.Run.{with_trail}
-use Rattle.pt_plan.specs.TurnWalk.{Walks, in_pairtree}
-use Rattle.pt_plan.specs.World.{Lists, asks, tells_if}
+use Rattle.pt_plan.specs.TurnWalk.{WalkStep, in_pairtree}
+use Rattle.pt_plan.specs.DeviceStates.{Lists, asks, tells_if}
 use Rattle.pt_plan.specs.declared.phase.Phase.TheVariants as phase
 use Rattle.pt_state.specs.States.{held_of, job_of}
 use Rattle.pt_state.specs.declared.state.State.{State}
@@ -28,13 +28,13 @@ pub record CanPassShorty (s : State) : Type 0 where
 -- it is to be passed over for this cause, which the first share tells
 unfoldable pub PassesShorty : State → Cause → Type 0
 PassesShorty s why = (fed : List ℕ)
-    → Walks (job_of s.job) (string_bytes s.prefix) phase.Walk (held_of s fed)
+    → WalkStep (job_of s.job) (string_bytes s.prefix) phase.Walk (held_of s fed)
     (with_trail (held_of s fed) (advanced s.trail))
     (tells_if (is_first s.job.share) (Skipped (names_to s.trail) why)) (Ok phase.Walk)
 
 -- it is to be entered
 unfoldable pub EntersSite : State → Type 0
 EntersSite s = (fed : List ℕ) (items : List Item)
-    → Walks (job_of s.job) (string_bytes s.prefix) phase.Walk (held_of s fed)
+    → WalkStep (job_of s.job) (string_bytes s.prefix) phase.Walk (held_of s fed)
     (with_trail (held_of s fed) (entered items s.trail))
     (asks (Lists (in_pairtree (names_to s.trail)) items)) (Ok phase.Judge)

@@ -13,11 +13,11 @@ ghost use Rattle.pt_state.specs.Turns.{TakesTurn};
 ghost use Rattle.pt_state.specs.States.{job_of};
 ghost use Rattle.pt_scan.specs.Judging.{CanPass, IsJudging, IsNamed, IsOurs, IsPassedAt, IsPlaced, is_own_place};
 
-use pt_name::{Layout, UncleanFault, concatenated, unclean};
+use pt_name::{Layout, UncleanFault, concatenate, unclean};
 use pt_plan::{Fault, Identifier, Object, Phase, Stage};
 use pt_state::lines::{put_present, put_skip};
 use pt_state::paths::in_storage_root;
-use pt_state::{Outside, State};
+use pt_state::{Io, State};
 use pt_tree::{Kind, MemoryFault, NamePath};
 use pt_walk::{Cause, Finding, Form, Trail, judge as judged};
 use std::alloc::Global;
@@ -29,9 +29,9 @@ use std::alloc::Global;
 ///
 /// Halts for `Dest` where the place can't be asked for, for `Log` where a line can't be put, and for `Memory` where a
 /// growth is refused; what is held stays then.
-pub fn judge<O: Outside>(state: &mut State, out: &mut O) -> Result<Phase, Fault>
+pub fn judge<O: Io>(state: &mut State, out: &mut O) -> Result<Phase, Fault>
     requires { CanPass state.old }
-    ensures turn { TakesTurn O.Outside (0, 1) phase.Judge
+    ensures turn { TakesTurn O.Io (0, 1) phase.Judge
         (state.old, out.old) (state.new, out.new) result }
 {
     match finding(state) {
@@ -69,7 +69,7 @@ fn form_of(gather: bool) -> Form
 }
 
 // Passes over a site, and tells so in the first share.
-fn pass_over<O: Outside>(
+fn pass_over<O: Io>(
     state: &mut State,
     site: &NamePath,
     cause: Cause,
@@ -77,7 +77,7 @@ fn pass_over<O: Outside>(
 ) -> Result<Phase, Fault>
     requires line { IsPassedAt state.old site.now cause }
     requires few { state.old.counts.skipped < 2 ^ 40 }
-    ensures turn { TakesTurn O.Outside (0, 0) phase.Judge
+    ensures turn { TakesTurn O.Io (0, 0) phase.Judge
         (state.old, out.old) (state.new, out.new) result }
 {
     if !state.job.share.is_first() {
@@ -89,7 +89,7 @@ fn pass_over<O: Outside>(
 
 // Reads the identifier of a site's object, which is the entry of this index, or else is gathered. One of another share is
 // passed.
-fn judge_object<O: Outside>(
+fn judge_object<O: Io>(
     state: &mut State,
     site: &NamePath,
     index: Option<usize>,
@@ -97,10 +97,10 @@ fn judge_object<O: Outside>(
 ) -> Result<Phase, Fault>
     requires judges { IsJudging state.old site.now index }
     requires passes { CanPass state.old }
-    ensures turn { TakesTurn O.Outside (0, 1) phase.Judge
+    ensures turn { TakesTurn O.Io (0, 1) phase.Judge
         (state.old, out.old) (state.new, out.new) result }
 {
-    match named(state, site)? {
+    match read_identifier(state, site)? {
         Verdict::Carry(candidate) => {
             if !state.job.share.holds(candidate.id.as_str().as_bytes()) {
                 return Ok(Phase::Walk);
@@ -126,7 +126,7 @@ enum Verdict {
 }
 
 // Asks what stands at an object's place, which is carried where nothing does.
-fn find_place<O: Outside>(
+fn find_place<O: Io>(
     state: &mut State,
     site: &NamePath,
     index: Option<usize>,
@@ -136,13 +136,13 @@ fn find_place<O: Outside>(
     requires judges { IsJudging state.old site.now index }
     requires ours { IsOurs state.old candidate }
     requires present { state.old.counts.present < 2 ^ 40 }
-    ensures turn { TakesTurn O.Outside (0, 1) phase.Judge
+    ensures turn { TakesTurn O.Io (0, 1) phase.Judge
         (state.old, out.old) (state.new, out.new) result }
 {
     match kind_at(state.alloc, &candidate.place, out)? {
         None => {
             seek_object(&mut state.trail, index);
-            Ok(opened(candidate, index.is_none(), state.trail.len()))
+            Ok(carry_phase(candidate, index.is_none(), state.trail.len()))
         }
         Some(_) => {
             let at = object_at(&state.trail, site, index)?;
@@ -160,7 +160,7 @@ fn find_place<O: Outside>(
 }
 
 // Asks what stands at a place of the storage root.
-fn kind_at<O: Outside>(alloc: Global, place: &NamePath, out: &mut O) -> Result<Option<Kind>, Fault>
+fn kind_at<O: Io>(alloc: Global, place: &NamePath, out: &mut O) -> Result<Option<Kind>, Fault>
     ensures { Found O.world (O.within 0 1) (in_root place.now) out.old out.new result }
 {
     let path = in_storage_root(alloc, place)?;
@@ -193,7 +193,7 @@ fn object_at(trail: &Trail, site: &NamePath, index: Option<usize>) -> Result<Nam
 }
 
 // The turn after the one that found an object whose place is free.
-fn opened(candidate: Candidate, gathered: bool, site: usize) -> Phase
+fn carry_phase(candidate: Candidate, gathered: bool, site: usize) -> Phase
     ensures { result ≡ phase.Carrying (record {
       id = candidate.id;
       place = candidate.place;
@@ -216,15 +216,15 @@ fn opened(candidate: Candidate, gathered: bool, site: usize) -> Phase
 
 // Whether the object at a site can be carried: its identifier is what the names of the site's path read, behind the
 // prefix (Pairtree 0.1, "Identifier string cleaning").
-fn named(state: &State, site: &NamePath) -> Result<Verdict, MemoryFault>
+fn read_identifier(state: &State, site: &NamePath) -> Result<Verdict, MemoryFault>
     requires { (site.now ≡ trail_path state.now.trail) × (0 < length site.now) }
     ensures { IfOk result (IsNamed state.now) }
 {
     let text = text_of_names(state.alloc, site)?;
     match unclean(state.alloc, &text) {
         Ok(read) => {
-            let id = behind(state.alloc, state.prefix.as_str(), &read)?;
-            placed(state.alloc, state.job.layout, id)
+            let id = with_prefix(state.alloc, state.prefix.as_str(), &read)?;
+            with_place(state.alloc, state.job.layout, id)
         }
         Err(UncleanFault::Malformed) => Ok(Verdict::Pass(Cause::Name)),
         Err(UncleanFault::NotUtf8) => Ok(Verdict::Pass(Cause::Utf8)),
@@ -242,11 +242,11 @@ fn text_of_names(alloc: Global, path: &NamePath) -> Result<Vec<u8>, MemoryFault>
         unreachable!()
     };
     let _bytes = first.bytes();
-    concatenated(alloc, path)
+    concatenate(alloc, path)
 }
 
 // The identifier that has this text behind the prefix.
-fn behind(alloc: Global, prefix: &str, text: &str) -> Result<Identifier, MemoryFault>
+fn with_prefix(alloc: Global, prefix: &str, text: &str) -> Result<Identifier, MemoryFault>
     ensures { IfOk result (λ id. id ≡ prefix.now ++ text.now) }
 {
     let mut id = String::from_str(alloc, prefix)?;
@@ -255,7 +255,7 @@ fn behind(alloc: Global, prefix: &str, text: &str) -> Result<Identifier, MemoryF
 }
 
 // An object with its place, unless that is the storage root's own.
-fn placed(alloc: Global, layout: Layout, id: Identifier) -> Result<Verdict, MemoryFault>
+fn with_place(alloc: Global, layout: Layout, id: Identifier) -> Result<Verdict, MemoryFault>
     requires { 0 < length id }
     ensures { IfOk result (IsPlaced layout id) }
 {

@@ -1,7 +1,7 @@
 //! The turns that read a file of an object, for its digest and its length.
 ghost use Rattle.std.specs.Prelude.{◌≡◌, ◌<◌, ◌+◌, IfOk, [], length};
 ghost use Rattle.pt_plan.specs.Turn.{Did};
-ghost use Rattle.pt_plan.specs.World.{World, Reads, asks};
+ghost use Rattle.pt_plan.specs.DeviceStates.{DeviceStates, Reads, asks};
 ghost use Rattle.pt_plan.specs.declared.phase.Phase.TheVariants as phase;
 ghost use Rattle.pt_plan.specs.declared.phase.Stage.TheVariants as stage;
 ghost use Rattle.pt_tree.specs.Source.{CanRead};
@@ -14,7 +14,7 @@ use crate::scanning::{give_up, logical_names};
 use pt_object::Hasher;
 use pt_plan::{Fault, Object, Phase, Stage};
 use pt_state::paths::entry_path;
-use pt_state::{Outside, State};
+use pt_state::{Io, State};
 use pt_tree::NamePath;
 use pt_walk::Cause;
 use std::mem;
@@ -26,7 +26,7 @@ use std::mem;
 /// Halts for `Source` where the file can't be read, for `Log` where the line can't be put, and for `Memory` where a
 /// growth is refused. What is held stays then, but for the block, the hasher, and a row that was noted without its
 /// content.
-pub fn read<O: Outside>(
+pub fn read<O: Io>(
     state: &mut State,
     object: Object,
     bytes: u64,
@@ -34,7 +34,7 @@ pub fn read<O: Outside>(
 ) -> Result<Phase, Fault>
     requires may { CanRead (O.world out.old).source }
     requires reads { CanReadOn object bytes state.old }
-    ensures turn { TakesTurn O.Outside (1, 0) (phase.Carrying object (stage.Read bytes))
+    ensures turn { TakesTurn O.Io (1, 0) (phase.Carrying object (stage.Read bytes))
         (state.old, out.old) (state.new, out.new) result }
     ensures block { IfOk result (IsNextBlock (O.world out.old).source state.new.block.items) }
 {
@@ -43,14 +43,14 @@ pub fn read<O: Outside>(
 }
 
 // Takes the block that was read: it is fed to the hasher, unless the file is too long; an empty one ends the file.
-fn take_block<O: Outside>(
+fn take_block<O: Io>(
     state: &mut State,
     object: Object,
     bytes: u64,
     out: &mut O,
 ) -> Result<Phase, Fault>
     requires { CanReadOn object bytes state.old }
-    ensures turn { EndsTurn O.Outside
+    ensures turn { EndsTurn O.Io
         (asks (Reads state.old.block.items)) (phase.Carrying object (stage.Read bytes))
         (state.old, out.old) (state.new, out.new) result }
     ensures block { IfOk result (KeepsBlock state.old.block.items state.new.block.items) }
@@ -69,7 +69,7 @@ fn take_block<O: Outside>(
 // Notes the row of a file that was read to its end.
 fn end_file(state: &mut State, object: Object, bytes: u64) -> Result<Phase, Fault>
     requires { CanReadOn object bytes state.old }
-    ensures turn { (before after : World) → Did (asks (Reads [])) before after → Turned
+    ensures turn { (before after : DeviceStates) → Did (asks (Reads [])) before after → Turned
         (phase.Carrying object (stage.Read bytes)) state.old state.new before after result }
     ensures scans { IfOk result (λ next. next ≡ phase.Carrying object stage.Scan) }
 {
@@ -85,7 +85,7 @@ fn end_file(state: &mut State, object: Object, bytes: u64) -> Result<Phase, Faul
 }
 
 // Passes over the object, of which a file is too long.
-fn pass_object<O: Outside>(
+fn pass_object<O: Io>(
     state: &mut State,
     object: Object,
     bytes: u64,
@@ -94,7 +94,7 @@ fn pass_object<O: Outside>(
     requires long { (0 < length state.old.block.items)
         × (state.old.job.limits.file_bytes < bytes + length state.old.block.items) }
     requires passes { CanPassOver object state.old }
-    ensures turn { EndsTurn O.Outside
+    ensures turn { EndsTurn O.Io
         (asks (Reads state.old.block.items)) (phase.Carrying object (stage.Read bytes))
         (state.old, out.old) (state.new, out.new) result }
     ensures walks { IfOk result (λ next. next ≡ phase.Walk) }

@@ -1,8 +1,8 @@
 //! The turns that scan an object: its directories are listed and entered, its files opened.
 ghost use Rattle.std.specs.Prelude.{◌≡◌, ◌<◌, ◌+◌, ◌-◌, ◌==◌, ◌&&◌, ◌^◌, IfOk, IsTrue, None, Ok, cond, drop, false, length, nat_lt, not};
-ghost use Rattle.pt_plan.specs.Permits.{MayEnter, MayOpen};
+ghost use Rattle.pt_plan.specs.Enabled.{MayEnter, MayOpen};
 ghost use Rattle.pt_plan.specs.TurnScan.{is_in_site as is_in_site_of, logical_path as logical_path_of, to_site};
-ghost use Rattle.pt_plan.specs.World.{World};
+ghost use Rattle.pt_plan.specs.DeviceStates.{DeviceStates};
 ghost use Rattle.pt_plan.specs.declared.phase.Phase.{Phase};
 ghost use Rattle.pt_plan.specs.declared.phase.Phase.TheVariants as phase;
 ghost use Rattle.pt_plan.specs.declared.phase.Stage.TheVariants as stage;
@@ -19,7 +19,7 @@ use pt_plan::{Fault, Object, Part, Phase, Stage};
 use pt_state::lines::put_skip;
 use pt_state::paths::{entry_path, in_pairtree};
 use pt_state::site::back_to_site;
-use pt_state::{Outside, State};
+use pt_state::{Io, State};
 use pt_tree::{Kind, MemoryFault, Name, NamePath};
 use pt_walk::{Cause, Trail, is_shorty};
 use std::alloc::Global;
@@ -30,17 +30,13 @@ use std::alloc::Global;
 ///
 /// Halts for `Source` where the directory can't be listed, for `Log` where the line can't be put, and for `Memory` where
 /// a growth is refused; what is held stays then.
-pub fn open_object<O: Outside>(
-    state: &mut State,
-    object: Object,
-    out: &mut O,
-) -> Result<Phase, Fault>
+pub fn open_object<O: Io>(state: &mut State, object: Object, out: &mut O) -> Result<Phase, Fault>
     requires may { object.gathered ≡ false → MayEnter (O.world out.old).source state.old.trail }
     requires directory { object.gathered ≡ false
         → IsTrue (is_dir_entry (current_entry state.old.trail)) }
     requires passes { CanPassOver object state.old }
     requires empty { object.empty < 2 ^ 40 }
-    ensures turn { TakesTurn O.Outside (1, 0) (phase.Carrying object stage.Open)
+    ensures turn { TakesTurn O.Io (1, 0) (phase.Carrying object stage.Open)
         (state.old, out.old) (state.new, out.new) result }
 {
     if object.gathered {
@@ -56,12 +52,12 @@ pub fn open_object<O: Outside>(
 ///
 /// Halts for `Source` where a directory can't be listed or a file not be opened, for `Log` where the line can't be put,
 /// and for `Memory` where a growth is refused; what is held stays then.
-pub fn scan<O: Outside>(state: &mut State, object: Object, out: &mut O) -> Result<Phase, Fault>
+pub fn scan<O: Io>(state: &mut State, object: Object, out: &mut O) -> Result<Phase, Fault>
     requires enter { MayEnter (O.world out.old).source state.old.trail }
     requires open { MayOpen (O.world out.old).source state.old.trail }
     requires scans { CanScan object state.old }
     requires empty { object.empty < 2 ^ 40 }
-    ensures turn { TakesTurn O.Outside (1, 0) (phase.Carrying object stage.Scan)
+    ensures turn { TakesTurn O.Io (1, 0) (phase.Carrying object stage.Scan)
         (state.old, out.old) (state.new, out.new) result }
 {
     let in_site = is_in_site(&object, &state.trail);
@@ -96,14 +92,14 @@ fn is_passed(in_site: bool, name: &Name, kind: Kind) -> bool
 }
 
 // Passes over the object for this cause.
-fn pass_object<O: Outside>(
+fn pass_object<O: Io>(
     state: &mut State,
     object: Object,
     cause: Cause,
     out: &mut O,
 ) -> Result<Phase, Fault>
     requires { CanPassOver object state.old }
-    ensures turn { TakesTurnAt O.Outside (0, 0) (λ here. GivesUp here object cause state.old)
+    ensures turn { TakesTurnAt O.Io (0, 0) (λ here. GivesUp here object cause state.old)
         (state.old, out.old) (state.new, out.new) result }
 {
     give_up(state, &object, cause, out)?;
@@ -111,15 +107,11 @@ fn pass_object<O: Outside>(
 }
 
 // Enters the directory of an object at the trail's place, unless it is too deep.
-fn enter_directory<O: Outside>(
-    state: &mut State,
-    object: Object,
-    out: &mut O,
-) -> Result<Phase, Fault>
+fn enter_directory<O: Io>(state: &mut State, object: Object, out: &mut O) -> Result<Phase, Fault>
     requires enter { CanEnter (O.world out.old).source state.old.trail }
     requires passes { CanPassOver object state.old }
     requires empty { object.empty < 2 ^ 40 }
-    ensures turn { TakesTurnAt O.Outside (1, 0) (λ here. MeetsDirectory here object state.old)
+    ensures turn { TakesTurnAt O.Io (1, 0) (λ here. MeetsDirectory here object state.old)
         (state.old, out.old) (state.new, out.new) result }
 {
     if state.trail.len() as u64 > state.job.limits.depth() {
@@ -130,9 +122,9 @@ fn enter_directory<O: Outside>(
 }
 
 // Lists the directory at the trail's place and enters it; gives whether it has no entries.
-fn enter<O: Outside>(state: &mut State, out: &mut O) -> Result<bool, Fault>
+fn enter<O: Io>(state: &mut State, out: &mut O) -> Result<bool, Fault>
     requires enter { CanEnter (O.world out.old).source state.old.trail }
-    ensures { Entered O.Outside (state.old, out.old) (state.new, out.new) result }
+    ensures { Entered O.Io (state.old, out.old) (state.new, out.new) result }
 {
     let path = listed_path(state)?;
     let listing = out.list(&path)?;
@@ -153,11 +145,11 @@ fn with_directory(mut object: Object, is_empty: bool) -> Object
 }
 
 // Opens the file at the trail's place, unless it is one too many, or its logical path is too long.
-fn meet_file<O: Outside>(state: &mut State, object: Object, out: &mut O) -> Result<Phase, Fault>
+fn meet_file<O: Io>(state: &mut State, object: Object, out: &mut O) -> Result<Phase, Fault>
     requires file { IsAtFile state.old.trail }
     requires may { MayOpen (O.world out.old).source state.old.trail }
     requires scans { CanScan object state.old }
-    ensures turn { TakesTurn O.Outside (1, 0) (phase.Carrying object stage.Scan)
+    ensures turn { TakesTurn O.Io (1, 0) (phase.Carrying object stage.Scan)
         (state.old, out.old) (state.new, out.new) result }
 {
     if state.rows.len() as u64 >= state.job.limits.files() {
@@ -215,7 +207,7 @@ fn leave_listing(state: &mut State, object: Object, in_site: bool) -> Phase
     requires none { current_entry state.old.trail ≡ None }
     requires in_site { in_site ≡ is_in_site_of object state.old.trail }
     requires inside { IsInObject object state.old.trail }
-    ensures turn { (w : World) → Turned (phase.Carrying object stage.Scan) state.old state.new w w
+    ensures turn { (w : DeviceStates) → Turned (phase.Carrying object stage.Scan) state.old state.new w w
         (Ok result) }
 {
     if in_site {
@@ -238,14 +230,14 @@ fn is_left(object: &Object, trail: &Trail) -> bool
 }
 
 // Tells why an object isn't carried, goes back to its site and forgets it.
-pub(crate) fn give_up<O: Outside>(
+pub(crate) fn give_up<O: Io>(
     state: &mut State,
     object: &Object,
     cause: Cause,
     out: &mut O,
 ) -> Result<(), Fault>
     requires { CanPassOver object.now state.old }
-    ensures { GaveUp O.Outside object.now cause (state.old, out.old) (state.new, out.new) result }
+    ensures { GaveUp O.Io object.now cause (state.old, out.old) (state.new, out.new) result }
 {
     let path = site_path(state.alloc, object, &state.trail)?;
     put_skip(state.alloc, out, &path, cause, &mut state.counts)?;

@@ -4,7 +4,7 @@
 ghost use Rattle.std.specs.Prelude.{◌≡◌, [], None, IfOk, IfErr, slice_get};
 ghost use Rattle.std.specs.String.{string_bytes};
 ghost use Rattle.pt_name.specs.Prefix.{prefix_refusal, without_line_ends};
-ghost use Rattle.pt_plan.specs.Permits.{MayOpenPrefix};
+ghost use Rattle.pt_plan.specs.Enabled.{MayOpenPrefix};
 ghost use Rattle.pt_plan.specs.TurnStart.{kind_in as kind_in_of, lists_store};
 ghost use Rattle.pt_plan.specs.declared.phase.Opening.TheVariants as opening;
 ghost use Rattle.pt_plan.specs.declared.phase.Phase.TheVariants as phase;
@@ -17,14 +17,14 @@ use pt_object::WellKnownName;
 use pt_plan::{Fault, Opening, Phase};
 use pt_state::files::read_first;
 use pt_state::kinds::{is_dir, is_file};
-use pt_state::{Outside, State};
+use pt_state::{Io, State};
 use pt_tree::{Block, Kind, KnownName, Listing, NamePath};
 use std::alloc::Global;
 
 /// Lists the top.
-pub fn begin<O: Outside>(state: &State, out: &mut O) -> Result<Phase, Fault>
+pub fn begin<O: Io>(state: &State, out: &mut O) -> Result<Phase, Fault>
     requires { CanList (O.world out.old).source [] }
-    ensures turn { TakesTurn O.Outside (1, 0) (phase.Opening opening.Begin)
+    ensures turn { TakesTurn O.Io (1, 0) (phase.Opening opening.Begin)
         (state.now, out.old) (state.now, out.new) result }
 {
     let top = NamePath::new(state.alloc);
@@ -72,13 +72,9 @@ fn kind_at(listing: &Listing, i: usize, name: &str) -> Option<Kind>
 }
 
 /// Reads the prefix file, if it is there.
-pub fn prefix<O: Outside>(
-    state: &mut State,
-    here: Option<Kind>,
-    out: &mut O,
-) -> Result<Phase, Fault>
+pub fn prefix<O: Io>(state: &mut State, here: Option<Kind>, out: &mut O) -> Result<Phase, Fault>
     requires { MayOpenPrefix (O.world out.old).source here }
-    ensures turn { TakesTurn O.Outside (2, 0) (phase.Opening (opening.Prefix here))
+    ensures turn { TakesTurn O.Io (2, 0) (phase.Opening (opening.Prefix here))
         (state.old, out.old) (state.new, out.new) result }
 {
     match here {

@@ -1,6 +1,6 @@
 //! The turns of the walk through the sites of a pairtree.
 ghost use Rattle.std.specs.Prelude.{◌≡◌, ◌<◌, ◌^◌, [], IfOk};
-ghost use Rattle.pt_plan.specs.Permits.{MayEnter};
+ghost use Rattle.pt_plan.specs.Enabled.{MayEnter};
 ghost use Rattle.pt_plan.specs.TurnWalk.{in_pairtree as in_pairtree_of};
 ghost use Rattle.pt_plan.specs.declared.phase.Opening.TheVariants as opening;
 ghost use Rattle.pt_plan.specs.declared.phase.Phase.TheVariants as phase;
@@ -14,17 +14,17 @@ use pt_object::WellKnownName;
 use pt_plan::{Fault, Phase};
 use pt_state::lines::put_skip;
 use pt_state::paths::{entry_path, in_pairtree};
-use pt_state::{Outside, State};
+use pt_state::{Io, State};
 use pt_tree::{MemoryFault, NamePath};
 use pt_walk::{At, Cause, Trail, is_shorty};
 
 /// Lists `pairtree_root` and enters it; nothing is entered yet. Gives the phase that judges it.
 ///
 /// Halts for `Source` where it can't be listed, and for `Memory` where a growth is refused; what is held stays then.
-pub fn open_root<O: Outside>(state: &mut State, out: &mut O) -> Result<Phase, Fault>
+pub fn open_root<O: Io>(state: &mut State, out: &mut O) -> Result<Phase, Fault>
     requires may { CanList (O.world out.old).source (in_pairtree_of []) }
     requires trail { state.old.trail ≡ [] }
-    ensures turn { TakesTurn O.Outside (1, 0) (phase.Opening opening.OpenRoot)
+    ensures turn { TakesTurn O.Io (1, 0) (phase.Opening opening.OpenRoot)
         (state.old, out.old) (state.new, out.new) result }
 {
     let path = NamePath::of_known(state.alloc, &[WellKnownName::PairtreeRoot])?;
@@ -39,10 +39,10 @@ pub fn open_root<O: Outside>(state: &mut State, out: &mut O) -> Result<Phase, Fa
 ///
 /// Halts for `Source` where a shorty can't be listed, for `Log` where its line can't be put, and for `Memory` where a
 /// growth is refused; what is held stays then.
-pub fn walk<O: Outside>(state: &mut State, out: &mut O) -> Result<Phase, Fault>
+pub fn walk<O: Io>(state: &mut State, out: &mut O) -> Result<Phase, Fault>
     requires may { MayEnter (O.world out.old).source state.old.trail }
     requires few { state.old.counts.skipped < 2 ^ 40 }
-    ensures turn { TakesTurn O.Outside (1, 0) phase.Walk
+    ensures turn { TakesTurn O.Io (1, 0) phase.Walk
         (state.old, out.old) (state.new, out.new) result }
 {
     match state.trail.current() {
@@ -65,10 +65,10 @@ pub fn walk<O: Outside>(state: &mut State, out: &mut O) -> Result<Phase, Fault>
 }
 
 // Enters the shorty at the trail's place, or tells why not.
-fn meet_shorty<O: Outside>(state: &mut State, out: &mut O) -> Result<Phase, Fault>
+fn meet_shorty<O: Io>(state: &mut State, out: &mut O) -> Result<Phase, Fault>
     requires may { MayEnter (O.world out.old).source state.old.trail }
     requires passes { CanPassShorty state.old }
-    ensures turn { TakesTurn O.Outside (1, 0) phase.Walk
+    ensures turn { TakesTurn O.Io (1, 0) phase.Walk
         (state.old, out.old) (state.new, out.new) result }
 {
     if is_last(&state.trail) {
@@ -81,10 +81,10 @@ fn meet_shorty<O: Outside>(state: &mut State, out: &mut O) -> Result<Phase, Faul
 }
 
 // Passes over the shorty at the trail's place, and tells so in the first share.
-fn pass_shorty<O: Outside>(state: &mut State, cause: Cause, out: &mut O) -> Result<Phase, Fault>
+fn pass_shorty<O: Io>(state: &mut State, cause: Cause, out: &mut O) -> Result<Phase, Fault>
     requires line { PassesShorty state.old cause }
     requires passes { CanPassShorty state.old }
-    ensures turn { TakesTurn O.Outside (0, 0) phase.Walk
+    ensures turn { TakesTurn O.Io (0, 0) phase.Walk
         (state.old, out.old) (state.new, out.new) result }
 {
     if !state.job.share.is_first() {
@@ -98,11 +98,11 @@ fn pass_shorty<O: Outside>(state: &mut State, cause: Cause, out: &mut O) -> Resu
 }
 
 // Lists the shorty at the trail's place and enters it.
-fn enter_site<O: Outside>(state: &mut State, out: &mut O) -> Result<Phase, Fault>
+fn enter_site<O: Io>(state: &mut State, out: &mut O) -> Result<Phase, Fault>
     requires line { EntersSite state.old }
     requires may { MayEnter (O.world out.old).source state.old.trail }
     requires shorty { IsAtShorty state.old.trail }
-    ensures turn { TakesTurn O.Outside (1, 0) phase.Walk
+    ensures turn { TakesTurn O.Io (1, 0) phase.Walk
         (state.old, out.old) (state.new, out.new) result }
 {
     let path = listed_path(state)?;

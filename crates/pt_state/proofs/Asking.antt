@@ -3,10 +3,10 @@ use Rattle.std.proofs.Common.{◌≡◌, ℕ, List, refl, sym, subst, ap, add-ze
 use Rattle.std.specs.Prelude.{Option, Some, Err, IsTrue, IsSome}
 use Rattle.std.specs.Io.KnownBytes.{Appends}
 use Rattle.std.specs.Option.{option_map}
-use Rattle.pt_state.proofs.Words.{MakeFolder, Line, line_text, Did, HasFailed, LeavesSome, Stays, Adds, Answers, Asked, Change, Changes, Creates, Failures, Finds, Finishes, Lists, Makes, OfPiece, Opens, Puts, Reads, Renames, Untouched, asks, does, source_tree, tells, Fault, Writing, IsKindAt, after_create, AppendsFront, Path, Reading, after_open, Bytes, kind_of_entry, Kind}
+use Rattle.pt_state.proofs.Words.{MakeFolder, Line, line_text, Did, HasFailed, FailsPartway, FailsUnchanged, Adds, Answers, Asked, Change, Changes, Creates, Failures, Finds, Finishes, Lists, Makes, OfPiece, Opens, Puts, Reads, Renames, Untouched, asks, does, source_tree, tells, Fault, Writing, IsKindAt, after_create, AppendsFront, Path, Reading, after_open, Bytes, kind_of_entry, Kind}
 use Rattle.pt_plan.specs.RunFaults.{dest_fault, log_fault, source_fault}
 use Rattle.pt_plan.specs.Turn.{IsNotOfLog}
-use Rattle.pt_plan.specs.World.{Peeks}
+use Rattle.pt_plan.specs.DeviceStates.{Peeks}
 use Rattle.pt_tree.specs.Dest.{CanPeek, IsPeeked, LeavesPart, after_append, after_finish, after_mkdir, after_rename}
 use Rattle.pt_tree.specs.Failures.{AreAsManyCalls, IsCounted, IsOneMoreCall}
 use Rattle.pt_tree.specs.Listing.{Item as Entry, names_rise}
@@ -60,8 +60,8 @@ module _ (r r' : Option Reading) (w : Option Writing) (g : Option (List ℕ)) (n
   source_not_log tree.Device = tt
   source_not_log tree.Memory = tt
 
-  pub stays_source : (f : TreeFault) (h : Fault) → h ≡ source_fault f → r' ≡ r → IsCounted {T = Unit {0}} n n' (Err f) → Stays h (world r w g n d l) (world r' w g n' d l)
-  unfolding Stays
+  pub stays_source : (f : TreeFault) (h : Fault) → h ≡ source_fault f → r' ≡ r → IsCounted {T = Unit {0}} n n' (Err f) → FailsUnchanged h (world r w g n d l) (world r' w g n' d l)
+  unfolding FailsUnchanged
   stays_source f h is same count = (ap source_tree same, refl, refl, rw is (source_counted f count), subst IsNotOfLog (sym is) (source_not_log f))
 
 -- ---- the destination
@@ -116,12 +116,12 @@ module _ (r : Option Reading) (w w' : Option Writing) (g : Option (List ℕ)) (n
   dest_not_log tree.Device = tt
   dest_not_log tree.Memory = tt
 
-  pub stays_dest : (f : TreeFault) (h : Fault) → h ≡ dest_fault f → w' ≡ w → IsCounted {T = Unit {0}} d d' (Err f) → Stays h (world r w g n d l) (world r w' g n d' l)
-  unfolding Stays
+  pub stays_dest : (f : TreeFault) (h : Fault) → h ≡ dest_fault f → w' ≡ w → IsCounted {T = Unit {0}} d d' (Err f) → FailsUnchanged h (world r w g n d l) (world r w' g n d' l)
+  unfolding FailsUnchanged
   stays_dest f h is same count = (refl, same, refl, rw is (dest_counted f count), subst IsNotOfLog (sym is) (dest_not_log f))
 
-  pub leaves_piece : (piece : List ℕ) (f : TreeFault) (h : Fault) → h ≡ dest_fault f → LeavesPart w w' piece → IsCounted {T = Unit {0}} d d' (Err f) → LeavesSome (does (Adds piece)) h (world r w g n d l) (world r w' g n d' l)
-  unfolding LeavesSome
+  pub leaves_piece : (piece : List ℕ) (f : TreeFault) (h : Fault) → h ≡ dest_fault f → LeavesPart w w' piece → IsCounted {T = Unit {0}} d d' (Err f) → FailsPartway (does (Adds piece)) h (world r w g n d l) (world r w' g n d' l)
+  unfolding FailsPartway
   leaves_piece piece f h is left count =
       (record { read = tt; found = tt; source = refl; dest = OfPiece piece left.count left.left; log = refl }, rw is (dest_counted f count), subst IsNotOfLog (sym is) (dest_not_log f))
 
@@ -136,8 +136,8 @@ module _ (r : Option Reading) (w : Option Writing) (g g' : Option (List ℕ)) (n
   log_counted tree.Device is = (refl, refl, is)
   log_counted tree.Memory is = ap (λ (k : ℕ). failures n d k) is
 
-  pub leaves_front : (line : Line) (text : List ℕ) (f : TreeFault) (h : Fault) → text ≡ line_text line → h ≡ log_fault f → AppendsFront g g' text → IsCounted {T = Unit {0}} l l' (Err f) → LeavesSome (tells line) h (world r w g n d l) (world r w g' n d l')
-  unfolding LeavesSome
+  pub leaves_front : (line : Line) (text : List ℕ) (f : TreeFault) (h : Fault) → text ≡ line_text line → h ≡ log_fault f → AppendsFront g g' text → IsCounted {T = Unit {0}} l l' (Err f) → FailsPartway (tells line) h (world r w g n d l) (world r w g' n d l')
+  unfolding FailsPartway
   leaves_front line text f h is why front count =
       (record { read = tt; found = tt; source = refl; dest = Untouched _ refl; log = rw is at front }, rw why (log_counted f count), tt)
 

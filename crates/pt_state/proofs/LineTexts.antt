@@ -3,7 +3,7 @@ use Rattle.std.proofs.Common.{◌≡◌, List, ℕ, [], ◌∷◌, ◌++◌, fal
 use Rattle.std.specs.Prelude.{Some, Option, None}
 use Rattle.std.specs.Io.KnownBytes.{Appends}
 use Rattle.std.proofs.lemmas.List.{append-nil}
-use Rattle.pt_state.proofs.Words.{Line, Done, line_text, LeavesSome, Untouched, World, tells, Fault}
+use Rattle.pt_state.proofs.Words.{Line, Done, line_text, FailsPartway, Untouched, DeviceStates, tells, Fault}
 use Rattle.pt_plan.specs.Lines.{line_tree}
 use Rattle.pt_state.proofs.Words.fault
 use Rattle.pt_state.specs.Lines.{IsTreeOf}
@@ -31,8 +31,8 @@ appends_nothing None = tt
 appends_nothing (Some xs) = sym (append-nil xs)
 
 -- memory was short before anything was put
-pub front_none : (line : Line) (w : World) (why : Fault) → why ≡ fault.Memory → LeavesSome (tells line) why w w
-unfolding LeavesSome
+pub front_none : (line : Line) (w : DeviceStates) (why : Fault) → why ≡ fault.Memory → FailsPartway (tells line) why w w
+unfolding FailsPartway
 front_none line w why is = (record { read = tt; found = tt; source = refl; dest = Untouched _ refl; log = (0, appends_nothing w.log) }, rw is refl, tt)
 
 pub ruleset texts = (is_tree, no_float, text_is, front_none)

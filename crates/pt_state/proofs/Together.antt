@@ -3,10 +3,10 @@ use Rattle.std.proofs.Common.{◌≡◌, ℕ, List, [], ◌++◌, Bool, true, fa
 use Rattle.std.proofs.lemmas.List.{take_all}
 use Rattle.std.specs.Prelude.{Option, None, Some}
 use Rattle.std.specs.Option.{option_map}
-use Rattle.pt_state.proofs.Words.{MakeFile, Did, LeavesSome, Stays, Adds, Answers, Asked, Calls, Change, Changes, Creates, Finds, Finishes, Lists, Makes, OfPiece, Opens, Puts, Reads, Untouched, World, asks, dest_tree, does, no_calls, source_tree, Fault, Writing, after_create, Path, same_path, Reading, CanOpen, after_open, Bytes, Tree, Kind}
+use Rattle.pt_state.proofs.Words.{MakeFile, Did, FailsPartway, FailsUnchanged, Adds, Answers, Asked, Calls, Change, Changes, Creates, Finds, Finishes, Lists, Makes, OfPiece, Opens, Puts, Reads, Untouched, DeviceStates, asks, dest_tree, does, no_calls, source_tree, Fault, Writing, after_create, Path, same_path, Reading, CanOpen, after_open, Bytes, Tree, Kind}
 use Rattle.pt_object.specs.Script.{done}
 use Rattle.pt_object.proofs.Ways.{path_itself}
-use Rattle.pt_plan.specs.World.{AsksNothing, LeavesPart, OfFile, OpensAndReads, WasRead, after_make}
+use Rattle.pt_plan.specs.DeviceStates.{AsksNothing, LeavesPart, OfFile, OpensAndReads, WasRead, after_make}
 use Rattle.pt_state.proofs.Words.fault
 use Rattle.pt_tree.specs.Dest.{CanWrite, added_to, after_append, after_finish}
 use Rattle.pt_tree.specs.Source.{CanRead, after_next}
@@ -32,32 +32,32 @@ asked_tree (Reads block) r r' is = ap source_tree is.1 ∙ read_on r
 asked_tree (OpensAndReads path block) r r' is = ap source_tree is.1 ∙ read_on (option_map (after_open path) r) ∙ opened path r
 
 -- then memory was short
-pub asked_stays : (asked : Asked) (a b : World) → Did (asks asked) a b → Stays fault.Memory a b
-unfolding Did Stays Changes Puts
+pub asked_stays : (asked : Asked) (a b : DeviceStates) → Did (asks asked) a b → FailsUnchanged fault.Memory a b
+unfolding Did FailsUnchanged Changes Puts
 asked_stays asked a b did = (asked_tree asked _ _ did.0.source, did.0.dest, did.0.log, did.1, tt)
 
-pub looked_stays : (p : Path) (here : Option Kind) (a b : World) → Did (does (Finds p here)) a b → Stays fault.Memory a b
-unfolding Did Stays Answers Changes Puts
+pub looked_stays : (p : Path) (here : Option Kind) (a b : DeviceStates) → Did (does (Finds p here)) a b → FailsUnchanged fault.Memory a b
+unfolding Did FailsUnchanged Answers Changes Puts
 looked_stays p here a b did = (ap source_tree did.0.source, did.0.dest.1, did.0.log, did.1, tt)
 
 -- then a further call failed, and nothing was changed
-stays_then : (f : Fault) (a b c : World) → Stays fault.Memory a b → Stays f b c → Stays f a c
-unfolding Stays
+stays_then : (f : Fault) (a b c : DeviceStates) → FailsUnchanged fault.Memory a b → FailsUnchanged f b c → FailsUnchanged f a c
+unfolding FailsUnchanged
 stays_then f a b c first next = (next.0 ∙ first.0, next.1 ∙ first.1, next.2 ∙ first.2, rw first.3 at next.3, next.4)
 
-pub asked_then : (asked : Asked) (f : Fault) (a b c : World) → Did (asks asked) a b → Stays f b c → Stays f a c
+pub asked_then : (asked : Asked) (f : Fault) (a b c : DeviceStates) → Did (asks asked) a b → FailsUnchanged f b c → FailsUnchanged f a c
 asked_then asked f a b c first next = stays_then f a b c (asked_stays asked a b first) next
 
-pub looked_then : (p : Path) (here : Option Kind) (f : Fault) (a b c : World) → Did (does (Finds p here)) a b → Stays f b c → Stays f a c
+pub looked_then : (p : Path) (here : Option Kind) (f : Fault) (a b c : DeviceStates) → Did (does (Finds p here)) a b → FailsUnchanged f b c → FailsUnchanged f a c
 looked_then p here f a b c first next = stays_then f a b c (looked_stays p here a b first) next
 
 -- a look leaves the very world
-pub looked_same : (p : Path) (here : Option Kind) (a b : World) → Did (does (Finds p here)) a b → b ≡ a
+pub looked_same : (p : Path) (here : Option Kind) (a b : DeviceStates) → Did (does (Finds p here)) a b → b ≡ a
 unfolding Did Answers Changes Puts
 looked_same p here a b did = λ i. record { source = did.0.source i; dest = did.0.dest.1 i; log = did.0.log i; failures = did.1 i }
 
 -- nothing was called
-pub did_nothing : (w : World) → Did no_calls w w
+pub did_nothing : (w : DeviceStates) → Did no_calls w w
 unfolding Did Answers Changes Puts
 did_nothing w = (record { source = refl; dest = refl; log = refl }, refl)
 
@@ -66,7 +66,7 @@ did_nothing w = (record { source = refl; dest = refl; log = refl }, refl)
 abbrev pub asks_and : Asked → Change → Calls
 asks_and asked change = record { asked = asked; change = change; line = None }
 
-pub then_did : (asked : Asked) (change : Change) (a b c : World) → Did (asks asked) a b → Did (does change) b c → Did (asks_and asked change) a c
+pub then_did : (asked : Asked) (change : Change) (a b c : DeviceStates) → Did (asks asked) a b → Did (does change) b c → Did (asks_and asked change) a c
 unfolding Did Answers Changes Puts
 then_did asked change a b c first next = (
   record {
@@ -86,8 +86,8 @@ was_read (Opens path) r r' is = tt
 was_read (Reads block) r r' is = is.0
 was_read (OpensAndReads path block) r r' is = tt
 
-pub then_leaves : (asked : Asked) (change : Change) (f : Fault) (a b c : World) → Did (asks asked) a b → LeavesSome (does change) f b c → LeavesSome (asks_and asked change) f a c
-unfolding Did LeavesSome Changes Puts
+pub then_leaves : (asked : Asked) (change : Change) (f : Fault) (a b c : DeviceStates) → Did (asks asked) a b → FailsPartway (does change) f b c → FailsPartway (asks_and asked change) f a c
+unfolding Did FailsPartway Changes Puts
 then_leaves asked change f a b c first next = (
   record {
     read = was_read asked a.source b.source first.0.source;
@@ -101,13 +101,13 @@ then_leaves asked change f a b c first next = (
 )
 
 -- a call that changes nothing failed: nothing is left of the change
-pub leaves_none : (change : Change) (f : Fault) (a b : World) → Stays f a b → LeavesSome (does change) f a b
-unfolding Stays LeavesSome
+pub leaves_none : (change : Change) (f : Fault) (a b : DeviceStates) → FailsUnchanged f a b → FailsPartway (does change) f a b
+unfolding FailsUnchanged FailsPartway
 leaves_none change f a b stays = (record { read = tt; found = tt; source = stays.0; dest = Untouched change (ap dest_tree stays.1); log = stays.2 }, stays.3, stays.4)
 
 -- memory was short before anything was called
-pub leaves_short : (change : Change) (why : Fault) (w : World) → why ≡ fault.Memory → LeavesSome (does change) why w w
-unfolding Stays
+pub leaves_short : (change : Change) (why : Fault) (w : DeviceStates) → why ≡ fault.Memory → FailsPartway (does change) why w w
+unfolding FailsUnchanged
 leaves_short change why w is = leaves_none change why w w (rw is (refl, refl, refl, refl, tt))
 
 -- ---- files of the source
@@ -116,11 +116,11 @@ some_mapped : {A B : Type 0} (f : A → B) (o : Option A) (y : B) → Some y ≡
 some_mapped f None y is = absurd (cc)
 some_mapped f (Some x) y is = (x, (refl, cc))
 
-pub can_read_opened : (a b : World) (p : Path) → CanOpen a.source p → Did (asks (Opens p)) a b → CanRead b.source
+pub can_read_opened : (a b : DeviceStates) (p : Path) → CanOpen a.source p → Did (asks (Opens p)) a b → CanRead b.source
 unfolding CanOpen CanRead Did Answers
 can_read_opened a b p can did = λ s e. let from = some_mapped (after_open p) a.source s (sym e ∙ did.0.source) in rw from.1.1 (can from.0 from.1.0)
 
-pub opens_and_reads : (a b c : World) (p : Path) (block : List ℕ) → Did (asks (Opens p)) a b → Did (asks (Reads block)) b c → Did (asks (OpensAndReads p block)) a c
+pub opens_and_reads : (a b c : DeviceStates) (p : Path) (block : List ℕ) → Did (asks (Opens p)) a b → Did (asks (Reads block)) b c → Did (asks (OpensAndReads p block)) a c
 unfolding Did Answers Changes Puts
 opens_and_reads a b c p block first next = (
   record {
@@ -156,19 +156,19 @@ pub none_of_file : (o : Option Writing) (p : Path) → dest_tree (option_map (af
 none_of_file None p = refl
 none_of_file (Some s) p = refl
 
-pub can_write_created : (a b : World) (p : Path) → Did (does (Creates p)) a b → CanWrite b.dest
+pub can_write_created : (a b : DeviceStates) (p : Path) → Did (does (Creates p)) a b → CanWrite b.dest
 unfolding CanWrite Did Changes
 can_write_created a b p did = λ s e. let from = some_mapped (after_create p) a.dest s (sym e ∙ did.0.dest) in rw from.1.1 refl
 
-pub can_write_added : (a b : World) (piece : List ℕ) → CanWrite a.dest → Did (does (Adds piece)) a b → CanWrite b.dest
+pub can_write_added : (a b : DeviceStates) (piece : List ℕ) → CanWrite a.dest → Did (does (Adds piece)) a b → CanWrite b.dest
 unfolding CanWrite Did Changes
 can_write_added a b piece can did = λ s e. let from = some_mapped (after_append piece) a.dest s (sym e ∙ did.0.dest) in rw from.1.1 (can from.0 from.1.0)
 
-pub can_write_asked : (asked : Asked) (a b : World) → CanWrite a.dest → Did (asks asked) a b → CanWrite b.dest
+pub can_write_asked : (asked : Asked) (a b : DeviceStates) → CanWrite a.dest → Did (asks asked) a b → CanWrite b.dest
 unfolding Did Changes
 can_write_asked asked a b can did = rw did.0.dest can
 
-pub makes_file : (a b c d : World) (p : Path) (bytes : List ℕ) → Did (does (Creates p)) a b → Did (does (Adds bytes)) b c → Did (does Finishes) c d → Did (does (Makes (MakeFile p bytes))) a d
+pub makes_file : (a b c d : DeviceStates) (p : Path) (bytes : List ℕ) → Did (does (Creates p)) a b → Did (does (Adds bytes)) b c → Did (does Finishes) c d → Did (does (Makes (MakeFile p bytes))) a d
 unfolding Did Answers Changes Puts
 makes_file a b c d p bytes first next last = (
   record {
@@ -186,8 +186,8 @@ keeps_file a b c p bytes part is first (OfPiece piece count same) =
     OfFile p bytes count (ap dest_tree (same ∙ ap (option_map (after_append (take count piece))) first) ∙ part_file a p (take count piece) ∙ ap (λ (l : List ℕ). option_map (done (MakeFile p (take count l))) (dest_tree a)) it)
 keeps_file _ _ _ _ _ _ is _ _ = absurd (cc)
 
-pub leaves_of_append : (a b c : World) (p : Path) (bytes : List ℕ) (f : Fault) → Did (does (Creates p)) a b → LeavesSome (does (Adds bytes)) f b c → LeavesSome (does (Makes (MakeFile p bytes))) f a c
-unfolding Did LeavesSome Answers Changes Puts
+pub leaves_of_append : (a b c : DeviceStates) (p : Path) (bytes : List ℕ) (f : Fault) → Did (does (Creates p)) a b → FailsPartway (does (Adds bytes)) f b c → FailsPartway (does (Makes (MakeFile p bytes))) f a c
+unfolding Did FailsPartway Answers Changes Puts
 leaves_of_append a b c p bytes f first next = (
   record {
     read = tt;
@@ -200,8 +200,8 @@ leaves_of_append a b c p bytes f first next = (
   next.2,
 )
 
-pub leaves_unfinished : (a b c d : World) (p : Path) (bytes : List ℕ) (f : Fault) → Did (does (Creates p)) a b → Did (does (Adds bytes)) b c → Stays f c d → LeavesSome (does (Makes (MakeFile p bytes))) f a d
-unfolding Did Stays LeavesSome Answers Changes Puts
+pub leaves_unfinished : (a b c d : DeviceStates) (p : Path) (bytes : List ℕ) (f : Fault) → Did (does (Creates p)) a b → Did (does (Adds bytes)) b c → FailsUnchanged f c d → FailsPartway (does (Makes (MakeFile p bytes))) f a d
+unfolding Did FailsUnchanged FailsPartway Answers Changes Puts
 leaves_unfinished a b c d p bytes f first next last =
     let whole : take (length bytes) bytes ≡ bytes = take_all (length bytes) bytes (omega arith) in (
       record {

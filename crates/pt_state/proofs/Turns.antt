@@ -2,12 +2,12 @@
 use Rattle.std.proofs.Common.{◌≡◌, ℕ, List, refl, sym, ap, inl}
 use Rattle.std.specs.Prelude.{Option, None, Ok, Err, IsErrAnd}
 use Rattle.std.specs.String.{string_bytes}
-use Rattle.pt_state.proofs.Words.{HasBeenFed, Content, Row, Answer, Line, Held, Kept, Did, FailsAtFirst, FailsLater, Follows, GoesOn, IsHalted, IsRefused, LeavesSome, Stays, counted, Asked, Calls, World, asks, Fault, Phase, Frame, Turned, KeepsAll, counts_of, held_of, job_of, kept_of}
+use Rattle.pt_state.proofs.Words.{HasBeenFed, Content, Row, Answer, Line, Held, Kept, Did, FailsAtFirst, FailsLater, Next, GoesOn, IsHalted, IsRefused, FailsPartway, FailsUnchanged, counted, Asked, Calls, DeviceStates, asks, Fault, Phase, Frame, Turned, KeepsAll, counts_of, held_of, job_of, kept_of}
 use Rattle.pt_state.specs.declared.state.State.{State}
 use Rattle.pt_state.proofs.Words.fault
 use Rattle.pt_state.proofs.Together.{asked_stays}
 use Rattle.pt_state.specs.Turns.{TakesTurn, TakesTurnAt}
-use Rattle.pt_state.specs.declared.outside.Outside.{Ghosts as OfOutside}
+use Rattle.pt_state.specs.declared.outside.Io.{Ghosts as OfOutside}
 
 -- ---- what is kept
 
@@ -27,13 +27,13 @@ halted_as fed k = record { prefix = k.prefix; trail = k.trail; rows_are = k.rows
 
 -- where the hasher was fed this, a turn of the definitions comes to this, with these calls and this answer
 abbrev pub Leads : Phase → State → List ℕ → Held → Calls → Answer → Type 0
-Leads here s fed held calls answer = Follows (job_of s.job) (counts_of s.counts) here (string_bytes s.prefix) (held_of s fed) (string_bytes s.prefix) held calls answer
+Leads here s fed held calls answer = Next (job_of s.job) (counts_of s.counts) here (string_bytes s.prefix) (held_of s fed) (string_bytes s.prefix) held calls answer
 
 -- the hasher was fed this after what it was fed before
 abbrev pub Feeds : State → State → (List ℕ → List ℕ) → Type 0
 Feeds s s' now = (fed : List ℕ) → HasBeenFed s.job.algorithm s.hasher fed → HasBeenFed s.job.algorithm s'.hasher (now fed)
 
-module _ {here : Phase} {s s' : State} (w w' : World) {calls : Calls} where
+module _ {here : Phase} {s s' : State} (w w' : DeviceStates) {calls : Calls} where
   -- its calls succeed
   pub went : {next : Phase} (now : List ℕ → List ℕ) → ((fed : List ℕ) → HasBeenFed s.job.algorithm s.hasher fed → Leads here s fed (held_of s (now fed)) calls (Ok next)) → Did calls w w' → calls.line ≡ None → Feeds s s' now → KeepsAll s s' → Turned here s s' w w' (Ok next)
   unfolding Turned
@@ -55,29 +55,29 @@ module _ {here : Phase} {s s' : State} (w w' : World) {calls : Calls} where
   refused {why} follows did keeps = (keeps.job, λ fed was. (fed, (tt, IsRefused (string_bytes s.prefix) (held_of s fed) calls why (follows fed was) did (halted_as fed keeps))))
 
   -- a call fails, and a part is left of what the turn was to change
-  pub left_some : {answer : Answer} {held : List ℕ → Held} (f : Fault) (result : Answer) → IsErrAnd result (λ h. h ≡ f) → ((fed : List ℕ) → Leads here s fed (held fed) calls answer) → LeavesSome calls f w w' → KeepsAll s s' → Turned here s s' w w' result
+  pub left_some : {answer : Answer} {held : List ℕ → Held} (f : Fault) (result : Answer) → IsErrAnd result (λ h. h ≡ f) → ((fed : List ℕ) → Leads here s fed (held fed) calls answer) → FailsPartway calls f w w' → KeepsAll s s' → Turned here s s' w w' result
   unfolding Turned
   left_some f (Ok next) is follows some keeps = absurd is
   left_some {answer} {held} f (Err h) is follows some keeps =
       (keeps.job, λ fed was. (fed, (tt, rw is (FailsLater (string_bytes s.prefix) (held fed) calls answer s.rows f (follows fed) some (inl refl) (halted_as fed keeps)))))
 
 -- a call fails, or memory is short, and nothing is changed
-pub stayed : (here : Phase) (s s' : State) (w w' : World) (f : Fault) (result : Answer) → IsErrAnd result (λ h. h ≡ f) → Stays f w w' → KeepsAll s s' → Turned here s s' w w' result
+pub stayed : (here : Phase) (s s' : State) (w w' : DeviceStates) (f : Fault) (result : Answer) → IsErrAnd result (λ h. h ≡ f) → FailsUnchanged f w w' → KeepsAll s s' → Turned here s s' w w' result
 unfolding Turned
 stayed here s s' w w' f (Ok next) is stays keeps = absurd is
 stayed here s s' w w' f (Err h) is stays keeps = (keeps.job, λ fed was. (fed, (tt, rw is (FailsAtFirst f stays (halted_as fed keeps)))))
 
 -- memory was short before anything was called
-pub short : (here : Phase) (s s' : State) (w : World) (result : Answer) → IsErrAnd result (λ h. h ≡ fault.Memory) → KeepsAll s s' → Turned here s s' w w result
-unfolding Stays
+pub short : (here : Phase) (s s' : State) (w : DeviceStates) (result : Answer) → IsErrAnd result (λ h. h ≡ fault.Memory) → KeepsAll s s' → Turned here s s' w w result
+unfolding FailsUnchanged
 short here s s' w result is keeps = stayed here s s' w w fault.Memory result is (refl, refl, refl, refl, tt) keeps
 
 -- or after the source was asked
-pub short_asked : (here : Phase) (s s' : State) (w w' : World) (asked : Asked) (result : Answer) → IsErrAnd result (λ h. h ≡ fault.Memory) → Did (asks asked) w w' → KeepsAll s s' → Turned here s s' w w' result
+pub short_asked : (here : Phase) (s s' : State) (w w' : DeviceStates) (asked : Asked) (result : Answer) → IsErrAnd result (λ h. h ≡ fault.Memory) → Did (asks asked) w w' → KeepsAll s s' → Turned here s s' w w' result
 short_asked here s s' w w' asked result is did keeps = stayed here s s' w w' fault.Memory result is (asked_stays asked w w' did) keeps
 
 -- its calls succeed, the hasher is as it was, and what else is held is this
-pub turned_on : {here next : Phase} (s s' : State) (w w' : World) {calls : Calls} {trail : List Frame} {rows : List Row} {contents : List Content}
+pub turned_on : {here next : Phase} (s s' : State) (w w' : DeviceStates) {calls : Calls} {trail : List Frame} {rows : List Row} {contents : List Content}
     → ((fed : List ℕ) → Leads here s fed (record { trail = trail; rows = rows; contents = contents; fed = fed }) calls (Ok next))
     → Did calls w w' → s'.trail ≡ trail → s'.rows ≡ rows → s'.contents ≡ contents → counts_of s'.counts ≡ counted calls.line (counts_of s.counts) → string_bytes s'.prefix ≡ string_bytes s.prefix → s'.hasher ≡ s.hasher → s'.job ≡ s.job → Turned here s s' w w' (Ok next)
 unfolding Turned
@@ -90,7 +90,7 @@ turned_on {next = next} s s' w w' {calls} {trail} {rows} {contents} follows did 
 )
 
 -- the block that is held has no part in a turn
-pub turned_read : (here : Phase) (s s' : State) (block : _) (w w' : World) (result : Answer) → Turned here (record s { block = block }) s' w w' result → Turned here s s' w w' result
+pub turned_read : (here : Phase) (s s' : State) (block : _) (w w' : DeviceStates) (result : Answer) → Turned here (record s { block = block }) s' w w' result → Turned here s s' w w' result
 unfolding Turned
 turned_read here s s' block w w' result turned = turned
 

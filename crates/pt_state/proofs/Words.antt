@@ -13,14 +13,14 @@ pub use Rattle.pt_plan.specs.Answer.{Answer, phase_after}
 pub use Rattle.pt_plan.specs.Job.{Job}
 pub use Rattle.pt_plan.specs.Lines.{Done, End, Line, Present, Skipped, line_text}
 pub use Rattle.pt_plan.specs.Run.{Counts, Held, Kept, Run, new_run, turning, with_trail}
-pub use Rattle.pt_plan.specs.Turn.{FailsAtFirst, FailsLater, Follows, GoesOn, HasFailed, IsHalted, IsRefused, Make, Place, Scan, Start, Turn, Walk, counted}
-unfoldable pub use Rattle.pt_plan.specs.Turn.{Did, LeavesSome, Stays}
+pub use Rattle.pt_plan.specs.Turn.{FailsAtFirst, FailsLater, Next, GoesOn, HasFailed, IsHalted, IsRefused, Make, Place, Scan, Start, Turn, Walk, counted}
+unfoldable pub use Rattle.pt_plan.specs.Turn.{Did, FailsPartway, FailsUnchanged}
 pub use Rattle.pt_plan.specs.TurnMake.{content_at}
 pub use Rattle.pt_plan.specs.TurnPlace.{bytes_in_rows}
 pub use Rattle.pt_plan.specs.TurnScan.{logical_path, to_site}
 pub use Rattle.pt_plan.specs.TurnWalk.{in_pairtree}
-pub use Rattle.pt_plan.specs.World.{Adds, Asked, Calls, Change, Creates, Failures, Finds, Finishes, Lists, Makes, NewFile, OfPiece, Opens, Reads, Renames, Untouched, World, asks, dest_tree, does, no_calls, source_tree, tells}
-unfoldable pub use Rattle.pt_plan.specs.World.{Answers, Changes, Puts}
+pub use Rattle.pt_plan.specs.DeviceStates.{Adds, Asked, Calls, Change, Creates, Failures, Finds, Finishes, Lists, Makes, NewFile, OfPiece, Opens, Reads, Renames, Untouched, DeviceStates, asks, dest_tree, does, no_calls, source_tree, tells}
+unfoldable pub use Rattle.pt_plan.specs.DeviceStates.{Answers, Changes, Puts}
 pub use Rattle.pt_plan.specs.declared.fault.Fault.{Fault}
 pub use Rattle.pt_plan.specs.declared.fault.Fault.TheVariants as fault
 pub use Rattle.pt_plan.specs.declared.object.Object.{Object}

@@ -12,20 +12,20 @@ use Rattle.pt_tree.specs.declared.kind.Kind.{Kind}
 use Rattle.pt_tree.specs.declared.log.Log.{Ghosts as OfLog}
 use Rattle.pt_tree.specs.declared.source.Source.{Ghosts as OfSource}
 use Rattle.pt_plan.specs.Answer.{Answer}
-use Rattle.pt_plan.specs.Turn.{Did, LeavesSome, Stays, Turn}
-use Rattle.pt_plan.specs.World.{Calls, Finds, Lists, World, asks, does}
+use Rattle.pt_plan.specs.Turn.{Did, FailsPartway, FailsUnchanged, Turn}
+use Rattle.pt_plan.specs.DeviceStates.{Calls, Finds, Lists, DeviceStates, asks, does}
 use Rattle.pt_plan.specs.declared.fault.Fault.{Fault}
 use Rattle.pt_plan.specs.declared.phase.Phase.{Phase}
 use Rattle.pt_state.specs.States.{job_of, kept_of}
 use Rattle.pt_state.specs.declared.state.State.{State}
 
 -- the world of devices that tell this and failed so often
-abbrev pub world : Option Reading → Option Writing → Option (List ℕ) → ℕ → ℕ → ℕ → World
+abbrev pub world : Option Reading → Option Writing → Option (List ℕ) → ℕ → ℕ → ℕ → DeviceStates
 world source dest log s d l =
     record { source = source; dest = dest; log = log; failures = record { source = s; dest = d; log = l } }
 
 -- the world of three devices, by the words of their traits: what each tells, and how often it failed
-abbrev pub world_of : {S D L : Type 0} → OfSource S → OfDest D → OfLog L → S → D → L → World
+abbrev pub world_of : {S D L : Type 0} → OfSource S → OfDest D → OfLog L → S → D → L → DeviceStates
 world_of s d l source dest log =
     world (s.told source) (d.told dest) (l.told log) (s.failed source) (d.failed dest) (l.failed log)
 
@@ -35,7 +35,7 @@ FedAfter (Ok next) algorithm hasher fed = HasBeenFed algorithm hasher fed
 FedAfter (Err why) algorithm hasher fed = ⊤
 
 -- of what was held at a phase, and what is held after it; the job stays
-unfoldable pub Turned : Phase → State → State → World → World → Answer → Type 0
+unfoldable pub Turned : Phase → State → State → DeviceStates → DeviceStates → Answer → Type 0
 Turned here s s' old new answer =
     (s'.job ≡ s.job)
     × ((fed : List ℕ) → HasBeenFed s.job.algorithm s.hasher fed
@@ -46,29 +46,29 @@ Turned here s s' old new answer =
 -- ---- what the functions of a run promise of the devices as one
 
 -- a call: it did this, or failed and changed nothing; source and destination were called no more often than that
-pub record Called {O T : Type 0} (world : O → World) (within : O → O → Type 0) (calls : Calls) (old new : O)
+pub record Called {O T : Type 0} (world : O → DeviceStates) (within : O → O → Type 0) (calls : Calls) (old new : O)
     (result : Result T Fault) : Type 0 where
   pub did : OnOk result (Did calls (world old) (world new))
-  pub failed : IfErr result (λ why. Stays why (world old) (world new))
+  pub failed : IfErr result (λ why. FailsUnchanged why (world old) (world new))
   pub few : within old new
 
 -- a listing: so it is with these entries
-pub record Listed {O : Type 0} (world : O → World) (within : O → O → Type 0) (path : Path) (old new : O)
+pub record Listed {O : Type 0} (world : O → DeviceStates) (within : O → O → Type 0) (path : Path) (old new : O)
     (result : Result (List Entry) Fault) : Type 0 where
   pub did : IfOk result (λ entries. Did (asks (Lists path entries)) (world old) (world new))
-  pub failed : IfErr result (λ why. Stays why (world old) (world new))
+  pub failed : IfErr result (λ why. FailsUnchanged why (world old) (world new))
   pub few : within old new
 
 -- a look at a path: so it is with what stands there
-pub record Found {O : Type 0} (world : O → World) (within : O → O → Type 0) (path : Path) (old new : O)
+pub record Found {O : Type 0} (world : O → DeviceStates) (within : O → O → Type 0) (path : Path) (old new : O)
     (result : Result (Option Kind) Fault) : Type 0 where
   pub did : IfOk result (λ here. Did (does (Finds path here)) (world old) (world new))
-  pub failed : IfErr result (λ why. Stays why (world old) (world new))
+  pub failed : IfErr result (λ why. FailsUnchanged why (world old) (world new))
   pub few : within old new
 
 -- a change: it did this, or failed and left a part
-pub record Wrote {O T : Type 0} (world : O → World) (within : O → O → Type 0) (calls : Calls) (old new : O)
+pub record Wrote {O T : Type 0} (world : O → DeviceStates) (within : O → O → Type 0) (calls : Calls) (old new : O)
     (result : Result T Fault) : Type 0 where
   pub did : OnOk result (Did calls (world old) (world new))
-  pub left : IfErr result (λ why. LeavesSome calls why (world old) (world new))
+  pub left : IfErr result (λ why. FailsPartway calls why (world old) (world new))
   pub few : within old new

@@ -3,14 +3,14 @@
 use Rattle.std.specs.Prelude.{◌≡◌, ℕ, IfErr, OnErr, OnOk, Result}
 use Rattle.pt_plan.specs.Answer.{Answer}
 use Rattle.pt_plan.specs.Lines.{Line}
-use Rattle.pt_plan.specs.Turn.{Did, LeavesSome}
-use Rattle.pt_plan.specs.World.{Calls, World, tells}
+use Rattle.pt_plan.specs.Turn.{Did, FailsPartway}
+use Rattle.pt_plan.specs.DeviceStates.{Calls, DeviceStates, tells}
 use Rattle.pt_plan.specs.declared.fault.Fault.{Fault}
 use Rattle.pt_plan.specs.declared.phase.Phase.{Phase}
 use Rattle.pt_state.specs.Lines.{with_line}
 use Rattle.pt_state.specs.Outside.{Turned, Wrote}
 use Rattle.pt_state.specs.declared.job.Report.{Report}
-use Rattle.pt_state.specs.declared.outside.Outside.{Ghosts as OfOutside}
+use Rattle.pt_state.specs.declared.outside.Io.{Ghosts as OfOutside}
 use Rattle.pt_state.specs.declared.state.State.{State}
 
 -- a change, or a line: it did this, or failed and left a part; nothing was called that is counted
@@ -22,7 +22,7 @@ pub record Told {O T : Type 0} (of : OfOutside O) (line : Line) (old new : Repor
     (result : Result T Fault) : Type 0 where
   pub did : OnOk result (Did (tells line) (of.world old.1) (of.world new.1))
   pub counted : OnOk result (new.0 ≡ with_line line old.0)
-  pub left : IfErr result (λ why. LeavesSome (tells line) why (of.world old.1) (of.world new.1))
+  pub left : IfErr result (λ why. FailsPartway (tells line) why (of.world old.1) (of.world new.1))
   pub same : OnErr result (new.0 ≡ old.0)
   pub few : of.within 0 0 old.1 new.1
 
@@ -41,6 +41,6 @@ pub record TakesTurnAt {O : Type 0} (of : OfOutside O) (most : ℕ × ℕ) (At :
 -- the rest of a turn at this phase, after these calls; it makes none that is counted
 pub record EndsTurn {O : Type 0} (of : OfOutside O) (calls : Calls) (here : Phase)
     (old new : State × O) (answer : Answer) : Type 0 where
-  pub turn : (before : World) → Did calls before (of.world old.1)
+  pub turn : (before : DeviceStates) → Did calls before (of.world old.1)
       → Turned here old.0 new.0 before (of.world new.1) answer
   pub few : of.within 0 0 old.1 new.1

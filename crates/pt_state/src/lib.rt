@@ -1,6 +1,6 @@
 //! What a run holds, the calls that it makes of its devices, and the lines that it tells.
 //!
-//! What it promises: a call of the devices as one (`Outside`) did what it was asked, or it failed, changed nothing or left a part of its piece,
+//! What it promises: a call of the devices as one (`Io`) did what it was asked, or it failed, changed nothing or left a part of its piece,
 //! and halts the run for that device (`Called`, `Listed`, `Found`, `Wrote`, `Told`). A line is counted exactly where its `put` was answered Ok.
 #![tactic(auto, using(crate::proofs::StateRules::state_rules))]
 
@@ -14,5 +14,5 @@ pub mod site;
 mod state;
 
 pub use job::{Job, Report};
-pub use outside::{Devices, Outside};
+pub use outside::{Devices, Io};
 pub use state::State;

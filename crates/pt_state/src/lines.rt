@@ -3,13 +3,13 @@
 ghost use Rattle.std.specs.Prelude.{◌<◌, ◌^◌, IfErr, IfOk, OnOk};
 ghost use Rattle.serde_json.specs.View.{view};
 ghost use Rattle.pt_plan.specs.Lines.{Line, Done as DoneLine, Present as PresentLine, Skipped as SkippedLine, End as EndLine};
-ghost use Rattle.pt_plan.specs.Turn.{Did, LeavesSome};
-ghost use Rattle.pt_plan.specs.World.{tells};
+ghost use Rattle.pt_plan.specs.Turn.{Did, FailsPartway};
+ghost use Rattle.pt_plan.specs.DeviceStates.{tells};
 ghost use Rattle.pt_state.specs.Lines.{IsTreeOf};
 ghost use Rattle.pt_state.specs.Turns.{Told, WroteBy};
 
 use crate::paths::text_of;
-use crate::{Outside, Report};
+use crate::{Io, Report};
 use pt_object::members::{put_number, put_text};
 use pt_plan::{Fault, Identifier};
 use pt_tree::{MemoryFault, NamePath};
@@ -35,14 +35,14 @@ pub struct Done<'a> {
 }
 
 /// Tells that an object was carried.
-pub fn put_done<O: Outside>(
+pub fn put_done<O: Io>(
     alloc: Global,
     out: &mut O,
     object: &Done<'_>,
     counts: &mut Report,
 ) -> Result<(), Fault>
     requires { counts.old.done < 2 ^ 40 }
-    ensures { Told O.Outside (DoneLine object.now.at.now object.now.bytes
+    ensures { Told O.Io (DoneLine object.now.at.now object.now.bytes
         object.now.empty object.now.files object.now.id.now object.now.to.now)
         (counts.old, out.old) (counts.new, out.new) result }
 {
@@ -70,7 +70,7 @@ fn done_line(alloc: Global, object: &Done<'_>) -> Result<Value, MemoryFault>
 }
 
 /// Tells that an object's place is taken already.
-pub fn put_present<O: Outside>(
+pub fn put_present<O: Io>(
     alloc: Global,
     out: &mut O,
     at: &NamePath,
@@ -79,7 +79,7 @@ pub fn put_present<O: Outside>(
     counts: &mut Report,
 ) -> Result<(), Fault>
     requires { counts.old.present < 2 ^ 40 }
-    ensures { Told O.Outside (PresentLine at.now id.now to.now)
+    ensures { Told O.Io (PresentLine at.now id.now to.now)
         (counts.old, out.old) (counts.new, out.new) result }
 {
     let value = present_line(alloc, at, id, to)?;
@@ -107,7 +107,7 @@ fn present_line(
 }
 
 /// Tells that a site, or a shorty that isn't walked, was passed over.
-pub fn put_skip<O: Outside>(
+pub fn put_skip<O: Io>(
     alloc: Global,
     out: &mut O,
     at: &NamePath,
@@ -115,7 +115,7 @@ pub fn put_skip<O: Outside>(
     counts: &mut Report,
 ) -> Result<(), Fault>
     requires { counts.old.skipped < 2 ^ 40 }
-    ensures { Told O.Outside (SkippedLine at.now cause)
+    ensures { Told O.Io (SkippedLine at.now cause)
         (counts.old, out.old) (counts.new, out.new) result }
 {
     let value = skip_line(alloc, at, cause)?;
@@ -136,8 +136,8 @@ fn skip_line(alloc: Global, at: &NamePath, cause: Cause) -> Result<Value, Memory
 }
 
 /// Tells that the run is done.
-pub fn put_end<O: Outside>(alloc: Global, out: &mut O, counts: &Report) -> Result<(), Fault>
-    ensures { WroteBy O.Outside (tells (EndLine counts.now.done counts.now.present
+pub fn put_end<O: Io>(alloc: Global, out: &mut O, counts: &Report) -> Result<(), Fault>
+    ensures { WroteBy O.Io (tells (EndLine counts.now.done counts.now.present
         counts.now.skipped)) out.old out.new result }
 {
     let value = end_line(alloc, counts)?;
@@ -157,12 +157,12 @@ fn end_line(alloc: Global, counts: &Report) -> Result<Value, AllocError>
 }
 
 // Puts the line that this is the JSON of.
-fn put<O: Outside>(alloc: Global, out: &mut O, value: &Value) -> Result<(), Fault>
+fn put<O: Io>(alloc: Global, out: &mut O, value: &Value) -> Result<(), Fault>
     requires { (line : Line) × IsTreeOf line (view value.now) }
     ensures line { (line : Line) → IsTreeOf line (view value.now)
         → OnOk result (Did (tells line) (O.world out.old) (O.world out.new)) }
     ensures front { (line : Line) → IsTreeOf line (view value.now)
-        → IfErr result (λ why. LeavesSome (tells line) why (O.world out.old) (O.world out.new)) }
+        → IfErr result (λ why. FailsPartway (tells line) why (O.world out.old) (O.world out.new)) }
     ensures calls { O.within 0 0 out.old out.new }
 {
     let mut text = value.to_string(alloc)?;

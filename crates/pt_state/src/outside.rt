@@ -3,8 +3,8 @@ ghost use Rattle.std.proofs.Common.{◌∙◌, refl};
 ghost use Rattle.std.specs.Prelude.{◌≡◌, ◌+◌, ◌≤◌, ℕ, true, Some, IfErr, OnOk};
 ghost use Rattle.pt_object.specs.Script.{MakeFolder};
 ghost use Rattle.pt_plan.specs.Lines.{Line, line_text};
-ghost use Rattle.pt_plan.specs.Turn.{Did, LeavesSome};
-ghost use Rattle.pt_plan.specs.World.{World, Adds, Creates, Finishes, Makes, Opens, Peeks, Reads, Renames, asks, does, tells};
+ghost use Rattle.pt_plan.specs.Turn.{Did, FailsPartway};
+ghost use Rattle.pt_plan.specs.DeviceStates.{DeviceStates, Adds, Creates, Finishes, Makes, Opens, Peeks, Reads, Renames, asks, does, tells};
 ghost use Rattle.pt_tree.specs.Dest.{Writing, CanPeek, CanWrite, MayMake, MayMove};
 ghost use Rattle.pt_tree.specs.Forest.{is_proper};
 ghost use Rattle.pt_tree.specs.Source.{Reading, CanList, CanOpen, CanRead};
@@ -19,9 +19,9 @@ use pt_tree::{Block, Dest, Kind, Listing, Log, NamePath, Source};
 ///
 /// A call that fails for its device halts the run for that device, and one that wants memory for want of memory.
 /// It changes nothing then, but for `append` and `put`, which leave a part of what they were to add. Only `put` halts it for the log.
-pub trait Outside {
+pub trait Io {
     /// What the three tell, and how often each failed.
-    ghost world: { Self → World };
+    ghost world: { Self → DeviceStates };
 
     /// It is over the same three devices; the source was called at most so many times more, and the destination asked at
     /// most so many times more what stands.
@@ -84,7 +84,7 @@ pub trait Outside {
         ensures ok { (line : Line) → text.now ≡ line_text line → OnOk result (Did (tells line)
             (world self.old) (world self.new)) }
         ensures err { (line : Line) → text.now ≡ line_text line
-            → IfErr result (λ why. LeavesSome (tells line) why (world self.old) (world self.new)) }
+            → IfErr result (λ why. FailsPartway (tells line) why (world self.old) (world self.new)) }
         ensures calls { within 0 0 self.old self.new };
 
     /// Nothing was called.
@@ -125,7 +125,7 @@ pub struct Devices<'s, 'd, 'l, S: Source, D: Dest, L: Log> {
     pub log: &'l mut L,
 }
 
-impl<'s, 'd, 'l, S: Source, D: Dest, L: Log> Outside for Devices<'s, 'd, 'l, S, D, L> {
+impl<'s, 'd, 'l, S: Source, D: Dest, L: Log> Io for Devices<'s, 'd, 'l, S, D, L> {
     ghost world = { λ o. world_of S.Source D.Dest L.Log o.source.now o.dest.now o.log.now };
 
     ghost within = { λ n k a b. (b.source.ghost_name ≡ a.source.ghost_name)

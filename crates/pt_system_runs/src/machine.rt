@@ -1,13 +1,13 @@
 //! A machine whose two folders are in memory, and runs by the program's own call on it.
 ghost use Rattle.std.specs.Prelude.{⊤};
 
-use pt_guard::{Claim, Folder, Hold, Places};
+use pt_guard::{Claim, FileId, LockAttempt, Places};
+use pt_host::{Feedback, Host, HostIo, Progress, RunOptions, Syncs, run_guarded};
 use pt_memory::{MemDest, MemSource};
 use pt_memory_system::{Faults, MemorySystem};
 use pt_move::Job;
 use pt_name::{Layout, Share};
 use pt_object::{Algorithm, Meta};
-use pt_run::{Feedback, Ground, Host, Progress, RunOptions, Syncs, run_guarded};
 use pt_tree::Ignored;
 use pt_walk::Limits;
 use std::alloc::{AllocGlobal, Global};
@@ -16,7 +16,7 @@ use std::path::PathBuf;
 use std::{io, mem};
 
 // What a machine lends: the system of the store, that of the root, and what takes the log.
-type Lent<'a> = Ground<MemorySystem<'a>, MemorySystem<'a>, Vec<u8>>;
+type Lent<'a> = HostIo<MemorySystem<'a>, MemorySystem<'a>, Vec<u8>>;
 
 // A machine of two systems in memory, which knows where no other folder is.
 #[derive(Drop)]
@@ -52,12 +52,12 @@ impl<'a> Places for Machine<'a> {
         Err(io::Error::from(ErrorKind::NotFound))
     }
 
-    fn identify(&mut self, _: &str) -> io::Result<Folder> {
+    fn identify(&mut self, _: &str) -> io::Result<FileId> {
         Err(io::Error::from(ErrorKind::NotFound))
     }
 
-    fn hold(&mut self, _: &str, _: Claim) -> Hold<u8> {
-        Hold::Held(7)
+    fn hold(&mut self, _: &str, _: Claim) -> LockAttempt<u8> {
+        LockAttempt::Held(7)
     }
 
     fn release(&mut self, _: u8) {}
@@ -83,7 +83,7 @@ impl<'a> Host for Machine<'a> {
     }
 
     fn lend(&mut self) -> Lent<'a> {
-        Ground {
+        HostIo {
             store: self.ground.store.take(),
             folder: self.ground.folder.take(),
             output: mem::replace(&mut self.ground.output, Vec::new(self.alloc)),
@@ -138,7 +138,7 @@ fn status_of(rt: &HostRuntime, machine: &mut Machine<'_>, rehearse: bool) -> Opt
 
 // Gives what a run left on a machine.
 fn give_back(machine: Machine<'_>, ran: &mut Ran) {
-    let Ground {
+    let HostIo {
         store,
         folder,
         output,
@@ -149,7 +149,7 @@ fn give_back(machine: Machine<'_>, ran: &mut Ran) {
 }
 
 fn set_up(alloc: Global, faults: &Faults, store: MemSource, root: MemDest) -> Option<Machine<'_>> {
-    let ground = Ground {
+    let ground = HostIo {
         store: system(alloc, faults, store, MemDest::new(alloc))?,
         folder: system(alloc, faults, MemSource::new(alloc), root)?,
         output: Vec::new(alloc),

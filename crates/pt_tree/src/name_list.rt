@@ -27,7 +27,7 @@ impl NameList {
         if let [name] = names {
             return Ok(NameList::One([name.copy()?], alloc));
         }
-        let list = listed(alloc, names, 0)?;
+        let list = list_with_room(alloc, names, 0)?;
         if list.len() <= FEW {
             return Ok(NameList::Own(list));
         }
@@ -40,7 +40,7 @@ impl NameList {
     {
         match self {
             NameList::One([name], alloc) => Ok(NameList::One([name.copy()?], *alloc)),
-            NameList::Own(list) => Ok(NameList::Own(listed(*list.allocator(), list, 0)?)),
+            NameList::Own(list) => Ok(NameList::Own(list_with_room(*list.allocator(), list, 0)?)),
             NameList::Shared(list) => Ok(NameList::Shared(list.clone()?)),
         }
     }
@@ -49,7 +49,7 @@ impl NameList {
     pub(crate) fn to_list(&self, room: usize) -> Result<Vec<Name>, MemoryFault>
         ensures { IfOk result (λ list. list.items ≡ held_names self.now) }
     {
-        listed(self.allocator(), self.as_slice(), room)
+        list_with_room(self.allocator(), self.as_slice(), room)
     }
 
     pub(crate) fn allocator(&self) -> Global {
@@ -72,7 +72,7 @@ impl NameList {
 }
 
 // These names in a list, with room for so many more.
-fn listed(alloc: Global, names: &[Name], room: usize) -> Result<Vec<Name>, MemoryFault>
+fn list_with_room(alloc: Global, names: &[Name], room: usize) -> Result<Vec<Name>, MemoryFault>
     ensures { IfOk result (λ list. list.items ≡ names.now) }
 {
     let mut list: Vec<Name> = Vec::with_capacity(alloc, names.len().saturating_add(room))?;

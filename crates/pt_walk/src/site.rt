@@ -50,7 +50,7 @@ pub fn judge(listing: &Listing, at: At, form: Form) -> Finding
         (At::Root, _) => Finding::Skip(Cause::Root),
         (_, NonShorties::None) => without_object(listing),
         (_, NonShorties::One(index, Kind::Dir)) => Finding::Candidate(index),
-        _ => divided(form),
+        _ => find_divided(form),
     }
 }
 
@@ -116,7 +116,7 @@ fn without_object(listing: &Listing) -> Finding
 }
 
 // A site that holds more than shorties and one directory.
-fn divided(form: Form) -> Finding
+fn find_divided(form: Form) -> Finding
     ensures { result ≡ divided_finding form }
 {
     match form {

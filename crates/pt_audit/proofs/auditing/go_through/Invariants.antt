@@ -1,10 +1,10 @@
 use Rattle.std.proofs.Common.{◌≡◌, ◌-◌, ℕ}
 use Rattle.pt_audit.specs.Auditing.{IsUnderWay}
-use Rattle.pt_audit.specs.Beside.{Follows}
+use Rattle.pt_audit.specs.RootReader.{Follows}
 use Rattle.pt_audit.specs.Bounds.{Surveyed}
 use Rattle.pt_audit.specs.Failing.{failures}
 use Rattle.pt_compare.specs.Root.{KeepsRoot, tree_in}
-use Rattle.pt_plan.specs.World.{source_tree}
+use Rattle.pt_plan.specs.DeviceStates.{source_tree}
 use Rattle.pt_audit.specs.Growing.{KeepsLog}
 use Rattle.pt_audit.proofs.auditing.go_through.Given as goal
 

@@ -5,7 +5,7 @@ use Rattle.pt_audit.proofs.Telling.{not_told, on_end, on_more, on_store}
 use Rattle.pt_audit.specs.Auditing.{IsAt, is_told}
 use Rattle.pt_audit.specs.Growing.{grows_none}
 use Rattle.pt_compare.specs.Root.{tree_in}
-use Rattle.pt_plan.specs.World.{source_tree}
+use Rattle.pt_plan.specs.DeviceStates.{source_tree}
 use Rattle.pt_audit.proofs.auditing.tell.Goals as goal
 
 pub returns-in_ok-tell_end-in-End-clause-on : goal.returns-in_ok-tell_end-in-End-clause-on

@@ -1,7 +1,7 @@
 use Rattle.std.proofs.Common.{List, ap, rules, sym, ◌∙◌}
 use Rattle.std.specs.Prelude.{false, slice_get, true}
 use Rattle.pt_audit.proofs.Layouts.{all_there, another, one_more, told_so}
-use Rattle.pt_begun.proofs.source.RootChecks.{file_short}
+use Rattle.pt_invariant.proofs.source.RootChecks.{file_short}
 use Rattle.pt_object.specs.FilePaths.{File}
 use Rattle.pt_object.specs.RootFiles.{files_lent}
 use Rattle.pt_state.specs.States.{job_of}

@@ -21,13 +21,13 @@ meet_object-requires-clause-noted g c =
 pub returns-in-Ok-clause-found : goal.returns-in-Ok-clause-found
 returns-in-Ok-clause-found g c =
     let seen : IsSeen (tree_in (g.R.Source.told c.args.root.now)) c.args.object.now.to.now c.in_ok-here.here = search rules in
-    IfOk-weaker c.left_over.result _ _
+    IfOk-weaker c.find_left_over.result _ _
     (λ found left.
     found_left (tree_in (g.S.Source.told c.args.source.now)) (tree_in (g.R.Source.told c.args.root.now)) (tree_in (g.R.Source.told c.at_place.new.root)) c.args.object.now.to.now c.new.result (λ s. sought_of c.args.object.now s)
     (λ s. stored_order (λ path. bytes_at s (c.args.object.now.from.now ++ path)) c.args.object.now.rows.now c.requires.order) c.in-Some.kind (marks_of c.add-2.new.self) (ap tree_in c.at_place.ensures.same)
     (subst (IsSeen (tree_in (g.R.Source.told c.args.root.now)) c.args.object.now.to.now) c.in-Some.is seen) c.new.ensures
     (c.in_ok-add.ensures.marks ∙ ap (λ (e : Noted). with_mark c.new.result c.in-Some.kind (marks_of e)) c.new-entries.ensures)
-    (marks_of c.meet_object.new.entries) found c.in-Ok.field-0 c.in-Ok.ensures.met left) c.left_over.ensures.left
+    (marks_of c.meet_object.new.entries) found c.in-Ok.field-0 c.in-Ok.ensures.met left) c.find_left_over.ensures.left
 
 pub returns-in-Err-Differs-clause-found : goal.returns-in-Err-Differs-clause-found
 returns-in-Err-Differs-clause-found g c =

@@ -5,7 +5,7 @@ use Rattle.pt_compare.specs.Marks.{marks_of}
 use Rattle.pt_compare.specs.Parts.{fronts, in_content, way_items}
 use Rattle.pt_compare.specs.Root.{tree_in}
 use Rattle.pt_object.specs.declared.contents.Content.{Content}
-use Rattle.pt_plan.specs.World.{Failures}
+use Rattle.pt_plan.specs.DeviceStates.{Failures}
 use Rattle.pt_plan.specs.declared.fault.Fault.TheVariants as fault
 use Rattle.pt_tree.specs.Path.{Path}
 use Rattle.pt_tree.specs.Source.{CanOpen}

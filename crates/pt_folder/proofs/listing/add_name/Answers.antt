@@ -1,5 +1,5 @@
 use Rattle.std.proofs.Common.{arith, rules}
-use Rattle.pt_folder.specs.declared.failure.Cause.TheVariants as cause
+use Rattle.pt_folder.specs.declared.failure.FailureReason.TheVariants as cause
 use Rattle.pt_folder.proofs.Kept.{kept_name, kept_names}
 use Rattle.pt_folder.proofs.listing.add_name.Goals as goal
 

@@ -1,7 +1,7 @@
 use Rattle.std.proofs.Common.{◌≡◌, ◌==◌, ◌+◌, ◌∙◌, arith, take, ap, sym, Some, None}
 use Rattle.std.specs.List.{position}
 use Rattle.std.proofs.lemmas.List.{take_rest}
-use Rattle.pt_folder.specs.declared.failure.Cause.TheVariants as cause
+use Rattle.pt_folder.specs.declared.failure.FailureReason.TheVariants as cause
 use Rattle.pt_folder.proofs.Kept.{kept_names, kept_on}
 use Rattle.pt_folder.proofs.Names.{adds_one, err_due, refuses_one, refuses_rest}
 use Rattle.pt_folder.proofs.listing.add_names.Goals as goal

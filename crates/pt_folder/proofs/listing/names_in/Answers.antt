@@ -3,7 +3,7 @@ use Rattle.std.specs.Prelude.{IfErr, IfSome}
 use Rattle.pt_folder.specs.Calls.{IsDueTo}
 use Rattle.pt_folder.specs.Listing.{FailsToGet, GetsNames, most_entries}
 use Rattle.pt_folder.specs.Names.{GivesNames}
-use Rattle.pt_folder.specs.declared.failure.Cause.TheVariants as cause
+use Rattle.pt_folder.specs.declared.failure.FailureReason.TheVariants as cause
 use Rattle.pt_folder.proofs.Kept.{names_heard}
 use Rattle.pt_folder.proofs.Names.{each_way}
 use Rattle.pt_folder.proofs.listing.names_in.Goals as goal
@@ -24,4 +24,4 @@ returns-in-Ok-clause-asked g c =
     )
 
 pub returns-in-Err-clause-kept : goal.returns-in-Err-clause-kept
-returns-in-Err-clause-kept g c = names_heard {T = Unit {0}} (Err c.heard_at_copy.result) c.heard_at_copy.new.self.failure c.args.text.now (cause.System c.in-Err.error) c.heard_at_copy.ensures.kept tt
+returns-in-Err-clause-kept g c = names_heard {T = Unit {0}} (Err c.record_error_at_copy.result) c.record_error_at_copy.new.self.failure c.args.text.now (cause.System c.in-Err.error) c.record_error_at_copy.ensures.kept tt

@@ -1,5 +1,5 @@
 use Rattle.std.proofs.Common.{arith, ◌≡◌, ◌∙◌, length, take, ap, subst, Ok, Err}
-use Rattle.pt_folder.specs.declared.failure.Cause.TheVariants as cause
+use Rattle.pt_folder.specs.declared.failure.FailureReason.TheVariants as cause
 use Rattle.pt_folder.proofs.Kept.{kept_names, kept_on, names_heard}
 use Rattle.pt_folder.proofs.Names.{err_due, reads_one}
 use Rattle.pt_folder.proofs.Turns.{names_end, names_fail, names_more, names_refused, names_spent}
@@ -32,7 +32,7 @@ returns-in_err-add_names-in-Ok-clause-fault g c =
 pub returns-in-Err-clause-fault : goal.returns-in-Err-clause-fault
 returns-in-Err-clause-fault g c =
     let whole : length c.read_piece.new.buffer ≡ 8192 = c.read_piece.auto.buffer ∙ c.loop.invariant.piece in
-    names_fail g.D.Input.reads c.args.most c.args.dir.now c.loop.dir c.read_piece.new.self c.loop.names.items c.read_piece.new.buffer c.loop.counter c.loop.invariant.reads whole c.in-Err.error c.heard_at_copy.result c.in-Err.ensures.read c.heard_at_copy.ensures.fault
+    names_fail g.D.Input.reads c.args.most c.args.dir.now c.loop.dir c.read_piece.new.self c.loop.names.items c.read_piece.new.buffer c.loop.counter c.loop.invariant.reads whole c.in-Err.error c.record_error_at_copy.result c.in-Err.ensures.read c.record_error_at_copy.ensures.fault
 
 pub returns-clause-fault : goal.returns-clause-fault
 returns-clause-fault g c = names_spent g.D.Input.reads c.args.most c.args.dir.now c.loop.dir c.loop.names.items c.loop.counter c.loop.invariant.reads (omega arith)
@@ -41,7 +41,7 @@ pub returns-in_err-add_names-in-Ok-clause-kept : goal.returns-in_err-add_names-i
 returns-in_err-add_names-in-Ok-clause-kept g c = kept_on c.from_residual.result c.in_err-add_names-in-Ok.field-0.0 _ c.from_residual.ensures.1 c.in_err-add_names-in-Ok.ensures.kept
 
 pub returns-in-Err-clause-kept : goal.returns-in-Err-clause-kept
-returns-in-Err-clause-kept g c = names_heard {T = Unit {0}} (Err c.heard_at_copy.result) c.heard_at_copy.new.self.failure c.args.text.now (cause.System c.in-Err.error) c.heard_at_copy.ensures.kept tt
+returns-in-Err-clause-kept g c = names_heard {T = Unit {0}} (Err c.record_error_at_copy.result) c.record_error_at_copy.new.self.failure c.args.text.now (cause.System c.in-Err.error) c.record_error_at_copy.ensures.kept tt
 
 pub returns-clause-kept : goal.returns-clause-kept
 returns-clause-kept g c = kept_names c.keep_copy.new.self.failure c.args.text.now cause.Endless c.keep_copy.ensures tt

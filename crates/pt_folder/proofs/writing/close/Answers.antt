@@ -1,4 +1,4 @@
-use Rattle.pt_folder.specs.Stuck.{stuck_by_close}
+use Rattle.pt_folder.specs.UnsyncedChange.{stuck_by_close}
 use Rattle.pt_tree.specs.declared.faults.TreeFault.TheVariants.{Device}
 use Rattle.std.specs.Prelude.{Err}
 use Rattle.std.proofs.Common.{◌∙◌, ap, sym}

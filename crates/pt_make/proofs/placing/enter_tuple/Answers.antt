@@ -8,7 +8,7 @@ pub returns-in_err-mkdir-in-None : goal.returns-in_err-mkdir-in-None
 returns-in_err-mkdir-in-None g c = record {
   turn = record {
     turn = stayed _ _ _ _ _ c.in_err-mkdir-in-None.field-0.0 _ (search rules) (looked_then _ _ _ _ _ _ c.in_ok-kind.ensures.did c.in_err-mkdir-in-None.ensures.failed) keeps_same;
-    few = g.met.O.Outside.still _ _ _ _ _ c.kind.ensures.few c.mkdir.ensures.few;
+    few = g.met.O.Io.still _ _ _ _ _ c.kind.ensures.few c.mkdir.ensures.few;
   };
 }
 
@@ -16,6 +16,6 @@ pub returns-in_ok-mkdir-in-None : goal.returns-in_ok-mkdir-in-None
 returns-in_ok-mkdir-in-None g c = record {
   turn = record {
     turn = search (rules, placing, turns);
-    few = g.met.O.Outside.still _ _ _ _ _ c.kind.ensures.few c.mkdir.ensures.few;
+    few = g.met.O.Io.still _ _ _ _ _ c.kind.ensures.few c.mkdir.ensures.few;
   };
 }

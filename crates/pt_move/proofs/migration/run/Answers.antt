@@ -9,8 +9,8 @@ use Rattle.pt_move.proofs.migration.run.Goals.{in-Ok-Finished, in-Err}
 pub loop-mover-init : goal.loop-mover-init
 loop-mover-init g c = (
   new_so_far _ c.start-mover.result _ c.start-mover.ensures.new
-      (c.start-mover.ensures.in_progress _ (record { source = g.met.O.Outside.proper c.args.out.now; dest = g.met.O.Outside.is_tree c.args.out.now })),
-  (0, 0, g.met.O.Outside.none c.args.out.now),
+      (c.start-mover.ensures.in_progress _ (record { source = g.met.O.Io.proper c.args.out.now; dest = g.met.O.Io.is_tree c.args.out.now })),
+  (0, 0, g.met.O.Io.none c.args.out.now),
 )
 
 -- what a step needs, that the run has begun: Answering.antt (`has_begun`)
@@ -21,7 +21,7 @@ advance-requires g c = has_begun _ _ _ c.loop-mover.invariant.0.begun
 pub loop-mover-preserved : goal.loop-mover-preserved
 loop-mover-preserved g c = (
   so_far_on _ _ _ _ _ _ c.loop-mover.invariant.0 c.in-Ok-More.field-0 c.in-Ok-More.field-0-is c.in-Ok-More.ensures.step,
-  (_, _, g.met.O.Outside.more _ _ _ _ _ _ _ c.loop-mover.invariant.1.2 c.advance.ensures.calls),
+  (_, _, g.met.O.Io.more _ _ _ _ _ _ _ c.loop-mover.invariant.1.2 c.advance.ensures.calls),
 )
 
 -- the steps come to an end, for each leaves a turn less to make: Ran.antt (`smaller`)
@@ -37,4 +37,4 @@ returns-clause-run g c = elim c.match-advance.branch [
 
 -- `same`: the devices allow the calls of one step more
 pub returns-clause-same : goal.returns-clause-same
-returns-clause-same g c = (_, _, g.met.O.Outside.more _ _ _ _ _ _ _ c.loop-mover.invariant.1.2 c.advance.ensures.calls)
+returns-clause-same g c = (_, _, g.met.O.Io.more _ _ _ _ _ _ _ c.loop-mover.invariant.1.2 c.advance.ensures.calls)

@@ -10,5 +10,5 @@ returns-clause-made g c = record {
   own = c.turn.ensures.turn.own;
   well = search (rules, making_turn, outcomes);
   leaves = search (rules, making_turn, outcomes);
-  few = g.met.O.Outside.most _ _ _ _ _ _ c.turn.ensures.turn.few (search (rules, making_turn)) (le_refl _);
+  few = g.met.O.Io.most _ _ _ _ _ _ c.turn.ensures.turn.few (search (rules, making_turn)) (le_refl _);
 }

@@ -7,7 +7,7 @@ pub returns-in_err-put_present-in-Some : goal.returns-in_err-put_present-in-Some
 returns-in_err-put_present-in-Some g c = record {
   turn = record {
     turn = search (rules, judging, turns);
-    few = g.met.O.Outside.still _ _ _ _ _ c.kind_at.ensures.few c.put_present.ensures.few;
+    few = g.met.O.Io.still _ _ _ _ _ c.kind_at.ensures.few c.put_present.ensures.few;
   };
 }
 
@@ -15,6 +15,6 @@ pub returns-in_ok-put_present-in-Some : goal.returns-in_ok-put_present-in-Some
 returns-in_ok-put_present-in-Some g c = record {
   turn = record {
     turn = search (rules, judging, turns);
-    few = g.met.O.Outside.still _ _ _ _ _ c.kind_at.ensures.few c.put_present.ensures.few;
+    few = g.met.O.Io.still _ _ _ _ _ c.kind_at.ensures.few c.put_present.ensures.few;
   };
 }

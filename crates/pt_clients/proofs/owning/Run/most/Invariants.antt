@@ -1,4 +1,4 @@
-use Rattle.pt_begun.specs.Begun.{Start}
+use Rattle.pt_invariant.specs.RunInvariant.{Start}
 use Rattle.pt_move.specs.Running.{HasBegun}
 use Rattle.pt_state.specs.Outside.{world_of}
 use Rattle.pt_tree.specs.Forest.{Forest}

@@ -16,16 +16,16 @@ invariant_of-self g c =
       placed = λ free. subst (λ k. IsPlaced k self.writing) (sym same) (self.placed none);
       wanted = self.wanted;
       back = ∣ none_back (kept peeked.new.self.system folder) self.stuck none ∣₁;
-      risen = none_risen c.counted.new.failures self.stuck none;
+      risen = none_risen c.count_failure.new.failures self.stuck none;
     }
 
 pub returns-clause-asked : goal.returns-clause-asked
 returns-clause-asked g c =
     let none = none_stuck c.args.self.now.stuck (sym c.is_some.ensures ∙ c.if-is_some.false) in
-    rw c.counted.ensures.same (inr (none, c.peek-peeked.ensures.asked))
+    rw c.count_failure.ensures.same (inr (none, c.peek-peeked.ensures.asked))
 
 pub returns-clause-kept : goal.returns-clause-kept
 returns-clause-kept g c =
     let self = c.args.self.now in
     let none = none_stuck self.stuck (sym c.is_some.ensures ∙ c.if-is_some.false) in
-    rw c.counted.ensures.same (kept_free c.peek-peeked.result self.stuck _ _ none c.peek-peeked.ensures.kept)
+    rw c.count_failure.ensures.same (kept_free c.peek-peeked.result self.stuck _ _ none c.peek-peeked.ensures.kept)

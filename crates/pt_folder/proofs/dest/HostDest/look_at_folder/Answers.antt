@@ -20,7 +20,7 @@ invariant_of-self g c =
       placed = λ free. subst (λ k. IsPlaced k self.writing) (sym same) (self.placed none);
       wanted = self.wanted;
       back = ∣ none_back (kept there.new.self.system folder) self.stuck none ∣₁;
-      risen = none_risen c.counted.new.failures self.stuck none;
+      risen = none_risen c.count_failure.new.failures self.stuck none;
     }
 
 pub returns-clause-asked : goal.returns-clause-asked
@@ -28,7 +28,7 @@ returns-clause-asked g c =
     let self = c.args.self.now in
     let there = c.is_there-there in
     let none = none_stuck self.stuck (sym c.is_some.ensures ∙ c.if-is_some.false) in
-    rw c.counted.ensures.same (inr (none, subst (λ p. AsksOnce g.S.System.looks IsThere self.folder.path.now p self.desk.system there.new.self.system there.result) c.new-top.ensures there.ensures.asked))
+    rw c.count_failure.ensures.same (inr (none, subst (λ p. AsksOnce g.S.System.looks IsThere self.folder.path.now p self.desk.system there.new.self.system there.result) c.new-top.ensures there.ensures.asked))
 
 pub returns-clause-kept : goal.returns-clause-kept
 returns-clause-kept g c =
@@ -37,6 +37,6 @@ returns-clause-kept g c =
     let folder = self.folder.path.now in
     let last = there.new.self.last.failure in
     let none = none_stuck self.stuck (sym c.is_some.ensures ∙ c.if-is_some.false) in
-    rw c.counted.ensures.same
+    rw c.count_failure.ensures.same
     (kept_free there.result self.stuck _ _ none
     (subst (λ p. OnDevice there.result (KeepsCall folder p (λ e. g.S.System.looks self.desk.system (entry_text folder p) (Err e) there.new.self.system) last)) c.new-top.ensures there.ensures.kept))

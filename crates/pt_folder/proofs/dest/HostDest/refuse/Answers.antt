@@ -5,7 +5,7 @@ use Rattle.pt_folder.proofs.dest.HostDest.refuse.Goals as goal
 pub invariant_of-self : goal.invariant_of-self
 invariant_of-self g c =
     let self = c.args.self.now in
-    let risen : HasRisen self.failures c.counted.new.failures = c.counted.ensures.counted in
+    let risen : HasRisen self.failures c.count_failure.new.failures = c.count_failure.ensures.counted in
     record {
       placed = self.placed;
       wanted = self.wanted;
@@ -16,7 +16,7 @@ invariant_of-self g c =
 pub returns-clause-call : goal.returns-clause-call
 returns-clause-call g c = record {
   keeps = (refl, (refl, refl));
-  failures = rw c.counted.ensures.same c.counted.ensures.counted;
+  failures = rw c.count_failure.ensures.same c.count_failure.ensures.counted;
   stuck = refl;
   writing = refl;
   at = refl;

@@ -21,7 +21,7 @@ invariant_of-self g c =
       placed = λ free. append_placed kept folder g.S.System.writes g.met.S.System.write_law self.desk.system added.new.desk.system c.args.piece.now self.writing added.new.writing added.result added.ensures.writes (self.placed none);
       wanted = self.wanted;
       back = ∣ none_back (kept added.new.desk.system folder) self.stuck none ∣₁;
-      risen = none_risen c.counted.new.failures self.stuck none;
+      risen = none_risen c.count_failure.new.failures self.stuck none;
     }
 
 pub returns-clause-added : goal.returns-clause-added
@@ -31,7 +31,7 @@ returns-clause-added g c =
     let folder = self.folder.path.now in
     let none = none_stuck self.stuck (sym c.is_some.ensures ∙ c.if-is_some.false) in
     let added = c.add-added in
-    rw (c.counted.ensures.same, none) (at_ok added.result _ _ (append_tells kept folder g.S.System.writes g.met.S.System.write_law self.desk.system added.new.desk.system c.args.piece.now self.writing added.new.writing added.result added.ensures.writes (self.placed none)))
+    rw (c.count_failure.ensures.same, none) (at_ok added.result _ _ (append_tells kept folder g.S.System.writes g.met.S.System.write_law self.desk.system added.new.desk.system c.args.piece.now self.writing added.new.writing added.result added.ensures.writes (self.placed none)))
 
 pub returns-clause-part : goal.returns-clause-part
 returns-clause-part g c =
@@ -40,18 +40,18 @@ returns-clause-part g c =
     let folder = self.folder.path.now in
     let none = none_stuck self.stuck (sym c.is_some.ensures ∙ c.if-is_some.false) in
     let added = c.add-added in
-    rw (c.counted.ensures.same, none) (at_err added.result _ _ (append_tells kept folder g.S.System.writes g.met.S.System.write_law self.desk.system added.new.desk.system c.args.piece.now self.writing added.new.writing added.result added.ensures.writes (self.placed none)))
+    rw (c.count_failure.ensures.same, none) (at_err added.result _ _ (append_tells kept folder g.S.System.writes g.met.S.System.write_law self.desk.system added.new.desk.system c.args.piece.now self.writing added.new.writing added.result added.ensures.writes (self.placed none)))
 
 pub returns-clause-closed : goal.returns-clause-closed
-returns-clause-closed g c = rw c.counted.ensures.same c.add-added.ensures.closed
+returns-clause-closed g c = rw c.count_failure.ensures.same c.add-added.ensures.closed
 
 pub returns-clause-writes : goal.returns-clause-writes
 returns-clause-writes g c =
     let none = none_stuck c.args.self.now.stuck (sym c.is_some.ensures ∙ c.if-is_some.false) in
-    rw c.counted.ensures.same (inr (none, c.add-added.ensures.writes))
+    rw c.count_failure.ensures.same (inr (none, c.add-added.ensures.writes))
 
 pub returns-clause-kept : goal.returns-clause-kept
 returns-clause-kept g c =
     let self = c.args.self.now in
     let none = none_stuck self.stuck (sym c.is_some.ensures ∙ c.if-is_some.false) in
-    rw c.counted.ensures.same (kept_free c.add-added.result self.stuck _ _ none c.add-added.ensures.kept)
+    rw c.count_failure.ensures.same (kept_free c.add-added.result self.stuck _ _ none c.add-added.ensures.kept)

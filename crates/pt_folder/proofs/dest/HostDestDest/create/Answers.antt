@@ -16,7 +16,7 @@ invariant_of-self g c =
       placed = λ free. create_placed kept folder self.desk.system made.new.desk.system c.args.path.now self.writing made.new.writing made.result gives (self.placed none);
       wanted = self.wanted;
       back = ∣ none_back (kept made.new.desk.system folder) self.stuck none ∣₁;
-      risen = none_risen c.counted.new.failures self.stuck none;
+      risen = none_risen c.count_failure.new.failures self.stuck none;
     }
 
 pub returns-clause-made : goal.returns-clause-made
@@ -28,7 +28,7 @@ returns-clause-made g c =
     let made = c.create-made in
     let can = may_make_free (kept self.desk.system folder) self.stuck self.writing none c.args.path.now c.requires in
     let gives = create_gives kept folder self.desk.system made.new.desk.system c.args.path.now self.writing made.new.writing g.S.System.makes_file g.met.S.System.file_law self.longest made.result can made.ensures.asked made.ensures.same in
-    rw (c.counted.ensures.same, none) (create_made kept folder self.desk.system made.new.desk.system c.args.path.now self.writing made.new.writing made.result gives)
+    rw (c.count_failure.ensures.same, none) (create_made kept folder self.desk.system made.new.desk.system c.args.path.now self.writing made.new.writing made.result gives)
 
 pub returns-clause-same : goal.returns-clause-same
 returns-clause-same g c =
@@ -39,18 +39,18 @@ returns-clause-same g c =
     let made = c.create-made in
     let can = may_make_free (kept self.desk.system folder) self.stuck self.writing none c.args.path.now c.requires in
     let gives = create_gives kept folder self.desk.system made.new.desk.system c.args.path.now self.writing made.new.writing g.S.System.makes_file g.met.S.System.file_law self.longest made.result can made.ensures.asked made.ensures.same in
-    rw (c.counted.ensures.same, none) (create_same kept folder self.desk.system made.new.desk.system c.args.path.now self.writing made.new.writing made.result gives)
+    rw (c.count_failure.ensures.same, none) (create_same kept folder self.desk.system made.new.desk.system c.args.path.now self.writing made.new.writing made.result gives)
 
 pub returns-clause-opened : goal.returns-clause-opened
-returns-clause-opened g c = rw c.counted.ensures.same c.create-made.ensures.opened
+returns-clause-opened g c = rw c.count_failure.ensures.same c.create-made.ensures.opened
 
 pub returns-clause-asked : goal.returns-clause-asked
 returns-clause-asked g c =
     let none = none_stuck c.args.self.now.stuck (sym c.is_some.ensures ∙ c.if-is_some.false) in
-    rw c.counted.ensures.same (inr (none, c.create-made.ensures.asked))
+    rw c.count_failure.ensures.same (inr (none, c.create-made.ensures.asked))
 
 pub returns-clause-kept : goal.returns-clause-kept
 returns-clause-kept g c =
     let self = c.args.self.now in
     let none = none_stuck self.stuck (sym c.is_some.ensures ∙ c.if-is_some.false) in
-    rw c.counted.ensures.same (kept_free c.create-made.result self.stuck _ _ none c.create-made.ensures.kept)
+    rw c.count_failure.ensures.same (kept_free c.create-made.result self.stuck _ _ none c.create-made.ensures.kept)

@@ -12,10 +12,10 @@ invariant_of-self-clause-wanted g c =
 pub returns-clause-closed : goal.returns-clause-closed
 returns-clause-closed g c =
     let none = none_stuck c.args.self.now.stuck (sym c.is_some.ensures ∙ c.if-is_some.false) in
-    rw c.counted.ensures.same (inr (none, c.close-closed.ensures.closed))
+    rw c.count_failure.ensures.same (inr (none, c.close-closed.ensures.closed))
 
 pub returns-clause-kept : goal.returns-clause-kept
 returns-clause-kept g c =
     let self = c.args.self.now in
     let none = none_stuck self.stuck (sym c.is_some.ensures ∙ c.if-is_some.false) in
-    rw c.counted.ensures.same (kept_free c.close-closed.result self.stuck _ _ none c.close-closed.ensures.kept)
+    rw c.count_failure.ensures.same (kept_free c.close-closed.result self.stuck _ _ none c.close-closed.ensures.kept)

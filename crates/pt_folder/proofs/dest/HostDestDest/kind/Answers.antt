@@ -17,7 +17,7 @@ invariant_of-self g c =
       placed = λ free. subst (λ k. IsPlaced k self.writing) (sym same) (self.placed none);
       wanted = self.wanted;
       back = ∣ none_back (kept kind.new.self.system folder) self.stuck none ∣₁;
-      risen = none_risen c.counted.new.failures self.stuck none;
+      risen = none_risen c.count_failure.new.failures self.stuck none;
     }
 
 pub returns-clause-kind : goal.returns-clause-kind
@@ -26,7 +26,7 @@ returns-clause-kind g c =
     let kept = g.S.System.kept in
     let folder = self.folder.path.now in
     let none = none_stuck self.stuck (sym c.is_some.ensures ∙ c.if-is_some.false) in
-    rw (c.counted.ensures.same, none) (kind_tells kept folder g.S.System.looks g.met.S.System.kind_law self.desk.system c.kind_at-kind.new.self.system c.args.path.now c.kind_at-kind.result self.writing c.kind_at-kind.ensures.asked)
+    rw (c.count_failure.ensures.same, none) (kind_tells kept folder g.S.System.looks g.met.S.System.kind_law self.desk.system c.kind_at-kind.new.self.system c.args.path.now c.kind_at-kind.result self.writing c.kind_at-kind.ensures.asked)
 
 pub returns-clause-same : goal.returns-clause-same
 returns-clause-same g c =
@@ -39,10 +39,10 @@ returns-clause-same g c =
 pub returns-clause-asked : goal.returns-clause-asked
 returns-clause-asked g c =
     let none = none_stuck c.args.self.now.stuck (sym c.is_some.ensures ∙ c.if-is_some.false) in
-    rw c.counted.ensures.same (inr (none, c.kind_at-kind.ensures.asked))
+    rw c.count_failure.ensures.same (inr (none, c.kind_at-kind.ensures.asked))
 
 pub returns-clause-kept : goal.returns-clause-kept
 returns-clause-kept g c =
     let self = c.args.self.now in
     let none = none_stuck self.stuck (sym c.is_some.ensures ∙ c.if-is_some.false) in
-    rw c.counted.ensures.same (kept_free c.kind_at-kind.result self.stuck _ _ none c.kind_at-kind.ensures.kept)
+    rw c.count_failure.ensures.same (kept_free c.kind_at-kind.result self.stuck _ _ none c.kind_at-kind.ensures.kept)

@@ -16,7 +16,7 @@ invariant_of-self g c =
       placed = λ free. mkdir_placed kept folder self.writing self.desk.system made.new.self.system c.args.path.now made.result gives (self.placed none);
       wanted = self.wanted;
       back = ∣ none_back (kept made.new.self.system folder) self.stuck none ∣₁;
-      risen = none_risen c.counted.new.failures self.stuck none;
+      risen = none_risen c.count_failure.new.failures self.stuck none;
     }
 
 pub returns-clause-made : goal.returns-clause-made
@@ -28,7 +28,7 @@ returns-clause-made g c =
     let made = c.make_dir-made in
     let can = may_make_free (kept self.desk.system folder) self.stuck self.writing none c.args.path.now c.requires in
     let gives = mkdir_gives kept folder g.S.System.makes_dir g.met.S.System.dir_law self.desk.system made.new.self.system c.args.path.now self.longest made.result can made.ensures.asked in
-    rw (c.counted.ensures.same, none) (mkdir_made kept folder self.writing self.desk.system made.new.self.system c.args.path.now made.result gives)
+    rw (c.count_failure.ensures.same, none) (mkdir_made kept folder self.writing self.desk.system made.new.self.system c.args.path.now made.result gives)
 
 pub returns-clause-same : goal.returns-clause-same
 returns-clause-same g c =
@@ -39,15 +39,15 @@ returns-clause-same g c =
     let made = c.make_dir-made in
     let can = may_make_free (kept self.desk.system folder) self.stuck self.writing none c.args.path.now c.requires in
     let gives = mkdir_gives kept folder g.S.System.makes_dir g.met.S.System.dir_law self.desk.system made.new.self.system c.args.path.now self.longest made.result can made.ensures.asked in
-    rw (c.counted.ensures.same, none) (mkdir_same kept folder self.writing self.desk.system made.new.self.system c.args.path.now made.result gives)
+    rw (c.count_failure.ensures.same, none) (mkdir_same kept folder self.writing self.desk.system made.new.self.system c.args.path.now made.result gives)
 
 pub returns-clause-asked : goal.returns-clause-asked
 returns-clause-asked g c =
     let none = none_stuck c.args.self.now.stuck (sym c.is_some.ensures ∙ c.if-is_some.false) in
-    rw c.counted.ensures.same (inr (none, c.make_dir-made.ensures.asked))
+    rw c.count_failure.ensures.same (inr (none, c.make_dir-made.ensures.asked))
 
 pub returns-clause-kept : goal.returns-clause-kept
 returns-clause-kept g c =
     let self = c.args.self.now in
     let none = none_stuck self.stuck (sym c.is_some.ensures ∙ c.if-is_some.false) in
-    rw c.counted.ensures.same (kept_free c.make_dir-made.result self.stuck _ _ none c.make_dir-made.ensures.kept)
+    rw c.count_failure.ensures.same (kept_free c.make_dir-made.result self.stuck _ _ none c.make_dir-made.ensures.kept)

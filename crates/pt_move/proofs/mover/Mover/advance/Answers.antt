@@ -46,4 +46,4 @@ made_turn-requires g c = search rules
 
 -- at the limit nothing is called
 pub returns-then-self-turns-clause-calls : goal.returns-then-self-turns-clause-calls
-returns-then-self-turns-clause-calls g c = g.met.O.Outside.most _ _ _ _ _ _ (g.met.O.Outside.none _) (omega arith) (omega arith)
+returns-then-self-turns-clause-calls g c = g.met.O.Io.most _ _ _ _ _ _ (g.met.O.Io.none _) (omega arith) (omega arith)

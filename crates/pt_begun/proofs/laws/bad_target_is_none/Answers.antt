@@ -1,5 +1,0 @@
-use Rattle.pt_begun.proofs.refusals.BadTargets.{bad_target_is_none}
-use Rattle.pt_begun.proofs.laws.bad_target_is_none.Goals as goal
-
-pub returns : goal.returns
-returns c = bad_target_is_none

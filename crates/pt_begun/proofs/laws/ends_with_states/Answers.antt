@@ -1,5 +1,0 @@
-use Rattle.pt_begun.proofs.ends.EndStates.{ends_with_states}
-use Rattle.pt_begun.proofs.laws.ends_with_states.Goals as goal
-
-pub returns : goal.returns
-returns c = ends_with_states

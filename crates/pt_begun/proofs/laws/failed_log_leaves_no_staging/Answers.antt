@@ -1,5 +1,0 @@
-use Rattle.pt_begun.proofs.faults.LogHalts.{failed_log_leaves_no_staging}
-use Rattle.pt_begun.proofs.laws.failed_log_leaves_no_staging.Goals as goal
-
-pub returns : goal.returns
-returns c = failed_log_leaves_no_staging

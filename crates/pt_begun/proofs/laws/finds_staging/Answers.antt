@@ -1,5 +1,0 @@
-use Rattle.pt_begun.proofs.refusals.StagingFound.{finds_staging}
-use Rattle.pt_begun.proofs.laws.finds_staging.Goals as goal
-
-pub returns : goal.returns
-returns c = finds_staging

@@ -1,5 +1,0 @@
-use Rattle.pt_begun.proofs.refusals.TargetFound.{finds_target_of}
-use Rattle.pt_begun.proofs.laws.finds_target_of.Goals as goal
-
-pub returns : goal.returns
-returns c = finds_target_of

@@ -1,5 +1,0 @@
-use Rattle.pt_begun.proofs.ends.TurnEnds.{halts_leave}
-use Rattle.pt_begun.proofs.laws.halts_leave.Goals as goal
-
-pub returns : goal.returns
-returns c = halts_leave

@@ -1,5 +1,0 @@
-use Rattle.pt_begun.proofs.source.SourceKeeps.{makes_source}
-use Rattle.pt_begun.proofs.laws.making_keeps_source.Goals as goal
-
-pub returns : goal.returns
-returns c = makes_source

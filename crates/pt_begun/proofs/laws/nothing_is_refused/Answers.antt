@@ -1,5 +1,0 @@
-use Rattle.pt_begun.proofs.refusals.GoodStarts.{nothing_is_refused}
-use Rattle.pt_begun.proofs.laws.nothing_is_refused.Goals as goal
-
-pub returns : goal.returns
-returns c = nothing_is_refused

@@ -1,5 +1,0 @@
-use Rattle.pt_begun.proofs.dest.PlacesDest.{places_dest}
-use Rattle.pt_begun.proofs.laws.placing_keeps_dest.Goals as goal
-
-pub returns : goal.returns
-returns c = places_dest

@@ -1,5 +1,0 @@
-use Rattle.pt_begun.proofs.held.HeldKeeps.{places_hold}
-use Rattle.pt_begun.proofs.laws.placing_keeps_held.Goals as goal
-
-pub returns : goal.returns
-returns c = places_hold

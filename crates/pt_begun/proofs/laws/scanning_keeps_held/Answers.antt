@@ -1,5 +1,0 @@
-use Rattle.pt_begun.proofs.held.ScansHold.{scans_hold}
-use Rattle.pt_begun.proofs.laws.scanning_keeps_held.Goals as goal
-
-pub returns : goal.returns
-returns c = scans_hold

@@ -1,5 +1,0 @@
-use Rattle.pt_begun.proofs.dest.StartsDest.{starts_dest}
-use Rattle.pt_begun.proofs.laws.starting_keeps_dest.Goals as goal
-
-pub returns : goal.returns
-returns c = starts_dest

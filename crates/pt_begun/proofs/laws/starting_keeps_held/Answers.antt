@@ -1,5 +1,0 @@
-use Rattle.pt_begun.proofs.held.HeldKeeps.{starts_hold}
-use Rattle.pt_begun.proofs.laws.starting_keeps_held.Goals as goal
-
-pub returns : goal.returns
-returns c = starts_hold

@@ -1,5 +1,0 @@
-use Rattle.pt_begun.proofs.items.ItemsKeep.{starts_items}
-use Rattle.pt_begun.proofs.laws.starting_keeps_items.Goals as goal
-
-pub returns : goal.returns
-returns c = starts_items

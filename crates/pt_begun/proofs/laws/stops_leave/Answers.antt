@@ -1,5 +1,0 @@
-use Rattle.pt_begun.proofs.ends.TurnEnds.{stops_leave}
-use Rattle.pt_begun.proofs.laws.stops_leave.Goals as goal
-
-pub returns : goal.returns
-returns c = stops_leave

@@ -1,5 +1,0 @@
-use Rattle.pt_begun.proofs.bounds.TurnBound.{turn_is_within_bound}
-use Rattle.pt_begun.proofs.laws.turn_is_within_bound.Goals as goal
-
-pub returns : goal.returns
-returns c = turn_is_within_bound

@@ -1,5 +1,0 @@
-use Rattle.pt_begun.proofs.dest.DestKeeps.{walks_dest}
-use Rattle.pt_begun.proofs.laws.walking_keeps_dest.Goals as goal
-
-pub returns : goal.returns
-returns c = walks_dest

@@ -1,5 +1,0 @@
-use Rattle.pt_begun.proofs.held.HeldKeeps.{walks_hold}
-use Rattle.pt_begun.proofs.laws.walking_keeps_held.Goals as goal
-
-pub returns : goal.returns
-returns c = walks_hold

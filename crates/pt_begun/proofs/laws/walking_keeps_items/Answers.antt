@@ -1,5 +1,0 @@
-use Rattle.pt_begun.proofs.items.ItemsKeep.{walks_items}
-use Rattle.pt_begun.proofs.laws.walking_keeps_items.Goals as goal
-
-pub returns : goal.returns
-returns c = walks_items

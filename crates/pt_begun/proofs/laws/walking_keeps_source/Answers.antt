@@ -1,5 +1,0 @@
-use Rattle.pt_begun.proofs.source.SourceKeeps.{walks_source}
-use Rattle.pt_begun.proofs.laws.walking_keeps_source.Goals as goal
-
-pub returns : goal.returns
-returns c = walks_source

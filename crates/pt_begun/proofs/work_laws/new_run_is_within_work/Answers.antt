@@ -1,5 +1,0 @@
-use Rattle.pt_begun.proofs.turns_left.Within.{new_run_is_within_work}
-use Rattle.pt_begun.proofs.work_laws.new_run_is_within_work.Goals as goal
-
-pub returns : goal.returns
-returns c = new_run_is_within_work

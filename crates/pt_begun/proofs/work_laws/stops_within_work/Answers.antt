@@ -1,5 +1,0 @@
-use Rattle.pt_begun.proofs.turns_left.EndsWithin.{stops_within_work}
-use Rattle.pt_begun.proofs.work_laws.stops_within_work.Goals as goal
-
-pub returns : goal.returns
-returns c = stops_within_work

@@ -1,8 +1,0 @@
--- A system of which nothing was asked yet.
-use Rattle.std.specs.Prelude.{None}
-use Rattle.std.specs.Global.{Global}
-use Rattle.pt_folder.specs.declared.desk.Desk.{Desk}
-
--- nothing was asked, and no failure is kept
-abbrev pub new_desk : {S : Type 0} → S → Global → Desk S
-new_desk system alloc = record { system = system; last = record { alloc = alloc; failure = None } }

@@ -1,0 +1,26 @@
+-- A run over devices that were just made.
+use Rattle.std.proofs.Common.{◌≡◌, ℕ, Bool, List, Option, None}
+use Rattle.pt_folder.specs.DestHeld.{told_with as dest_told}
+use Rattle.pt_folder.specs.DestLaws.{Kept}
+use Rattle.pt_folder.specs.Reading.{unread_open}
+use Rattle.pt_folder.specs.SourceHeld.{told_of as source_told}
+use Rattle.pt_folder.specs.declared.reading.Reading.{Reading}
+use Rattle.pt_folder.specs.declared.unsynced_change.UnsyncedChange.{UnsyncedChange}
+use Rattle.pt_folder.specs.declared.writing.Writing.{Writing as Open}
+use Rattle.pt_tree.specs.Ignoring.{told_without}
+use Rattle.pt_host.specs.Machine.{HostIoWords}
+use Rattle.pt_host.specs.Made.{RunCall, RunsFrom, RunsOver, Start}
+use Rattle.pt_host.specs.declared.host.HostIo.{HostIo}
+use Rattle.pt_state.specs.Outside.{world}
+
+pub begun : {S D W E F : Type 0} (words : HostIoWords S D W (Kept F)) (bytes : E → Option (List ℕ)) (call : RunCall) (ground : HostIo S D W) (s : S) (s-at : List ℕ) (r : Option (Reading E)) (s-fails : ℕ) (d : D) (d-at : List ℕ) (synced : Bool) (stuck : Option UnsyncedChange) (w : Option (Open F)) (d-fails : ℕ) (o : W) (l-fails : ℕ)
+    → (s ≡ ground.store) × (s-at ≡ call.store) → (r ≡ None) × (s-fails ≡ 0) → (d ≡ ground.folder) × (d-at ≡ call.folder) → (w ≡ None) × (d-fails ≡ 0) → (synced ≡ call.options.sync) × (stuck ≡ None) → (o ≡ ground.output) × (l-fails ≡ 0)
+    → (after : HostIo S D W) (status : ℕ)
+    → RunsFrom words call.options (record {
+      at = record { store = s-at; folder = d-at; ignored = call.options.ignored; synced = synced };
+      world = world (told_without call.options.ignored (source_told (words.store s s-at) (unread_open bytes r))) (dest_told (words.folder d d-at) stuck w) (words.output o) s-fails d-fails l-fails;
+      kept = words.folder d d-at;
+    }) after status
+    → RunsOver words call ground after status
+begun words bytes call ground s s-at r s-fails d d-at synced stuck w d-fails o l-fails (s-is, s-at-is) (r-is, s-none) (d-is, d-at-is) (w-is, d-none) (synced-is, stuck-is) (o-is, l-none) after status run =
+    rw (s-is, s-at-is, r-is, s-none, d-is, d-at-is, stuck-is, w-is, d-none, synced-is, o-is, l-none) at run

@@ -1,0 +1,18 @@
+use Rattle.std.proofs.Common.{Err, Ok}
+use Rattle.pt_host.proofs.guarded_audit.audit_guarded.Goals as goal
+
+pub returns-in-Ok-Ok : goal.returns-in-Ok-Ok
+returns-in-Ok-Ok g c = (
+  Ok (Ok c.in-Ok-Ok.lock),
+  c.check_guard.new.host,
+  rw c.in-Ok-Ok.field-0-is at c.in-Ok-Ok.ensures,
+  (c.hold-status.new.host, c.hold-status.ensures, c.release.ensures),
+)
+
+pub returns-in-Ok-Err : goal.returns-in-Ok-Err
+returns-in-Ok-Err g c = (
+  Ok (Err c.in-Ok-Err.field-0-0),
+  c.check_guard.new.host,
+  rw c.in-Ok-Err.field-0-is at c.in-Ok-Err.ensures,
+  c.hold.ensures,
+)

@@ -1,0 +1,32 @@
+use Rattle.std.proofs.Common.{Ok, subst}
+use Rattle.pt_messages.specs.Expected.{AsksEnd}
+use Rattle.pt_host.proofs.Begun.{begun}
+use Rattle.pt_host.specs.Machine.{host_io_words}
+use Rattle.pt_host.specs.Made.{run_call}
+use Rattle.pt_host.proofs.guarded_run.carry.Goals as goal
+
+pub returns : goal.returns
+returns g c =
+    let made = c.open_devices-devices.ensures in
+    let words = host_io_words g.H.Store.System.forest g.H.Folder.System.kept g.H.Output.Write.contents in
+    let call = run_call c.args.options c.args.store.now c.args.folder.now in (
+      Ok c.in-Ok.file,
+      c.synced_output.new.host,
+      c.in-Ok.ensures,
+      (
+        subst (AsksEnd g.R.Reads.ends c.args.rt.now) c.expected.ensures c.lines_expected-expected.ensures,
+        c.lend-ground.result,
+        c.lend-ground.new.self,
+        c.lend-ground.ensures,
+        c.run-status.result.ground,
+        begun words g.H.Store.File.Input.bytes call c.lend-ground.result _ _ _ _ _ _ _ _ _ _ _ _
+            made.store made.unread made.folder made.unwritten made.synced made.log _ _ c.run-status.ensures.runs,
+        rw (made.log_synced, made.log.0) at (c.run-status.ensures.logged made.log.1),
+        (
+          c.open_devices-devices.result.dest,
+          record { over = made.folder; begun = (made.unwritten.0, made.synced.1); synced = made.synced.0; longest = made.longest },
+          c.run-status.ensures.served,
+        ),
+        c.take_back.ensures,
+      ),
+    )

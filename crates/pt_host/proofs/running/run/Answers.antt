@@ -1,0 +1,47 @@
+use Rattle.std.proofs.Common.{◌∙◌, ap, sym}
+use Rattle.pt_folder.specs.Reading.{unread_open}
+use Rattle.pt_host.proofs.Logged.{log_counts, logged}
+use Rattle.pt_host.proofs.Rehearsed.{leaves_at}
+use Rattle.pt_host.proofs.running.run.Goals as goal
+
+pub returns-clause-runs : goal.returns-clause-runs
+returns-clause-runs g c =
+    let source = c.run_or_rehearse-ran.new.source.source.source in
+    let dest = c.run_or_rehearse-ran.result.dest in
+    let made = c.run_or_rehearse-ran.ensures in (
+      unread_open g.S.File.Input.bytes source.reading,
+      dest.stuck,
+      dest.writing,
+      record { source = source.failures; dest = dest.failures; log = c.run_or_rehearse-ran.new.log.log.failures },
+      (
+        c.run_or_rehearse-ran.result.ran,
+        rw (
+          c.into_system.ensures,
+          c.into_system-2.ensures,
+          c.into_writer.ensures,
+          c.into_log.ensures,
+          c.into_source-source.ensures,
+          c.into_source-ignoring.ensures,
+          ← c.new-ignoring.ensures.source,
+          ← c.new-ignoring.ensures.names,
+          ← c.new-source.ensures,
+          ← c.new-log.ensures,
+        ) (rw (made.source.1, made.source.0, made.dest) at made.promises),
+        c.status_of-status.ensures,
+      ),
+      rw (c.into_system-2.ensures)
+          (leaves_at g.D.System.kept c.args.options.rehearse _ dest.desk.system (ap (λ f. f.path.now) made.dest) made.rehearsed),
+      λ s is. let stuck = made.stuck c.args.options.present_ok s is in (stuck.0, λ none. c.status_of-status.ensures ∙ stuck.1 none),
+    )
+
+pub returns-clause-served : goal.returns-clause-served
+returns-clause-served g c = (c.run_or_rehearse-ran.result.dest, c.run_or_rehearse-ran.ensures.served, sym c.into_system-2.ensures)
+
+pub returns-clause-logged : goal.returns-clause-logged
+returns-clause-logged g c =
+    let made = c.run_or_rehearse-ran.ensures in
+    let ran = c.run_or_rehearse-ran.result.ran in
+    let counts = log_counts c.args.options.job c.args.options.rehearse _ _ _ ran made.promises in
+    λ none. rw (c.into_writer.ensures, c.into_log.ensures, c.status_of-status.ensures, ← c.new-log.ensures)
+    (logged g.F.SyncsOutput.puts c.args.options.present_ok c.new-log.result.log c.run_or_rehearse-ran.new.log.log ran made.log counts
+    (ap (λ l. l.failures) c.new-log.ensures ∙ none))

@@ -1,0 +1,87 @@
+-- What an audit on a machine comes to.
+use Rattle.std.specs.Prelude.{◌≡◌, ◌+◌, ◌==◌, ℕ, Bool, true, false, if◌then◌else◌, IfErr, IfOk, List, None, OnOk, Option, Result, Ok, Err}
+use Rattle.std.specs.Option.{ForSome}
+use Rattle.pt_audit.specs.Auditing.{EndsAs}
+use Rattle.pt_audit.specs.Failing.{AuditSays}
+use Rattle.pt_audit.specs.Layout.{IsOfLayout}
+use Rattle.pt_audit.specs.declared.counts.Counts.{Counts}
+use Rattle.pt_compare.specs.Root.{tree_in}
+use Rattle.pt_folder.specs.SourceHeld.{told_of as source_told}
+use Rattle.pt_guard.specs.declared.places.Claim.TheVariants.{Shared}
+use Rattle.pt_tree.specs.Ignoring.{told_without}
+use Rattle.pt_plan.specs.declared.fault.Fault.{Fault}
+use Rattle.pt_host.specs.Machine.{AsksGuard, HostIoOf, HostIoWords, MachineWords}
+use Rattle.pt_host.specs.Made.{Guarded}
+use Rattle.pt_host.specs.declared.host.HostIo.{HostIo}
+use Rattle.pt_host.specs.declared.options.AuditOptions.{AuditOptions}
+use Rattle.pt_state.specs.States.{job_of}
+use Rattle.pt_audit.specs.Growing.{Grows}
+use Rattle.pt_tree.specs.Forest.{Forest}
+
+-- how many lines of an audit's log tell of what isn't the same: those of objects, and skip lines unless these are well
+abbrev pub others : Bool → Counts → ℕ
+others false counts = counts.absent + counts.differs + counts.skipped
+others true counts = counts.absent + counts.differs
+
+-- of an audit, whose skip lines are well or not: 0 where its log has no such line, 1 where it has, 3 after a fault
+abbrev pub audit_status : Bool → Result Counts Fault → ℕ
+audit_status skips_ok (Ok counts) = if others skips_ok counts == 0 then 0 else 1
+audit_status skips_ok (Err fault) = 3
+
+-- the tree that an audit sees of a store: the one that its system keeps, without the entries that are left out
+abbrev pub store_tree : List (List ℕ) → Option Forest → Option Forest
+store_tree ignored tree = tree_in (told_without ignored (source_told tree None))
+
+-- and the one of a root
+abbrev pub root_tree : Option Forest → Option Forest
+root_tree tree = tree_in (source_told tree None)
+
+-- an audit that is asked for: its options, and its two folders
+pub record AuditCall : Type 0 where
+  pub options : AuditOptions
+  pub store : List ℕ
+  pub folder : List ℕ
+
+-- the audit of these options, over these two folders
+abbrev pub audit_call : AuditOptions → List ℕ → List ℕ → AuditCall
+audit_call options store folder = record { options = options; store = store; folder = folder }
+
+-- the tree that an audit sees of its store, over what is lent
+abbrev pub store_seen : {S D W : Type 0} → HostIoWords S D W (Option Forest) → AuditCall → HostIo S D W
+    → Option Forest
+store_seen words call ground = store_tree call.options.ignored (words.store ground.store call.store)
+
+-- and the one of its root
+abbrev pub root_seen : {S D W : Type 0} → HostIoWords S D W (Option Forest) → AuditCall → HostIo S D W
+    → Option Forest
+root_seen words call ground = root_tree (words.folder ground.folder call.folder)
+
+-- an audit was made over these folders of the systems, with what `audit` of pt_audit promises of it: where it ended well the
+-- output got its log, of both trees as they stood, and the root is one that a run could go on with; and they stand
+pub record AuditsOver {S D W : Type 0} (words : HostIoWords S D W (Option Forest)) (call : AuditCall)
+    (old new : HostIo S D W) (status : ℕ) : Type 0 where
+  pub ran : Result Counts Fault
+  pub ends : IfOk ran (EndsAs (job_of call.options.job) (store_seen words call old)
+      (root_seen words call old) (words.output old.output) (words.output new.output))
+  pub layout : OnOk ran (ForSome (root_seen words call old) (IsOfLayout (job_of call.options.job)))
+  pub says : IfErr ran (AuditSays call.options.job (store_seen words call old)
+      (root_seen words call old))
+  pub store_stays : store_seen words call new ≡ store_seen words call old
+  pub root_stays : root_seen words call new ≡ root_seen words call old
+  pub grows : Grows (words.output old.output) (words.output new.output)
+  pub status_is : status ≡ audit_status call.options.skips_ok ran
+
+-- an audit once it may begin: it is asked what is expected of it, and made over what the machine lends, which is given back
+abbrev pub Compares : {H : Type 0} → MachineWords H → (Option (List ℕ) → Type 0)
+    → AuditCall → H → H → ℕ → Type 0
+Compares {H} words asks call old new status =
+    asks call.options.feedback.expected
+    × (ground : HostIoOf words) × (lent : H) × words.lends old ground lent × (after : HostIoOf words)
+    × AuditsOver words.read call ground after status × words.takes_back lent after new
+
+-- what `audit_guarded` does on a machine, by the words of that: the guard, with a lock that others may share, the audit that
+-- is asked for, and the lock
+abbrev pub Audits : {H : Type 0} → MachineWords H → (Option (List ℕ) → Type 0)
+    → AuditCall → H → H → ℕ → Type 0
+Audits words asks call =
+    Guarded (AsksGuard words Shared (call.store, call.folder)) (Compares words asks call) words.releases

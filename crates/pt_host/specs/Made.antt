@@ -1,0 +1,198 @@
+-- Which run was made, over what, and what it came to.
+use Rattle.std.specs.Prelude.{◌≡◌, ◌≢◌, ◌⊎◌, ⊤, ℕ, Bool, true, false, List, Option, Some, None, is_some, Result, Ok, Err}
+use Rattle.std.specs.IoError.{error_kind}
+use Rattle.std.specs.Option.{ForSome}
+use Rattle.std.specs.declared.io.Error.{Error}
+use Rattle.std.specs.declared.io.ErrorKind.TheVariants.{InvalidInput}
+use Rattle.pt_folder.specs.DestHeld.{told_with as dest_told}
+use Rattle.pt_folder.specs.DestLaws.{Kept}
+use Rattle.pt_folder.specs.SourceHeld.{told_of as source_told}
+use Rattle.pt_folder.specs.declared.unsynced_change.UnsyncedChange.{UnsyncedChange}
+use Rattle.pt_folder.specs.declared.writing.Writing.{Writing as Open}
+use Rattle.pt_tree.specs.Ignoring.{told_without}
+use Rattle.pt_guard.specs.declared.guard.GuardFault.{GuardFault}
+use Rattle.pt_guard.specs.declared.places.Claim.TheVariants.{Alone}
+use Rattle.pt_move.specs.Migrates.{Migrates}
+use Rattle.pt_plan.specs.declared.fault.Fault.{Fault}
+use Rattle.pt_plan.specs.DeviceStates.{Failures, DeviceStates}
+use Rattle.pt_state.specs.declared.job.Job.{Job}
+use Rattle.pt_state.specs.declared.job.Report.{Report}
+use Rattle.pt_tree.specs.Dest.{Writing}
+use Rattle.pt_host.specs.Durable.{IsLogged}
+use Rattle.pt_host.specs.Ends.{guard_status, run_status}
+use Rattle.pt_host.specs.Machine.{AsksGuard, HostIoOf, HostIoWords, MachineWords}
+use Rattle.pt_host.specs.declared.host.HostIo.{HostIo}
+use Rattle.pt_host.specs.declared.options.RunOptions.{RunOptions}
+
+-- the world of a rehearsal, whose destination tells this; that of a run is its own
+abbrev pub seen : Bool → Option Writing → DeviceStates → DeviceStates
+seen true plays world = record world { dest = plays }
+seen false plays world = world
+
+-- a run as it is wanted, or a rehearsal of it, was made from one world to another, with what `migrate` promises of
+-- it. The destination of a rehearsal tells at first what the folder told, with no file open, and at the end the tree
+-- that it plays, if the folder told one
+pub record IsRun (job : Job) (rehearse : Bool) (was : Option Writing) (old new : DeviceStates)
+    (ran : Result Report Fault) : Type 0 where
+  pub plays : Option Writing
+  pub tells : is_some plays ≡ is_some was
+  pub promises : Migrates job (seen rehearse was old) (seen rehearse plays new) ran
+
+-- and this is its status
+abbrev pub IsMade : RunOptions → Option Writing → DeviceStates → DeviceStates → ℕ → Type 0
+IsMade options was old new status =
+    (ran : Result Report Fault) × IsRun options.job options.rehearse was old new ran
+    × (status ≡ run_status options.present_ok ran)
+
+-- the paths of a run's two folders, the names of the entries that are left out of the store, and whether files are
+-- put onto the disk
+pub record Between : Type 0 where
+  pub store : List ℕ
+  pub folder : List ℕ
+  pub ignored : List (List ℕ)
+  pub synced : Bool
+
+-- what the devices of a run tell: over the trees that the systems keep at these folders, with this open for reading,
+-- and this stuck and open for writing, and what the output holds
+abbrev pub world_of : {S D W F : Type 0} → HostIoWords S D W (Kept F) → Between → HostIo S D W
+    → Option (List ℕ) → Option UnsyncedChange → Option (Open F) → Failures → DeviceStates
+world_of words at ground reading stuck writing failures = record {
+  source = told_without at.ignored (source_told (words.store ground.store at.store) reading);
+  dest = dest_told (words.folder ground.folder at.folder) stuck writing;
+  log = words.output ground.output;
+  failures = failures;
+}
+
+-- a rehearsal leaves all that the system keeps of the folder
+abbrev pub LeavesKept : {F : Type 0} → Bool → Kept F → Kept F → Type 0
+LeavesKept true old new = new ≡ old
+LeavesKept false old new = ⊤
+
+-- something is stuck only where files are put onto the disk, and, if nothing had failed before, after a fault
+abbrev pub IsStuckBy : Bool → ℕ → ℕ → Option UnsyncedChange → Type 0
+IsStuckBy synced failures status stuck =
+    ForSome stuck (λ _. (synced ≡ true) × (failures ≡ 0 → status ≡ 3))
+
+-- where a run starts: between which folders, from which world, and what the system keeps of the destination's
+pub record Start (F : Type 0) : Type 0 where
+  pub at : Between
+  pub world : DeviceStates
+  pub kept : Kept F
+
+-- a run was made from this start to what its devices then tell over these systems and this output, with this status and
+-- this stuck; a rehearsal left of the folder what the system kept
+abbrev pub RunsFrom : {S D W F : Type 0} → HostIoWords S D W (Kept F) → RunOptions → Start F
+    → HostIo S D W → ℕ → Type 0
+RunsFrom {S} {D} {W} {F} words options start ground status =
+    (reading : Option (List ℕ)) × (stuck : Option UnsyncedChange) × (writing : Option (Open F))
+    × (failures : Failures) × IsMade options (dest_told start.kept None None) start.world
+    (world_of words start.at ground reading stuck writing failures) status
+    × LeavesKept options.rehearse start.kept (words.folder ground.folder start.at.folder)
+    × IsStuckBy start.at.synced start.world.failures.dest status stuck
+
+-- no device failed yet
+abbrev pub none_failed : Failures
+none_failed = record { source = 0; dest = 0; log = 0 }
+
+-- a run that is asked for: its options, and its two folders
+pub record RunCall : Type 0 where
+  pub options : RunOptions
+  pub store : List ℕ
+  pub folder : List ℕ
+
+-- the run of these options, between these two folders
+abbrev pub run_call : RunOptions → List ℕ → List ℕ → RunCall
+run_call options store folder = record { options = options; store = store; folder = folder }
+
+-- the two folders of a run
+abbrev pub between : RunCall → Between
+between call = record {
+  store = call.store;
+  folder = call.folder;
+  ignored = call.options.ignored;
+  synced = call.options.sync;
+}
+
+-- its start over what is lent, with no file open
+abbrev pub start_of : {S D W F : Type 0} → HostIoWords S D W (Kept F) → RunCall → HostIo S D W → Start F
+start_of words call ground = record {
+  at = between call;
+  world = world_of words (between call) ground None None None none_failed;
+  kept = words.folder ground.folder call.folder;
+}
+
+-- a run was made over these folders of the systems, with no file open, and left the systems and the output so
+abbrev pub RunsOver : {S D W F : Type 0} → HostIoWords S D W (Kept F) → RunCall → HostIo S D W
+    → HostIo S D W → ℕ → Type 0
+RunsOver words call old = RunsFrom words call.options (start_of words call old)
+
+-- ---- the log's file
+
+-- what was found is put onto its disk once, before the run: where that isn't possible there it is left, and another
+-- failure is told
+abbrev pub IsSynced : {F : Type 0} → F → Result (Unit {0}) Error → Result (Option F) Error → Type 0
+IsSynced after (Ok done) answer = answer ≡ Ok (Some after)
+IsSynced after (Err error) answer =
+    ((error_kind error ≡ InvalidInput) × (answer ≡ Ok None))
+    ⊎ ((error_kind error ≢ InvalidInput) × (answer ≡ Err error))
+
+-- nothing is put onto a disk where the output goes to no file, or to one that can't be opened
+abbrev pub IsTried : {F : Type 0} → (F → Result (Unit {0}) Error → F → Type 0)
+    → Result (Option F) Error → Result (Option F) Error → Type 0
+IsTried syncs (Err error) answer = answer ≡ Ok None
+IsTried syncs (Ok None) answer = answer ≡ Ok None
+IsTried {F} syncs (Ok (Some file)) answer = (reply : Result (Unit {0}) Error) × (after : F)
+    × syncs file reply after × IsSynced after reply answer
+
+-- where the log is to be synced its file is asked for, and tried; else nothing is asked
+abbrev pub FindsLog : {H : Type 0} (words : MachineWords H) → Bool → H → H
+    → Result (Option words.OutputFile) Error → Type 0
+FindsLog words false old new answer = (answer ≡ Ok None) × (new ≡ old)
+FindsLog words true old new answer = (found : Result (Option words.OutputFile) Error)
+    × words.finds old found new × IsTried words.syncs found answer
+
+-- ---- the run, on a machine
+
+-- a run over what the machine lends, before which it is asked what is expected of it; that is given back as the run left it,
+-- its log put onto the disk by this file, and of the destination's system what serving it left; none is made where the
+-- log can't be put onto its disk, which is a fault
+abbrev pub GoesOver : {H : Type 0} (words : MachineWords H) → (Option (List ℕ) → Type 0)
+    → RunCall → Result (Option words.OutputFile) Error → H → H → ℕ → Type 0
+GoesOver words asks call (Err error) mid new status = (status ≡ 3) × (new ≡ mid)
+GoesOver {H} words asks call (Ok file) mid new status =
+    asks call.options.feedback.expected
+    × (ground : HostIoOf words) × (lent : H) × words.lends mid ground lent × (after : HostIoOf words)
+    × RunsOver words.written call ground after status
+    × IsLogged words.puts file ground.output after.output status
+    × words.serves call.options call.folder ground.folder after.folder × words.takes_back lent after new
+
+-- a run once it may begin: the log's file, if that is to be synced, and then the run
+abbrev pub Carries : {H : Type 0} → MachineWords H → (Option (List ℕ) → Type 0)
+    → RunCall → H → H → ℕ → Type 0
+Carries {H} words asks call old new status = (file : Result (Option words.OutputFile) Error) × (mid : H)
+    × FindsLog words call.options.sync old mid file × GoesOver words asks call file mid new status
+
+-- ---- the guard, the lock and the run
+
+-- where a run may not begin, that is its status, and nothing is done; else it is made, and then the lock is given
+-- back, if there is one
+abbrev pub GoesOn : {H L : Type 0} → (H → H → ℕ → Type 0) → (H → L → H → Type 0)
+    → Result (Result L Error) GuardFault → H → H → ℕ → Type 0
+GoesOn carries releases (Err fault) mid new status = (status ≡ guard_status fault) × (new ≡ mid)
+GoesOn carries releases (Ok (Err error)) mid new status = carries mid new status
+GoesOn {H} carries releases (Ok (Ok lock)) mid new status = (after : H) × carries mid after status
+    × releases after lock new
+
+-- the guard is asked, and then it goes on by its answer
+abbrev pub Guarded : {H L : Type 0} → (H → H → Result (Result L Error) GuardFault → Type 0)
+    → (H → H → ℕ → Type 0) → (H → L → H → Type 0) → H → H → ℕ → Type 0
+Guarded {H} {L} begins carries releases old new status =
+    (answer : Result (Result L Error) GuardFault) × (mid : H) × begins old mid answer
+    × GoesOn carries releases answer mid new status
+
+-- what `run_guarded` does on a machine, by the words of that: the guard, with the lock for it alone, the run that is asked
+-- for, and the lock
+abbrev pub Runs : {H : Type 0} → MachineWords H → (Option (List ℕ) → Type 0)
+    → RunCall → H → H → ℕ → Type 0
+Runs words asks call =
+    Guarded (AsksGuard words Alone (call.store, call.folder)) (Carries words asks call) words.releases

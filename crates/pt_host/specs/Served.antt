@@ -1,0 +1,38 @@
+-- What a run asks of its destination.
+use Rattle.std.specs.Prelude.{◌≡◌, ◌+◌, ⊤, ℕ, Bool, true, false, List, None}
+use Rattle.pt_folder.specs.Steps.{Steps}
+use Rattle.pt_folder.specs.declared.dest.HostDest.{HostDest}
+use Rattle.pt_folder.specs.declared.system.Handle.{Ghosts as OfHandle}
+use Rattle.pt_folder.specs.declared.system.Input.{Ghosts as OfInput}
+use Rattle.pt_folder.specs.declared.system.System.{Ghosts as OfSystem}
+use Rattle.pt_host.specs.Room.{place_overhead}
+use Rattle.pt_host.specs.declared.options.RunOptions.{RunOptions}
+
+module _ {S F D : Type 0} {sys : OfSystem S F D} {handle : OfHandle F} {file : OfInput F}
+    {dir : OfInput D} where
+  -- calls lead from one destination to another, each as it is set; of a rehearsal, which makes nothing there, that isn't said
+  abbrev pub IsServed : Bool → (old new : HostDest S F D sys handle file dir) → Type 0
+  IsServed true old new = ⊤
+  IsServed false old new = Steps old new
+
+  -- the same to one over this system
+  abbrev pub ServesTo : Bool → HostDest S F D sys handle file dir → S → Type 0
+  ServesTo rehearse old system =
+      (new : HostDest S F D sys handle file dir) × IsServed rehearse old new × (new.desk.system ≡ system)
+
+  -- a destination over this folder of a system, of which nothing was asked, set as its options say: whether files are put onto
+  -- the disk, and the greatest length of a path, which leaves room at the longest place
+  pub record IsSetUp (options : RunOptions) (folder : List ℕ) (system : S)
+      (dest : HostDest S F D sys handle file dir) : Type 0 where
+    pub over : (dest.desk.system ≡ system) × (dest.folder.path.now ≡ folder)
+    pub begun : (dest.writing ≡ None) × (dest.stuck ≡ None)
+    pub synced : dest.synced ≡ options.sync
+    pub longest : dest.longest + place_overhead options.job.layout ≡ 4095
+
+-- what a run leaves of the destination's system, by the words of that: what calls leave of a destination that is set as the options say
+abbrev pub Serves : {S F D : Type 0} (sys : OfSystem S F D) → OfHandle F → OfInput F → OfInput D
+    → RunOptions
+    → List ℕ → S → S → Type 0
+Serves {S} {F} {D} sys handle file dir options folder old new =
+    (dest : HostDest S F D sys handle file dir) × IsSetUp options folder old dest
+    × ServesTo options.rehearse dest new

@@ -1,0 +1,84 @@
+//! The devices of a run and of an audit, as they are asked for.
+ghost use Rattle.std.specs.Prelude.{◌≡◌, ◌+◌, None};
+ghost use Rattle.pt_host.specs.Devices.{ReadsFrom, WritesInto};
+ghost use Rattle.pt_host.specs.Room.{place_overhead};
+
+use crate::RunOptions;
+use crate::host::HostIo;
+use crate::log::{DurableLog, SyncsOutput};
+use crate::room::longest_made;
+use pt_folder::{HostDest, HostSource, System};
+use pt_tree::{Ignored, Ignoring};
+use std::alloc::Global;
+use std::io::Write;
+
+/// The source, the destination and the log of a run.
+#[derive(Drop)]
+pub(crate) struct Devices<'a, S: System, D: System, W: Write, F: SyncsOutput<W> + Drop> {
+    /// The folder of the store.
+    pub source: HostSource<'a, S>,
+    /// The folder of the destination.
+    pub dest: HostDest<'a, D>,
+    /// The log, whose lines are put onto the disk where that is asked.
+    pub log: DurableLog<W, F>,
+}
+
+/// The devices of a run over these, from a store to a folder. Paths for which there is no room at the longest place are refused; and files
+/// are put onto the disk where the options say so, as the log is where its file is given.
+pub(crate) fn open_devices<'a, S: System, D: System, W: Write, F: SyncsOutput<W> + Drop>(
+    alloc: Global,
+    ground: HostIo<S, D, W>,
+    file: Option<F>,
+    options: &RunOptions,
+    store: &'a str,
+    folder: &'a str,
+) -> Devices<'a, S, D, W, F>
+    ensures store { ReadsFrom result.source ground.store store.now }
+    ensures unread { (result.source.reading ≡ None) × (result.source.failures ≡ 0) }
+    ensures folder { WritesInto result.dest ground.folder folder.now }
+    ensures unwritten { (result.dest.writing ≡ None) × (result.dest.failures ≡ 0) }
+    ensures longest { result.dest.longest + place_overhead options.now.job.layout ≡ 4095 }
+    ensures synced { (result.dest.synced ≡ options.now.sync) × (result.dest.stuck ≡ None) }
+    ensures log { (result.log.writer ≡ ground.output) × (result.log.failures ≡ 0) }
+    ensures log_synced { result.log.file ≡ file }
+{
+    Devices {
+        source: HostSource::new(ground.store, alloc, store),
+        dest: HostDest::new(ground.folder, alloc, folder)
+            .with_longest(longest_made(&options.job.layout))
+            .with_sync(options.sync),
+        log: DurableLog::new(ground.output, file),
+    }
+}
+
+/// The two sides of an audit, and its log.
+#[derive(Drop)]
+pub(crate) struct Sides<'a, S: System, D: System, W: Write, F: SyncsOutput<W> + Drop> {
+    /// The folder of the store, without the entries that are left out.
+    pub source: Ignoring<HostSource<'a, S>>,
+    /// The folder of the root, which is only read.
+    pub root: HostSource<'a, D>,
+    /// The log, whose lines are put onto the disk where that is asked.
+    pub log: DurableLog<W, F>,
+}
+
+/// The sides of an audit over these, of a store and of the root in a folder. The entries of the store that have these names are left out.
+pub(crate) fn both_sides<'a, S: System, D: System, W: Write, F: SyncsOutput<W> + Drop>(
+    alloc: Global,
+    ground: HostIo<S, D, W>,
+    file: Option<F>,
+    ignored: Ignored,
+    store: &'a str,
+    folder: &'a str,
+) -> Sides<'a, S, D, W, F>
+    ensures store { ReadsFrom result.source.source ground.store store.now }
+    ensures left_out { result.source.names ≡ ignored }
+    ensures folder { ReadsFrom result.root ground.folder folder.now }
+    ensures log { result.log.writer ≡ ground.output }
+{
+    Sides {
+        source: Ignoring::new(HostSource::new(ground.store, alloc, store), ignored),
+        root: HostSource::new(ground.folder, alloc, folder),
+        log: DurableLog::new(ground.output, file),
+    }
+}

@@ -1,0 +1,158 @@
+//! An audit of the root in a folder against a store, on a machine.
+ghost use Rattle.std.specs.Prelude.{◌≡◌};
+ghost use Rattle.pt_messages.specs.Expected.{AsksEnd};
+ghost use Rattle.pt_host.specs.Audits.{Audits, AuditsOver, Compares, audit_call, audit_status};
+ghost use Rattle.pt_host.specs.Machine.{host_io_words};
+
+use crate::beginning::check_guard;
+use crate::devices::{Sides, both_sides};
+use crate::log::SyncsOutput;
+use crate::running::Ended;
+use crate::saying::{end_with_refusal, tell_fault};
+use crate::status::{DONE, FAILED, INCOMPLETE};
+use crate::{AuditOptions, Host, HostIo, Machine};
+use pt_audit::Counts;
+use pt_folder::{HostSource, System};
+use pt_guard::Claim;
+use pt_messages::{Counted, Reads, Tally, Terminals, Watched, Words, lines_expected, reason};
+use pt_move::Fault;
+use std::alloc::AllocGlobal;
+use std::io::Write;
+use std::rt::Clock;
+
+/// Holds the root in a destination against a store on a machine, and gives the exit status: 0 each object stands as a run makes
+/// it; 1 the log has lines that tell of others; 2 the folders lie in one another, or it isn't known where, or the destination is a
+/// storage root itself; 3 a fault, or a run holds the destination. Standard error tells of 2 and 3.
+///
+/// The guard is asked first, and for a lock that other audits may share. Where the audit may begin it is made over what the machine
+/// lends, which is given back then; and at last the lock is given back. Where it ends well the output has got its log, of both folders as their systems keep them.
+/// Nothing is made or changed in either folder.
+///
+/// Skip lines count as others, unless the options say that they are well. The log that is expected to be as long may be one of a
+/// rehearsal, a run or an audit.
+pub fn audit_guarded<R, H: Host>(
+    rt: &R,
+    host: &mut H,
+    options: AuditOptions,
+    source: &str,
+    dest: &str,
+) -> u8
+where
+    R: Reads + Clock + Eprint + AllocGlobal + Terminals,
+    ensures { Audits ⟦<H as Machine>⟧.words (AsksEnd R.ends rt.now)
+        (audit_call options source.now dest.now) host.old host.new result }
+{
+    match check_guard(
+        rt,
+        host,
+        options.feedback.verbose,
+        Claim::Shared,
+        source,
+        dest,
+    ) {
+        Ok(Ok(lock)) => {
+            let status = hold(rt, host, options, source, dest);
+            host.release(lock);
+            status
+        }
+        Ok(Err(_)) => hold(rt, host, options, source, dest),
+        Err(fault) => end_with_refusal(rt, fault),
+    }
+}
+
+// Holds the root against the store over what the machine lends.
+fn hold<R, H: Host>(rt: &R, host: &mut H, options: AuditOptions, store: &str, folder: &str) -> u8
+where
+    R: Reads + Clock + Eprint + AllocGlobal + Terminals,
+    ensures { Compares ⟦<H as Machine>⟧.words (AsksEnd R.ends rt.now)
+        (audit_call options store.now folder.now) host.old host.new result }
+{
+    let expected = lines_expected(rt, options.feedback.expected());
+    let ground = host.lend();
+    let file: Option<H::File> = None;
+    let Ended { status, ground } = compare(rt, ground, file, options, expected, store, folder);
+    host.take_back(ground);
+    status
+}
+
+// Holds the root in a folder against a store, watched as that is wanted, and tells standard error of a fault.
+fn compare<R, S: System, D: System, W: Write, F: SyncsOutput<W> + Drop>(
+    rt: &R,
+    ground: HostIo<S, D, W>,
+    file: Option<F>,
+    options: AuditOptions,
+    expected: Option<u64>,
+    store: &str,
+    folder: &str,
+) -> Ended<S, D, W>
+where
+    R: Reads + Clock + Eprint + AllocGlobal + Terminals,
+    ensures { AuditsOver (host_io_words S.forest D.forest W.contents)
+        (audit_call options store.now folder.now) ground result.ground result.status }
+{
+    let alloc = rt.alloc();
+    let tally = Tally::new();
+    let verbose = options.feedback.verbose;
+    let watching = options.feedback.watching(Words::Audit, expected);
+    let ignores = !options.ignored.names().is_empty();
+    let Sides {
+        source,
+        mut root,
+        log,
+    } = both_sides(alloc, ground, file, options.ignored, store, folder);
+    let mut source = Watched::new(source, rt, alloc, &tally, watching);
+    let mut log = Counted::new(log, source.sums());
+    let ran = pt_audit::audit(alloc, &mut source, &mut root, &mut log, options.job, &tally);
+    source.end(log.counts_if(ran.is_ok()));
+    let ignoring = source.into_source();
+    reason::tell_left_out(rt, verbose & ignores, ignoring.left_out());
+    let source = ignoring.into_source();
+    report_outcome(rt, &ran, verbose, &source, &root, store);
+    let status = status_of(&ran, options.skips_ok);
+    let ground = HostIo {
+        store: source.into_system(),
+        folder: root.into_system(),
+        output: log.into_log().into_writer(),
+    };
+    Ended { status, ground }
+}
+
+// Says what an audit came to, if a fault ended it, and why, if that is asked for.
+fn report_outcome<R: Reads + Eprint + AllocGlobal, S: System, D: System>(
+    rt: &R,
+    ran: &Result<Counts, Fault>,
+    verbose: bool,
+    source: &HostSource<'_, S>,
+    root: &HostSource<'_, D>,
+    store: &str,
+) {
+    if let Err(fault) = ran {
+        tell_audit_fault(rt, fault);
+        if verbose {
+            reason::tell_audit(rt, fault, source, root, store);
+        }
+    }
+}
+
+// Says which fault ended an audit, by which a destination is only read.
+fn tell_audit_fault(rt: &impl Eprint, fault: &Fault) {
+    match fault {
+        Fault::Dest => {
+            let number = fault.number();
+            let _ = eprintln!(rt; "pairtree2ocfl: fault {number}: cannot read the destination");
+        }
+        _ => tell_fault(rt, fault),
+    }
+}
+
+// The exit status of an audit, whose skip lines are well or not.
+fn status_of(ran: &Result<Counts, Fault>, skips_ok: bool) -> u8
+    ensures { result ≡ audit_status skips_ok ran.now }
+{
+    match ran {
+        Ok(counts) if counts.absent > 0 || counts.differs > 0 => INCOMPLETE,
+        Ok(counts) if counts.skipped > 0 && !skips_ok => INCOMPLETE,
+        Ok(_) => DONE,
+        Err(_) => FAILED,
+    }
+}

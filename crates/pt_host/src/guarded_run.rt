@@ -1,0 +1,102 @@
+//! A run from one folder to another, on a machine.
+ghost use Rattle.pt_messages.specs.Expected.{AsksEnd};
+ghost use Rattle.pt_host.specs.Made.{Carries, FindsLog, Runs, run_call};
+
+use crate::beginning::check_guard;
+use crate::devices::open_devices;
+use crate::log::Syncs;
+use crate::running::{Ended, run};
+use crate::saying::{end_with_fault, end_with_refusal};
+use crate::{Host, Machine, RunOptions};
+use pt_guard::Claim;
+use pt_messages::{Reads, Terminals, lines_expected, reason};
+use pt_move::Fault;
+use std::alloc::AllocGlobal;
+use std::io;
+use std::io::ErrorKind;
+use std::rt::Clock;
+
+/// Carries a store into a destination on a machine, or rehearses that, and gives the exit status: 0 all was carried; 1 the log has lines
+/// that tell of what was not; 2 the folders lie in one another, or it isn't known where, or the destination is a storage root
+/// itself; 3 a fault, or another run or an audit holds the destination. Standard error tells of 2 and 3.
+///
+/// The guard is asked first, and the lock for this run alone. Where the run may begin, the log that is expected to be as long
+/// is looked at, if one is named, and the run is made over what the machine lends, which is given back then; and at last the lock
+/// is given back.
+pub fn run_guarded<R, H: Host>(
+    rt: &R,
+    host: &mut H,
+    options: RunOptions,
+    source: &str,
+    dest: &str,
+) -> u8
+where
+    R: Reads + Clock + Eprint + AllocGlobal + Terminals,
+    ensures { Runs ⟦<H as Machine>⟧.words (AsksEnd R.ends rt.now)
+        (run_call options source.now dest.now) host.old host.new result }
+{
+    match check_guard(
+        rt,
+        host,
+        options.feedback.verbose,
+        Claim::Alone,
+        source,
+        dest,
+    ) {
+        Ok(Ok(lock)) => {
+            let status = carry(rt, host, options, source, dest);
+            host.release(lock);
+            status
+        }
+        Ok(Err(_)) => carry(rt, host, options, source, dest),
+        Err(fault) => end_with_refusal(rt, fault),
+    }
+}
+
+// Carries a store from folder to folder, or rehearses that, over what the machine lends.
+fn carry<R, H: Host>(rt: &R, host: &mut H, options: RunOptions, store: &str, folder: &str) -> u8
+where
+    R: Reads + Clock + Eprint + AllocGlobal + Terminals,
+    ensures { Carries ⟦<H as Machine>⟧.words (AsksEnd R.ends rt.now)
+        (run_call options store.now folder.now) host.old host.new result }
+{
+    let file = match synced_output(rt, host, options.sync) {
+        Ok(file) => file,
+        Err(_) => return end_with_fault(rt, &Fault::Log),
+    };
+    let expected = lines_expected(rt, options.feedback.expected());
+    let ground = host.lend();
+    let devices = open_devices(rt.alloc(), ground, file, &options, store, folder);
+    let Ended { status, ground } = run(rt, devices, options, expected, store);
+    host.take_back(ground);
+    status
+}
+
+// The file that the machine's output goes to, where there is one and it is to be put onto its disk. Where that can't be had it is told; an
+// error where it fails.
+fn synced_output<R: Eprint, H: Host>(
+    rt: &R,
+    host: &mut H,
+    sync: bool,
+) -> io::Result<Option<H::File>>
+    ensures { FindsLog ⟦<H as Machine>⟧.words sync host.old host.new result }
+{
+    if !sync {
+        return Ok(None);
+    }
+    match host.output_file() {
+        Ok(None) => Ok(None),
+        Ok(Some(mut file)) => match file.sync() {
+            Ok(()) => Ok(Some(file)),
+            Err(error) if error.kind() == ErrorKind::InvalidInput => {
+                reason::tell_unsynced(rt, &error);
+                Ok(None)
+            }
+            Err(error) => Err(error),
+        },
+        Err(error) => {
+            reason::tell_unsynced(rt, &error);
+            Ok(None)
+        }
+    }
+}

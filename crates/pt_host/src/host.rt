@@ -1,0 +1,122 @@
+//! The machine that a run is made on. Each call has a ghost word of what it may answer and leave, so that a contract over them says
+//! which calls are made, in which order, and what becomes of their answers.
+ghost use Rattle.std.specs.Prelude.{⊤, Option};
+ghost use Rattle.std.specs.declared.io.Error.{Error};
+ghost use Rattle.std.specs.declared.result.Result.{Result};
+ghost use Rattle.pt_host.specs.declared.host.HostIo.{HostIo};
+
+use crate::log::{Syncs, SyncsOutput};
+use pt_folder::System;
+use pt_guard::{Lockable, Places};
+use pt_messages::Terminals;
+use std::alloc::AllocGlobal;
+use std::fs::{OpenFile, OpenOptions};
+use std::io;
+use std::io::{Printer, Write};
+use std::rt::Files;
+
+// Where the system shows a program its own standard output.
+const OUTPUT: &str = "/dev/stdout";
+
+/// What a run is made over: the system that keeps the store, the one that keeps the destination, and what takes the log.
+#[derive(Drop)]
+pub struct HostIo<S, D, W> {
+    /// The system that keeps the store.
+    pub store: S,
+    /// The system that keeps the destination.
+    pub folder: D,
+    /// What takes the log.
+    pub output: W,
+}
+
+/// A machine that runs are made on.
+pub trait Host: Places {
+    type Store: System;
+
+    type Folder: System;
+
+    type Output: Write;
+
+    type File: SyncsOutput<Self::Output> + Drop;
+
+    /// The file that its output goes to may be this.
+    ghost finds: { Self → Result (Option Self.File) Error → Self → Type 0 };
+
+    /// It may lend this, and be left so.
+    ghost lends: { Self → HostIo Self.Store Self.Folder Self.Output → Self → Type 0 };
+
+    /// Taking this back may leave it so.
+    ghost takes_back: { Self → HostIo Self.Store Self.Folder Self.Output → Self → Type 0 };
+
+    /// The file that its output goes to, opened once more; nothing where it goes to what isn't a file, as a terminal or a pipe.
+    fn output_file(&mut self) -> io::Result<Option<Self::File>>
+        ensures { finds self.old result self.new };
+
+    /// Lends what a run is made over.
+    fn lend(&mut self) -> HostIo<Self::Store, Self::Folder, Self::Output>
+        ensures { lends self.old result self.new };
+
+    /// Takes back what it lent.
+    fn take_back(&mut self, ground: HostIo<Self::Store, Self::Folder, Self::Output>)
+        ensures { takes_back self.old ground self.new };
+}
+
+/// A file that standard output goes to, opened once more. Having one opening of a file put onto its disk does that for what was written
+/// through any other.
+#[derive(Drop)]
+pub struct OutputFile<F>(pub F);
+
+impl<F: OpenFile> Syncs for OutputFile<F> {
+    ghost syncs = { λ _ _ _. ⊤ };
+
+    fn sync(&mut self) -> io::Result<()> {
+        self.0.sync_all()
+    }
+}
+
+impl<'a, R: Files + Print + Terminals + AllocGlobal> Host for &'a R
+where
+    R::File: Lockable,
+{
+    type Store = &'a R;
+
+    type Folder = &'a R;
+
+    type Output = Printer<'a, R>;
+
+    type File = OutputFile<R::File>;
+
+    ghost finds = { λ _ _ _. ⊤ };
+
+    ghost lends = { λ _ _ _. ⊤ };
+
+    ghost takes_back = { λ _ _ _. ⊤ };
+
+    fn output_file(&mut self) -> io::Result<Option<OutputFile<R::File>>> {
+        if self.output_is_terminal() || !self.metadata(OUTPUT)?.is_file() {
+            return Ok(None);
+        }
+        let mut appending = OpenOptions::new();
+        appending.append(true);
+        let mut reading = OpenOptions::new();
+        reading.read(true);
+        match self.open_file(&appending, OUTPUT) {
+            Ok(file) => Ok(Some(OutputFile(file))),
+            Err(_) => Ok(Some(OutputFile(self.open_file(&reading, OUTPUT)?))),
+        }
+    }
+
+    fn lend(&mut self) -> HostIo<&'a R, &'a R, Printer<'a, R>> {
+        HostIo {
+            store: *self,
+            folder: *self,
+            output: io::writer(*self),
+        }
+    }
+
+    fn take_back(&mut self, ground: HostIo<&'a R, &'a R, Printer<'a, R>>)
+        ensures { ⊤ }
+    {
+        let HostIo { .. } = ground;
+    }
+}

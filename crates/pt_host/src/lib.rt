@@ -1,0 +1,65 @@
+//! A migration from folder to folder as the command asks for it, and an audit: what is seen to before it, what it is made over, and
+//! what it ends with.
+//!
+//! What it promises of a migration on a machine (`Host`): a system with places and locks, which lends what a run is made over and takes it
+//! back. Each call of a machine has a ghost word of what it may answer and leave, so that a contract says which calls are made and in which
+//! order. Beside the machine these functions have the runtime's clock, standard error, allocator and terminals, and `Reads`, by bounds; no call
+//! of these can change a file or write to the output. The bounds that can, `Files` and `Print`, stand at the runtime's own instances alone.
+//!
+//! - `run_guarded`, on every machine, says which run is made (`Runs`): the guard is asked first, with the lock for this run alone; where it
+//!   refuses, that is the status, and nothing more is asked. Else the run is made, and then the lock is given back, not before what was
+//!   lent is back.
+//! - The run itself: where the log is to be synced its file is asked for, and synced once; the end of the log is asked for whose lines are
+//!   expected. What is lent is asked for; a run from the store's folder to the destination's is made over it, with the job that is wanted,
+//!   or a rehearsal of it; what was lent is given back as the run left it.
+//! - With each run comes all that `Migrates` of pt_move promises, over what its devices tell of these folders at the start (of the store's
+//!   without the entries that are left out), and the status by its answer (`run_status`). Where that was asked for, what was present counts
+//!   as carried (`uncarried`).
+//! - Where the log has a file and no fault ended the run, all that the output then holds was put onto the disk by it, or nothing was
+//!   written (`IsLogged`). The system of DEST is left as calls left it of a destination that is set as wanted, to its end (`Serves`); of a
+//!   rehearsal, which makes nothing there, that isn't said.
+//! - `open_devices` and `both_sides` make the devices, each field by an equation. `longest_made`: exactly 4,095 less what the longest place is
+//!   longer than `staging`.
+//! - `run_or_rehearse`: a run is one over the destination's folder, and a rehearsal one over a destination that at first tells what the folder holds,
+//!   and at the end the tree that it plays (`IsRun`). Its devices stay at the folders that they were made for (`RunsFrom`). After any
+//!   answer a rehearsal leaves all that the system keeps of DEST (`LeavesKept`). Something is stuck at the end only where syncing was
+//!   wanted and a fault ended the run (`IsStuckBy`).
+//! - `rehearsal_tells_the_run`: where a rehearsal and a run of one job over the same store and the same tree of DEST both end well, and the
+//!   log tells, both logs get the same text, and the status is the same (`RehearsalTellsTheRun`).
+//! - `audit_guarded`: the guard, with a lock that others may share, the audit over what is lent, which is given back, and the lock
+//!   (`Audits`). Where it ends well the output has got its log, of the trees that both systems keep. After any answer both systems keep the
+//!   same trees, what stood in the output stands, a refusal is true of the store and of the root, and the status follows from the answer
+//!   (`AuditsOver`). Where that was asked for, what was passed over counts as well (`others`).
+//! - `DurableLog` is a log. Where its `put` is answered Ok, and it has a file, that was asked after the writing to put onto the disk all
+//!   that its writer has written, and answered Ok (`IsPutBehind`). It has its file to its end, and unless it failed all that it wrote was
+//!   put onto the disk (`LogStays`). That is proved whatever `puts`, the word for it, means of a file and a writer (`SyncsOutput`). What a
+//!   disk then has no contract says.
+//! - `synced_output`: where syncing isn't wanted nothing is asked. Where there is no file, or it can't be opened or has no such call, the
+//!   log isn't synced; where syncing it fails otherwise, that is the log's fault.
+#![tactic(auto)]
+
+mod beginning;
+mod devices;
+mod guarded_audit;
+mod guarded_run;
+mod host;
+pub mod laws;
+mod log;
+mod machine;
+mod options;
+mod room;
+mod running;
+mod saying;
+pub mod status;
+mod text;
+
+pub use guarded_audit::audit_guarded;
+pub use guarded_run::run_guarded;
+pub use host::{Host, HostIo, OutputFile};
+pub use log::{DurableLog, Syncs, SyncsOutput};
+pub use machine::Machine;
+pub use options::{AuditOptions, Feedback, RunOptions};
+pub use pt_messages::{Progress, Reads, Terminals};
+pub use room::longest_made;
+pub use saying::end_with_fault;
+pub use text::Text;

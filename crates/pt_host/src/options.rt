@@ -1,0 +1,76 @@
+//! What the options of a run and of an audit say, whoever asks for one: the command line, a test, or a program of its own.
+ghost use Rattle.std.specs.Prelude.{◌≡◌, option_map};
+
+use crate::Text;
+use pt_messages::{Progress, Watching, Words};
+use pt_move::Job;
+use pt_tree::Ignored;
+
+/// All that the options of a run say.
+#[derive(Debug, Drop)]
+pub struct RunOptions {
+    /// What has to be done.
+    pub job: Job,
+    /// The names of the entries of the store that are left out.
+    pub ignored: Ignored,
+    /// Whether files are put onto the disk before they are closed, and each line of the log as it is written.
+    pub sync: bool,
+    /// Whether it is rehearsed only: nothing is made or changed.
+    pub rehearse: bool,
+    /// Whether present lines leave the status at 0.
+    pub present_ok: bool,
+    /// What is shown of it beside its log.
+    pub feedback: Feedback,
+}
+
+/// All that the options of an audit say.
+#[derive(Debug, Drop)]
+pub struct AuditOptions {
+    /// The run that is compared. What it says of its versions isn't.
+    pub job: Job,
+    /// The names of the entries of the store that are left out.
+    pub ignored: Ignored,
+    /// Whether skip lines leave the status at 0.
+    pub skips_ok: bool,
+    /// What is shown of it beside its log.
+    pub feedback: Feedback,
+}
+
+/// What standard error shows of a run or an audit.
+#[derive(Debug, Drop)]
+pub struct Feedback {
+    /// Whether the reason of a fault is told too, and a summary at the end.
+    pub verbose: bool,
+    /// Whether neither how far it is nor a summary is told.
+    pub quiet: bool,
+    /// When to show how far it is.
+    pub progress: Progress,
+    /// How many seconds pass between two lines that show it, where they don't go to a terminal.
+    pub interval: u32,
+    /// The path of a log, of a rehearsal say, whose end line tells how many lines there may be.
+    pub expected: Option<Text>,
+}
+
+impl Feedback {
+    // The path of the log that is expected to be as long, if one is named.
+    pub(crate) fn expected(&self) -> Option<&str>
+        ensures { option_map (λ path. path.now) result ≡ self.now.expected }
+    {
+        match &self.expected {
+            Some(path) => Some(path.as_str()),
+            None => None,
+        }
+    }
+
+    // How what has this feedback is watched: its log has lines of this kind, and so many, where that is known.
+    pub(crate) fn watching(&self, words: Words, expected: Option<u64>) -> Watching {
+        Watching {
+            when: self.progress,
+            interval: self.interval,
+            expected,
+            words,
+            verbose: self.verbose,
+            quiet: self.quiet,
+        }
+    }
+}

@@ -1,0 +1,161 @@
+//! A run over its devices, and what it came to.
+ghost use Rattle.std.specs.Prelude.{◌≡◌, Bool};
+ghost use Rattle.pt_host.specs.Devices.{dest_path, kept_by, seen_without, store_path, told_at_rest};
+ghost use Rattle.pt_host.specs.Durable.{IsLogged};
+ghost use Rattle.pt_host.specs.Ends.{run_status};
+ghost use Rattle.pt_host.specs.Machine.{host_io_words};
+ghost use Rattle.pt_host.specs.Made.{IsRun, IsStuckBy, LeavesKept, RunsFrom};
+ghost use Rattle.pt_host.specs.Served.{IsServed, ServesTo};
+ghost use Rattle.pt_state.specs.Outside.{world_of};
+
+use crate::devices::Devices;
+use crate::log::{DurableLog, SyncsOutput};
+use crate::saying::tell_fault;
+use crate::status::{DONE, FAILED, INCOMPLETE};
+use crate::{HostIo, RunOptions};
+use pt_folder::{HostDest, HostSource, System};
+use pt_messages::{Counted, Reads, Tally, Terminals, Watched, Words, reason};
+use pt_move::{Fault, Job, Report, migrate_observed};
+use pt_rehearsal::Rehearsal;
+use pt_tree::{Dest, Ignoring, Log, Source};
+use std::alloc::{AllocGlobal, Global};
+use std::io::Write;
+use std::rt::Clock;
+
+/// A run that has ended: its status, and what it was made over.
+#[derive(Drop)]
+pub(crate) struct Ended<S, D, W> {
+    pub status: u8,
+    pub ground: HostIo<S, D, W>,
+}
+
+/// Makes the run that is asked for over its devices, or rehearses it, watched as its options say, and tells standard error of a fault.
+/// `expected` is how many lines its log may come to, where that is known, and `store` the path of the store.
+pub(crate) fn run<R, S: System, D: System, W: Write, F: SyncsOutput<W> + Drop>(
+    rt: &R,
+    devices: Devices<'_, S, D, W, F>,
+    options: RunOptions,
+    expected: Option<u64>,
+    store: &str,
+) -> Ended<S, D, W>
+where
+    R: Reads + Clock + Eprint + AllocGlobal + Terminals,
+    ensures runs { RunsFrom (host_io_words S.forest D.kept W.contents) options
+        (record {
+          at = record {
+            store = store_path devices.entry.source;
+            folder = dest_path devices.entry.dest;
+            ignored = options.ignored;
+            synced = devices.entry.dest.synced;
+          };
+          world = seen_without options.ignored (world_of ⟦<HostSource<'static, S> as Source>⟧
+              ⟦<HostDest<'static, D> as Dest>⟧ ⟦<DurableLog<W, F> as Log>⟧
+              devices.entry.source devices.entry.dest devices.entry.log);
+          kept = kept_by devices.entry.dest;
+        })
+        result.ground result.status }
+    ensures logged { devices.entry.log.failures ≡ 0
+        → IsLogged F.puts devices.entry.log.file devices.entry.log.writer
+        result.ground.output result.status }
+    ensures served { ServesTo options.rehearse devices.entry.dest result.ground.folder }
+{
+    let alloc = rt.alloc();
+    let tally = Tally::new();
+    let Devices { source, dest, log } = devices;
+    let verbose = options.feedback.verbose;
+    let watching = options.feedback.watching(Words::Run, expected);
+    let ignores = !options.ignored.names().is_empty();
+    let ignoring = Ignoring::new(source, options.ignored);
+    let mut source = Watched::new(ignoring, rt, alloc, &tally, watching);
+    let mut log = Counted::new(log, source.sums());
+    let Ran { ran, dest } = run_or_rehearse(
+        alloc,
+        &mut source,
+        dest,
+        &mut log,
+        options.rehearse,
+        options.job,
+        &tally,
+    );
+    source.end(log.counts_if(ran.is_ok()));
+    let ignoring = source.into_source();
+    reason::tell_left_out(rt, verbose & ignores, ignoring.left_out());
+    let source = ignoring.into_source();
+    report_outcome(rt, &ran, verbose, &source, &dest, store);
+    let status = status_of(&ran, options.present_ok);
+    let ground = HostIo {
+        store: source.into_system(),
+        folder: dest.into_system(),
+        output: log.into_log().into_writer(),
+    };
+    Ended { status, ground }
+}
+
+// What a run came to, and its destination.
+#[derive(Drop)]
+struct Ran<'a, D: System> {
+    ran: Result<Report, Fault>,
+    dest: HostDest<'a, D>,
+}
+
+// Makes a run, or rehearses it. The tally says after each turn how far it is.
+fn run_or_rehearse<'a, S: Source, D: System, L: Log>(
+    alloc: Global,
+    source: &mut S,
+    dest: HostDest<'a, D>,
+    log: &mut L,
+    rehearse: bool,
+    job: Job,
+    tally: &Tally,
+) -> Ran<'a, D>
+    ensures promises { IsRun job rehearse (told_at_rest dest.entry)
+        (world_of S.Source ⟦<HostDest<'a, D> as Dest>⟧ L.Log source.old dest.entry log.old)
+        (world_of S.Source ⟦<HostDest<'a, D> as Dest>⟧ L.Log source.new result.dest log.new)
+        result.ran }
+    ensures source { S.keeps source.old source.new }
+    ensures log { L.keeps log.old log.new }
+    ensures dest { result.dest.folder ≡ dest.entry.folder }
+    ensures served { IsServed rehearse dest.entry result.dest }
+    ensures stuck { (present_ok : Bool) → IsStuckBy dest.entry.synced dest.entry.failures
+        (run_status present_ok result.ran) result.dest.stuck }
+    ensures rehearsed { LeavesKept rehearse (kept_by dest.entry) (kept_by result.dest) }
+{
+    if rehearse {
+        let mut rehearsal = Rehearsal::new(alloc, dest);
+        let ran = migrate_observed(alloc, source, &mut rehearsal, log, job, tally);
+        let dest = rehearsal.into_dest();
+        return Ran { ran, dest };
+    }
+    let mut dest = dest;
+    let ran = migrate_observed(alloc, source, &mut dest, log, job, tally);
+    Ran { ran, dest }
+}
+
+// Says what a run over these folders came to, if a fault ended it, and why, if that is asked for.
+fn report_outcome<R: Reads + Eprint + AllocGlobal, S: System, D: System>(
+    rt: &R,
+    ran: &Result<Report, Fault>,
+    verbose: bool,
+    source: &HostSource<'_, S>,
+    dest: &HostDest<'_, D>,
+    store: &str,
+) {
+    if let Err(fault) = ran {
+        tell_fault(rt, fault);
+        if verbose {
+            reason::tell(rt, fault, source, dest, store);
+        }
+    }
+}
+
+// The exit status of a run, whose present lines are well or not.
+fn status_of(ran: &Result<Report, Fault>, present_ok: bool) -> u8
+    ensures { result ≡ run_status present_ok ran.now }
+{
+    match ran {
+        Ok(report) if report.skipped > 0 => INCOMPLETE,
+        Ok(report) if report.present > 0 && !present_ok => INCOMPLETE,
+        Ok(_) => DONE,
+        Err(_) => FAILED,
+    }
+}

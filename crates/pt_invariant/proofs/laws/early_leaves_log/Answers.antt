@@ -1,0 +1,5 @@
+use Rattle.pt_invariant.proofs.refusals.EarlyHalts.{early_leaves_log}
+use Rattle.pt_invariant.proofs.laws.early_leaves_log.Goals as goal
+
+pub returns : goal.returns
+returns c = early_leaves_log

@@ -1,0 +1,117 @@
+-- The turns of the start keep what holds where the source tells.
+use Rattle.std.proofs.Common.{inl, inr, ◌≡◌, ◌≤◌, ℕ, ◌&&◌, Bool, true, false, List, [], ◌∷◌, refl, ap, sym, ◌∙◌, cond, length, arith, take}
+use Rattle.std.specs.Prelude.{Option, None, Some, Ok, is_none, is_some, nat_lt, min}
+use Rattle.std.specs.Option.{option_and_then, option_map}
+use Rattle.std.specs.Str.{bytes_eq, is_utf8}
+use Rattle.std.proofs.lemmas.Bool.{cases_Bool, ltb-false}
+use Rattle.std.proofs.lemmas.List.{length-take, take_all}
+use Rattle.pt_name.specs.Prefix.{prefix_refusal, without_line_ends}
+use Rattle.pt_name.specs.declared.prefix.PrefixFault.TheVariants as fault
+use Rattle.pt_tree.specs.Forest.{Forest, Node, File, Dir, Other, none, file, other, dir, as_dir, as_file, find, kind_of, listing_of, node_at}
+use Rattle.pt_tree.specs.Source.{Reading, IsListed, IsRead, after_open}
+use Rattle.pt_tree.specs.declared.kind.Kind.{Kind}
+use Rattle.pt_tree.specs.declared.kind.Kind.TheVariants as kind
+use Rattle.pt_invariant.specs.SourceInvariant.{HasStarted, HoldsNothing, SourceAt}
+use Rattle.pt_invariant.specs.History.{done_after}
+use Rattle.pt_plan.specs.Job.{Job}
+use Rattle.pt_plan.specs.Run.{Held}
+use Rattle.pt_plan.specs.Store.{is_prefix, is_store, pairtree_root, prefix_file, prefix_in, version_file}
+use Rattle.pt_plan.specs.TurnStart.{StartStep, IsStore, HasNoPrefix, HasPrefix, MakesRoot, IsSame, is_dir_kind, is_file_kind, kind_in, lists_store}
+use Rattle.pt_plan.specs.DeviceStates.{Answers, Calls}
+use Rattle.pt_plan.specs.declared.phase.Phase.{Phase}
+use Rattle.pt_plan.specs.declared.phase.Opening.TheVariants as opening
+use Rattle.pt_plan.specs.declared.phase.Phase.TheVariants as phase
+use Rattle.pt_invariant.proofs.held.EitherPhase.{after_root_file, after_root_item}
+use Rattle.pt_invariant.proofs.source.InPairtree.{some_same, stays}
+
+-- ---- the top
+
+either_kind : (b : Bool) (node : Node) {l : Option Kind} (o : Option Node) → l ≡ option_map kind_of o → cond b (Some (kind_of node)) l ≡ option_map kind_of (cond b (Some node) o)
+either_kind true node o e = refl
+either_kind false node o e = e
+
+-- the kind that is listed is that of what stands there
+kind_listed : (f : Forest) (name : List ℕ) → kind_in (listing_of f) name ≡ option_map kind_of (find f name)
+kind_listed none name = refl
+kind_listed (file n bytes after) name = either_kind (bytes_eq n name) (File bytes) (find after name) (kind_listed after name)
+kind_listed (other n after) name = either_kind (bytes_eq n name) Other (find after name) (kind_listed after name)
+kind_listed (dir n inside after) name = either_kind (bytes_eq n name) (Dir inside) (find after name) (kind_listed after name)
+
+file_kind : (o : Option Node) → is_file_kind (option_map kind_of o) ≡ is_some (option_and_then as_file (option_and_then (λ node. node_at node []) o))
+file_kind None = refl
+file_kind (Some (File bytes)) = refl
+file_kind (Some (Dir inside)) = refl
+file_kind (Some Other) = refl
+
+dir_kind : (o : Option Node) → is_dir_kind (option_map kind_of o) ≡ is_some (option_and_then as_dir (option_and_then (λ node. node_at node []) o))
+dir_kind None = refl
+dir_kind (Some (File bytes)) = refl
+dir_kind (Some (Dir inside)) = refl
+dir_kind (Some Other) = refl
+
+pub store_listed : (f : Forest) → lists_store (listing_of f) ≡ is_store f
+store_listed f =
+    ap (λ (o : Option Kind). is_file_kind o && is_dir_kind (kind_in (listing_of f) pairtree_root)) (kind_listed f version_file)
+    ∙ ap (λ (o : Option Kind). is_file_kind (option_map kind_of (find f version_file)) && is_dir_kind o) (kind_listed f pairtree_root)
+    ∙ ap (λ (b : Bool). b && is_dir_kind (option_map kind_of (find f pairtree_root))) (file_kind (find f version_file))
+    ∙ ap (λ (b : Bool). is_some (option_and_then as_file (option_and_then (λ node. node_at node []) (find f version_file))) && b) (dir_kind (find f pairtree_root))
+
+-- ---- the prefix
+
+no_prefix : (o : Option Node) → None ≡ option_map kind_of o → (is_prefix o ≡ true) × (prefix_in o ≡ [])
+no_prefix None absent = (refl, refl)
+no_prefix (Some node) absent = absurd (cc)
+
+-- a prefix has at most 1024 bytes
+prefix_short : (bytes : List ℕ) → prefix_refusal bytes ≡ None → length bytes ≤ 1024
+prefix_short bytes good = elim (cases_Bool (nat_lt 1024 (length bytes))) [
+  | inl long ↦ absurd (let no : Some fault.TooLong ≡ None = sym (ap (λ b. cond b (Some fault.TooLong) (cond (is_utf8 (without_line_ends bytes)) None (Some fault.NotUtf8))) long) ∙ good in cc)
+  | inr short ↦ ltb-false 1024 (length bytes) short
+]
+
+-- so it was read whole in its first block
+read_whole : (bytes block : List ℕ) → take 8192 bytes ≡ block → prefix_refusal block ≡ None → bytes ≡ block
+read_whole bytes block read good =
+    let few = prefix_short block good in
+    let long : length block ≡ min 8192 (length bytes) = ap length (sym read) ∙ length-take 8192 bytes in
+    sym (take_all 8192 bytes (omega (arith, few, long))) ∙ read
+
+good_prefix : (o : Option Node) {block : List ℕ} → Some kind.File ≡ option_map kind_of o → option_map (take 8192) (option_and_then as_file (option_and_then (λ node. node_at node []) o)) ≡ Some block → prefix_refusal block ≡ None
+    → (is_prefix o ≡ true) × (prefix_in o ≡ without_line_ends block)
+good_prefix None is read good = absurd (cc)
+good_prefix (Some (Dir inside)) is read good = absurd (cc)
+good_prefix (Some Other) is read good = absurd (cc)
+good_prefix (Some (File bytes)) {block} is read good =
+    let same : bytes ≡ block = read_whole bytes block (some_same (take 8192 bytes) block read) good in
+    let passes : is_none (prefix_refusal bytes) ≡ true = ap (λ (l : List ℕ). is_none (prefix_refusal l)) same ∙ ap is_none good in
+    (passes, ap (λ b. cond b (without_line_ends bytes) []) passes ∙ ap without_line_ends same)
+
+-- ---- the later turns
+
+-- what holds at each phase of the start but the first two
+abbrev Started : List ℕ → ℕ → Held → Reading → Type 0
+Started prefix count held s = HoldsNothing held × (count ≡ 0) × HasStarted s.tree prefix
+
+pub starts_keep : {job : Job} (s new : Reading) {prefix read : List ℕ} (count : ℕ) {here next : Phase} (held : Held) {calls : Calls}
+    → StartStep job here prefix read calls (Ok next) → SourceAt job s prefix count here held → Answers calls.asked (Some s) (Some new) → SourceAt job new read (done_after here held.trail next count) next held
+unfolding Answers IsListed IsRead
+starts_keep s new {prefix} count held (IsStore was entries is) at answers =
+    let listed : entries ≡ listing_of s.tree = sym (some_same (listing_of s.tree) entries (answers.0 s refl)) in
+    let store : is_store s.tree ≡ true = sym (store_listed s.tree) ∙ ap lists_store (sym listed) ∙ is in
+    stays (λ r. HoldsNothing held × (count ≡ 0) × (is_store r.tree ≡ true) × (kind_in entries prefix_file ≡ option_map kind_of (find r.tree prefix_file)) × (prefix ≡ [])) answers.2
+    (at.0, at.1, store, ap (λ l. kind_in l prefix_file) listed ∙ kind_listed s.tree prefix_file, at.2)
+starts_keep s new {prefix} count held (HasNoPrefix was) at answers =
+    let none_there = no_prefix (find s.tree prefix_file) at.3 in
+    stays (Started prefix count held) answers (at.0, at.1, record { store = at.2; good = none_there.0; read = at.4 ∙ sym none_there.1 })
+starts_keep s new count held (HasPrefix was block good) at answers =
+    let it = good_prefix (find s.tree prefix_file) at.3 (answers.0 (after_open (prefix_file ∷ []) s) refl) good in
+    stays (Started (without_line_ends block) count held) answers.1 (at.0, at.1, record { store = at.2; good = it.0; read = sym it.1 })
+starts_keep {job} s new {prefix} count held (MakesRoot was number item is) at answers =
+    let next = λ (p : Phase). SourceAt job new prefix (done_after (phase.Opening (opening.RootMake number)) held.trail p count) p held in
+    let it = stays (Started prefix count held) answers at in
+    after_root_item next number (λ last. it) (λ more. it)
+starts_keep {job} s new {prefix} count held (IsSame was number path bytes is) at answers =
+    let next = λ (p : Phase). SourceAt job new prefix (done_after (phase.Opening (opening.RootCheck number)) held.trail p count) p held in
+    let it = stays (Started prefix count held) answers at in
+    after_root_file next number (λ last. it) (λ more. it)
+starts_keep s new {prefix} count held turn at answers = stays (Started prefix count held) answers at

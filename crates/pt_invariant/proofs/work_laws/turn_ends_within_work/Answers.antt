@@ -1,0 +1,5 @@
+use Rattle.pt_invariant.proofs.turns_left.EndsWithin.{turn_ends_within_work}
+use Rattle.pt_invariant.proofs.work_laws.turn_ends_within_work.Goals as goal
+
+pub returns : goal.returns
+returns c = turn_ends_within_work

@@ -1,0 +1,307 @@
+//! A source that is watched: as it is called, it shows on standard error how far the run is.
+ghost use Rattle.std.specs.Prelude.{◌≡◌};
+
+use crate::counted::LineCounts;
+use crate::numbers::{group_digits, size, time};
+use crate::shown::escaped;
+use crate::tally::Tally;
+use crate::terminal::Terminals;
+use pt_tree::{Block, Listing, NamePath, Source, TreeFault};
+use std::alloc::{AllocError, AllocGlobal, Global};
+use std::rt::Clock;
+
+/// When to show how far a run is.
+#[derive(Clone, Copy, Debug, PartialEq, Eq)]
+pub enum Progress {
+    /// Where standard error is a terminal and standard output isn't.
+    Auto,
+    /// Always.
+    Always,
+    /// Never.
+    Never,
+}
+
+// How many milliseconds pass between two lines on a terminal.
+const ON_TERMINAL: u64 = 200;
+
+/// How a run is watched.
+#[derive(Clone, Copy, Debug, Drop)]
+pub struct Watching {
+    /// When to show how far it is.
+    pub when: Progress,
+    /// How many seconds pass between two lines that don't go to a terminal.
+    pub interval: u32,
+    /// How many lines its log may come to, where that is known.
+    pub expected: Option<u64>,
+    /// Which lines its log has.
+    pub words: Words,
+    /// Whether its summary is told at the end also where it isn't shown how far it is.
+    pub verbose: bool,
+    /// Whether neither is told.
+    pub quiet: bool,
+}
+
+/// Which lines a log has, as progress names them.
+#[derive(Clone, Copy, Debug, PartialEq, Eq)]
+pub enum Words {
+    /// Those of a run.
+    Run,
+    /// Those of an audit.
+    Audit,
+}
+
+/// A source that is watched, and is the source in all else.
+#[derive(Drop)]
+pub struct Watched<'a, S: Source, R> {
+    source: S,
+    rt: &'a R,
+    tally: &'a Tally,
+    alloc: Global,
+    shows: bool,
+    sums: bool,
+    on_terminal: bool,
+    columns: Option<usize>,
+    period: u64,
+    expected: Option<u64>,
+    words: Words,
+    begun: u64,
+    due: u64,
+    at: Vec<u8>,
+}
+
+impl<'a, S: Source, R: Clock + Eprint + Terminals> Watched<'a, S, R> {
+    /// A source that is watched from now on, if that is to be shown.
+    pub fn new(
+        source: S,
+        rt: &'a R,
+        alloc: Global,
+        tally: &'a Tally,
+        watching: Watching,
+    ) -> Watched<'a, S, R>
+        ensures { result.source ≡ source }
+    {
+        let on_terminal = rt.errors_are_terminal();
+        let shows = !watching.quiet
+            && match watching.when {
+                Progress::Auto => on_terminal && !rt.output_is_terminal(),
+                Progress::Always => true,
+                Progress::Never => false,
+            };
+        let sums = shows || watching.verbose && !watching.quiet;
+        let begun = if sums { millis(rt) } else { 0 };
+        let period = if on_terminal {
+            ON_TERMINAL
+        } else {
+            u64::from(watching.interval).saturating_mul(1000)
+        };
+        Watched {
+            source,
+            rt,
+            tally,
+            alloc,
+            shows,
+            sums,
+            on_terminal,
+            columns: rt.columns(),
+            period,
+            expected: watching.expected,
+            words: watching.words,
+            begun,
+            due: begun.saturating_add(period),
+            at: Vec::new(alloc),
+        }
+    }
+
+    /// The source that is watched.
+    pub fn source(&self) -> &S
+        ensures { result.now ≡ self.now.source }
+    {
+        &self.source
+    }
+
+    /// The source that was watched, as the calls left it.
+    pub fn into_source(self) -> S
+        ensures { result ≡ self.entry.source }
+    {
+        self.source
+    }
+
+    /// Whether a summary is wanted at the end.
+    pub fn sums(&self) -> bool {
+        self.sums
+    }
+
+    /// Ends what is shown: the line on a terminal is taken away. Then comes, where one is wanted, the summary of the log's lines, where these are
+    /// given; else, where it was shown how far the run is, how far it was.
+    pub fn end(&self, counts: Option<&LineCounts>) {
+        if !self.sums {
+            return;
+        }
+        if self.shows && self.on_terminal {
+            let _ = eprint!(self.rt; "\r\x1b[K");
+        }
+        let passed = millis(self.rt).saturating_sub(self.begun);
+        let last = match counts {
+            Some(counts) => self.summary(counts, passed),
+            None if self.shows => self.line(passed),
+            None => return,
+        };
+        if let Ok(last) = last {
+            let _ = eprintln!(self.rt; "pairtree2ocfl: {last}");
+        }
+    }
+
+    // What these lines of the log come to, and how long it took.
+    fn summary(&self, counts: &LineCounts, passed: u64) -> Result<String, AllocError> {
+        let lines = counts.summary(self.alloc, self.words)?;
+        let passed = time(self.alloc, passed)?;
+        format!(in self.alloc; "{lines}, {passed}")
+    }
+
+    // Something at a path is under way.
+    fn comes_to(&mut self, path: &NamePath)
+        ensures { self.new.source ≡ self.old.source }
+    {
+        if !self.shows {
+            return;
+        }
+        if let Ok(at) = path.join() {
+            self.at = at;
+        }
+        self.show();
+    }
+
+    // Shows how far the run is, where it is time to.
+    fn show(&mut self)
+        ensures { self.new.source ≡ self.old.source }
+    {
+        if !self.shows {
+            return;
+        }
+        let now = millis(self.rt);
+        if now < self.due {
+            return;
+        }
+        self.due = now.saturating_add(self.period);
+        let Ok(line) = self.line(now.saturating_sub(self.begun)) else {
+            return;
+        };
+        if !self.on_terminal {
+            let _ = eprintln!(self.rt; "pairtree2ocfl: {line}");
+        } else if let Ok(line) = self.over(line.as_str()) {
+            let _ = eprint!(self.rt; "{line}");
+        }
+    }
+
+    // What writes a line over the one that a terminal shows: it wraps none meanwhile, and so cuts what is longer.
+    fn over(&self, line: &str) -> Result<String, AllocError> {
+        let room = match self.columns {
+            Some(columns) => columns.saturating_sub(1),
+            None => line.len(),
+        };
+        let mut text = String::from_str(self.alloc, "\r\x1b[?7l")?;
+        for c in line.chars().take(room) {
+            text.push(c)?;
+        }
+        text.push_str("\x1b[K\x1b[?7h")?;
+        Ok(text)
+    }
+
+    // How far the run is after so many milliseconds, and how fast it was, on one line, what matters most in front.
+    fn line(&self, passed: u64) -> Result<String, AllocError> {
+        let alloc = self.alloc;
+        let (done, present, skipped) = (
+            self.tally.done(),
+            self.tally.present(),
+            self.tally.skipped(),
+        );
+        let lines = done.saturating_add(present).saturating_add(skipped);
+        let ahead = match self.expected {
+            Some(expected) => ahead(alloc, lines, expected, passed)?,
+            None => String::new(alloc),
+        };
+        let (carried, other) = match self.words {
+            Words::Run => ("done", "present"),
+            Words::Audit => ("same", "not the same"),
+        };
+        let (done, present) = (group_digits(alloc, done)?, group_digits(alloc, present)?);
+        let skipped = group_digits(alloc, skipped)?;
+        let spent = self.rate_text(lines, passed)?;
+        format!(in alloc; "{ahead}{done} {carried}, {present} {other}, {skipped} skipped, {spent}")
+    }
+
+    // The time that passed, the lines and bytes a second, the bytes that were read, and what is read just now.
+    fn rate_text(&self, lines: u64, passed: u64) -> Result<String, AllocError> {
+        let alloc = self.alloc;
+        let bytes = self.tally.bytes();
+        let read = size(alloc, bytes)?;
+        let speed = size(alloc, bytes.saturating_mul(1000) / passed.max(1))?;
+        let places = group_digits(alloc, lines.saturating_mul(1000) / passed.max(1))?;
+        let passed = time(alloc, passed)?;
+        let at = match str::from_utf8(self.at.as_slice()) {
+            Ok(at) => escaped(alloc, at)?,
+            Err(_) => String::new(alloc),
+        };
+        format!(in alloc; "{passed}, {places}/s, {speed}/s, {read} read, at {at}")
+    }
+}
+
+// The share that is done after so many lines of those that are expected, and the time that is left, by the time that passed.
+fn ahead(alloc: Global, lines: u64, expected: u64, passed: u64) -> Result<String, AllocError> {
+    let done = lines.min(expected);
+    let percent = done.saturating_mul(100) / expected.max(1);
+    if done == 0 {
+        return format!(in alloc; "{percent} %, ");
+    }
+    let left = passed.saturating_mul(expected.saturating_sub(done)) / done;
+    let left = time(alloc, left)?;
+    format!(in alloc; "{percent} %, {left} left, ")
+}
+
+// The clock's milliseconds, or 0 where there is none.
+fn millis(clock: &impl Clock) -> u64 {
+    match clock.monotonic() {
+        Ok(time) => time
+            .as_secs()
+            .saturating_mul(1000)
+            .saturating_add(u64::from(time.subsec_millis())),
+        Err(_) => 0,
+    }
+}
+
+impl<'a, S: Source, R: Clock + Eprint + Terminals> Source for Watched<'a, S, R> {
+    ghost told = { λ w. S.told w.source };
+
+    ghost failed = { λ w. S.failed w.source };
+
+    ghost called = { λ w. S.called w.source };
+
+    ghost keeps = { λ a b. S.keeps a.source b.source };
+
+    ghost is_kept = { λ a. S.is_kept a.source };
+
+    ghost keeps_on = { λ a b c p q. S.keeps_on a.source b.source c.source p q };
+
+    ghost proper = { λ w. S.proper w.source };
+
+    fn failures(&self) -> u64 {
+        self.source.failures()
+    }
+
+    fn list(&mut self, path: &NamePath) -> Result<Listing, TreeFault> {
+        self.comes_to(path);
+        self.source.list(path)
+    }
+
+    fn open(&mut self, path: &NamePath) -> Result<(), TreeFault> {
+        self.comes_to(path);
+        self.source.open(path)
+    }
+
+    fn next(&mut self, block: &mut Block) -> Result<(), TreeFault> {
+        self.show();
+        self.source.next(block)?;
+        self.tally.add_bytes(block.len() as u64);
+        Ok(())
+    }
+}

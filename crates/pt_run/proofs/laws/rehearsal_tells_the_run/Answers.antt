@@ -1,5 +1,0 @@
-use Rattle.pt_run.proofs.RehearsalTold.{rehearsal_told}
-use Rattle.pt_run.proofs.laws.rehearsal_tells_the_run.Goals as goal
-
-pub returns : goal.returns
-returns c = rehearsal_told
