@@ -12,7 +12,7 @@ use Rattle.pt_object.specs.Inventory.{inventory_tree, manifest_members, state_me
 use Rattle.pt_object.specs.MetaParts.{MetaParts}
 use Rattle.pt_object.specs.Tokens.{tokens_of}
 use Rattle.pt_object.specs.declared.algorithm.Algorithm.{Algorithm}
-use Rattle.pt_object.specs.declared.contents.Content.{Content}
+use Rattle.pt_object.specs.declared.table.contents.Content.{Content}
 use Rattle.pt_object.specs.declared.rows.Row.{Row}
 use Rattle.pt_object.proofs.Appended.{appended}
 use Rattle.pt_object.proofs.Entries.{all_entries}

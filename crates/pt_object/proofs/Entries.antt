@@ -16,7 +16,7 @@ use denote.Ref.{Bor}
 use Rattle.pt_tree.specs.Path.{Path, joined}
 use Rattle.pt_object.specs.Inventory.{texts}
 use Rattle.pt_object.specs.Tokens.{tokens_of}
-use Rattle.pt_object.specs.declared.contents.Content.{Content}
+use Rattle.pt_object.specs.declared.table.contents.Content.{Content}
 use Rattle.pt_object.specs.Entries.{at_positions, entries, entry, no_content}
 use Rattle.pt_object.proofs.Sorted.{AreBytes, members_by, put_by, put_in_order}
 use Rattle.pt_object.proofs.Texts.{Rises}

@@ -15,8 +15,8 @@ use Rattle.std.specs.Option.{option_map}
 use Rattle.pt_object.specs.Distinct.{content_of_row, distinct, row_has_digest}
 use Rattle.pt_object.specs.Inventory.{paths_with}
 use Rattle.pt_object.specs.Later.{group_lent, parted}
-use Rattle.pt_object.specs.declared.state.Group.{Group}
-use Rattle.pt_object.specs.declared.contents.Content.{Content}
+use Rattle.pt_object.specs.declared.inventories.state.Group.{Group}
+use Rattle.pt_object.specs.declared.table.contents.Content.{Content}
 use Rattle.pt_object.specs.declared.rows.Row.{Row}
 
 abbrev pub digests : List Content → List (List ℕ)

@@ -8,7 +8,7 @@ use Rattle.std.proofs.lemmas.Bool.{cases_lt}
 use Rattle.std.proofs.Math.Nat.{pow-suc}
 use Rattle.pt_object.specs.Digest.{digest_cmp}
 use Rattle.pt_object.specs.Index.{digest_in, IsIndex, IsPlaceOf}
-use Rattle.pt_object.specs.declared.contents.Content.{Content}
+use Rattle.pt_object.specs.declared.table.contents.Content.{Content}
 
 -- the digest can stand only at the places from low to high, after count comparisons
 pub record IsHalved (items : List Content) (index digest : List ℕ) (low high count : ℕ) : Type 0 where

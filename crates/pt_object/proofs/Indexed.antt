@@ -15,7 +15,7 @@ use Rattle.std.specs.Str.{bytes_eq}
 use Rattle.pt_object.specs.Digest.{digest_cmp}
 use Rattle.pt_object.specs.Contents.{digest_at, has_digest, is_noted, first_path, DigestsDiffer}
 use Rattle.pt_object.specs.Index.{digest_in, IsAt, IsIndex, IsPlaceOf}
-use Rattle.pt_object.specs.declared.contents.Content.{Content}
+use Rattle.pt_object.specs.declared.table.contents.Content.{Content}
 use Rattle.pt_object.proofs.Ways.{same_name}
 
 pub digest_at-item : (items : List Content) (p : ℕ) (x : Content) → p < length items → digest_at items p ≡ (get_or items p x).digest

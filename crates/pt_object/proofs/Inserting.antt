@@ -10,7 +10,7 @@ use Rattle.std.proofs.lemmas.List.Edits.{length-insert, get_or-insert_below, get
 use Rattle.pt_object.specs.Contents.{digest_at}
 use Rattle.pt_object.specs.Digest.{digest_cmp}
 use Rattle.pt_object.specs.Index.{digest_in, IsIndex, IsPlaceOf}
-use Rattle.pt_object.specs.declared.contents.Content.{Content}
+use Rattle.pt_object.specs.declared.table.contents.Content.{Content}
 
 digest_at-old : (items : List Content) (x : Content) (p : ℕ) → p < length items → digest_at (items ++ x ∷ []) p ≡ digest_at items p
 digest_at-old items x p within =

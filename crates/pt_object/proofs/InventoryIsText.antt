@@ -22,7 +22,7 @@ use Rattle.pt_object.specs.Inventory.{inventory_text, inventory_tree, manifest_m
 use Rattle.pt_object.specs.MetaParts.{AreTexts, MetaParts}
 use Rattle.pt_object.specs.declared.algorithm.Algorithm.{Algorithm}
 use Rattle.pt_object.specs.declared.algorithm.Algorithm.TheVariants as algorithm
-use Rattle.pt_object.specs.declared.contents.Content.{Content}
+use Rattle.pt_object.specs.declared.table.contents.Content.{Content}
 use Rattle.pt_object.specs.declared.rows.Row.{Row}
 use Rattle.pt_tree.specs.Path.{joined}
 

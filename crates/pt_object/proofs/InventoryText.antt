@@ -13,7 +13,7 @@ use Rattle.pt_object.specs.Inventory.{content_path, paths_with, texts, put_conte
 use Rattle.pt_object.specs.InventoryLaws.{InventoryReadsAsItsTree}
 use Rattle.pt_object.specs.MetaParts.{MetaParts}
 use Rattle.pt_object.specs.declared.algorithm.Algorithm.{Algorithm}
-use Rattle.pt_object.specs.declared.contents.Content.{Content}
+use Rattle.pt_object.specs.declared.table.contents.Content.{Content}
 use Rattle.pt_object.specs.declared.rows.Row.{Row}
 use Rattle.pt_object.proofs.Texts.{IsBelow, Rises, below_all, IsSound, AreSoundItems, AreSoundMembers, read_compact}
 use Rattle.pt_object.proofs.Trees.{depth-inventory}

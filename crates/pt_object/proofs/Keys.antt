@@ -12,7 +12,7 @@ use Rattle.std.proofs.Math.Nat.{pow-suc, mul-le-mul_right}
 use Rattle.hex.specs.Hex.{IsBytes}
 use Rattle.pt_object.specs.Digest.{digest_cmp}
 use Rattle.pt_object.specs.Keys.{key_of, keys_of, number_of}
-use Rattle.pt_object.specs.declared.contents.Content.{Content}
+use Rattle.pt_object.specs.declared.table.contents.Content.{Content}
 
 -- one more byte in front
 worth : (x p n : ℕ) → x < 256 → n < p → x * p + n < 256 * p

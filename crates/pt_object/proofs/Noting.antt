@@ -13,7 +13,7 @@ use Rattle.std.proofs.lemmas.List.Folds.{list_any-append}
 use Rattle.pt_tree.specs.Path.{Path}
 use Rattle.pt_object.specs.Contents.{content_of, first_path, has_digest, is_noted, noted}
 use Rattle.pt_object.specs.Distinct.{content_of_row, distinct, distinct_after, noted_all, row_has_digest, NotingGivesDistinct, NotingKeepsFirst}
-use Rattle.pt_object.specs.declared.contents.Content.{Content}
+use Rattle.pt_object.specs.declared.table.contents.Content.{Content}
 use Rattle.pt_object.specs.declared.rows.Row.{Row}
 
 -- the items have just the digests of the rows

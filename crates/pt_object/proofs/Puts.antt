@@ -18,11 +18,11 @@ use Rattle.pt_object.specs.InPieces.{InPieces, Puts, TakesPiece, back, bracket, 
 use Rattle.pt_object.specs.Inventory.{paths_with, texts, user_tree}
 use Rattle.pt_tree.specs.Path.{joined}
 use Rattle.pt_object.specs.Tokens.{tokens_of}
-use Rattle.pt_object.specs.declared.contents.Content.{Content}
+use Rattle.pt_object.specs.declared.table.contents.Content.{Content}
 use Rattle.pt_object.specs.declared.rows.Row.{Row}
-use Rattle.pt_object.specs.declared.parts.Parts.{Parts}
-use Rattle.pt_object.specs.declared.parts.Step.{Step}
-use Rattle.pt_object.specs.declared.parts.Step.TheVariants as step
+use Rattle.pt_object.specs.declared.inventories.parts.Parts.{Parts}
+use Rattle.pt_object.specs.declared.inventories.parts.Step.{Step}
+use Rattle.pt_object.specs.declared.inventories.parts.Step.TheVariants as step
 use Rattle.pt_object.proofs.Appended.{appended}
 use Rattle.pt_object.proofs.Entries.{split_entries}
 

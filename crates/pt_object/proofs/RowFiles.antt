@@ -23,7 +23,7 @@ use Rattle.pt_object.specs.Script.{item_in}
 use Rattle.pt_object.specs.Scripts.{object_items, staging}
 use Rattle.serde_json.specs.Written.{compact_text}
 use Rattle.pt_object.specs.declared.algorithm.Algorithm.{Algorithm}
-use Rattle.pt_object.specs.declared.contents.Content.{Content}
+use Rattle.pt_object.specs.declared.table.contents.Content.{Content}
 use Rattle.pt_object.specs.declared.rows.Row.{Row}
 use Rattle.pt_object.proofs.Manifests.{has}
 use Rattle.pt_object.proofs.Stored.{not_apart}

@@ -16,7 +16,7 @@ use Rattle.serde_json.proofs.Views.{get_member-put, get_member-put_other}
 use Rattle.pt_object.specs.Contents.{digest_at}
 use Rattle.pt_object.specs.Entries.{at_positions, key, no_content}
 use Rattle.pt_object.specs.Index.{digest_in, IsIndex}
-use Rattle.pt_object.specs.declared.contents.Content.{Content}
+use Rattle.pt_object.specs.declared.table.contents.Content.{Content}
 use Rattle.pt_object.proofs.Indexed.{DigestsDiffer-index, digest_at-item, same_from_equal}
 use Rattle.pt_object.proofs.HexOrder.{hex_less, hex_same}
 use Rattle.pt_object.proofs.Texts.{IsBelow, Rises, below_all}

@@ -12,7 +12,7 @@ use Rattle.pt_tree.specs.Path.{joined}
 use Rattle.hex.specs.Hex.{encode_lower}
 use Rattle.pt_object.specs.MetaParts.{MetaParts}
 use Rattle.pt_object.specs.declared.algorithm.Algorithm.{Algorithm}
-use Rattle.pt_object.specs.declared.contents.Content.{Content}
+use Rattle.pt_object.specs.declared.table.contents.Content.{Content}
 use Rattle.pt_object.specs.declared.rows.Row.{Row}
 
 -- lists of texts alone, so not many levels

@@ -10,7 +10,7 @@ use Rattle.pt_tree.specs.Path.{joined}
 use Rattle.pt_object.specs.Contents.{content_of}
 use Rattle.pt_object.specs.Inventory.{content_path, paths_with, texts}
 use Rattle.pt_object.specs.Tokens.{tokens_of}
-use Rattle.pt_object.specs.declared.contents.Content.{Content}
+use Rattle.pt_object.specs.declared.table.contents.Content.{Content}
 use Rattle.pt_object.specs.declared.rows.Row.{Row}
 
 -- what stands at a position where no item is

@@ -12,9 +12,9 @@ use Rattle.pt_object.specs.Later.{group_lent, parted}
 use Rattle.pt_object.specs.MetaParts.{MetaParts}
 use Rattle.pt_object.specs.Tokens.{tokens_of}
 use Rattle.pt_object.specs.declared.algorithm.Algorithm.{Algorithm}
-use Rattle.pt_object.specs.declared.parts.Parts.{Parts}
-use Rattle.pt_object.specs.declared.parts.Step.{Step}
-use Rattle.pt_object.specs.declared.parts.Step.TheVariants as step
+use Rattle.pt_object.specs.declared.inventories.parts.Parts.{Parts}
+use Rattle.pt_object.specs.declared.inventories.parts.Step.{Step}
+use Rattle.pt_object.specs.declared.inventories.parts.Step.TheVariants as step
 
 -- the piece that was made last, and what is still to be made behind it
 pub record InPieces : Type 0 where

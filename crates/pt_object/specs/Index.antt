@@ -3,7 +3,7 @@ use Rattle.std.specs.Prelude.{◌≡◌, ℕ, ◌<◌, ◌≤◌, ◌^◌, List,
 use Rattle.std.specs.declared.cmp.Ordering.TheVariants.{Less, Greater}
 use Rattle.pt_object.specs.Contents.{digest_at}
 use Rattle.pt_object.specs.Digest.{digest_cmp}
-use Rattle.pt_object.specs.declared.contents.Content.{Content}
+use Rattle.pt_object.specs.declared.table.contents.Content.{Content}
 
 -- the digest at a place of the index
 abbrev pub digest_in : List Content → List ℕ → ℕ → List ℕ

@@ -9,7 +9,7 @@ use Rattle.pt_object.specs.Algorithm.{algorithm_word}
 use Rattle.pt_object.specs.Distinct.{content_of_row, distinct, row_has_digest}
 use Rattle.pt_object.specs.MetaParts.{MetaParts}
 use Rattle.pt_object.specs.declared.algorithm.Algorithm.{Algorithm}
-use Rattle.pt_object.specs.declared.contents.Content.{Content}
+use Rattle.pt_object.specs.declared.table.contents.Content.{Content}
 use Rattle.pt_object.specs.declared.rows.Row.{Row}
 
 -- where the content of a file is stored

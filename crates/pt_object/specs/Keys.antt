@@ -1,7 +1,7 @@
 -- The keys of digests: the numbers that their first eight bytes are, which are compared before the digests.
 use Rattle.std.specs.Prelude.{◌≡◌, ◌+◌, ◌*◌, ◌^◌, ℕ, List, [], ◌∷◌, length, map, take}
 use Rattle.pt_object.specs.Index.{IsIndex}
-use Rattle.pt_object.specs.declared.contents.Content.{Content}
+use Rattle.pt_object.specs.declared.table.contents.Content.{Content}
 
 -- the number that bytes are, the first of the highest worth
 abbrev pub number_of : List ℕ → ℕ

@@ -1,7 +1,7 @@
 -- What some rows have of a content: whether there is one, and the paths behind the first.
 use Rattle.std.specs.Prelude.{Bool, true, false, List, [], ◌∷◌, map}
 use Rattle.pt_tree.specs.Path.{Path}
-use Rattle.pt_object.specs.declared.state.Group.{Group}
+use Rattle.pt_object.specs.declared.inventories.state.Group.{Group}
 
 -- whether there is a path, and those behind the first
 abbrev pub parted : List Path → Bool × List Path

@@ -46,6 +46,10 @@ object_declaration_name = codes "0=ocfl_object_1.1"
 abbrev pub version_folder : Path
 version_folder = codes "v1" ∷ []
 
+-- where the content of a logical path is stored, or a folder on the way to it (OCFL 1.1, "Content Directory")
+abbrev pub in_content : Path → Path
+in_content path = version_folder ++ codes "content" ∷ path
+
 -- a stored file below the version's folder
 abbrev pub content_file : File → File
 content_file file = (codes "content" ∷ file.0, file.1)

@@ -1,9 +1,9 @@
 -- What the tables of an object are made of, field by field. No clause sees these fields: a further one, which might hold content or text, would have to stand here.
 use Rattle.std.specs.Prelude.{ℕ, List}
 use Rattle.std.specs.Global.{Vec}
-use Rattle.pt_object.specs.declared.contents.Content.{Content}
-use Rattle.pt_object.specs.declared.contents.Contents.TheInside as contents
-use Rattle.pt_object.specs.declared.sorted_index.SortedIndex.TheInside as positions
+use Rattle.pt_object.specs.declared.table.contents.Content.{Content}
+use Rattle.pt_object.specs.declared.table.contents.Contents.TheInside as contents
+use Rattle.pt_object.specs.declared.table.sorted_index.SortedIndex.TheInside as positions
 use Rattle.pt_object.specs.declared.rows.Row.{Row}
 use Rattle.pt_object.specs.declared.rows.Rows.TheInside as rows
 

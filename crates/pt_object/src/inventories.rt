@@ -8,12 +8,19 @@ ghost use Rattle.pt_object.specs.Entries.{no_content};
 ghost use Rattle.pt_object.specs.InPieces.{TakesPiece};
 ghost use Rattle.pt_object.specs.Inventory.{inventory_text, inventory_tree};
 
-use crate::index::tell_bytes;
-use crate::output::Output;
-use crate::parts::{Parts, Step};
-use crate::state::group_rows;
+mod ahead;
+mod document;
+mod manifest;
+mod output;
+mod parts;
+mod state;
+
+use crate::table::tell_bytes;
 use crate::{Algorithm, Content, Contents, Meta, Rows};
+use output::Output;
+use parts::{Parts, Step};
 use pt_tree::MemoryFault;
+use state::group_rows;
 use std::alloc::Global;
 use std::marker::Model;
 use std::mem;

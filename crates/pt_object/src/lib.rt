@@ -1,6 +1,7 @@
 //! Digests by blocks, the two tables of an object's files, and the texts of an OCFL object.
 //!
-//! What an OCFL object is made of.
+//! What an OCFL object is made of. The module `table` has the contents and the index by which a digest is found among them, `inventories` how
+//! an inventory's text is made of rows and contents; each other file is what its name says.
 //!
 //! - `Hasher` (`feed`, `feed_bytes`, `end`): the digest of the blocks and pieces joined. It is its core, and nothing else (`IsItsCore`).
 //!   `Digest`: its bytes, with their order and their hex.
@@ -21,32 +22,22 @@
 //!   bytes differ have one digest (`state_is_the_files`).
 #![tactic(auto)]
 
-mod ahead;
 mod algorithm;
-mod contents;
 mod digest;
 mod digits;
-mod document;
 mod files;
 mod hasher;
-mod index;
-mod index_block;
 mod inventories;
 pub mod laws;
-mod manifest;
 pub mod members;
 mod meta;
 mod moment;
-mod output;
-mod parts;
 mod root;
 mod rows;
-mod sorted_index;
-mod state;
+mod table;
 mod well_known;
 
 pub use algorithm::Algorithm;
-pub use contents::{Content, Contents};
 pub use digest::Digest;
 pub use files::{object_declaration, root_declaration, sidecar, sidecar_of};
 pub use hasher::Hasher;
@@ -54,4 +45,5 @@ pub use inventories::{InventoryPieces, inventory};
 pub use meta::{Meta, MetaFault};
 pub use root::{RootFiles, root_files};
 pub use rows::{Row, Rows};
+pub use table::{Content, Contents};
 pub use well_known::WellKnownName;
