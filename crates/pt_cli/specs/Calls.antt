@@ -10,6 +10,7 @@ use Rattle.pt_cli.specs.Names.{LeavesWritten, names_text}
 use Rattle.pt_cli.specs.declared.command.NamesArgs.{NamesArgs}
 use Rattle.pt_cli.specs.declared.names.NamesFault.{NamesFault}
 use Rattle.pt_cli.specs.declared.names.NamesFault.TheVariants as names
+use Rattle.pt_host.specs.HostCall.{Lend, TakeBack}
 use Rattle.pt_host.specs.Machine.{HostIoOf, MachineWords}
 
 -- of writing names: 0 where they were written, 2 for the empty identifier, else 3
@@ -29,11 +30,11 @@ pub record WritesNames (layout : Tuples) (prefix id : List ℕ) (old new : Optio
 -- the names that are asked for are written to the output that a machine lends, which is given back with all else as it was; and the status is by that
 abbrev pub TellsNames : {H : Type 0} → MachineWords H → NamesArgs → H → H → ℕ → Type 0
 TellsNames {H} words asked old new status =
-    (ground : HostIoOf words) × (lent : H) × words.lends old ground lent
+    (ground : HostIoOf words) × (lent : H) × words.host old (Lend ground) lent
     × (output : words.Output) × (written : Result (Unit {0}) NamesFault)
     × WritesNames asked.layout asked.prefix asked.id (words.written.output ground.output)
     (words.written.output output) written
-    × words.takes_back lent (record ground { output = output }) new
+    × words.host lent (TakeBack (record ground { output = output })) new
     × (status ≡ names_status written)
 
 -- of writing a text that was asked for: 0 where it was written, or nobody may read it any more, else 3
@@ -50,8 +51,8 @@ pub record WritesText (text : List ℕ) (old new : Option (List ℕ)) (written :
 -- a text is written to the output that a machine lends, which is given back with all else as it was; and the status is by that
 abbrev pub TellsText : {H : Type 0} → MachineWords H → List ℕ → H → H → ℕ → Type 0
 TellsText {H} words text old new status =
-    (ground : HostIoOf words) × (lent : H) × words.lends old ground lent
+    (ground : HostIoOf words) × (lent : H) × words.host old (Lend ground) lent
     × (output : words.Output) × (written : Result (Unit {0}) Error)
     × WritesText text (words.written.output ground.output) (words.written.output output) written
-    × words.takes_back lent (record ground { output = output }) new
+    × words.host lent (TakeBack (record ground { output = output })) new
     × IsToldAs written status

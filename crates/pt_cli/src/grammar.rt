@@ -305,7 +305,8 @@ Each line says under "as" what was found:
   same     exactly the object stands at "to"; its moment, user and message may be any
   absent   nothing stands there
   differs  the first difference is at "path" in it, by "why":
-           missing, extra, kind (a file for a folder, or so) or bytes
+           missing, extra, kind (a file for a folder, or so) or bytes;
+           or twin: its folder has other names than its identifier's, which stands too
   skip     not carried, for the cause that migrate gives
   end      the last line: how many there were of each
 

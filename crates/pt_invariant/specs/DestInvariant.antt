@@ -15,7 +15,7 @@ use Rattle.pt_plan.specs.Fixity.{DestFaultState, come_to_free_places}
 use Rattle.pt_plan.specs.Job.{Job}
 use Rattle.pt_plan.specs.Roots.{root_in, storage_root, with_root}
 use Rattle.pt_plan.specs.Run.{Held}
-use Rattle.pt_plan.specs.TurnMake.{in_content}
+use Rattle.pt_plan.specs.TurnMake.{staged_content}
 use Rattle.pt_plan.specs.declared.object.Object.{Object}
 use Rattle.pt_plan.specs.declared.phase.Part.TheVariants as part
 use Rattle.pt_plan.specs.declared.phase.Phase.{Phase}
@@ -94,13 +94,13 @@ pub record IsMakingObject (job : Job) (start : Tree) (placed : List Carried) (ob
 pub record IsWriting (held : Held) (position : Position) (now : Writing) : Type 0 where
   pub row : Row
   pub is_row : slice_get held.rows position.row ≡ Some row
-  pub writing : now.writing ≡ Some (in_content row.path)
+  pub writing : now.writing ≡ Some (staged_content row.path)
 
 -- the items before the file that is copied, and that file with the bytes read so far
 abbrev pub made_with_copy : Job → Object → Held → (Path → List ℕ) → Position → Path → List Item
 made_with_copy job object held bytes position path =
     made_before job object held.rows bytes (part.Content position)
-    ++ MakeFile (in_content path) held.fed ∷ []
+    ++ MakeFile (staged_content path) held.fed ∷ []
 
 -- the destination while a file is copied
 pub record IsCopying (job : Job) (start : Tree) (past : History) (object : Object) (held : Held)

@@ -55,6 +55,6 @@ is_ended _ = false
 
 -- no more is held between two turns than the source's bound, where the source tells
 abbrev pub InvariantIsWithinBound : Type 0
-InvariantIsWithinBound = (job : Job) (start : Start) (world : DeviceStates) (run : Run) (s : Reading)
-    → RunInvariant job start world run → is_ended run.phase ≡ false → world.source ≡ Some s
+InvariantIsWithinBound = (job : Job) (start : Start) (states : DeviceStates) (run : Run) (s : Reading)
+    → RunInvariant job start states run → is_ended run.phase ≡ false → states.source ≡ Some s
     → IsWithinBound job s.tree run.kept.held

@@ -14,10 +14,10 @@ use Rattle.pt_invariant.specs.FaultState.{FaultStateAndLog}
 -- between any two turns of a run and after its end, where all three tell, destination and log are such as any fault may leave of the source
 abbrev pub StopsLeave : Type 0
 StopsLeave =
-    (job : Job) (start : Start) (world : DeviceStates) (run : Run) (s : Reading) (t : Tree) (now : Writing)
-    (first last : List ℕ) → RunInvariant job start world run
-    → world.source ≡ Some s → start.dest ≡ Some t → world.dest ≡ Some now → start.log ≡ Some first
-    → world.log ≡ Some last
+    (job : Job) (start : Start) (states : DeviceStates) (run : Run) (s : Reading) (t : Tree) (now : Writing)
+    (first last : List ℕ) → RunInvariant job start states run
+    → states.source ≡ Some s → start.dest ≡ Some t → states.dest ≡ Some now → start.log ≡ Some first
+    → states.log ≡ Some last
     → FaultStateAndLog job s.tree t now.tree first last
 
 -- so they are after a turn that halts the run

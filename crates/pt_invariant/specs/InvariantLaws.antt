@@ -9,17 +9,17 @@ use Rattle.pt_plan.specs.DeviceStates.{DeviceStates}
 use Rattle.pt_plan.specs.declared.fault.Fault.{Fault}
 use Rattle.pt_plan.specs.declared.phase.Phase.{Phase}
 use Rattle.pt_plan.specs.declared.phase.Phase.TheVariants as phase
-use Rattle.pt_invariant.specs.RunInvariant.{RunInvariant, IsWorld, Start, start_of}
+use Rattle.pt_invariant.specs.RunInvariant.{RunInvariant, AreStates, Start, start_of}
 
 -- a new run is in progress, whatever stands there
 abbrev pub NewRunHoldsInvariant : Type 0
-NewRunHoldsInvariant = (job : Job) (world : DeviceStates) → IsLayout job.tuples → IsWorld world
-    → RunInvariant job (start_of world) world new_run
+NewRunHoldsInvariant = (job : Job) (states : DeviceStates) → IsLayout job.tuples → AreStates states
+    → RunInvariant job (start_of states) states new_run
 
 -- the calls of the next turn may be made
 abbrev pub InvariantEnables : Type 0
-InvariantEnables = (job : Job) (start : Start) (world : DeviceStates) (run : Run) → RunInvariant job start world run
-    → Enabled job run.phase run.kept.held world.source world.dest
+InvariantEnables = (job : Job) (start : Start) (states : DeviceStates) (run : Run) → RunInvariant job start states run
+    → Enabled job run.phase run.kept.held states.source states.dest
 
 -- a turn that goes on leaves the run in progress, at its next phase
 abbrev pub TurnKeepsInvariant : Type 0

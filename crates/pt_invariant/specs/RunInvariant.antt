@@ -26,14 +26,14 @@ pub record Start : Type 0 where
   pub dest : Option Tree
   pub log : Option (List ℕ)
 
--- the start that this world is
+-- the start that these states are
 abbrev pub start_of : DeviceStates → Start
-start_of world = record { dest = dest_tree world.dest; log = world.log }
+start_of states = record { dest = dest_tree states.dest; log = states.log }
 
 -- what each device tells is such as it may be: the names in a source rise, and a folder is above each entry of a destination
-pub record IsWorld (world : DeviceStates) : Type 0 where
-  pub source : ForSome world.source (λ s. is_proper s.tree ≡ true)
-  pub dest : ForSome world.dest (λ now. IsTree now.tree)
+pub record AreStates (states : DeviceStates) : Type 0 where
+  pub source : ForSome states.source (λ s. is_proper s.tree ≡ true)
+  pub dest : ForSome states.dest (λ now. IsTree now.tree)
 
 -- either both tell, and this holds of them, or neither does
 abbrev pub TellsAsBefore : {A B : Type 0} → Option A → Option B → (A → B → Type 0) → Type 0
@@ -107,24 +107,24 @@ FaultStateAt _ job source start now first last = ⊤
 -- ---- all of it
 
 -- this past is that of the run: with one of the layouts that there are, of what it holds, of the source, of the destination, of both together, of the log, and of what is left once it has ended
-pub record IsHistory (job : Job) (start : Start) (world : DeviceStates) (run : Run) (past : History) : Type 0 where
+pub record IsHistory (job : Job) (start : Start) (states : DeviceStates) (run : Run) (past : History) : Type 0 where
   pub layout : IsLayout job.tuples
   pub held : HeldAt job past run.phase run.kept.held
-  pub source : ForSome world.source (SourcePart job past run.phase run.kept.prefix run.kept.held)
-  pub dest : TellsAsBefore start.dest world.dest (DestPart job past run.phase run.kept.held)
-  pub items : ForSome world.source
+  pub source : ForSome states.source (SourcePart job past run.phase run.kept.prefix run.kept.held)
+  pub dest : TellsAsBefore start.dest states.dest (DestPart job past run.phase run.kept.held)
+  pub items : ForSome states.source
       (λ s. ForSome start.dest
       (λ old. ItemsPart job past run.phase run.kept.counts s.tree (root_in old)))
-  pub log : ForSome world.source
+  pub log : ForSome states.source
       (λ s. ForSome start.dest
-      (λ old. TellsStill start.log world.log (HasTold job s.tree (root_in old) past run.phase)))
-  pub quiet : TellsStill start.log world.log (IsQuiet run.phase)
-  pub left : ForSome world.source
+      (λ old. TellsStill start.log states.log (HasTold job s.tree (root_in old) past run.phase)))
+  pub quiet : TellsStill start.log states.log (IsQuiet run.phase)
+  pub left : ForSome states.source
       (λ s. ForSome start.dest
-      (λ old. ForSome world.dest
+      (λ old. ForSome states.dest
       (λ now. ForSome start.log
-      (λ first. ForSome world.log (FaultStateAt run.phase job s.tree old now.tree first)))))
+      (λ first. ForSome states.log (FaultStateAt run.phase job s.tree old now.tree first)))))
 
 -- a run of this job that began at this start is now in progress
 unfoldable pub RunInvariant : Job → Start → DeviceStates → Run → Type 0
-RunInvariant job start world run = (past : History) × IsHistory job start world run past
+RunInvariant job start states run = (past : History) × IsHistory job start states run past

@@ -31,6 +31,6 @@ LeftBehindStandsStill = (job : Job) (start : Tree) (now : Writing) → IsTree st
 
 -- and between any two turns
 abbrev pub InvariantStandsStill : Type 0
-InvariantStandsStill = (job : Job) (start : Start) (world : DeviceStates) (run : Run) (t : Tree)
-    (now : Writing) → RunInvariant job start world run → start.dest ≡ Some t → world.dest ≡ Some now
+InvariantStandsStill = (job : Job) (start : Start) (states : DeviceStates) (run : Run) (t : Tree)
+    (now : Writing) → RunInvariant job start states run → start.dest ≡ Some t → states.dest ≡ Some now
     → StandsStill t now.tree

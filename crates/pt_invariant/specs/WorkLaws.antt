@@ -23,7 +23,7 @@ use Rattle.pt_plan.specs.declared.fault.Fault.{Fault}
 use Rattle.pt_plan.specs.declared.phase.Phase.{Phase}
 use Rattle.pt_plan.specs.declared.phase.Phase.TheVariants as phase
 use Rattle.pt_plan.specs.declared.phase.Stage.TheVariants as stage
-use Rattle.pt_invariant.specs.RunInvariant.{RunInvariant, IsHistory, IsWorld, Start, start_of}
+use Rattle.pt_invariant.specs.RunInvariant.{RunInvariant, IsHistory, AreStates, Start, start_of}
 use Rattle.pt_invariant.specs.HeldInvariant.{HeldAt}
 use Rattle.pt_invariant.specs.SourceInvariant.{SourcePart}
 use Rattle.pt_invariant.specs.EndLaws.{is_ended}
@@ -39,20 +39,20 @@ pub record IsWithinWork (job : Job) (source : Forest) (root : Tree) (count : ℕ
 
 -- a run of this job that began at this start is in progress, and, where source and destination tell, within its work
 unfoldable pub InvariantWithinWork : Job → Start → DeviceStates → Run → Type 0
-InvariantWithinWork job start world run =
-    (past : History) × IsHistory job start world run past
-    × ForSome world.source
+InvariantWithinWork job start states run =
+    (past : History) × IsHistory job start states run past
+    × ForSome states.source
     (λ s. ForSome start.dest (λ old. IsWithinWork job s.tree (root_in old) past.count run))
 
 -- a new run is
 abbrev pub NewRunIsWithinWork : Type 0
-NewRunIsWithinWork = (job : Job) (world : DeviceStates) → IsLayout job.tuples → IsWorld world
-    → InvariantWithinWork job (start_of world) world new_run
+NewRunIsWithinWork = (job : Job) (states : DeviceStates) → IsLayout job.tuples → AreStates states
+    → InvariantWithinWork job (start_of states) states new_run
 
 -- it is in progress
 abbrev pub WithinWorkHoldsInvariant : Type 0
-WithinWorkHoldsInvariant = (job : Job) (start : Start) (world : DeviceStates) (run : Run)
-    → InvariantWithinWork job start world run → RunInvariant job start world run
+WithinWorkHoldsInvariant = (job : Job) (start : Start) (states : DeviceStates) (run : Run)
+    → InvariantWithinWork job start states run → RunInvariant job start states run
 
 -- a turn that goes on leaves it so, at its next phase
 abbrev pub TurnKeepsWithinWork : Type 0
@@ -65,8 +65,8 @@ TurnKeepsWithinWork =
 -- before its end a turn is left of the work, so that a limit of at least the work isn't reached
 abbrev pub TurnIsLeft : Type 0
 TurnIsLeft =
-    (job : Job) (start : Start) (world : DeviceStates) (run : Run) (s : Reading) (t : Tree)
-    → InvariantWithinWork job start world run → is_ended run.phase ≡ false → world.source ≡ Some s
+    (job : Job) (start : Start) (states : DeviceStates) (run : Run) (s : Reading) (t : Tree)
+    → InvariantWithinWork job start states run → is_ended run.phase ≡ false → states.source ≡ Some s
     → start.dest ≡ Some t → run.kept.counts.turns < work job s.tree (root_in t)
 
 -- after any turn, whatever it answers, no more turns were made than the work
@@ -87,9 +87,9 @@ TurnEndsWithinWork =
 
 -- and so is a run that is ended without a turn
 abbrev pub StopsWithinWork : Type 0
-StopsWithinWork = (job : Job) (start : Start) (world : DeviceStates) (run : Run)
-    → InvariantWithinWork job start world run
-    → InvariantWithinWork job start world (record { phase = phase.Ended; kept = run.kept })
+StopsWithinWork = (job : Job) (start : Start) (states : DeviceStates) (run : Run)
+    → InvariantWithinWork job start states run
+    → InvariantWithinWork job start states (record { phase = phase.Ended; kept = run.kept })
 
 -- ---- the turns of each group
 

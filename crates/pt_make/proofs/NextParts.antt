@@ -10,11 +10,12 @@ use Rattle.pt_state.proofs.Words.phase
 use Rattle.pt_state.proofs.Words.stage
 use Rattle.pt_state.specs.declared.state.State.{State}
 use Rattle.pt_plan.specs.Enabled.{MayMakeContent, MayOpenRow}
-use Rattle.pt_plan.specs.TurnMake.{MakesFolder, OpensCopy, PassesRow, behind, in_content, is_stored, path_of_source, with_folder}
+use Rattle.pt_plan.specs.TurnMake.{MakesFolder, OpensCopy, PassesRow, behind, staged_content, is_stored, path_of_source, with_folder}
 use Rattle.pt_state.proofs.Together.{did_nothing, none_of_file}
 use Rattle.pt_state.proofs.Turns.{keeps_same, left_some, went}
-use Rattle.pt_make.specs.Making.{IsNextCopy, IsNextFolder, IsPassed}
+use Rattle.pt_make.specs.Making.{IsNextCopy, IsNextFolder, IsPassed, content_phase, copy_phase}
 use Rattle.pt_make.specs.declared.contents.Copied.{Copied}
+use Rattle.pt_make.specs.declared.contents.ObjectContent.{ObjectContent}
 
 -- ---- what is next
 
@@ -22,19 +23,19 @@ pub is_passed : (s : State) (position : Position) (row : Row) (next : Part) → 
 unfolding IsPassed
 is_passed s position row next at other then = (row, (sym at, sym other, then))
 
-pub is_next_folder : (s : State) (position : Position) (row : Row) (path : Path) (names : ℕ) → Some row ≡ slice_get s.rows position.row → true ≡ is_stored s.contents position.stored row.path → names ≡ length row.path → names < 2 ^ 64 → position.directories < names → path ≡ in_content (take position.directories row.path) → IsNextFolder s position path
+pub is_next_folder : (s : State) (position : Position) (row : Row) (path : Path) (names : ℕ) → Some row ≡ slice_get s.rows position.row → true ≡ is_stored s.contents position.stored row.path → names ≡ length row.path → names < 2 ^ 64 → position.directories < names → path ≡ staged_content (take position.directories row.path) → IsNextFolder s position path
 unfolding IsNextFolder
 is_next_folder s position row path names at stored long few less is =
     let within : position.directories < length row.path = omega (arith, less, long) in
     (row, (sym at, sym stored, lt-ltb position.directories (length row.path) within, omega (arith, few, less), is))
 
-pub is_next_copy : (s : State) (object : Object) (position : Position) (row : Row) (to from : Path) (left names : ℕ) → Some row ≡ slice_get s.rows position.row → true ≡ is_stored s.contents position.stored row.path → names ≡ length row.path → names ≤ position.directories → to ≡ in_content (take names row.path) → from ≡ in_pairtree (path_of_source object s.trail ++ row.path) → left ≡ row.length
-    → IsNextCopy s object position (record { to = to; from = from; length = left })
+pub is_next_copy : (s : State) (content : ObjectContent) (row : Row) (to from : Path) (left names : ℕ) → Some row ≡ slice_get s.rows content.position.row → true ≡ is_stored s.contents content.position.stored row.path → names ≡ length row.path → names ≤ content.position.directories → to ≡ staged_content (take names row.path) → from ≡ in_pairtree (path_of_source content.object s.trail ++ row.path) → left ≡ row.length
+    → IsNextCopy s content (record { to = to; from = from; length = left })
 unfolding IsNextCopy
-is_next_copy s object position row to from left names at stored long most is source same =
-    let past : length row.path ≤ position.directories = omega (arith, most, long) in
+is_next_copy s content row to from left names at stored long most is source same =
+    let past : length row.path ≤ content.position.directories = omega (arith, most, long) in
     let all : length row.path ≤ names = omega (arith, long) in
-    (row, (sym at, sym stored, le-ltb position.directories (length row.path) past, is ∙ ap in_content (take_all names row.path all), source, same))
+    (row, (sym at, sym stored, le-ltb content.position.directories (length row.path) past, is ∙ ap staged_content (take_all names row.path all), source, same))
 
 -- ---- a row that is passed
 
@@ -61,9 +62,9 @@ made_folder s a b object position path did (row, (at, stored, less, few, is)) =
 
 -- ---- a file, and the one that it is copied from
 
-pub may_create : (s : State) (reading : Option Reading) (writing : Option Writing) (object : Object) (position : Position) (copied : Copied) → MayMakeContent reading writing object (held_of s []) position → IsNextCopy s object position copied → MayMake writing copied.to
+pub may_create : (s : State) (reading : Option Reading) (writing : Option Writing) (content : ObjectContent) (copied : Copied) → MayMakeContent reading writing content.object (held_of s []) content.position → IsNextCopy s content copied → MayMake writing copied.to
 unfolding MayMakeContent IsNextCopy
-may_create s reading writing object position copied may (row, (at, stored, most, there, here, same)) = rw there ((may row at stored).1 most).0
+may_create s reading writing content copied may (row, (at, stored, most, there, here, same)) = rw there ((may row at stored).1 most).0
 
 pub can_open_still : (a b : DeviceStates) (to from : Path) → CanOpen a.source from → Did (does (Creates to)) a b → CanOpen b.source from
 unfolding Did Answers
@@ -84,12 +85,12 @@ both_did to from a b c made opened = (
   opened.1 ∙ made.1,
 )
 
-pub copy_opened : (s s' : State) (a b c : DeviceStates) (object : Object) (position : Position) (copied : Copied) → Did (does (Creates copied.to)) a b → Did (asks (Opens copied.from)) b c → IsNextCopy s object position copied → HasBeenFed s.job.algorithm s'.hasher [] → KeepsAll s s'
-    → Turned (phase.Carrying object (stage.Make (part.Content position))) s s' a c (Ok (phase.Carrying object (stage.Copy position copied.length)))
+pub copy_opened : (s s' : State) (a b c : DeviceStates) (content : ObjectContent) (copied : Copied) → Did (does (Creates copied.to)) a b → Did (asks (Opens copied.from)) b c → IsNextCopy s content copied → HasBeenFed s.job.algorithm s'.hasher [] → KeepsAll s s'
+    → Turned (content_phase content) s s' a c (Ok (copy_phase content copied.length))
 unfolding IsNextCopy
-copy_opened s s' a b c object position copied created opened (row, (at, stored, most, there, here, same)) started keeps =
+copy_opened s s' a b c content copied created opened (row, (at, stored, most, there, here, same)) started keeps =
     rw same
-    (went a c (λ _. []) (λ fed _. Make (OpensCopy _ object position row at stored most))
+    (went a c (λ _. []) (λ fed _. Make (OpensCopy _ content.object content.position row at stored most))
     (both_did _ _ a b c (rw there at created) (rw here at opened)) refl (λ _ _. started) keeps)
 
 -- the file was made, and the other not opened
@@ -107,15 +108,15 @@ left_new to from f a b c created stays = (
   stays.4,
 )
 
-pub copy_unopened : (s s' : State) (a b c : DeviceStates) (object : Object) (position : Position) (copied : Copied) (f : Fault) (result : Answer) → IsErrAnd result (λ h. h ≡ f) → Did (does (Creates copied.to)) a b → FailsUnchanged f b c → IsNextCopy s object position copied → KeepsAll s s'
-    → Turned (phase.Carrying object (stage.Make (part.Content position))) s s' a c result
+pub copy_unopened : (s s' : State) (a b c : DeviceStates) (content : ObjectContent) (copied : Copied) (f : Fault) (result : Answer) → IsErrAnd result (λ h. h ≡ f) → Did (does (Creates copied.to)) a b → FailsUnchanged f b c → IsNextCopy s content copied → KeepsAll s s'
+    → Turned (content_phase content) s s' a c result
 unfolding IsNextCopy
-copy_unopened s s' a b c object position copied f result is created stays (row, (at, stored, most, there, here, same)) keeps =
-    left_some a c f result is (λ fed. Make (OpensCopy _ object position row at stored most))
+copy_unopened s s' a b c content copied f result is created stays (row, (at, stored, most, there, here, same)) keeps =
+    left_some a c f result is (λ fed. Make (OpensCopy _ content.object content.position row at stored most))
     (left_new _ _ f a b c (rw there at created) stays) keeps
 
-pub may_open_copy : (s : State) (w : DeviceStates) (object : Object) (position : Position) (copied : Copied) → MayMakeContent w.source w.dest object (held_of s []) position → IsNextCopy s object position copied → CanOpen w.source copied.from
+pub may_open_copy : (s : State) (w : DeviceStates) (content : ObjectContent) (copied : Copied) → MayMakeContent w.source w.dest content.object (held_of s []) content.position → IsNextCopy s content copied → CanOpen w.source copied.from
 unfolding MayMakeContent MayOpenRow IsNextCopy
-may_open_copy s w object position copied may (row, (at, stored, most, there, here, same)) = rw here ((may row at stored).1 most).1
+may_open_copy s w content copied may (row, (at, stored, most, there, here, same)) = rw here ((may row at stored).1 most).1
 
 pub ruleset next_parts = (is_passed, is_next_folder, is_next_copy, passed_row, few_folders, may_folder, made_folder, may_create, may_open_copy, can_open_still, copy_opened, copy_unopened)

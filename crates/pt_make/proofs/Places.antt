@@ -60,11 +60,14 @@ module _ (s : State) (a b : DeviceStates) (path : Path) (here : Option Kind) (ob
   pub in_the_way : (it : Kind) → here ≡ Some it → is_dir_kind (Some it) ≡ false → Turned (phase.Carrying object (stage.Tuples number)) s s a b (Err fault.Target)
   in_the_way it some other = refused a b (λ fed was. Place (IsInTheWay _ object number it other)) (rw (is, some) at found) keeps_same
 
-pub renamed_object : (s : State) (a b : DeviceStates) (from to : Path) (object : Object) → Did (does (Renames from to)) a b → from ≡ staging → to ≡ in_root object.place → Turned (phase.Carrying object stage.Rename) s s a b (Ok (phase.Carrying object stage.Line))
-renamed_object s a b from to object did is at =
-    placed s a b (λ fed. RenamesObject _ object) (rw (is, (at)) at did)
+pub renamed_object : (s : State) (a b : DeviceStates) (to : Path) (object : Object) → Did (does (Renames staging to)) a b → to ≡ in_root object.place → Turned (phase.Carrying object stage.Rename) s s a b (Ok (phase.Carrying object stage.Line))
+renamed_object s a b to object did at =
+    placed s a b (λ fed. RenamesObject _ object) (rw (at) at did)
 
-pub may_rename_object : (told : Option Writing) (from to : Path) (object : Object) → MayMove told staging (in_root object.place) → from ≡ staging → to ≡ in_root object.place → MayMove told from to
-may_rename_object told from to object may is same = rw (same, is) may
+pub may_rename_object : (told : Option Writing) (to : Path) (object : Object) → MayMove told staging (in_root object.place) → to ≡ in_root object.place → MayMove told staging to
+may_rename_object told to object may is = rw is may
 
-pub ruleset placing = (may_make_found, parent_there, looked_then, made_tuple, found_tuple, in_the_way, renamed_object, may_rename_object)
+pub may_move_staging : (told : Option Writing) (from to : Path) → MayMove told staging to → from ≡ staging → MayMove told from to
+may_move_staging told from to may is = rw is may
+
+pub ruleset placing = (may_make_found, parent_there, looked_then, made_tuple, found_tuple, in_the_way, renamed_object, may_rename_object, may_move_staging)

@@ -107,12 +107,12 @@ made_item s w w' number item next did is then =
 pub left_item : (s : State) (w w' : DeviceStates) (number : ℕ) (item : Item) (f : Fault) (result : Answer) → IsErrAnd result (λ g. g ≡ f) → FailsPartway (does (Makes item)) f w w' → IsRootItem s.job.layout number item → Turned (phase.Opening (opening.RootMake number)) s s w w' result
 left_item s w w' number item f result is part it = left_some w w' f result is (λ fed. Start (makes_item s number item it)) part keeps_same
 
-pub renamed_root : (s : State) (w w' : DeviceStates) (from to : Path) → Did (does (Renames from to)) w w' → from ≡ staging → to ≡ storage_root → Turned (phase.Opening opening.RootRename) s s w w' (Ok (phase.Opening opening.OpenRoot))
-renamed_root s w w' from to did is at =
-    goes w w' (RenamesRoot _) (rw (is, (at)) at did) refl keeps_same refl
+pub renamed_root : (s : State) (w w' : DeviceStates) (to : Path) → Did (does (Renames staging to)) w w' → to ≡ storage_root → Turned (phase.Opening opening.RootRename) s s w w' (Ok (phase.Opening opening.OpenRoot))
+renamed_root s w w' to did at =
+    goes w w' (RenamesRoot _) (rw (at) at did) refl keeps_same refl
 
-pub may_rename_root : (told : Option Writing) (from to : Path) → MayMove told staging storage_root → from ≡ staging → to ≡ storage_root → MayMove told from to
-may_rename_root told from to may is at = rw ((at), is) may
+pub may_rename_root : (told : Option Writing) (to : Path) → MayMove told staging storage_root → to ≡ storage_root → MayMove told staging to
+may_rename_root told to may is = rw is may
 
 -- ---- the root that stands
 

@@ -2,13 +2,13 @@
 use Rattle.std.specs.Prelude.{◌≡◌, ◌<◌, ◌==◌, ◌&&◌, ◌++◌, ◌-◌, ◌^◌, ℕ, List, None, Option, Some, false, length, map, nat_lt, slice_get, take, true, ⊤}
 use Rattle.std.specs.Str.{bytes_eq}
 use Rattle.pt_object.specs.declared.algorithm.Algorithm.{Algorithm}
-use Rattle.pt_object.specs.declared.contents.Content.{Content}
+use Rattle.pt_object.specs.declared.table.contents.Content.{Content}
 use Rattle.pt_object.specs.declared.hasher.Hasher.{Hasher}
 use Rattle.pt_object.specs.Distinct.{content_of_row, distinct}
 use Rattle.pt_object.specs.Hasher.{HasBeenFed}
 use Rattle.pt_object.specs.Script.{MakeFile}
 use Rattle.pt_object.specs.Scripts.{staging}
-use Rattle.pt_plan.specs.TurnMake.{behind, behind_stored, content_at, in_content, in_version, is_stored, path_of_source, text_of_inventory}
+use Rattle.pt_plan.specs.TurnMake.{behind, behind_stored, content_at, staged_content, in_version, is_stored, path_of_source, text_of_inventory}
 use Rattle.pt_plan.specs.TurnPlace.{bytes_in_rows}
 use Rattle.pt_plan.specs.TurnWalk.{in_pairtree}
 use Rattle.pt_object.specs.declared.rows.Row.{Row}
@@ -18,13 +18,25 @@ use Rattle.pt_plan.specs.declared.phase.Part.{Part}
 use Rattle.pt_plan.specs.declared.phase.Part.TheVariants as part
 use Rattle.pt_plan.specs.declared.phase.Position.{Position}
 use Rattle.pt_plan.specs.DeviceStates.{Calls, Makes, does}
+use Rattle.pt_plan.specs.declared.phase.Phase.{Phase}
+use Rattle.pt_plan.specs.declared.phase.Phase.TheVariants as phase
+use Rattle.pt_plan.specs.declared.phase.Stage.TheVariants as stage
 use Rattle.pt_make.specs.declared.contents.Copied.{Copied}
+use Rattle.pt_make.specs.declared.contents.ObjectContent.{ObjectContent}
 use Rattle.pt_make.specs.declared.contents.Step.{Step}
 use Rattle.pt_make.specs.declared.contents.Step.TheVariants as step
 use Rattle.pt_make.specs.declared.inventories.InventoryFolder.{InventoryFolder}
 use Rattle.pt_make.specs.declared.inventories.InventoryFolder.TheVariants as folder
 use Rattle.pt_state.specs.States.{job_of}
 use Rattle.pt_state.specs.declared.state.State.{State}
+
+-- the phase that makes an object's content
+abbrev pub content_phase : ObjectContent → Phase
+content_phase content = phase.Carrying content.object (stage.Make (part.Content content.position))
+
+-- and the one that copies it, of whose file so many bytes are left
+abbrev pub copy_phase : ObjectContent → ℕ → Phase
+copy_phase content left = phase.Carrying content.object (stage.Copy content.position left)
 
 -- the row and the content of the position are there
 pub record IsAt (position : Position) (rows : List Row) (contents : List Content) : Type 0 where
@@ -44,23 +56,23 @@ IsNextFolder s position path =
     (row : Row) × ((slice_get s.rows position.row ≡ Some row)
     × (is_stored s.contents position.stored row.path ≡ true)
     × (nat_lt position.directories (length row.path) ≡ true) × (position.directories < 2 ^ 64 - 1)
-    × (path ≡ in_content (take position.directories row.path)))
+    × (path ≡ staged_content (take position.directories row.path)))
 
 -- its file is next
-unfoldable pub IsNextCopy : State → Object → Position → Copied → Type 0
-IsNextCopy s object position copied =
-    (row : Row) × ((slice_get s.rows position.row ≡ Some row)
-    × (is_stored s.contents position.stored row.path ≡ true)
-    × (nat_lt position.directories (length row.path) ≡ false)
-    × (copied.to ≡ in_content row.path)
-    × (copied.from ≡ in_pairtree (path_of_source object s.trail ++ row.path))
+unfoldable pub IsNextCopy : State → ObjectContent → Copied → Type 0
+IsNextCopy s content copied =
+    (row : Row) × ((slice_get s.rows content.position.row ≡ Some row)
+    × (is_stored s.contents content.position.stored row.path ≡ true)
+    × (nat_lt content.position.directories (length row.path) ≡ false)
+    × (copied.to ≡ staged_content row.path)
+    × (copied.from ≡ in_pairtree (path_of_source content.object s.trail ++ row.path))
     × (copied.length ≡ row.length))
 
--- this is next at the position
-abbrev pub IsStep : State → Object → Position → Step → Type 0
-IsStep s object position (step.Pass next) = IsPassed s position next
-IsStep s object position (step.Folder path) = IsNextFolder s position path
-IsStep s object position (step.File copied) = IsNextCopy s object position copied
+-- this is next of the content
+abbrev pub IsStep : State → ObjectContent → Step → Type 0
+IsStep s content (step.Pass next) = IsPassed s content.position next
+IsStep s content (step.Folder path) = IsNextFolder s content.position path
+IsStep s content (step.File copied) = IsNextCopy s content copied
 
 -- what was read is as the row at the position says, and this is next
 unfoldable pub IsAsRead : List Row → List Content → Position → ℕ → List ℕ → Part → Type 0

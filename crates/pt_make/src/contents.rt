@@ -3,20 +3,26 @@
 ghost use Rattle.std.specs.Prelude.{◌≡◌, ◌<◌, [], IfOk, length};
 ghost use Rattle.pt_plan.specs.Enabled.{MayMakeContent};
 ghost use Rattle.pt_plan.specs.TurnMake.{content_at, is_stored as is_stored_of};
-ghost use Rattle.pt_plan.specs.declared.phase.Part.TheVariants as part;
-ghost use Rattle.pt_plan.specs.declared.phase.Phase.TheVariants as phase;
-ghost use Rattle.pt_plan.specs.declared.phase.Stage.TheVariants as stage;
 ghost use Rattle.pt_state.specs.States.{held_of};
 ghost use Rattle.pt_state.specs.Turns.{TakesTurn};
 ghost use Rattle.pt_tree.specs.Dest.{MayMake};
 ghost use Rattle.pt_tree.specs.Source.{CanOpen};
-ghost use Rattle.pt_make.specs.Making.{IsNextCopy, IsNextFolder, IsStep};
+ghost use Rattle.pt_make.specs.Making.{IsNextCopy, IsNextFolder, IsStep, content_phase};
 
 use pt_object::{Contents, Hasher, Rows};
 use pt_plan::{Fault, Object, Part, Phase, Position, Stage};
-use pt_state::paths::{content_path, source_path};
+use pt_state::paths::{source_path, staged_content_path};
 use pt_state::{Io, State};
 use pt_tree::{MemoryFault, NamePath};
+
+/// The content of an object at a position of its rows.
+#[derive(Drop)]
+pub struct ObjectContent {
+    /// The object that is made in `staging`.
+    pub object: Object,
+    /// Where it stands in the object's rows.
+    pub position: Position,
+}
 
 // The file of a content that is next to be made, with the one that it is copied from.
 #[derive(Drop)]
@@ -40,29 +46,28 @@ enum Step {
 /// Passes a row whose content is stored already; else makes the next folder of its content path, or its file.
 pub(crate) fn make_content<O: Io>(
     state: &mut State,
-    object: Object,
-    position: Position,
+    content: ObjectContent,
     out: &mut O,
 ) -> Result<Phase, Fault>
-    requires row { position.row < length state.old.rows }
-    requires may { MayMakeContent (O.world out.old).source (O.world out.old).dest object
-        (held_of state.old []) position }
-    ensures turn { TakesTurn O.Io (1, 0)
-        (phase.Carrying object (stage.Make (part.Content position)))
+    requires row { content.position.row < length state.old.rows }
+    requires may { MayMakeContent (O.states out.old).source (O.states out.old).dest content.object
+        (held_of state.old []) content.position }
+    ensures turn { TakesTurn O.Io (1, 0) (content_phase content)
         (state.old, out.old) (state.new, out.new) result }
 {
-    match next_step(state, &object, position)? {
-        Step::Pass(next) => Ok(Phase::Carrying(object, Stage::Make(next))),
-        Step::Folder(path) => make_folder(state, object, position, &path, out),
-        Step::File(copied) => open_copy(state, object, position, &copied, out),
+    match next_step(state, &content)? {
+        Step::Pass(next) => Ok(Phase::Carrying(content.object, Stage::Make(next))),
+        Step::Folder(path) => make_folder(state, content, &path, out),
+        Step::File(copied) => open_copy(state, content, &copied, out),
     }
 }
 
-// What is next at a position.
-fn next_step(state: &State, object: &Object, position: Position) -> Result<Step, MemoryFault>
-    requires { position.row < length state.now.rows }
-    ensures { IfOk result (IsStep state.now object.now position) }
+// What is next of a content.
+fn next_step(state: &State, content: &ObjectContent) -> Result<Step, MemoryFault>
+    requires { content.now.position.row < length state.now.rows }
+    ensures { IfOk result (IsStep state.now content.now) }
 {
+    let position = content.position;
     let _rows = state.rows.len();
     let Some(row) = state.rows.get(position.row) else {
         unreachable!()
@@ -74,11 +79,11 @@ fn next_step(state: &State, object: &Object, position: Position) -> Result<Step,
     }
     let names = row.path.len();
     if position.directories < names {
-        let path = content_path(state.alloc, &row.path, position.directories)?;
+        let path = staged_content_path(state.alloc, &row.path, position.directories)?;
         return Ok(Step::Folder(path));
     }
-    let to = content_path(state.alloc, &row.path, names)?;
-    let from = source_path(object, &state.trail, &row.path)?;
+    let to = staged_content_path(state.alloc, &row.path, names)?;
+    let from = source_path(&content.object, &state.trail, &row.path)?;
     let length = row.length;
     Ok(Step::File(Copied { to, from, length }))
 }
@@ -107,18 +112,17 @@ fn is_stored(contents: &Contents, stored: usize, path: &NamePath) -> bool
 // Makes the folder of this path, which is next on the way to a content.
 fn make_folder<O: Io>(
     state: &State,
-    object: Object,
-    position: Position,
+    content: ObjectContent,
     path: &NamePath,
     out: &mut O,
 ) -> Result<Phase, Fault>
-    requires next { IsNextFolder state.now position path.now }
-    requires may { MayMake (O.world out.old).dest path.now }
-    ensures turn { TakesTurn O.Io (0, 0)
-        (phase.Carrying object (stage.Make (part.Content position)))
+    requires next { IsNextFolder state.now content.position path.now }
+    requires may { MayMake (O.states out.old).dest path.now }
+    ensures turn { TakesTurn O.Io (0, 0) (content_phase content)
         (state.now, out.old) (state.now, out.new) result }
 {
     out.mkdir(path)?;
+    let ObjectContent { object, position } = content;
     let directories = position.directories + 1;
     let next = Position {
         directories,
@@ -130,20 +134,19 @@ fn make_folder<O: Io>(
 // Makes the file of a content, and opens the one that it is copied from.
 fn open_copy<O: Io>(
     state: &mut State,
-    object: Object,
-    position: Position,
+    content: ObjectContent,
     copied: &Copied,
     out: &mut O,
 ) -> Result<Phase, Fault>
-    requires next { IsNextCopy state.old object position copied.now }
-    requires may { MayMake (O.world out.old).dest copied.now.to
-        × CanOpen (O.world out.old).source copied.now.from }
-    ensures turn { TakesTurn O.Io (1, 0)
-        (phase.Carrying object (stage.Make (part.Content position)))
+    requires next { IsNextCopy state.old content copied.now }
+    requires may { MayMake (O.states out.old).dest copied.now.to
+        × CanOpen (O.states out.old).source copied.now.from }
+    ensures turn { TakesTurn O.Io (1, 0) (content_phase content)
         (state.old, out.old) (state.new, out.new) result }
 {
     out.create(&copied.to)?;
     out.open(&copied.from)?;
     state.hasher = Hasher::start(state.job.algorithm);
+    let ObjectContent { object, position } = content;
     Ok(Phase::Carrying(object, Stage::Copy(position, copied.length)))
 }

@@ -39,7 +39,7 @@ pub(crate) fn make_inventory<O: Io>(
 ) -> Result<Phase, Fault>
     requires contents { HasContentsOfRows state.old }
     requires fed { IsFedFor folder state.old object }
-    requires may { MayMake (O.world out.old).dest (in_folder folder (inventory_name ∷ [])) }
+    requires may { MayMake (O.states out.old).dest (in_folder folder (inventory_name ∷ [])) }
     ensures turn { TakesTurn O.Io (0, 0)
         (phase.Carrying object (stage.Make (inventory_part folder)))
         (state.old, out.old) (state.new, out.new) result }
@@ -89,7 +89,7 @@ fn put_text<O: Io>(
     hasher: &mut Option<Hasher>,
     out: &mut O,
 ) -> Result<(), Fault>
-    requires { MayMake (O.world out.old).dest path.now }
+    requires { MayMake (O.states out.old).dest path.now }
     ensures wrote { WroteBy O.Io (makes_file path.now text.entry.rest)
         out.old out.new result }
     ensures fed { OnOk result (IsFedMore hasher.old hasher.new text.entry.rest) }
@@ -120,7 +120,7 @@ pub(crate) fn make_sidecar<O: Io>(
     out: &mut O,
 ) -> Result<Phase, Fault>
     requires fed { HasFedInventory state.old object }
-    requires may { MayMake (O.world out.old).dest
+    requires may { MayMake (O.states out.old).dest
         (in_folder folder (sidecar_name_of state.old.job.algorithm ∷ [])) }
     ensures turn { TakesTurn O.Io (0, 0)
         (phase.Carrying object (stage.Make (sidecar_part folder)))
@@ -156,7 +156,7 @@ fn put_sidecar<O: Io>(
     out: &mut O,
 ) -> Result<(), Fault>
     requires fed { HasFedInventory state.now object.now }
-    requires may { MayMake (O.world out.old).dest path.now }
+    requires may { MayMake (O.states out.old).dest path.now }
     ensures { WroteBy O.Io (makes_file path.now
         (sidecar_text state.now.job.algorithm (inventory_held state.now object.now)))
         out.old out.new result }

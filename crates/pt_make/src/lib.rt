@@ -14,3 +14,5 @@ pub mod making;
 pub mod placing;
 pub mod root;
 pub mod telling;
+
+pub use contents::ObjectContent;

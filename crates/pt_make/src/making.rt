@@ -12,7 +12,7 @@ ghost use Rattle.pt_state.specs.Turns.{TakesTurn};
 ghost use Rattle.pt_tree.specs.Dest.{MayMake};
 ghost use Rattle.pt_make.specs.Making.{IsReadyFor};
 
-use crate::contents::{make_content, next_content};
+use crate::contents::{ObjectContent, make_content, next_content};
 use crate::inventories::{InventoryFolder, make_inventory, make_sidecar};
 use pt_object::{WellKnownName, object_declaration};
 use pt_plan::{Fault, Object, Part, Phase, Position, Stage};
@@ -30,7 +30,7 @@ pub fn make<O: Io>(
     out: &mut O,
 ) -> Result<Phase, Fault>
     requires may { MayMakePart (job_of state.old.job) object part (held_of state.old [])
-        (O.world out.old).source (O.world out.old).dest }
+        (O.states out.old).source (O.states out.old).dest }
     requires ready { IsReadyFor part object state.old }
     ensures turn { TakesTurn O.Io (1, 0) (phase.Carrying object (stage.Make part))
         (state.old, out.old) (state.new, out.new) result }
@@ -39,7 +39,7 @@ pub fn make<O: Io>(
         Part::Staging => make_staging(state, object, out),
         Part::Declaration => make_declaration(state, object, out),
         Part::Version => make_version(state, object, out),
-        Part::Content(position) => make_content(state, object, position, out),
+        Part::Content(position) => make_content(state, ObjectContent { object, position }, out),
         Part::VersionInventory => make_inventory(state, object, InventoryFolder::Version, out),
         Part::VersionSidecar => make_sidecar(state, object, InventoryFolder::Version, out),
         Part::Inventory => make_inventory(state, object, InventoryFolder::Top, out),
@@ -49,7 +49,7 @@ pub fn make<O: Io>(
 
 // Makes `staging`.
 fn make_staging<O: Io>(state: &State, object: Object, out: &mut O) -> Result<Phase, Fault>
-    requires may { MayMake (O.world out.old).dest staging }
+    requires may { MayMake (O.states out.old).dest staging }
     ensures turn { TakesTurn O.Io (0, 0) (phase.Carrying object (stage.Make part.Staging))
         (state.now, out.old) (state.now, out.new) result }
 {
@@ -60,7 +60,7 @@ fn make_staging<O: Io>(state: &State, object: Object, out: &mut O) -> Result<Pha
 
 // Makes the object's declaration (OCFL 1.1, "Object Conformance Declaration").
 fn make_declaration<O: Io>(state: &State, object: Object, out: &mut O) -> Result<Phase, Fault>
-    requires may { MayMake (O.world out.old).dest (staging ++ object_declaration_name ∷ []) }
+    requires may { MayMake (O.states out.old).dest (staging ++ object_declaration_name ∷ []) }
     ensures turn { TakesTurn O.Io (0, 0) (phase.Carrying object (stage.Make part.Declaration))
         (state.now, out.old) (state.now, out.new) result }
 {
@@ -74,7 +74,7 @@ fn make_declaration<O: Io>(state: &State, object: Object, out: &mut O) -> Result
 
 // Makes the version's folder (OCFL 1.1, "Version Directories").
 fn make_version<O: Io>(state: &State, object: Object, out: &mut O) -> Result<Phase, Fault>
-    requires may { MayMake (O.world out.old).dest (in_version []) }
+    requires may { MayMake (O.states out.old).dest (in_version []) }
     ensures turn { TakesTurn O.Io (0, 0) (phase.Carrying object (stage.Make part.Version))
         (state.now, out.old) (state.now, out.new) result }
 {

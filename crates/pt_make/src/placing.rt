@@ -4,9 +4,11 @@ ghost use Rattle.pt_object.specs.Scripts.{staging};
 ghost use Rattle.pt_plan.specs.Enabled.{HasParent};
 ghost use Rattle.pt_plan.specs.TurnPlace.{after_tuple as after_tuple_of, tuple_folder};
 ghost use Rattle.pt_plan.specs.TurnWalk.{in_root};
+ghost use Rattle.pt_plan.specs.DeviceStates.{Renames, does};
 ghost use Rattle.pt_plan.specs.declared.phase.Phase.TheVariants as phase;
 ghost use Rattle.pt_plan.specs.declared.phase.Stage.TheVariants as stage;
 ghost use Rattle.pt_state.specs.States.{job_of};
+ghost use Rattle.pt_state.specs.Outside.{Called};
 ghost use Rattle.pt_state.specs.Turns.{TakesTurn};
 ghost use Rattle.pt_tree.specs.Dest.{MayMove};
 
@@ -15,6 +17,7 @@ use pt_plan::{Fault, Object, Phase, Stage};
 use pt_state::paths::{front_in_storage_root, in_storage_root};
 use pt_state::{Io, State};
 use pt_tree::{Kind, NamePath};
+use std::alloc::Global;
 
 /// Makes a tuple directory on the way to an object's place, where it is absent (extension 0003).
 pub fn make_tuple<O: Io>(
@@ -24,7 +27,7 @@ pub fn make_tuple<O: Io>(
     out: &mut O,
 ) -> Result<Phase, Fault>
     requires few { index < state.now.job.layout.count }
-    requires may { HasParent (O.world out.old).dest (tuple_folder object index) }
+    requires may { HasParent (O.states out.old).dest (tuple_folder object index) }
     ensures turn { TakesTurn O.Io (0, 1) (phase.Carrying object (stage.Tuples index))
         (state.now, out.old) (state.now, out.new) result }
 {
@@ -43,7 +46,7 @@ fn enter_tuple<O: Io>(
 ) -> Result<Phase, Fault>
     requires few { index < state.now.job.layout.count }
     requires path { path.now ≡ tuple_folder object index }
-    requires may { HasParent (O.world out.old).dest path.now }
+    requires may { HasParent (O.states out.old).dest path.now }
     ensures turn { TakesTurn O.Io (0, 1) (phase.Carrying object (stage.Tuples index))
         (state.now, out.old) (state.now, out.new) result }
 {
@@ -72,28 +75,21 @@ fn after_tuple(state: &State, object: Object, index: usize) -> Phase
 
 /// Renames `staging` to an object's place.
 pub fn rename<O: Io>(state: &State, object: Object, out: &mut O) -> Result<Phase, Fault>
-    requires may { MayMove (O.world out.old).dest staging (in_root object.place) }
+    requires may { MayMove (O.states out.old).dest staging (in_root object.place) }
     ensures turn { TakesTurn O.Io (0, 0) (phase.Carrying object stage.Rename)
         (state.now, out.old) (state.now, out.new) result }
 {
-    let from = NamePath::of_known(state.alloc, &[WellKnownName::Staging])?;
     let to = in_storage_root(state.alloc, &object.place)?;
-    move_object(state, object, &from, &to, out)
+    rename_staging(state.alloc, &to, out)?;
+    Ok(Phase::Carrying(object, Stage::Line))
 }
 
-// Renames what is at one path to the object's place, which is the other.
-fn move_object<O: Io>(
-    state: &State,
-    object: Object,
-    from: &NamePath,
-    to: &NamePath,
-    out: &mut O,
-) -> Result<Phase, Fault>
-    requires may { MayMove (O.world out.old).dest from.now to.now }
-    requires paths { (from.now ≡ staging) × (to.now ≡ in_root object.place) }
-    ensures turn { TakesTurn O.Io (0, 0) (phase.Carrying object stage.Rename)
-        (state.now, out.old) (state.now, out.new) result }
+/// Renames `staging` to a path of the destination.
+pub(crate) fn rename_staging<O: Io>(alloc: Global, to: &NamePath, out: &mut O) -> Result<(), Fault>
+    requires { MayMove (O.states out.old).dest staging to.now }
+    ensures { Called O.states (O.within 0 0) (does (Renames staging to.now))
+        out.old out.new result }
 {
-    out.rename(from, to)?;
-    Ok(Phase::Carrying(object, Stage::Line))
+    let from = NamePath::of_known(alloc, &[WellKnownName::Staging])?;
+    out.rename(&from, to)
 }

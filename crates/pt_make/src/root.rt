@@ -14,10 +14,11 @@ ghost use Rattle.pt_tree.specs.Dest.{MayMake, MayMove};
 ghost use Rattle.pt_state.specs.Turns.{TakesTurn};
 ghost use Rattle.pt_make.specs.Root.{IsFileAt, IsItemAt, IsRootItem};
 
+use crate::placing::rename_staging;
 use pt_object::{WellKnownName, root_files};
+use pt_plan::kinds::is_file;
 use pt_plan::{Fault, Opening, Phase};
 use pt_state::files::put_file;
-use pt_state::kinds::is_file;
 use pt_state::paths::{in_staging, in_storage_root};
 use pt_state::{Io, State};
 use pt_tree::{Kind, MemoryFault, NamePath};
@@ -51,7 +52,7 @@ pub fn root<O: Io>(state: &State, out: &mut O) -> Result<Phase, Fault>
 /// Makes one item of a storage root in `staging`: first the directories of the layout's configuration, then the three
 /// files, of which the declaration comes last.
 pub fn make_root<O: Io>(state: &State, item: u8, out: &mut O) -> Result<Phase, Fault>
-    requires may { MayMakeRootItem (O.world out.old).dest state.now.job.layout item }
+    requires may { MayMakeRootItem (O.states out.old).dest state.now.job.layout item }
     requires item { item < 6 }
     ensures turn { TakesTurn O.Io (0, 0) (phase.Opening (opening.RootMake item))
         (state.now, out.old) (state.now, out.new) result }
@@ -69,7 +70,7 @@ pub fn make_root<O: Io>(state: &State, item: u8, out: &mut O) -> Result<Phase, F
 }
 
 fn make_folder<O: Io>(state: &State, item: u8, path: &NamePath, out: &mut O) -> Result<Phase, Fault>
-    requires may { MayMake (O.world out.old).dest path.now }
+    requires may { MayMake (O.states out.old).dest path.now }
     requires here { IsItemAt state.now.job.layout item (MakeFolder path.now) }
     ensures turn { TakesTurn O.Io (0, 0) (phase.Opening (opening.RootMake item))
         (state.now, out.old) (state.now, out.new) result }
@@ -85,7 +86,7 @@ fn make_file<O: Io>(
     bytes: &[u8],
     out: &mut O,
 ) -> Result<Phase, Fault>
-    requires may { MayMake (O.world out.old).dest path.now }
+    requires may { MayMake (O.states out.old).dest path.now }
     requires here { IsItemAt state.now.job.layout item (MakeFile path.now bytes.now) }
     ensures turn { TakesTurn O.Io (0, 0) (phase.Opening (opening.RootMake item))
         (state.now, out.old) (state.now, out.new) result }
@@ -129,27 +130,12 @@ fn after_item(item: u8) -> Phase
 
 /// Renames `staging` to the storage root.
 pub fn rename_root<O: Io>(state: &State, out: &mut O) -> Result<Phase, Fault>
-    requires { MayMove (O.world out.old).dest staging_path storage_root }
+    requires { MayMove (O.states out.old).dest staging_path storage_root }
     ensures turn { TakesTurn O.Io (0, 0) (phase.Opening opening.RootRename)
         (state.now, out.old) (state.now, out.new) result }
 {
-    let from = NamePath::of_known(state.alloc, &[WellKnownName::Staging])?;
     let to = NamePath::of_known(state.alloc, &[WellKnownName::StorageRoot])?;
-    move_root(state, &from, &to, out)
-}
-
-fn move_root<O: Io>(
-    state: &State,
-    from: &NamePath,
-    to: &NamePath,
-    out: &mut O,
-) -> Result<Phase, Fault>
-    requires may { MayMove (O.world out.old).dest from.now to.now }
-    requires paths { (from.now ≡ staging_path) × (to.now ≡ storage_root) }
-    ensures turn { TakesTurn O.Io (0, 0) (phase.Opening opening.RootRename)
-        (state.now, out.old) (state.now, out.new) result }
-{
-    out.rename(from, to)?;
+    rename_staging(state.alloc, &to, out)?;
     Ok(Phase::Opening(Opening::OpenRoot))
 }
 

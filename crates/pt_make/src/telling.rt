@@ -7,8 +7,9 @@ ghost use Rattle.pt_state.specs.Turns.{TakesTurn};
 ghost use Rattle.pt_make.specs.Making.{CanTellDone};
 
 use pt_object::Rows;
+use pt_plan::lines::Done;
 use pt_plan::{Fault, Object, Phase};
-use pt_state::lines::{Done, put_done, put_end};
+use pt_state::lines::{put_done, put_end};
 use pt_state::paths::object_path;
 use pt_state::site::back_to_site;
 use pt_state::{Io, State};

@@ -27,7 +27,7 @@ use Rattle.pt_move.proofs.Going.{is_going}
 use Rattle.pt_move.proofs.Changes.{gains_same, moves_to}
 use Rattle.pt_move.proofs.Leaves.{turn_leaves}
 use Rattle.pt_move.proofs.Standing.{stands}
-use Rattle.pt_invariant.specs.RunInvariant.{RunInvariant, IsWorld, Start, TellsAsBefore, start_of}
+use Rattle.pt_invariant.specs.RunInvariant.{RunInvariant, AreStates, Start, TellsAsBefore, start_of}
 use Rattle.pt_invariant.specs.DestInvariant.{DestPart, DestFaultStateOfRun}
 use Rattle.pt_invariant.proofs.faults.KeptNow.{kept_now}
 use Rattle.pt_invariant.proofs.turns_left.EndsWithin.{stops_within_work}
@@ -58,9 +58,9 @@ permits_fed job (phase.Opening opening.Begin) s fed r w may = may
 permits_fed job phase.Ended s fed r w may = tt
 permits_fed _ _ _ _ _ _ may = may
 
-held_at : {job : Job} (start : Start) (world : DeviceStates) (run : Run) → RunInvariant job start world run → (past : History) × HeldAt job past run.phase run.kept.held
+held_at : {job : Job} (start : Start) (states : DeviceStates) (run : Run) → RunInvariant job start states run → (past : History) × HeldAt job past run.phase run.kept.held
 unfolding RunInvariant
-held_at start world run (past, is) = (past, is.held)
+held_at start states run (past, is) = (past, is.held)
 
 module _ (here : Phase) (s : State) (now : DeviceStates) (going : here ≢ phase.Ended) (begun : BeganSomewhere now (record { phase = here; state = s })) where
   -- the start, and that the run is in progress
@@ -132,11 +132,11 @@ well_after here s s' old new answer going begun well more turned =
 -- ---- a run that ends without a turn
 
 -- where the limit of turns was made, nothing was called
-pub begun_ends : (start : Start) (world : DeviceStates) (r : Running) {t : Running} → t.phase ≡ phase.Ended → t.state ≡ r.state → IsBegun start world r → IsBegun start world t
+pub begun_ends : (start : Start) (states : DeviceStates) (r : Running) {t : Running} → t.phase ≡ phase.Ended → t.state ≡ r.state → IsBegun start states r → IsBegun start states t
 unfolding IsBegun
-begun_ends start world r {t} ended same is =
+begun_ends start states r {t} ended same is =
     rw (ended, same)
-    (record { fed = is.fed; was = tt; begun = stops_within_work (job_of r.state.job) start (as_told world) (run_of r is.fed) is.begun })
+    (record { fed = is.fed; was = tt; begun = stops_within_work (job_of r.state.job) start (as_told states) (run_of r is.fed) is.begun })
 
 -- ---- what is left in the destination
 
@@ -146,13 +146,13 @@ left_at None (Some now) at tells = absurd tells
 left_at (Some start) None at tells = absurd tells
 left_at {job} (Some start) (Some now) {past} {here} {held} at tells = kept_now job past start here held now at tells
 
-left_in : (job : Job) (start : Start) (world : DeviceStates) (r : Run) → RunInvariant job start world r → TellsAsBefore start.dest world.dest (DestFaultStateOfRun job)
+left_in : (job : Job) (start : Start) (states : DeviceStates) (r : Run) → RunInvariant job start states r → TellsAsBefore start.dest states.dest (DestFaultStateOfRun job)
 unfolding RunInvariant
-left_in job start world r (past, is) = left_at start.dest world.dest is.held is.dest
+left_in job start states r (past, is) = left_at start.dest states.dest is.held is.dest
 
-pub leaves_behind : (start : Start) (world : DeviceStates) (r : Running) → IsBegun start world r → DestFaultStateTold r.state.job start.dest world.dest
+pub leaves_behind : (start : Start) (states : DeviceStates) (r : Running) → IsBegun start states r → DestFaultStateTold r.state.job start.dest states.dest
 unfolding IsBegun DestFaultStateTold
-leaves_behind start world r is = left_in (job_of r.state.job) start (as_told world) (run_of r is.fed) (within_work_holds_invariant (job_of r.state.job) start (as_told world) (run_of r is.fed) is.begun)
+leaves_behind start states r is = left_in (job_of r.state.job) start (as_told states) (run_of r is.fed) (within_work_holds_invariant (job_of r.state.job) start (as_told states) (run_of r is.fed) is.begun)
 
 -- ---- how often the source was called
 
@@ -229,8 +229,8 @@ is_fresh new = record { kept = new.kept; fed = rw new.job_is new.fed }
 pub new_well : (job : own.Job) (r : Running) → IsNew job r → TypeInvariant r
 new_well job r new = record { bounded = rw (new.kept, new.phase) (new_bounded (job_of r.state.job)); fresh = λ begins. is_fresh new }
 
-pub same_begun : (start : Start) (world : DeviceStates) {r t : Running} → t ≡ r → IsBegun start world r → IsBegun start world t
-same_begun start world same is = rw same is
+pub same_begun : (start : Start) (states : DeviceStates) {r t : Running} → t ≡ r → IsBegun start states r → IsBegun start states t
+same_begun start states same is = rw same is
 
 -- nothing was put
 pub told_nothing : {g : Option (List ℕ)} (g' : Option (List ℕ)) {c : Report} (c' : Report) → g' ≡ g → c' ≡ c → TellsFront g g' c c'
@@ -244,29 +244,29 @@ ended_well r s well ended same = record {
 }
 
 -- one that is to begin began where the devices stand
-pub first_begun : (r : Running) (world : DeviceStates) → r.phase ≡ phase.Opening opening.Begin → IsFresh r.state → IsLayout r.state.job.layout → IsWorld world → IsBegun (start_of world) world r
+pub first_begun : (r : Running) (states : DeviceStates) → r.phase ≡ phase.Opening opening.Begin → IsFresh r.state → IsLayout r.state.job.layout → AreStates states → IsBegun (start_of states) states r
 unfolding IsBegun
-first_begun r world begins fresh layout is = record {
+first_begun r states begins fresh layout is = record {
   fed = [];
   was = fed_to_end r.phase r.state.job.algorithm r.state.hasher [] fresh.fed;
-  begun = rw run_is (to_told (job_of r.state.job) (start_of world) world new_run (new_run_is_within_work (job_of r.state.job) world layout is));
+  begun = rw run_is (to_told (job_of r.state.job) (start_of states) states new_run (new_run_is_within_work (job_of r.state.job) states layout is));
 }
   where
     run_is : run_of r [] ≡ new_run
     run_is = λ i. record { phase = begins i; kept = fresh.kept i }
 
 -- a run that is to begin, or began somewhere, began somewhere
-pub begun_somewhere : {r : Running} {world : DeviceStates} → HasBegun world r → TypeInvariant r → IsLayout r.state.job.layout → IsWorld world → BeganSomewhere world r
+pub begun_somewhere : {r : Running} {states : DeviceStates} → HasBegun states r → TypeInvariant r → IsLayout r.state.job.layout → AreStates states → BeganSomewhere states r
 unfolding HasBegun BeganSomewhere
 begun_somewhere (inr begun) well layout is = begun
-begun_somewhere {r} {world} (inl begins) well layout is = (start_of world, first_begun r world begins (well.fresh begins) layout is)
+begun_somewhere {r} {states} (inl begins) well layout is = (start_of states, first_begun r states begins (well.fresh begins) layout is)
 
-pub begun_seen : (r t : Running) (world : DeviceStates) → t ≡ r → HasBegun world r → TypeInvariant t → IsLayout t.state.job.layout → IsWorld world → BeganSomewhere world r
-begun_seen r t world same begun well layout is = begun_somewhere begun (rw same at well) (rw same at layout) is
+pub begun_seen : (r t : Running) (states : DeviceStates) → t ≡ r → HasBegun states r → TypeInvariant t → IsLayout t.state.job.layout → AreStates states → BeganSomewhere states r
+begun_seen r t states same begun well layout is = begun_somewhere begun (rw same at well) (rw same at layout) is
 
-pub has_begun : (start : Start) (world : DeviceStates) (r : Running) → IsBegun start world r → HasBegun world r
+pub has_begun : (start : Start) (states : DeviceStates) (r : Running) → IsBegun start states r → HasBegun states r
 unfolding HasBegun
-has_begun start world r begun = inr (start, begun)
+has_begun start states r begun = inr (start, begun)
 
 pub goes_on_after : (here next : Phase) (s s' : State) (old new : DeviceStates) → BeganSomewhere old (record { phase = here; state = s }) → ((start : Start) → IsBegun start old (record { phase = here; state = s }) → TurnKeeps start old new s s' (Ok next)) → HasBegun new (record { phase = next; state = s' })
 unfolding HasBegun BeganSomewhere TurnKeeps
@@ -276,16 +276,16 @@ pub goes_on_halted : (here after : Phase) (s s' : State) (old new : DeviceStates
 unfolding HasBegun BeganSomewhere TurnKeeps
 goes_on_halted here after s s' old new why ended (start, begun) on = inr (start, rw ended (on start begun).begun)
 
-pub goes_on_ended : (r t : Running) (world : DeviceStates) → BeganSomewhere world r → t.phase ≡ phase.Ended → t.state ≡ r.state → HasBegun world t
+pub goes_on_ended : (r t : Running) (states : DeviceStates) → BeganSomewhere states r → t.phase ≡ phase.Ended → t.state ≡ r.state → HasBegun states t
 unfolding HasBegun BeganSomewhere
-goes_on_ended r t world (start, begun) ended same = inr (start, begun_ends start world r ended same begun)
+goes_on_ended r t states (start, begun) ended same = inr (start, begun_ends start states r ended same begun)
 
-pub goes_on_same : (r t : Running) (world : DeviceStates) → t ≡ r → HasBegun world r → HasBegun world t
-goes_on_same r t world same is = rw same is
+pub goes_on_same : (r t : Running) (states : DeviceStates) → t ≡ r → HasBegun states r → HasBegun states t
+goes_on_same r t states same is = rw same is
 
-pub begins_begun : (r : Running) (world : DeviceStates) → r.phase ≡ phase.Opening opening.Begin → HasBegun world r
+pub begins_begun : (r : Running) (states : DeviceStates) → r.phase ≡ phase.Opening opening.Begin → HasBegun states r
 unfolding HasBegun
-begins_begun r world begins = inl begins
+begins_begun r states begins = inl begins
 
 -- ---- what a step leaves
 

@@ -4,7 +4,7 @@ use Rattle.std.specs.Prelude.{Err, ◌≢◌}
 use Rattle.pt_state.proofs.Words.{IsLayout, DeviceStates}
 use Rattle.pt_state.proofs.Words.opening
 use Rattle.pt_state.proofs.Words.phase
-use Rattle.pt_invariant.specs.RunInvariant.{IsWorld, start_of}
+use Rattle.pt_invariant.specs.RunInvariant.{AreStates, start_of}
 use Rattle.pt_state.specs.declared.job.Job.{Job}
 use Rattle.pt_move.specs.Running.{HasBegun, IsBegun, IsNew, Running}
 use Rattle.pt_move.proofs.Answering.{first_begun, is_fresh}
@@ -24,7 +24,7 @@ not_ended f old new going ends is = absurd (going (told (rw is at ends)))
     told both = both.0
 
 -- it began where the devices stand
-pub new_is_begun : (job : Job) (r : Running) (now : DeviceStates) → IsNew job r → IsLayout job.layout → IsWorld now → IsBegun (start_of now) now r
+pub new_is_begun : (job : Job) (r : Running) (now : DeviceStates) → IsNew job r → IsLayout job.layout → AreStates now → IsBegun (start_of now) now r
 new_is_begun job r now new layout is = first_begun r now new.phase (is_fresh new) (rw new.job_is layout) is
 
 pub new_has_begun : (job : Job) (r : Running) (now : DeviceStates) → IsNew job r → HasBegun now r

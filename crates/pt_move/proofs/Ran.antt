@@ -92,7 +92,7 @@ module _ (job : Job) (first old new : DeviceStates) (a b : Running) (same : a.st
       record {
         count = a.state.counts.turns;
         run = run_of a so_far.fed;
-        world = old;
+        states = old;
         after = kept_of b.state made.0;
         turns = so_far.turns;
         within = subst (λ (j : Job). a.state.counts.turns < j.limits.turns) same turn.within;

@@ -7,7 +7,7 @@ use Rattle.std.proofs.lemmas.List.{flat_map_more}
 use Rattle.std.proofs.lemmas.List.Sums.{sum_by-append}
 use Rattle.std.proofs.lemmas.List.{append_assoc}
 use Rattle.pt_state.proofs.Words.{Line, Done, Present, Skipped, End, line_text, AppendsFront}
-use Rattle.pt_state.proofs.LineTexts.{appends_nothing}
+use Rattle.pt_state.proofs.Fronts.{appends_nothing}
 use Rattle.pt_state.specs.declared.job.Report.{Report}
 use Rattle.pt_plan.specs.Lines.{end_line, is_done, is_present, is_skipped}
 use Rattle.pt_move.specs.Lines.{CountsLine, FinishTold, GotFront, GotLine, HasTold, IsReport, HasToldAll, HasToldFront, SameLines, TellsEnd, TellsFront, TellsLine}

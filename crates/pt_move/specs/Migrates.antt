@@ -1,4 +1,4 @@
--- What `migrate` promises, over the world of its devices before and after. Each promise says itself which devices have to tell.
+-- What `migrate` promises, over the states of its devices before and after. Each promise says itself which devices have to tell.
 use Rattle.std.specs.Prelude.{◌≡◌, ◌≢◌, ◌≤◌, IfErr, IfOk, OnErr, Result}
 use Rattle.pt_invariant.specs.RunInvariant.{start_of}
 use Rattle.pt_plan.specs.DeviceStates.{DeviceStates, dest_tree, source_tree}

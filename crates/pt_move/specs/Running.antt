@@ -68,27 +68,27 @@ FedUntilEnd here algorithm hasher fed = OnFalse (is_ended here) (HasBeenFed algo
 abbrev pub start_with : Option Writing → Option (List ℕ) → Start
 start_with dest log = record { dest = dest_tree dest; log = log }
 
--- the run began at this start, and this is the world that it is in progress in, within its work, or has left
-pub record InProgress (start : Start) (world : DeviceStates) (r : Running) : Type 0 where
+-- the run began at this start, and these are the states that it is in progress in, within its work, or has left
+pub record InProgress (start : Start) (states : DeviceStates) (r : Running) : Type 0 where
   pub fed : List ℕ
   pub was : FedUntilEnd r.phase r.state.job.algorithm r.state.hasher fed
-  pub begun : InvariantWithinWork (job_of r.state.job) start world (run_of r fed)
+  pub begun : InvariantWithinWork (job_of r.state.job) start states (run_of r fed)
 
--- what the devices of a world tell; how often they failed has no part in it, so a device that tells nothing may be another one
+-- what the devices tell; how often they failed has no part in it, so a device that tells nothing may be another one
 abbrev pub as_told : DeviceStates → DeviceStates
-as_told world = record world { failures = record { source = 0; dest = 0; log = 0 } }
+as_told states = record states { failures = record { source = 0; dest = 0; log = 0 } }
 
 -- this run is in progress, or has ended, and began at this start
 unfoldable pub IsBegun : Start → DeviceStates → Running → Type 0
-IsBegun start world r = InProgress start (as_told world) r
+IsBegun start states r = InProgress start (as_told states) r
 
 -- it is to begin, or it began at some start
 unfoldable pub HasBegun : DeviceStates → Running → Type 0
-HasBegun world r = (r.phase ≡ phase.Opening opening.Begin) ⊎ ((start : Start) × IsBegun start world r)
+HasBegun states r = (r.phase ≡ phase.Opening opening.Begin) ⊎ ((start : Start) × IsBegun start states r)
 
 -- it began at some start
 unfoldable pub BeganSomewhere : DeviceStates → Running → Type 0
-BeganSomewhere world r = (start : Start) × IsBegun start world r
+BeganSomewhere states r = (start : Start) × IsBegun start states r
 
 -- where the destination tells: what a run leaves whatever its source gives (only whole objects at places where nothing stood, and a part of one more in `staging`), and all as it was where something stood at `staging` at the start
 unfoldable pub DestFaultStateTold : Job → Option Tree → Option Writing → Type 0

@@ -13,7 +13,7 @@ use Rattle.pt_state.specs.declared.job.Job.{Job}
 use Rattle.pt_state.specs.declared.job.Report.{Report}
 use Rattle.pt_plan.specs.declared.fault.Fault.TheVariants as fault
 
--- so many turns lead from a run that is to begin, over this world, to this run over that one
+-- so many turns lead from a run that is to begin, over these states, to this run over those
 pub data Turns (job : plan.Job) (first : DeviceStates) : ℕ → Run → DeviceStates → Type 0 where
   NoTurn : Turns job first 0 new_run first
   OneMore : (n : ℕ) (run : Run) (old new : DeviceStates) (after : Kept) (next : Phase)
@@ -30,11 +30,11 @@ pub record Finished (job : Job) (old new : DeviceStates) (report : Report) : Typ
 pub record Halted (job : Job) (old new : DeviceStates) (f : Fault) : Type 0 where
   pub count : ℕ
   pub run : Run
-  pub world : DeviceStates
+  pub states : DeviceStates
   pub after : Kept
-  pub turns : Turns (job_of job) old count run world
+  pub turns : Turns (job_of job) old count run states
   pub within : count < job.limits.turns
-  pub turn : Turn (job_of job) run.phase (turning run.kept) after world new (Err f)
+  pub turn : Turn (job_of job) run.phase (turning run.kept) after states new (Err f)
 
 -- exactly as many turns as the limit were made, and it hadn't ended
 pub record AtLimit (job : Job) (old new : DeviceStates) : Type 0 where

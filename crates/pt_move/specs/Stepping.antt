@@ -25,9 +25,9 @@ pub record IsTurn (old : Running) : Type 0 where
   pub going : old.phase ≢ phase.Ended
   pub within : old.state.counts.turns < old.state.job.limits.turns
 
--- and it began at some start over this world
-pub record IsReady (world : DeviceStates) (r : Running) : Type 0 where
-  pub begun : BeganSomewhere world r
+-- and it began at some start over these states
+pub record IsReady (states : DeviceStates) (r : Running) : Type 0 where
+  pub begun : BeganSomewhere states r
   pub well : TypeInvariant r
   pub turn : IsTurn r
 
@@ -110,12 +110,12 @@ StepLeaves old new before after result = Left old new before after result
 -- a turn at this phase, over all devices as one: it was counted, and this is what it leaves
 pub record Made {O : Type 0} (of : OfOutside O) (most : ℕ × ℕ) (here : Phase) (old new : State × O)
     (answer : Answer) : Type 0 where
-  pub tree : source_tree (of.world new.1).source ≡ source_tree (of.world old.1).source
-  pub turn : CountedTurn here old.0 new.0 (of.world old.1) (of.world new.1) answer
+  pub tree : source_tree (of.states new.1).source ≡ source_tree (of.states old.1).source
+  pub turn : CountedTurn here old.0 new.0 (of.states old.1) (of.states new.1) answer
   pub own : IfErr answer IsOfTurn
   pub well : TypeInvariant (record { phase = phase_after answer; state = new.0 })
-  pub leaves : TurnLeaves old.0 new.0 (of.world old.1).log (of.world new.1).log
-      (of.world old.1).failures (of.world new.1).failures answer
+  pub leaves : TurnLeaves old.0 new.0 (of.states old.1).log (of.states new.1).log
+      (of.states old.1).failures (of.states new.1).failures answer
   pub few : of.within most.0 most.1 old.1 new.1
 
 -- ---- a step over three devices

@@ -17,7 +17,7 @@ use Rattle.pt_state.specs.States.{job_of, kept_of}
 use Rattle.pt_state.specs.declared.outside.Io.{Ghosts as OfOutside}
 use Rattle.pt_state.specs.declared.state.State.{State}
 
--- of what was held at a phase, and what is held after it, over the world of the devices. The turn is counted as it begins; the job stays
+-- of what was held at a phase, and what is held after it, over the states of the devices. The turn is counted as it begins; the job stays
 unfoldable pub CountedTurn : Phase → State → State → DeviceStates → DeviceStates → Answer → Type 0
 CountedTurn here s s' old new answer =
     (s'.job ≡ s.job)
@@ -29,9 +29,9 @@ CountedTurn here s s' old new answer =
 -- so it is over all devices as one. The faults that are the run's own are no answers; where a file is read, the block that is held is its next one; and the source is called no more often than this
 pub record TakesCounted {O : Type 0} (of : OfOutside O) (most : ℕ × ℕ) (here : Phase)
     (old new : State × O) (answer : Answer) : Type 0 where
-  pub turn : CountedTurn here old.0 new.0 (of.world old.1) (of.world new.1) answer
+  pub turn : CountedTurn here old.0 new.0 (of.states old.1) (of.states new.1) answer
   pub own : IfErr answer IsOfTurn
-  pub block : ReadsNext here (of.world old.1).source new.0.block.items answer
+  pub block : ReadsNext here (of.states old.1).source new.0.block.items answer
   pub few : of.within most.0 most.1 old.1 new.1
 
 -- until a run has ended, its hasher has been fed something

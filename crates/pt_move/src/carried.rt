@@ -4,8 +4,9 @@ ghost use Rattle.pt_plan.specs.TurnPlace.{bytes_in_rows};
 ghost use Rattle.pt_tree.specs.Failures.{greatest_count};
 ghost use Rattle.pt_move.specs.Carried.{IsCarried};
 
+use pt_name::Identifier;
 use pt_object::Rows;
-use pt_plan::{Identifier, Object};
+use pt_plan::Object;
 use pt_state::State;
 use pt_state::paths::object_path;
 use pt_tree::{MemoryFault, NamePath};

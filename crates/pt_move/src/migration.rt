@@ -1,6 +1,6 @@
 // A whole run.
 ghost use Rattle.std.specs.Prelude.{ℕ};
-ghost use Rattle.pt_state.specs.Outside.{world_of};
+ghost use Rattle.pt_state.specs.Outside.{states_of};
 ghost use Rattle.pt_move.specs.Migrates.{Migrates};
 
 use crate::{Fault, Mover, Observer, Turn, Unobserved};
@@ -27,8 +27,8 @@ pub fn migrate<S: Source, D: Dest, L: Log>(
     log: &mut L,
     job: Job,
 ) -> Result<Report, Fault>
-    ensures promises { Migrates job (world_of S.Source D.Dest L.Log source.old dest.old log.old)
-        (world_of S.Source D.Dest L.Log source.new dest.new log.new) result }
+    ensures promises { Migrates job (states_of S.Source D.Dest L.Log source.old dest.old log.old)
+        (states_of S.Source D.Dest L.Log source.new dest.new log.new) result }
     ensures source_stays { S.keeps source.old source.new }
     ensures dest_stays { D.keeps dest.old dest.new }
     ensures log_stays { L.keeps log.old log.new }
@@ -46,8 +46,8 @@ pub fn migrate_observed<S: Source, D: Dest, L: Log, O: Observer<Report>>(
     job: Job,
     observer: &O,
 ) -> Result<Report, Fault>
-    ensures promises { Migrates job (world_of S.Source D.Dest L.Log source.old dest.old log.old)
-        (world_of S.Source D.Dest L.Log source.new dest.new log.new) result }
+    ensures promises { Migrates job (states_of S.Source D.Dest L.Log source.old dest.old log.old)
+        (states_of S.Source D.Dest L.Log source.new dest.new log.new) result }
     ensures source_stays { S.keeps source.old source.new }
     ensures dest_stays { D.keeps dest.old dest.new }
     ensures log_stays { L.keeps log.old log.new }
@@ -62,7 +62,7 @@ fn run<O: Io, W: Observer<Report>>(
     job: Job,
     observer: &W,
 ) -> Result<Report, Fault>
-    ensures run { Migrates job (O.world out.old) (O.world out.new) result }
+    ensures run { Migrates job (O.states out.old) (O.states out.new) result }
     ensures same { (n k : ℕ) × O.within n k out.old out.new }
 {
     let mut mover = Mover::start(alloc, job);

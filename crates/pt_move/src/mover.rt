@@ -1,9 +1,9 @@
 // A run under way, made turn by turn.
 ghost use Rattle.std.specs.Prelude.{◌≡◌, ◌+◌, length};
-ghost use Rattle.pt_invariant.specs.RunInvariant.{IsWorld, Start, start_of};
+ghost use Rattle.pt_invariant.specs.RunInvariant.{AreStates, Start, start_of};
 ghost use Rattle.pt_plan.specs.DeviceStates.{DeviceStates};
 ghost use Rattle.pt_state.specs.Counting.{AtMostCalls};
-ghost use Rattle.pt_state.specs.Outside.{world_of};
+ghost use Rattle.pt_state.specs.Outside.{states_of};
 ghost use Rattle.pt_walk.specs.Trail.{entries_held};
 ghost use Rattle.pt_move.specs.Bounds.{most_looks};
 ghost use Rattle.pt_move.specs.Promises.{TakesStep, TurnKeeps};
@@ -54,9 +54,9 @@ impl Mover {
     /// they hold as they stand.
     pub fn start(alloc: Global, job: Job) -> Mover
         ensures new { IsNew job result }
-        ensures begun { (world : DeviceStates) → HasBegun world result }
-        ensures in_progress { (world : DeviceStates) → IsWorld world
-            → IsBegun (start_of world) world result }
+        ensures begun { (states : DeviceStates) → HasBegun states result }
+        ensures in_progress { (states : DeviceStates) → AreStates states
+            → IsBegun (start_of states) states result }
     {
         // (`count` says for the proof what holds of each layout, a type of another crate)
         job.layout.count();
@@ -87,9 +87,9 @@ impl Mover {
         dest: &mut D,
         log: &mut L,
     ) -> Result<Turn, Fault>
-        requires { HasBegun (world_of S.Source D.Dest L.Log source.old dest.old log.old) self.old }
-        ensures step { TakesStep (world_of S.Source D.Dest L.Log source.old dest.old log.old)
-            (world_of S.Source D.Dest L.Log source.new dest.new log.new) self.old self.new result }
+        requires { HasBegun (states_of S.Source D.Dest L.Log source.old dest.old log.old) self.old }
+        ensures step { TakesStep (states_of S.Source D.Dest L.Log source.old dest.old log.old)
+            (states_of S.Source D.Dest L.Log source.new dest.new log.new) self.old self.new result }
         ensures calls { AtMostCalls (most_calls_at self.old)
             (S.called source.old) (S.called source.new)
             × AtMostCalls (most_looks self.old.phase) (D.looked dest.old) (D.looked dest.new) }
@@ -102,8 +102,8 @@ impl Mover {
 
     // Makes one turn over the devices as one.
     pub(crate) fn advance<O: Io>(&mut self, out: &mut O) -> Result<Turn, Fault>
-        requires { HasBegun (O.world out.old) self.old }
-        ensures step { TakesStep (O.world out.old) (O.world out.new) self.old self.new result }
+        requires { HasBegun (O.states out.old) self.old }
+        ensures step { TakesStep (O.states out.old) (O.states out.new) self.old self.new result }
         ensures calls { O.within (most_calls_at self.old) (most_looks self.old.phase)
             out.old out.new }
         ensures stays { SameDevice Any result out.old out.new }
@@ -128,8 +128,8 @@ impl Mover {
     // Where the run is to begin, it begins at these devices as they stand. The proof of that needs what `count` says of the
     // job's layout.
     fn begun<O: Io>(&self, out: &O)
-        requires { HasBegun (O.world out.now) self.now }
-        ensures { BeganSomewhere (O.world out.now) self.now }
+        requires { HasBegun (O.states out.now) self.now }
+        ensures { BeganSomewhere (O.states out.now) self.now }
     {
         self.state.job.layout.count();
     }
@@ -156,10 +156,10 @@ impl Mover {
 // Makes the turn of a phase, and gives the next one. `turn` is promised of every state that permits it, a survey's too; here it
 // is said what it comes to for a run in progress, so that `advance` isn't proved by what each turn does.
 fn made_turn<O: Io>(state: &mut State, here: Phase, out: &mut O) -> Result<Phase, Fault>
-    requires { IsReady (O.world out.old) (record { phase = here; state = state.old }) }
+    requires { IsReady (O.states out.old) (record { phase = here; state = state.old }) }
     ensures keeps { (start : Start)
-        → IsBegun start (O.world out.old) (record { phase = here; state = state.old })
-        → TurnKeeps start (O.world out.old) (O.world out.new) state.old state.new result }
+        → IsBegun start (O.states out.old) (record { phase = here; state = state.old })
+        → TurnKeeps start (O.states out.old) (O.states out.new) state.old state.new result }
     ensures made { Made O.Io
         (most_calls_at (record { phase = here; state = state.old }), most_looks here) here
         (state.old, out.old) (state.new, out.new) result }

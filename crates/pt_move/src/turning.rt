@@ -11,7 +11,7 @@ ghost use Rattle.pt_move.specs.Bounds.{IsBounded, most_calls, most_looks};
 ghost use Rattle.pt_move.specs.Stands.{CanAdd, Stands};
 ghost use Rattle.pt_move.specs.Turning.{HasFed, TakesCounted};
 
-use pt_make::{copying, making, placing, root, telling};
+use pt_make::{ObjectContent, copying, making, placing, root, telling};
 use pt_object::{Contents, Hasher, Rows};
 use pt_plan::{Fault, Opening, Phase, Stage};
 use pt_scan::{judging, reading, scanning, store, walking};
@@ -48,7 +48,7 @@ pub fn new_state(alloc: Global, job: Job) -> State
 /// turn says so (`Turn` of pt_plan), and never `Turns` or `Ended`. It is such a turn, whatever the devices tell.
 pub fn turn<O: Io>(state: &mut State, phase: Phase, out: &mut O) -> Result<Phase, Fault>
     requires permits { Enabled (job_of state.old.job) phase (held_of state.old [])
-        (O.world out.old).source (O.world out.old).dest }
+        (O.states out.old).source (O.states out.old).dest }
     requires stands { Stands phase state.old }
     requires fed { HasFed phase state.old.job.algorithm state.old.hasher }
     requires bounded { IsBounded (job_of state.old.job) phase (kept_of state.old []) }
@@ -65,12 +65,12 @@ pub fn turn<O: Io>(state: &mut State, phase: Phase, out: &mut O) -> Result<Phase
 // Makes the turn of a phase, and gives the next one.
 fn turn_at<O: Io>(state: &mut State, phase: Phase, out: &mut O) -> Result<Phase, Fault>
     requires permits { Enabled (job_of state.old.job) phase (held_of state.old [])
-        (O.world out.old).source (O.world out.old).dest }
+        (O.states out.old).source (O.states out.old).dest }
     requires stands { Stands phase state.old }
     requires adds { CanAdd phase state.old }
     ensures turn { TakesTurn O.Io (most_calls phase, most_looks phase) phase
         (state.old, out.old) (state.new, out.new) result }
-    ensures block { ReadsNext phase (O.world out.old).source state.new.block.items result }
+    ensures block { ReadsNext phase (O.states out.old).source state.new.block.items result }
 {
     match phase {
         Phase::Opening(opening) => match opening {
@@ -89,7 +89,10 @@ fn turn_at<O: Io>(state: &mut State, phase: Phase, out: &mut O) -> Result<Phase,
             Stage::Scan => scanning::scan(state, object, out),
             Stage::Read(bytes) => reading::read(state, object, bytes, out),
             Stage::Make(part) => making::make(state, object, part, out),
-            Stage::Copy(position, left) => copying::copy(state, object, position, left, out),
+            Stage::Copy(position, left) => {
+                let content = ObjectContent { object, position };
+                copying::copy(state, content, left, out)
+            }
             Stage::Tuples(index) => placing::make_tuple(state, object, index, out),
             Stage::Rename => placing::rename(state, object, out),
             Stage::Line => telling::tell_done(state, object, out),

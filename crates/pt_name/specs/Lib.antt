@@ -1,4 +1,6 @@
 pub mod Hex
+pub mod Identifiers
+pub mod Identifying
 pub mod Clean
 pub mod Tuples
 pub mod Layout

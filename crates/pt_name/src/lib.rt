@@ -13,9 +13,12 @@
 //! - `Share::of`: accepts exactly the shares 1 to N of up to 4,096, and refuses each other pair by the first rule that it breaks. `whole`: the
 //!   one share of one. `holds`: exactly whether the number of the share that the identifier's SHA-256 gives (`share_number`) is its own;
 //!   `is_first`: whether it is 1.
+//! - `Identifier`: a text, seen as its bytes.
 //! - `unclean`: reads a cleaned text back: gives an identifier exactly where the text reads it and it is UTF-8, and says of each other text
 //!   exactly whether it reads nothing or bytes that aren't UTF-8. `concatenate`: joins the names of a pairpath for it.
 //! - `read_prefix`: exactly the prefix of a store, refused exactly where it is too long or not UTF-8.
+//! - `identify`: exactly what the names of a site say of its object (`Identification`): why it has no identifier that can be carried
+//!   (`Refusal`), that it is of another share, or its identifier, behind the store's prefix, and its place. Asked in that order.
 //! - Laws: a text reads at most one list of bytes (`one_reading`); what was cleaned reads back (`cleaned_reads_back`); reading as a relation
 //!   and as a function say the same (`reading_is_computed`); two different identifiers share a place only where both encodings are shortened,
 //!   agree in their first 100 characters, and have one SHA-256 (`one_place`).
@@ -24,6 +27,8 @@
 mod cleaning;
 mod encoding;
 mod hex_pair;
+mod identifier;
+mod identifying;
 mod joining;
 pub mod laws;
 mod layout;
@@ -33,6 +38,8 @@ mod share;
 
 pub use cleaning::{clean, pairpath};
 pub use encoding::{encoded, last_name};
+pub use identifier::Identifier;
+pub use identifying::{Candidate, Identification, Refusal, identify};
 pub use joining::concatenate;
 pub use layout::{Layout, LayoutFault};
 pub use prefix::{PrefixFault, read_prefix};

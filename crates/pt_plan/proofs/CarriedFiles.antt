@@ -1,10 +1,10 @@
 -- The objects of a proper source are proper, so their files come in order.
 use Rattle.std.proofs.Common.{◌≡◌, ℕ, zero, suc, Bool, true, false, List, [], ◌∷◌, ◌++◌, refl, cond, map}
-use Rattle.std.specs.Prelude.{Option, None, Some, nat_lt, take, ◌+◌, length}
-use Rattle.std.specs.List.{concat, list_all}
-use Rattle.std.specs.Str.{is_utf8}
+use Rattle.std.specs.Prelude.{Option, None, Some, Result, Ok, Err, nat_lt, take, ◌+◌, length}
+use Rattle.std.specs.List.{list_all}
 use Rattle.std.proofs.lemmas.Bool.{and_from, and_parts}
-use Rattle.pt_name.specs.Reading.{reading_of}
+use Rattle.pt_name.specs.Identifying.{identifier_at}
+use Rattle.pt_name.specs.declared.identifying.Refusal.{Refusal}
 use Rattle.pt_object.specs.FilePaths.{File}
 use Rattle.pt_tree.specs.Forest.{Forest, none, file, other, dir, dir_at, is_proper, listing_of}
 use Rattle.pt_tree.proofs.Finding.{proper_dir, proper_file, proper_other}
@@ -21,7 +21,7 @@ use Rattle.pt_walk.specs.declared.site.Finding.{Finding}
 use Rattle.pt_walk.specs.declared.site.Finding.TheVariants as finding
 use Rattle.pt_plan.specs.Carried.{Carried, Marked, carried, carried_by, carried_by_outcome, marked, marked_after}
 use Rattle.pt_plan.specs.FileLaws.{CarriedFilesComeInOrder, comes_in_order}
-use Rattle.pt_plan.specs.Items.{Interior, Item, Named, PairtreeObject, Skip, Verdict, cause_of, encapsulated, is_ours, is_reserved, item_of, items, outcome_by, verdict_by_finding, verdict_by_reading, verdict_by_visit, verdict_of, verdict_on_candidate}
+use Rattle.pt_plan.specs.Items.{Interior, Item, Named, PairtreeObject, Skip, Verdict, cause_of, encapsulated, is_ours, item_of, items, outcome_by, verdict_by_finding, verdict_by_identifier, verdict_by_visit, verdict_of, verdict_on_candidate}
 use Rattle.pt_plan.specs.Job.{Job, form_of}
 use Rattle.pt_plan.specs.Store.{pairtree_root, prefix_of, sites_in_root, sites_of}
 use Rattle.pt_plan.proofs.FilesInOrder.{files_come_in_order}
@@ -33,15 +33,9 @@ good Interior = true
 good (Skip why) = true
 good (Named id object) = is_proper object.inside
 
-good_either : (b : Bool) (v w : Verdict) → good v ≡ true → good w ≡ true → good (cond b v w) ≡ true
-good_either true _ _ x _ = x
-good_either false _ _ _ y = y
-
-good_by_reading : (job : Job) (prefix : List ℕ) (object : PairtreeObject) (reading : Option (List ℕ)) → is_proper object.inside ≡ true → good (verdict_by_reading job prefix object reading) ≡ true
-good_by_reading _ _ _ None _ = refl
-good_by_reading job prefix object (Some read) proper =
-    good_either (is_utf8 read) _ _
-    (good_either (is_reserved job (prefix ++ read)) _ _ refl proper) refl
+good_by_identifier : (object : PairtreeObject) (read : Result (List ℕ) Refusal) → is_proper object.inside ≡ true → good (verdict_by_identifier object read) ≡ true
+good_by_identifier _ (Ok _) proper = proper
+good_by_identifier _ (Err _) _ = refl
 
 proper_from : (i : ℕ) (f : Forest) → is_proper f ≡ true → is_proper (entries_from i f) ≡ true
 proper_from zero f proper = proper
@@ -55,13 +49,13 @@ good_candidate job prefix site none proper = refl
 good_candidate job prefix site (file name bytes after) proper = refl
 good_candidate job prefix site (other name after) proper = refl
 good_candidate job prefix site (dir name inside after) proper =
-    good_by_reading job prefix _ (reading_of (concat site)) (proper_dir name inside after proper).3
+    good_by_identifier _ (identifier_at job.tuples prefix site) (proper_dir name inside after proper).3
 
 good_by_finding : (job : Job) (prefix : List ℕ) (site : Path) (inside : Forest) (what : Finding) → is_proper inside ≡ true → good (verdict_by_finding job prefix site inside what) ≡ true
 good_by_finding _ _ _ _ finding.Interior _ = refl
 good_by_finding _ _ _ _ (finding.Skip _) _ = refl
 good_by_finding job prefix site inside (finding.Candidate i) proper = good_candidate job prefix site _ (proper_from i inside proper)
-good_by_finding job prefix site inside finding.Gathered proper = good_by_reading job prefix _ (reading_of (concat site)) (gathered_proper inside proper)
+good_by_finding job prefix site inside finding.Gathered proper = good_by_identifier _ (identifier_at job.tuples prefix site) (gathered_proper inside proper)
 
 -- ---- a directory on the way is good that, if it is listed, holds what is proper
 

@@ -8,6 +8,7 @@ pub mod Kept
 pub mod LaterRoots
 pub mod LaterTrees
 pub mod Levels
+mod LineTexts
 pub mod MovedIn
 pub mod NextObject
 pub mod OtherTurns

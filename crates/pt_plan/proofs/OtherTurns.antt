@@ -1,10 +1,9 @@
 -- The limit of turns has no part in what is carried and told.
 use Rattle.std.proofs.Common.{◌≡◌, ℕ, List, [], ◌∷◌, ◌++◌, Bool, true, false, length, refl, ◌∙◌, ap, cond, map, inl, inr, ◌&&◌}
 use Rattle.std.specs.Prelude.{◌||◌, Option, None, Some, flat_map, is_none, is_some}
-use Rattle.std.specs.List.{concat, list_all, list_any}
+use Rattle.std.specs.List.{list_all, list_any}
 use Rattle.std.specs.Option.{option_map, option_or}
 use Rattle.pt_name.specs.Place.{place_of}
-use Rattle.pt_name.specs.Reading.{reading_of}
 use Rattle.pt_object.specs.Root.{base}
 use Rattle.pt_tree.specs.Forest.{Forest, File as a_file, listing_of}
 use Rattle.pt_tree.specs.Path.{Path, same_path}
@@ -19,7 +18,7 @@ use Rattle.pt_walk.specs.declared.cause.Cause.TheVariants as cause
 use Rattle.pt_walk.specs.declared.site.Finding.{Finding}
 use Rattle.pt_walk.specs.declared.site.Finding.TheVariants as finding
 use Rattle.pt_plan.specs.Carried.{Carried, Marked, all_carried, carried, carried_by, carried_by_outcome, entry_of_object, entry_of_objects, folder_where, has_place, is_on_the_way, is_taken, is_way_free, marked, marked_after, with_objects}
-use Rattle.pt_plan.specs.Items.{Interior, Item, Named, PairtreeObject, Skip, Verdict, cause_of, encapsulated, gathered_from, is_too_deep, item_of, items, ours, outcome_by, verdict_by_finding, verdict_by_reading, verdict_by_visit, verdict_of, verdict_on_candidate}
+use Rattle.pt_plan.specs.Items.{Interior, Item, Named, PairtreeObject, Skip, Verdict, cause_of, encapsulated, is_too_deep, item_of, items, ours, outcome_by, verdict_by_finding, verdict_by_visit, verdict_of, verdict_on_candidate}
 use Rattle.pt_plan.specs.Job.{Job, form_of}
 use Rattle.pt_plan.specs.Lines.{line_by_outcome, line_by_verdict, line_of}
 use Rattle.pt_plan.specs.RerunLaws.{IsTarget, TurnsHaveNoPart, with_turns}
@@ -42,19 +41,15 @@ cause_same job turns object =
 
 -- ---- verdicts
 
-reading_same : (job : Job) (turns : ℕ) (prefix : List ℕ) (object : PairtreeObject) (reading : Option (List ℕ)) → verdict_by_reading (with_turns job turns) prefix object reading ≡ verdict_by_reading job prefix object reading
-reading_same _ _ _ _ None = refl
-reading_same _ _ _ _ (Some _) = refl
-
 candidate_same : (job : Job) (turns : ℕ) (prefix : List ℕ) (site : Path) (object : Option PairtreeObject) → verdict_on_candidate (with_turns job turns) prefix site object ≡ verdict_on_candidate job prefix site object
 candidate_same _ _ _ _ None = refl
-candidate_same job turns prefix site (Some object) = reading_same job turns prefix object (reading_of (concat site))
+candidate_same _ _ _ _ (Some _) = refl
 
 finding_same : (job : Job) (turns : ℕ) (prefix : List ℕ) (site : Path) (inside : Forest) (what : Finding) → verdict_by_finding (with_turns job turns) prefix site inside what ≡ verdict_by_finding job prefix site inside what
 finding_same _ _ _ _ _ finding.Interior = refl
 finding_same _ _ _ _ _ (finding.Skip _) = refl
 finding_same job turns prefix site inside (finding.Candidate i) = candidate_same job turns prefix site (encapsulated site (entries_from i inside))
-finding_same job turns prefix site inside finding.Gathered = reading_same job turns prefix (gathered_from site inside) (reading_of (concat site))
+finding_same _ _ _ _ _ finding.Gathered = refl
 
 visit_same : (job : Job) (turns : ℕ) (prefix : List ℕ) (path : Path) (visit : Visit) → verdict_by_visit (with_turns job turns) prefix path visit ≡ verdict_by_visit job prefix path visit
 visit_same job turns prefix path (Listed inside) = finding_same job turns prefix path inside (found (listing_of inside) (at_of path) (form_of job))

@@ -1,19 +1,20 @@
 -- No named item has a reserved place.
 use Rattle.std.proofs.Common.{◌≡◌, ℕ, zero, suc, Bool, true, false, List, [], ◌∷◌, ◌++◌, refl, cond, map}
-use Rattle.std.specs.Prelude.{Option, None, Some, not, slice_get}
+use Rattle.std.specs.Prelude.{Option, None, Some, Ok, Err, not, slice_get}
 use Rattle.std.specs.List.{concat, list_all}
 use Rattle.std.specs.Str.{is_utf8}
 use Rattle.std.proofs.lemmas.Bool.{and_from, not-true, not_from_false}
+use Rattle.pt_name.specs.Identifying.{identifier_by, unless_reserved}
 use Rattle.pt_name.specs.Reading.{reading_of}
+use Rattle.pt_name.specs.declared.identifying.Refusal.TheVariants as refusal
 use Rattle.pt_tree.specs.Forest.{Forest, listing_of}
 use Rattle.pt_tree.specs.Path.{Path}
 use Rattle.pt_walk.specs.Left.{entries_from}
 use Rattle.pt_walk.specs.Site.{found}
 use Rattle.pt_walk.specs.Sites.{Site, Visit, Listed, at_of}
-use Rattle.pt_walk.specs.declared.cause.Cause.TheVariants as cause
 use Rattle.pt_walk.specs.declared.site.Finding.{Finding}
 use Rattle.pt_walk.specs.declared.site.Finding.TheVariants as finding
-use Rattle.pt_plan.specs.Items.{Interior, Item, Named, PairtreeObject, Skip, Verdict, encapsulated, gathered_from, is_ours, is_reserved, item_of, items, named, verdict_by_finding, verdict_by_reading, verdict_by_visit, verdict_of, verdict_on_candidate}
+use Rattle.pt_plan.specs.Items.{Interior, Item, Named, PairtreeObject, Skip, Verdict, encapsulated, gathered_from, is_ours, is_reserved, item_of, items, verdict_by_finding, verdict_by_identifier, verdict_by_visit, verdict_of, verdict_on_candidate}
 use Rattle.pt_plan.specs.Job.{Job, form_of}
 use Rattle.pt_plan.specs.PlaceLaws.{NamedIsNotReserved}
 use Rattle.pt_plan.specs.Store.{prefix_of, sites_of}
@@ -24,18 +25,18 @@ free job Interior = true
 free job (Skip why) = true
 free job (Named id object) = not (is_reserved job id)
 
-free_named : (job : Job) (id : List ℕ) (object : PairtreeObject) → free job (named job id object) ≡ true
+free_named : (job : Job) (id : List ℕ) (object : PairtreeObject) → free job (verdict_by_identifier object (unless_reserved job.tuples id)) ≡ true
 free_named job id object = by (is_reserved job id) refl
   where
-    by : (t : Bool) → is_reserved job id ≡ t → free job (cond t (Skip cause.Reserved) (Named id object)) ≡ true
+    by : (t : Bool) → is_reserved job id ≡ t → free job (verdict_by_identifier object (cond t (Err refusal.Reserved) (Ok id))) ≡ true
     by true e = refl
     by false e = not_from_false (is_reserved job id) e
 
-free_by_reading : (job : Job) (prefix : List ℕ) (object : PairtreeObject) (reading : Option (List ℕ)) → free job (verdict_by_reading job prefix object reading) ≡ true
+free_by_reading : (job : Job) (prefix : List ℕ) (object : PairtreeObject) (reading : Option (List ℕ)) → free job (verdict_by_identifier object (identifier_by job.tuples prefix reading)) ≡ true
 free_by_reading _ _ _ None = refl
 free_by_reading job prefix object (Some read) = by (is_utf8 read)
   where
-    by : (t : Bool) → free job (cond t (named job (prefix ++ read) object) (Skip cause.Utf8)) ≡ true
+    by : (t : Bool) → free job (verdict_by_identifier object (cond t (unless_reserved job.tuples (prefix ++ read)) (Err refusal.NotUtf8))) ≡ true
     by true = free_named job (prefix ++ read) object
     by false = refl
 

@@ -1,6 +1,6 @@
 -- What the shares of a store carry and tell is what one run carries and tells, each of one share.
 use Rattle.std.proofs.Common.{◌≡◌, ◌≢◌, ◌≤◌, ◌+◌, ◌==◌, ◌&&◌, ℕ, zero, suc, Bool, true, false, List, [], ◌∷◌, ◌++◌, arith, ap, sym, ◌∙◌, refl, cond, map, eq-eqb, nat_lt, length}
-use Rattle.std.specs.Prelude.{◌||◌, Option, None, Some, count_by, flat_map, is_none, is_some}
+use Rattle.std.specs.Prelude.{◌||◌, Option, None, Some, Ok, Err, count_by, flat_map, is_none, is_some}
 use Rattle.std.specs.List.{concat, list_all, list_any}
 use Rattle.std.specs.Str.{is_utf8}
 use Rattle.std.proofs.lemmas.Bool.{and_from, and_parts, eqb-true, true≢false}
@@ -9,9 +9,11 @@ use Rattle.std.proofs.lemmas.List.Folds.{list_all-append}
 use Rattle.std.proofs.lemmas.List.Sums.{sum_by-append}
 use Rattle.pt_tree.proofs.Texts.{is_utf8-append, is_utf8-empty}
 use Rattle.pt_name.proofs.Shares.{whole_number}
+use Rattle.pt_name.specs.Identifying.{identifier_by}
 use Rattle.pt_name.specs.Place.{place_of}
 use Rattle.pt_name.specs.Prefix.{without_line_ends}
 use Rattle.pt_name.specs.Reading.{reading_of}
+use Rattle.pt_name.specs.declared.identifying.Refusal.TheVariants as refusal
 use Rattle.pt_name.specs.declared.prefix.PrefixFault.TheVariants as fault
 use Rattle.pt_name.specs.Share.{Portion, holds, is_first, share_number, whole}
 use Rattle.pt_tree.proofs.AtPaths.{same_from}
@@ -21,11 +23,10 @@ use Rattle.pt_tree.specs.Tree.{Tree}
 use Rattle.pt_walk.specs.Left.{entries_from}
 use Rattle.pt_walk.specs.Site.{found}
 use Rattle.pt_walk.specs.Sites.{Site, Visit, Listed, at_of}
-use Rattle.pt_walk.specs.declared.cause.Cause.TheVariants as cause
 use Rattle.pt_walk.specs.declared.site.Finding.{Finding}
 use Rattle.pt_walk.specs.declared.site.Finding.TheVariants as finding
 use Rattle.pt_plan.specs.Carried.{Marked, has_place, is_taken, marked, marked_after}
-use Rattle.pt_plan.specs.Items.{Interior, Item, Named, PairtreeObject, Skip, Verdict, cause_of, encapsulated, gathered_from, is_ours, is_reserved, item_of, items, ours, verdict_by_finding, verdict_by_reading, verdict_by_visit, verdict_on_candidate}
+use Rattle.pt_plan.specs.Items.{Interior, Item, Named, PairtreeObject, Skip, Verdict, cause_of, encapsulated, gathered_from, is_ours, is_reserved, item_of, items, ours, verdict_by_finding, verdict_by_identifier, verdict_by_visit, verdict_on_candidate}
 use Rattle.pt_plan.specs.Job.{Job, form_of}
 use Rattle.pt_plan.specs.Lines.{Line, line_by_verdict, line_of}
 use Rattle.pt_plan.specs.ShareLaws.{SharesTellTheWhole, sum_of_shares}
@@ -38,19 +39,15 @@ with_share job share = record job { share = share }
 
 -- ---- the share has no part in what an item is
 
-reading_same : (job : Job) (share : Portion) (prefix : List ℕ) (object : PairtreeObject) (reading : Option (List ℕ)) → verdict_by_reading (with_share job share) prefix object reading ≡ verdict_by_reading job prefix object reading
-reading_same _ _ _ _ None = refl
-reading_same _ _ _ _ (Some _) = refl
-
 candidate_same : (job : Job) (share : Portion) (prefix : List ℕ) (site : Path) (object : Option PairtreeObject) → verdict_on_candidate (with_share job share) prefix site object ≡ verdict_on_candidate job prefix site object
 candidate_same _ _ _ _ None = refl
-candidate_same job share prefix site (Some object) = reading_same job share prefix object (reading_of (concat site))
+candidate_same _ _ _ _ (Some _) = refl
 
 finding_same : (job : Job) (share : Portion) (prefix : List ℕ) (site : Path) (inside : Forest) (what : Finding) → verdict_by_finding (with_share job share) prefix site inside what ≡ verdict_by_finding job prefix site inside what
 finding_same _ _ _ _ _ finding.Interior = refl
 finding_same _ _ _ _ _ (finding.Skip _) = refl
 finding_same job share prefix site inside (finding.Candidate i) = candidate_same job share prefix site (encapsulated site (entries_from i inside))
-finding_same job share prefix site inside finding.Gathered = reading_same job share prefix (gathered_from site inside) (reading_of (concat site))
+finding_same _ _ _ _ _ finding.Gathered = refl
 
 visit_same : (job : Job) (share : Portion) (prefix : List ℕ) (path : Path) (visit : Visit) → verdict_by_visit (with_share job share) prefix path visit ≡ verdict_by_visit job prefix path visit
 visit_same job share prefix path (Listed inside) = finding_same job share prefix path inside (found (listing_of inside) (at_of path) (form_of job))
@@ -90,11 +87,11 @@ prefix_text (Some (File bytes)) = by (nat_lt 1024 (length bytes)) (is_utf8 (with
     by false false h = is_utf8-empty
 prefix_text _ = is_utf8-empty
 
-text_by_reading : (job : Job) (prefix : List ℕ) (object : PairtreeObject) (reading : Option (List ℕ)) → is_utf8 prefix ≡ true → is_text (verdict_by_reading job prefix object reading) ≡ true
+text_by_reading : (job : Job) (prefix : List ℕ) (object : PairtreeObject) (reading : Option (List ℕ)) → is_utf8 prefix ≡ true → is_text (verdict_by_identifier object (identifier_by job.tuples prefix reading)) ≡ true
 text_by_reading _ _ _ None _ = refl
 text_by_reading job prefix object (Some read) u = by (is_utf8 read) (is_reserved job (prefix ++ read)) refl
   where
-    by : (t r : Bool) → is_utf8 read ≡ t → is_text (cond t (cond r (Skip cause.Reserved) (Named (prefix ++ read) object)) (Skip cause.Utf8)) ≡ true
+    by : (t r : Bool) → is_utf8 read ≡ t → is_text (verdict_by_identifier object (cond t (cond r (Err refusal.Reserved) (Ok (prefix ++ read))) (Err refusal.NotUtf8))) ≡ true
     by false r h = refl
     by true true h = refl
     by true false h = is_utf8-append prefix read u h

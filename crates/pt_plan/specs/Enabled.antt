@@ -18,7 +18,7 @@ use Rattle.pt_plan.specs.Job.{Job}
 use Rattle.pt_plan.specs.Roots.{storage_root}
 use Rattle.pt_plan.specs.Run.{Held}
 use Rattle.pt_plan.specs.Store.{prefix_file}
-use Rattle.pt_plan.specs.TurnMake.{in_content, in_version, is_stored, path_of_source}
+use Rattle.pt_plan.specs.TurnMake.{staged_content, in_version, is_stored, path_of_source}
 use Rattle.pt_plan.specs.TurnPlace.{tuple_folder}
 use Rattle.pt_plan.specs.TurnWalk.{in_pairtree, in_root}
 use Rattle.pt_plan.specs.declared.object.Object.{Object}
@@ -65,8 +65,8 @@ HasParent told path = ForSome told (λ s. s.tree (parent path) ≡ Some Folder)
 abbrev pub MayMakeStored : Option Reading → Option Writing → Object → List Frame → Position → Path → Type 0
 MayMakeStored reading writing object trail position path =
     (nat_lt position.directories (length path) ≡ true
-    → MayMake writing (in_content (take position.directories path)))
-    × (nat_lt position.directories (length path) ≡ false → MayMake writing (in_content path)
+    → MayMake writing (staged_content (take position.directories path)))
+    × (nat_lt position.directories (length path) ≡ false → MayMake writing (staged_content path)
     × MayOpenRow reading object trail path)
 
 -- of the row at a position the content may be made, if it is to be stored

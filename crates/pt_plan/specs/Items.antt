@@ -1,14 +1,14 @@
 -- The items of a source, in the order in which they are walked, each with its verdict.
-use Rattle.std.specs.Prelude.{ℕ, Bool, true, false, ◌==◌, ◌&&◌, cond, not, nat_lt, List, [], ◌∷◌, ◌++◌, codes, length, map, Option, None, Some}
-use Rattle.std.specs.List.{concat}
+use Rattle.std.specs.Prelude.{ℕ, Bool, true, false, ◌&&◌, cond, not, nat_lt, List, [], ◌∷◌, ◌++◌, length, map, Option, None, Some, Result, Ok, Err}
 use Rattle.std.specs.Option.{option_map}
-use Rattle.std.specs.Str.{is_utf8}
+use Rattle.pt_name.specs.Identifying.{identifier_at, is_own_place}
 use Rattle.pt_name.specs.Place.{place_of}
-use Rattle.pt_name.specs.Reading.{reading_of}
 use Rattle.pt_name.specs.Share.{Portion, holds, is_first}
+use Rattle.pt_name.specs.declared.identifying.Refusal.{Refusal}
+use Rattle.pt_name.specs.declared.identifying.Refusal.TheVariants as refusal
 use Rattle.pt_object.specs.FilePaths.{File}
 use Rattle.pt_tree.specs.Forest.{Forest, none, file, other, dir, listing_of}
-use Rattle.pt_tree.specs.Path.{Path, same_path}
+use Rattle.pt_tree.specs.Path.{Path}
 use Rattle.pt_walk.specs.Left.{entries_from}
 use Rattle.pt_walk.specs.Limits.{Bounds}
 use Rattle.pt_walk.specs.Object.{Entry, entries, files, first_bad, without_shorties}
@@ -87,23 +87,25 @@ outcome limits object = outcome_by (files (entries object.inside)) (cause_of lim
 
 -- ---- the verdict on a site
 
--- no tuples are used, and the place is that of the storage root's own extensions (OCFL 1.1, "Root Structure")
+-- the place of the identifier is the storage root's own
 abbrev pub is_reserved : Job → List ℕ → Bool
-is_reserved job id = job.tuples.count == 0 && same_path (place_of job.tuples id) (codes "extensions" ∷ [])
+is_reserved job id = is_own_place job.tuples (place_of job.tuples id)
 
--- an object with this identifier, unless its place is reserved
-abbrev pub named : Job → List ℕ → PairtreeObject → Verdict
-named job id object = cond (is_reserved job id) (Skip cause.Reserved) (Named id object)
+-- why an object has no identifier that can be carried, as a cause
+abbrev pub cause_of_refusal : Refusal → Cause
+cause_of_refusal refusal.Malformed = cause.Name
+cause_of_refusal refusal.NotUtf8 = cause.Utf8
+cause_of_refusal refusal.Reserved = cause.Reserved
 
--- by what the site's names read: nothing; bytes that aren't UTF-8; or the identifier's part behind the prefix
-abbrev pub verdict_by_reading : Job → List ℕ → PairtreeObject → Option (List ℕ) → Verdict
-verdict_by_reading job prefix object None = Skip cause.Name
-verdict_by_reading job prefix object (Some read) =
-    cond (is_utf8 read) (named job (prefix ++ read) object) (Skip cause.Utf8)
+-- an object by its identifier, or by why it has none that can be carried
+abbrev pub verdict_by_identifier : {A : Type 0} → A → Result (List ℕ) Refusal → VerdictOn A
+verdict_by_identifier object (Ok id) = Named id object
+verdict_by_identifier object (Err why) = Skip (cause_of_refusal why)
 
--- the names of the site's path are read with nothing between (Pairtree 0.1, "Identifier string cleaning")
+-- by what the names of the site's path read, behind the prefix
 abbrev pub verdict_on_object : Job → List ℕ → Path → PairtreeObject → Verdict
-verdict_on_object job prefix site object = verdict_by_reading job prefix object (reading_of (concat site))
+verdict_on_object job prefix site object =
+    verdict_by_identifier object (identifier_at job.tuples prefix site)
 
 -- the first entry as an object of the site at this path, if it is a directory
 abbrev pub encapsulated : Path → Forest → Option PairtreeObject

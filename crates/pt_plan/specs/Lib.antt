@@ -9,11 +9,11 @@ pub mod FileLaws
 pub mod Fixity
 pub mod FixityLaws
 pub mod GrowthLaws
-pub mod Identifiers
 pub mod ItemLaws
 pub mod Items
 pub mod Job
 pub mod Lines
+pub mod Object
 pub mod PlaceLaws
 pub mod RerunLaws
 pub mod Roots

@@ -1,6 +1,6 @@
 -- What a run holds between two turns, as plain data.
 use Rattle.std.specs.Prelude.{ℕ, ◌+◌, List, []}
-use Rattle.pt_object.specs.declared.contents.Content.{Content}
+use Rattle.pt_object.specs.declared.table.contents.Content.{Content}
 use Rattle.pt_object.specs.declared.rows.Row.{Row}
 use Rattle.pt_plan.specs.declared.phase.Phase.{Phase}
 use Rattle.pt_plan.specs.declared.phase.Opening.TheVariants as opening

@@ -113,7 +113,7 @@ pub record IsHalted (rows : List Row) (before after : Kept) : Type 0 where
 abbrev pub HoldsMore : List Row → Held → Calls → DeviceStates → DeviceStates → Type 0
 HoldsMore rows held calls old new = (rows ≡ held.rows) × Answers calls.asked old.source new.source
 
--- from a phase, what is kept and the world to what is kept and the world after, with the answer: all calls succeed; or what they answer halts it; or a device that failed, or want of memory, halts it, and of what it was to change nothing or a part from its start is left. Its own count isn't spoken of: it is made as the turn begins
+-- from a phase, what is kept and the devices' states to what is kept and their states after, with the answer: all calls succeed; or what they answer halts it; or a device that failed, or want of memory, halts it, and of what it was to change nothing or a part from its start is left. Its own count isn't spoken of: it is made as the turn begins
 pub data Turn (job : Job) (here : Phase) (before after : Kept) (old new : DeviceStates) : Answer → Type 0 where
   -- all calls succeed, and the run goes on at the next phase
   GoesOn : (calls : Calls) (next : Phase)

@@ -8,7 +8,7 @@ use Rattle.pt_object.specs.Inventory.{inventory_text}
 use Rattle.pt_object.specs.Object.{inventory_name, object_declaration_name, sidecar_name, version_folder}
 use Rattle.pt_object.specs.Script.{Item, MakeFolder, MakeFile}
 use Rattle.pt_object.specs.Scripts.{staging}
-use Rattle.pt_object.specs.declared.contents.Content.{Content}
+use Rattle.pt_object.specs.declared.table.contents.Content.{Content}
 use Rattle.pt_object.specs.declared.rows.Row.{Row}
 use Rattle.pt_tree.specs.Path.{Path, parent as folder_of, same_path}
 use Rattle.pt_walk.specs.Trail.{names_to, trail_path}
@@ -41,15 +41,15 @@ content_at rows position =
     cond (nat_lt position.row (length rows)) (part.Content position) part.VersionInventory
 
 -- how many names two paths begin with alike
-abbrev pub shared : Path → Path → ℕ
-shared [] q = 0
-shared (a ∷ p) [] = 0
-shared (a ∷ p) (b ∷ q) = cond (bytes_eq a b) (suc (shared p q)) 0
+abbrev pub common_names : Path → Path → ℕ
+common_names [] q = 0
+common_names (a ∷ p) [] = 0
+common_names (a ∷ p) (b ∷ q) = cond (bytes_eq a b) (suc (common_names p q)) 0
 
 -- how many folders on the way to the next content stand, `content` among them, after the content at this path
 abbrev pub standing : Path → Option Content → ℕ
 standing last None = 0
-standing last (Some next) = suc (shared (folder_of last) (folder_of next.path))
+standing last (Some next) = suc (common_names (folder_of last) (folder_of next.path))
 
 -- the position behind a row whose content is stored already
 abbrev pub behind : Position → Position
@@ -75,8 +75,8 @@ abbrev pub in_version : Path → Path
 in_version path = staging ++ (version_folder ++ path)
 
 -- the stored content of a logical path, or a folder on the way to it (OCFL 1.1, "Content Directory")
-abbrev pub in_content : Path → Path
-in_content path = in_version (codes "content" ∷ path)
+abbrev pub staged_content : Path → Path
+staged_content path = in_version (codes "content" ∷ path)
 
 -- of the object, from below the pairtree's directory
 abbrev pub path_of_source : Object → List Frame → Path
@@ -134,7 +134,7 @@ pub data MakeStep (job : Job) : Phase → Held → Held → Calls → Answer →
       → is_stored held.contents position.stored row.path ≡ true
       → nat_lt position.directories (length row.path) ≡ true
       → MakeStep job (phase.Carrying object (stage.Make (part.Content position))) held held
-      (does (Makes (MakeFolder (in_content (take position.directories row.path)))))
+      (does (Makes (MakeFolder (staged_content (take position.directories row.path)))))
       (Ok (phase.Carrying object (stage.Make (part.Content (with_folder position)))))
   -- then its file is made, and the source's is opened
   OpensCopy : (held : Held) (object : Object) (position : Position) (row : Row)
@@ -144,7 +144,7 @@ pub data MakeStep (job : Job) : Phase → Held → Held → Calls → Answer →
       → MakeStep job (phase.Carrying object (stage.Make (part.Content position))) held (with_fed held [])
       (record {
         asked = Opens (in_pairtree (path_of_source object held.trail ++ row.path));
-        change = Creates (in_content row.path);
+        change = Creates (staged_content row.path);
         line = None;
       }) (Ok (phase.Carrying object (stage.Copy position row.length)))
   -- a block is copied

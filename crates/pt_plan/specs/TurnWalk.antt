@@ -1,9 +1,7 @@
 -- The turns of the walk through the sites.
-use Rattle.std.specs.Prelude.{◌≡◌, ℕ, true, false, cond, nat_lt, List, [], ◌∷◌, ◌++◌, length, Option, None, Some, Result, Ok, Err, is_none}
-use Rattle.std.specs.List.{concat}
-use Rattle.std.specs.Str.{is_utf8}
+use Rattle.std.specs.Prelude.{◌≡◌, ℕ, true, false, nat_lt, List, [], ◌∷◌, ◌++◌, length, Option, None, Some, Ok, is_none}
+use Rattle.pt_name.specs.Identifying.{identifier_at}
 use Rattle.pt_name.specs.Place.{place_of}
-use Rattle.pt_name.specs.Reading.{reading_of}
 use Rattle.pt_name.specs.Share.{is_first}
 use Rattle.pt_tree.specs.Listing.{Item}
 use Rattle.pt_tree.specs.Path.{Path}
@@ -19,7 +17,7 @@ use Rattle.pt_walk.specs.declared.site.Finding.{Finding}
 use Rattle.pt_walk.specs.declared.site.Finding.TheVariants as finding
 use Rattle.pt_walk.specs.declared.site.Form.{Form}
 use Rattle.pt_plan.specs.Answer.{Answer}
-use Rattle.pt_plan.specs.Items.{Interior, Named, Skip, VerdictOn, is_reserved, ours}
+use Rattle.pt_plan.specs.Items.{Interior, Named, Skip, VerdictOn, ours, verdict_by_identifier}
 use Rattle.pt_plan.specs.Job.{Job, form_of}
 use Rattle.pt_plan.specs.Lines.{Present, Skipped}
 use Rattle.pt_plan.specs.Run.{Held, with_trail}
@@ -44,32 +42,14 @@ abbrev pub has_object : Option ℕ → Finding
 has_object (Some index) = finding.Candidate index
 has_object None = finding.Gathered
 
--- the identifier, unless its place is reserved
-abbrev pub unless_reserved : Job → List ℕ → Result (List ℕ) Cause
-unless_reserved job id = cond (is_reserved job id) (Err cause.Reserved) (Ok id)
-
--- by what the names read: the identifier, or the cause against it
-abbrev pub identifier_by : Job → List ℕ → Option (List ℕ) → Result (List ℕ) Cause
-identifier_by job prefix None = Err cause.Name
-identifier_by job prefix (Some read) =
-    cond (is_utf8 read) (unless_reserved job (prefix ++ read)) (Err cause.Utf8)
-
--- the identifier that the names of a site's path read, behind the prefix, or why none is carried (Pairtree 0.1, "Identifier string cleaning")
-abbrev pub identifier_at : Job → List ℕ → Path → Result (List ℕ) Cause
-identifier_at job prefix site = identifier_by job prefix (reading_of (concat site))
-
--- the object at the entry of this index, or of the site itself, by its identifier
-abbrev pub judged_by_identifier : Option ℕ → Result (List ℕ) Cause → VerdictOn (Option ℕ)
-judged_by_identifier index (Ok id) = Named id index
-judged_by_identifier index (Err why) = Skip why
-
 -- the site, by what it was found to be: an object is encapsulated in the entry of an index, or gathered
 abbrev pub judged_by_finding : Job → List ℕ → Path → Finding → VerdictOn (Option ℕ)
 judged_by_finding job prefix site finding.Interior = Interior
 judged_by_finding job prefix site (finding.Skip why) = Skip why
 judged_by_finding job prefix site (finding.Candidate index) =
-    judged_by_identifier (Some index) (identifier_at job prefix site)
-judged_by_finding job prefix site finding.Gathered = judged_by_identifier None (identifier_at job prefix site)
+    verdict_by_identifier (Some index) (identifier_at job.tuples prefix site)
+judged_by_finding job prefix site finding.Gathered =
+    verdict_by_identifier None (identifier_at job.tuples prefix site)
 
 -- the site that the innermost listing is of, as far as it is of the job's share
 abbrev pub judged_at : Job → List ℕ → List Frame → VerdictOn (Option ℕ)

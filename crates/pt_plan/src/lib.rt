@@ -2,7 +2,9 @@
 //!
 //! The phases of a run as plain data, what a run is to leave, and what one turn of it does. The definitions: the items of a store with their
 //! verdicts, what is carried, the root after it, the log, the bound on what is held, the work, what a fault may leave, and one turn line by
-//! line. The prover computes worked stores, and turns of them, from these definitions (in pt_move_tests). Laws:
+//! line. The prover computes worked stores, and turns of them, from these definitions (in pt_run_tests).
+//!
+//! The lines of a log as texts (`done_line`, `present_line`, `skip_line`, `end_line`): exactly `line_text` of what they tell. Laws:
 //!
 //! - `taken_against_earlier`, `carried_grows`, `text_grows`, `all_items_are_all`: what is carried and told grows item by item; an item is taken
 //!   against the root and the items before it. `files_come_in_order`, `carried_files_come_in_order`: the files of each carried object come in
@@ -33,12 +35,12 @@
 #![tactic(auto)]
 
 mod fault;
-mod identifier;
+pub mod kinds;
 pub mod laws;
+pub mod lines;
 mod object;
 mod phase;
 
 pub use fault::Fault;
-pub use identifier::Identifier;
 pub use object::Object;
 pub use phase::{Opening, Part, Phase, Position, Stage};

@@ -1,4 +1,6 @@
-use crate::Identifier;
+ghost use Rattle.std.specs.Prelude.{◌≡◌};
+
+use pt_name::Identifier;
 use pt_tree::NamePath;
 
 /// An object that is being carried.
@@ -14,4 +16,19 @@ pub struct Object {
     pub site: usize,
     /// How many directories without entries were met in it.
     pub empty: u64,
+}
+
+impl Object {
+    ghost use Rattle.pt_plan.specs.Object.{names_before};
+
+    /// How many names lead to it, of the path of a file of it, from below `pairtree_root` on.
+    pub fn names_before(&self) -> usize
+        ensures { result ≡ names_before self.now }
+    {
+        if self.gathered {
+            self.site.saturating_sub(1)
+        } else {
+            self.site
+        }
+    }
 }

@@ -7,6 +7,7 @@ use Rattle.std.proofs.lemmas.Bool.{and_parts, eqb-false}
 use Rattle.pt_state.proofs.Words.{Item, Path, current_entry, is_dir_entry, names_to, parent, trail_path, Frame, logical_path, to_site, Object}
 use Rattle.pt_walk.specs.Trail.{are_outer, entry_at, is_frame, is_trail, name_at}
 use Rattle.pt_walk.proofs.TrailSteps.{outer_names, path_splits}
+use Rattle.pt_plan.specs.Object.{names_before}
 use Rattle.pt_plan.specs.TurnScan.{is_in_site, own_listings}
 use Rattle.pt_scan.specs.Scanning.{IsSite}
 
@@ -43,7 +44,7 @@ names_outside (suc k) trail is some =
 
 -- ---- the logical path
 
-first_of : (object : Object) (trail : List Frame) → IsSite object trail → 0 < own_listings object trail → length trail - own_listings object trail ≡ cond object.gathered (object.site - 1) object.site
+first_of : (object : Object) (trail : List Frame) → IsSite object trail → 0 < own_listings object trail → length trail - own_listings object trail ≡ names_before object
 unfolding IsSite
 first_of object trail (some, long) own = by object.gathered own
   where
@@ -51,7 +52,7 @@ first_of object trail (some, long) own = by object.gathered own
     by true own = omega (arith, some, long)
     by false own = omega (arith, some, long)
 
-module _ (object : Object) (trail : List Frame) (is : is_trail trail ≡ true) (site : IsSite object trail) (own : 0 < own_listings object trail) (entry : Path) (first : ℕ) (at : entry ≡ names_to trail) (begin : first ≡ cond object.gathered (object.site - 1) object.site) where
+module _ (object : Object) (trail : List Frame) (is : is_trail trail ≡ true) (site : IsSite object trail) (own : 0 < own_listings object trail) (entry : Path) (first : ℕ) (at : entry ≡ names_to trail) (begin : first ≡ names_before object) where
   abbrev inner : ℕ
   inner = own_listings object trail
 

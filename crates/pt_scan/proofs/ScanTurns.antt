@@ -16,7 +16,7 @@ use Rattle.pt_walk.specs.Site.{is_shorty}
 use Rattle.pt_walk.specs.Trail.{has_place}
 use Rattle.pt_plan.specs.Enabled.{MayEnter, MayOpen}
 use Rattle.pt_plan.specs.TurnScan.{StartsInSite, EntersObject, IsTooDeep, PassesShorty, EntersDirectory, MeetsDeep, OpensFile, MeetsLimit, MeetsOther, EndsSite, EndsObject, LeavesDirectory, is_in_site, none_listed}
-use Rattle.pt_state.proofs.LineTexts.{front_none}
+use Rattle.pt_state.proofs.Fronts.{front_none}
 use Rattle.pt_state.proofs.Together.{asked_stays, did_nothing}
 use Rattle.pt_state.proofs.Turns.{left_some, turned_on, went}
 use Rattle.pt_tree.specs.Source.{CanList}

@@ -16,7 +16,7 @@ use Rattle.pt_walk.specs.declared.site.At.TheVariants as at
 use Rattle.pt_plan.specs.Enabled.{MayEnter}
 use Rattle.pt_plan.specs.TurnWalk.{OpensRoot, IsPast, IsDeep, EntersSite as EntersSiteOf, PassesEntry, LeavesSite, EndsWalk}
 use Rattle.pt_plan.specs.DeviceStates.{tells_if}
-use Rattle.pt_state.proofs.LineTexts.{front_none}
+use Rattle.pt_state.proofs.Fronts.{front_none}
 use Rattle.pt_state.proofs.Together.{did_nothing}
 use Rattle.pt_state.proofs.Turns.{Leads, left_some, short_asked}
 use Rattle.pt_scan.proofs.HeldTurns.{moved, moves}

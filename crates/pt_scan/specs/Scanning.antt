@@ -1,4 +1,4 @@
--- What the turns of the scan ask, and what their parts come to, over the world of the devices.
+-- What the turns of the scan ask, and what their parts come to, over the states of the devices.
 use Rattle.std.specs.Prelude.{◌≡◌, ◌<◌, ◌≤◌, ◌==◌, ◌^◌, ℕ, Bool, false, IfErr, IfOk, IsSome, IsTrue, List, Option, [], Ok, OnErr, OnOk, Result, Some, length}
 use Rattle.std.specs.String.{string_bytes}
 use Rattle.pt_tree.specs.Listing.{Item}
@@ -123,8 +123,8 @@ pub record Enters (s s' : State) (old new : DeviceStates) (is_empty : Bool) : Ty
 -- that it was entered, or failed to be listed, and all that is held is as it was
 pub record Entered {O : Type 0} (of : OfOutside O) (old new : State × O)
     (result : Result Bool Fault) : Type 0 where
-  pub did : IfOk result (Enters old.0 new.0 (of.world old.1) (of.world new.1))
-  pub failed : IfErr result (λ why. FailsUnchanged why (of.world old.1) (of.world new.1))
+  pub did : IfOk result (Enters old.0 new.0 (of.states old.1) (of.states new.1))
+  pub failed : IfErr result (λ why. FailsUnchanged why (of.states old.1) (of.states new.1))
   pub same : OnErr result (KeepsAll old.0 new.0)
   pub few : of.within 1 0 old.1 new.1
 
@@ -132,9 +132,9 @@ pub record Entered {O : Type 0} (of : OfOutside O) (old new : State × O)
 pub record GaveUp {O T : Type 0} (of : OfOutside O) (object : Object) (why : Cause)
     (old new : State × O) (result : Result T Fault) : Type 0 where
   pub did : OnOk result (Did (tells (Skipped (trail_path (to_site object old.0.trail)) why))
-      (of.world old.1) (of.world new.1))
+      (of.states old.1) (of.states new.1))
   pub back : OnOk result (IsBackAtSite object old.0 new.0)
   pub left : IfErr result (λ f. FailsPartway (tells (Skipped (trail_path (to_site object old.0.trail)) why)) f
-      (of.world old.1) (of.world new.1))
+      (of.states old.1) (of.states new.1))
   pub same : OnErr result (KeepsAll old.0 new.0)
   pub few : of.within 0 0 old.1 new.1

@@ -1,20 +1,20 @@
 //! The turn that judges a site: what it is, and whether its object may be carried.
-ghost use Rattle.std.specs.Prelude.{◌≡◌, ◌<◌, ◌++◌, ◌^◌, ◌∷◌, [], codes, cond, IfOk, IfSome, IsTrue, length};
-ghost use Rattle.std.specs.List.{concat};
+ghost use Rattle.std.specs.Prelude.{◌≡◌, ◌<◌, ◌^◌, cond, IfOk, IfSome, IsTrue};
+ghost use Rattle.pt_name.specs.declared.identifying.Identification.TheVariants as answer;
+ghost use Rattle.pt_plan.specs.Items.{cause_of_refusal};
 ghost use Rattle.pt_plan.specs.Job.{form_of as form_of_job};
 ghost use Rattle.pt_plan.specs.TurnWalk.{at_object, found_at, in_root, path_of_object};
 ghost use Rattle.pt_plan.specs.declared.phase.Phase.TheVariants as phase;
 ghost use Rattle.pt_plan.specs.declared.phase.Stage.TheVariants as stage;
-ghost use Rattle.pt_tree.specs.Path.{same_path};
 ghost use Rattle.pt_walk.specs.Trail.{has_place, trail_path};
 ghost use Rattle.pt_walk.specs.declared.site.Form.TheVariants as form;
 ghost use Rattle.pt_state.specs.Outside.{Found};
 ghost use Rattle.pt_state.specs.Turns.{TakesTurn};
 ghost use Rattle.pt_state.specs.States.{job_of};
-ghost use Rattle.pt_scan.specs.Judging.{CanPass, IsJudging, IsNamed, IsOurs, IsPassedAt, IsPlaced, is_own_place};
+ghost use Rattle.pt_scan.specs.Judging.{CanPass, IsIdentified, IsJudging, IsPassedAt};
 
-use pt_name::{Layout, UncleanFault, concatenate, unclean};
-use pt_plan::{Fault, Identifier, Object, Phase, Stage};
+use pt_name::{Candidate, Identification, Refusal, identify};
+use pt_plan::{Fault, Object, Phase, Stage};
 use pt_state::lines::{put_present, put_skip};
 use pt_state::paths::in_storage_root;
 use pt_state::{Io, State};
@@ -61,8 +61,8 @@ fn finding(state: &State) -> Finding
     }
 }
 
-// What is made of a divided site.
-fn form_of(gather: bool) -> Form
+/// What is made of a divided site: an object where these are gathered.
+pub fn form_of(gather: bool) -> Form
     ensures { result ≡ cond gather form.Gathering form.Plain }
 {
     if gather { Form::Gathering } else { Form::Plain }
@@ -87,8 +87,8 @@ fn pass_over<O: Io>(
     Ok(Phase::Walk)
 }
 
-// Reads the identifier of a site's object, which is the entry of this index, or else is gathered. One of another share is
-// passed.
+// Asks what the names of a site say of its object, which is the entry of this index, or else is gathered. One of another
+// share is passed.
 fn judge_object<O: Io>(
     state: &mut State,
     site: &NamePath,
@@ -100,29 +100,23 @@ fn judge_object<O: Io>(
     ensures turn { TakesTurn O.Io (0, 1) phase.Judge
         (state.old, out.old) (state.new, out.new) result }
 {
-    match read_identifier(state, site)? {
-        Verdict::Carry(candidate) => {
-            if !state.job.share.holds(candidate.id.as_str().as_bytes()) {
-                return Ok(Phase::Walk);
-            }
-            find_place(state, site, index, candidate, out)
-        }
-        Verdict::Pass(cause) => pass_over(state, site, cause, out),
+    let prefix = state.prefix.as_str();
+    match identify(site, prefix, state.job.layout, state.job.share)? {
+        Identification::Refused(refusal) => pass_over(state, site, cause_of(refusal), out),
+        Identification::OtherShare => Ok(Phase::Walk),
+        Identification::Candidate(candidate) => find_place(state, site, index, candidate, out),
     }
 }
 
-// An object with its place.
-#[derive(Drop)]
-struct Candidate {
-    id: Identifier,
-    place: NamePath,
-}
-
-// Whether the object of a site can be carried, or why it isn't.
-#[derive(Drop)]
-enum Verdict {
-    Carry(Candidate),
-    Pass(Cause),
+// The cause by which a refusal is told.
+fn cause_of(refusal: Refusal) -> Cause
+    ensures { result ≡ cause_of_refusal refusal }
+{
+    match refusal {
+        Refusal::Malformed => Cause::Name,
+        Refusal::NotUtf8 => Cause::Utf8,
+        Refusal::Reserved => Cause::Reserved,
+    }
 }
 
 // Asks what stands at an object's place, which is carried where nothing does.
@@ -134,7 +128,7 @@ fn find_place<O: Io>(
     out: &mut O,
 ) -> Result<Phase, Fault>
     requires judges { IsJudging state.old site.now index }
-    requires ours { IsOurs state.old candidate }
+    requires ours { IsIdentified state.old (answer.Candidate candidate) }
     requires present { state.old.counts.present < 2 ^ 40 }
     ensures turn { TakesTurn O.Io (0, 1) phase.Judge
         (state.old, out.old) (state.new, out.new) result }
@@ -161,7 +155,7 @@ fn find_place<O: Io>(
 
 // Asks what stands at a place of the storage root.
 fn kind_at<O: Io>(alloc: Global, place: &NamePath, out: &mut O) -> Result<Option<Kind>, Fault>
-    ensures { Found O.world (O.within 0 1) (in_root place.now) out.old out.new result }
+    ensures { Found O.states (O.within 0 1) (in_root place.now) out.old out.new result }
 {
     let path = in_storage_root(alloc, place)?;
     out.kind(&path)
@@ -212,73 +206,4 @@ fn carry_phase(candidate: Candidate, gathered: bool, site: usize) -> Phase
         },
         Stage::Open,
     )
-}
-
-// Whether the object at a site can be carried: its identifier is what the names of the site's path read, behind the
-// prefix (Pairtree 0.1, "Identifier string cleaning").
-fn read_identifier(state: &State, site: &NamePath) -> Result<Verdict, MemoryFault>
-    requires { (site.now ≡ trail_path state.now.trail) × (0 < length site.now) }
-    ensures { IfOk result (IsNamed state.now) }
-{
-    let text = text_of_names(state.alloc, site)?;
-    match unclean(state.alloc, &text) {
-        Ok(read) => {
-            let id = with_prefix(state.alloc, state.prefix.as_str(), &read)?;
-            with_place(state.alloc, state.job.layout, id)
-        }
-        Err(UncleanFault::Malformed) => Ok(Verdict::Pass(Cause::Name)),
-        Err(UncleanFault::NotUtf8) => Ok(Verdict::Pass(Cause::Utf8)),
-        Err(UncleanFault::Memory) => Err(MemoryFault::Memory),
-    }
-}
-
-// The names of a path, joined by nothing. There is a name, and no name is empty.
-fn text_of_names(alloc: Global, path: &NamePath) -> Result<Vec<u8>, MemoryFault>
-    requires { 0 < length path.now }
-    ensures text { IfOk result (λ text. text.items ≡ concat path.now) }
-    ensures some { 0 < length (concat path.now) }
-{
-    let Some(first) = path.get(0) else {
-        unreachable!()
-    };
-    let _bytes = first.bytes();
-    concatenate(alloc, path)
-}
-
-// The identifier that has this text behind the prefix.
-fn with_prefix(alloc: Global, prefix: &str, text: &str) -> Result<Identifier, MemoryFault>
-    ensures { IfOk result (λ id. id ≡ prefix.now ++ text.now) }
-{
-    let mut id = String::from_str(alloc, prefix)?;
-    id.push_str(text)?;
-    Ok(Identifier::of(id))
-}
-
-// An object with its place, unless that is the storage root's own.
-fn with_place(alloc: Global, layout: Layout, id: Identifier) -> Result<Verdict, MemoryFault>
-    requires { 0 < length id }
-    ensures { IfOk result (IsPlaced layout id) }
-{
-    let place = layout.place(alloc, id.as_str().as_bytes())?;
-    if is_reserved(layout, &place) {
-        return Ok(Verdict::Pass(Cause::Reserved));
-    }
-    Ok(Verdict::Carry(Candidate { id, place }))
-}
-
-// Whether no tuples are used, and a place is that of the storage root's own extensions.
-fn is_reserved(layout: Layout, place: &NamePath) -> bool
-    ensures { result ≡ is_own_place layout place.now }
-{
-    layout.count() == 0 && is_extensions(place)
-}
-
-// Whether a path is that of the storage root's own extensions (OCFL 1.1, "Root Structure").
-fn is_extensions(path: &NamePath) -> bool
-    ensures { result ≡ same_path path.now (codes "extensions" ∷ []) }
-{
-    match path.get(0) {
-        Some(name) => path.len() == 1 && name.bytes() == b"extensions".as_slice(),
-        None => false,
-    }
 }

@@ -32,11 +32,11 @@ pub fn read<O: Io>(
     bytes: u64,
     out: &mut O,
 ) -> Result<Phase, Fault>
-    requires may { CanRead (O.world out.old).source }
+    requires may { CanRead (O.states out.old).source }
     requires reads { CanReadOn object bytes state.old }
     ensures turn { TakesTurn O.Io (1, 0) (phase.Carrying object (stage.Read bytes))
         (state.old, out.old) (state.new, out.new) result }
-    ensures block { IfOk result (IsNextBlock (O.world out.old).source state.new.block.items) }
+    ensures block { IfOk result (IsNextBlock (O.states out.old).source state.new.block.items) }
 {
     out.next(&mut state.block)?;
     take_block(state, object, bytes, out)

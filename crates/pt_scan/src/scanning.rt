@@ -31,7 +31,7 @@ use std::alloc::Global;
 /// Halts for `Source` where the directory can't be listed, for `Log` where the line can't be put, and for `Memory` where
 /// a growth is refused; what is held stays then.
 pub fn open_object<O: Io>(state: &mut State, object: Object, out: &mut O) -> Result<Phase, Fault>
-    requires may { object.gathered ≡ false → MayEnter (O.world out.old).source state.old.trail }
+    requires may { object.gathered ≡ false → MayEnter (O.states out.old).source state.old.trail }
     requires directory { object.gathered ≡ false
         → IsTrue (is_dir_entry (current_entry state.old.trail)) }
     requires passes { CanPassOver object state.old }
@@ -53,8 +53,8 @@ pub fn open_object<O: Io>(state: &mut State, object: Object, out: &mut O) -> Res
 /// Halts for `Source` where a directory can't be listed or a file not be opened, for `Log` where the line can't be put,
 /// and for `Memory` where a growth is refused; what is held stays then.
 pub fn scan<O: Io>(state: &mut State, object: Object, out: &mut O) -> Result<Phase, Fault>
-    requires enter { MayEnter (O.world out.old).source state.old.trail }
-    requires open { MayOpen (O.world out.old).source state.old.trail }
+    requires enter { MayEnter (O.states out.old).source state.old.trail }
+    requires open { MayOpen (O.states out.old).source state.old.trail }
     requires scans { CanScan object state.old }
     requires empty { object.empty < 2 ^ 40 }
     ensures turn { TakesTurn O.Io (1, 0) (phase.Carrying object stage.Scan)
@@ -108,7 +108,7 @@ fn pass_object<O: Io>(
 
 // Enters the directory of an object at the trail's place, unless it is too deep.
 fn enter_directory<O: Io>(state: &mut State, object: Object, out: &mut O) -> Result<Phase, Fault>
-    requires enter { CanEnter (O.world out.old).source state.old.trail }
+    requires enter { CanEnter (O.states out.old).source state.old.trail }
     requires passes { CanPassOver object state.old }
     requires empty { object.empty < 2 ^ 40 }
     ensures turn { TakesTurnAt O.Io (1, 0) (λ here. MeetsDirectory here object state.old)
@@ -123,7 +123,7 @@ fn enter_directory<O: Io>(state: &mut State, object: Object, out: &mut O) -> Res
 
 // Lists the directory at the trail's place and enters it; gives whether it has no entries.
 fn enter<O: Io>(state: &mut State, out: &mut O) -> Result<bool, Fault>
-    requires enter { CanEnter (O.world out.old).source state.old.trail }
+    requires enter { CanEnter (O.states out.old).source state.old.trail }
     ensures { Entered O.Io (state.old, out.old) (state.new, out.new) result }
 {
     let path = listed_path(state)?;
@@ -147,7 +147,7 @@ fn with_directory(mut object: Object, is_empty: bool) -> Object
 // Opens the file at the trail's place, unless it is one too many, or its logical path is too long.
 fn meet_file<O: Io>(state: &mut State, object: Object, out: &mut O) -> Result<Phase, Fault>
     requires file { IsAtFile state.old.trail }
-    requires may { MayOpen (O.world out.old).source state.old.trail }
+    requires may { MayOpen (O.states out.old).source state.old.trail }
     requires scans { CanScan object state.old }
     ensures turn { TakesTurn O.Io (1, 0) (phase.Carrying object stage.Scan)
         (state.old, out.old) (state.new, out.new) result }
@@ -173,7 +173,7 @@ pub(crate) fn logical_names<'a>(object: &Object, trail: &Trail, entry: &'a NameP
     ensures { result.now ≡ logical_path_of object.now trail.now }
 {
     let _listings = trail.len();
-    &entry.names()[first_name(object)..]
+    &entry.names()[object.names_before()..]
 }
 
 // Whether the names with `/` between have more bytes than so many.
@@ -188,18 +188,6 @@ fn is_longer(names: &[Name], most: u64) -> bool
         bytes += name.bytes().len() as u128;
     }
     bytes > most as u128
-}
-
-// Of the names of a path in the source, from below `pairtree_root` on, the first that belongs to the logical path.
-fn first_name(object: &Object) -> usize
-    requires { 0 < object.now.site }
-    ensures { result ≡ cond object.now.gathered (object.now.site - 1) object.now.site }
-{
-    if object.gathered {
-        object.site - 1
-    } else {
-        object.site
-    }
 }
 
 // Leaves the innermost listing at its end: the object is made, if it was its outermost, or else the scan goes on behind it.

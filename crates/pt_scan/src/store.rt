@@ -14,16 +14,16 @@ ghost use Rattle.pt_scan.specs.Store.{PrefixFails, kind_if_named};
 
 use pt_name::{PrefixFault, read_prefix};
 use pt_object::WellKnownName;
+use pt_plan::kinds::{is_dir, is_file};
 use pt_plan::{Fault, Opening, Phase};
 use pt_state::files::read_first;
-use pt_state::kinds::{is_dir, is_file};
 use pt_state::{Io, State};
 use pt_tree::{Block, Kind, KnownName, Listing, NamePath};
 use std::alloc::Global;
 
 /// Lists the top.
 pub fn begin<O: Io>(state: &State, out: &mut O) -> Result<Phase, Fault>
-    requires { CanList (O.world out.old).source [] }
+    requires { CanList (O.states out.old).source [] }
     ensures turn { TakesTurn O.Io (1, 0) (phase.Opening opening.Begin)
         (state.now, out.old) (state.now, out.new) result }
 {
@@ -73,7 +73,7 @@ fn kind_at(listing: &Listing, i: usize, name: &str) -> Option<Kind>
 
 /// Reads the prefix file, if it is there.
 pub fn prefix<O: Io>(state: &mut State, here: Option<Kind>, out: &mut O) -> Result<Phase, Fault>
-    requires { MayOpenPrefix (O.world out.old).source here }
+    requires { MayOpenPrefix (O.states out.old).source here }
     ensures turn { TakesTurn O.Io (2, 0) (phase.Opening (opening.Prefix here))
         (state.old, out.old) (state.new, out.new) result }
 {

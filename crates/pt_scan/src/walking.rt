@@ -22,7 +22,7 @@ use pt_walk::{At, Cause, Trail, is_shorty};
 ///
 /// Halts for `Source` where it can't be listed, and for `Memory` where a growth is refused; what is held stays then.
 pub fn open_root<O: Io>(state: &mut State, out: &mut O) -> Result<Phase, Fault>
-    requires may { CanList (O.world out.old).source (in_pairtree_of []) }
+    requires may { CanList (O.states out.old).source (in_pairtree_of []) }
     requires trail { state.old.trail ≡ [] }
     ensures turn { TakesTurn O.Io (1, 0) (phase.Opening opening.OpenRoot)
         (state.old, out.old) (state.new, out.new) result }
@@ -40,7 +40,7 @@ pub fn open_root<O: Io>(state: &mut State, out: &mut O) -> Result<Phase, Fault>
 /// Halts for `Source` where a shorty can't be listed, for `Log` where its line can't be put, and for `Memory` where a
 /// growth is refused; what is held stays then.
 pub fn walk<O: Io>(state: &mut State, out: &mut O) -> Result<Phase, Fault>
-    requires may { MayEnter (O.world out.old).source state.old.trail }
+    requires may { MayEnter (O.states out.old).source state.old.trail }
     requires few { state.old.counts.skipped < 2 ^ 40 }
     ensures turn { TakesTurn O.Io (1, 0) phase.Walk
         (state.old, out.old) (state.new, out.new) result }
@@ -66,7 +66,7 @@ pub fn walk<O: Io>(state: &mut State, out: &mut O) -> Result<Phase, Fault>
 
 // Enters the shorty at the trail's place, or tells why not.
 fn meet_shorty<O: Io>(state: &mut State, out: &mut O) -> Result<Phase, Fault>
-    requires may { MayEnter (O.world out.old).source state.old.trail }
+    requires may { MayEnter (O.states out.old).source state.old.trail }
     requires passes { CanPassShorty state.old }
     ensures turn { TakesTurn O.Io (1, 0) phase.Walk
         (state.old, out.old) (state.new, out.new) result }
@@ -100,7 +100,7 @@ fn pass_shorty<O: Io>(state: &mut State, cause: Cause, out: &mut O) -> Result<Ph
 // Lists the shorty at the trail's place and enters it.
 fn enter_site<O: Io>(state: &mut State, out: &mut O) -> Result<Phase, Fault>
     requires line { EntersSite state.old }
-    requires may { MayEnter (O.world out.old).source state.old.trail }
+    requires may { MayEnter (O.states out.old).source state.old.trail }
     requires shorty { IsAtShorty state.old.trail }
     ensures turn { TakesTurn O.Io (1, 0) phase.Walk
         (state.old, out.old) (state.new, out.new) result }

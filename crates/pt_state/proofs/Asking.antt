@@ -1,4 +1,4 @@
--- What a call of the devices came to in the world, from what the device promises.
+-- What a call of the devices came to in their states, from what the device promises.
 use Rattle.std.proofs.Common.{◌≡◌, ℕ, List, refl, sym, subst, ap, add-zero, arith}
 use Rattle.std.specs.Prelude.{Option, Some, Err, IsTrue, IsSome}
 use Rattle.std.specs.Io.KnownBytes.{Appends}
@@ -16,7 +16,7 @@ use Rattle.pt_tree.specs.declared.faults.TreeFault.{TreeFault}
 use Rattle.pt_tree.specs.declared.faults.TreeFault.TheVariants as tree
 use Rattle.pt_state.proofs.Words.kind
 use Rattle.pt_state.specs.Counting.{AtMostCalls, calls_none}
-use Rattle.pt_state.specs.Outside.{world}
+use Rattle.pt_state.specs.Outside.{states}
 
 abbrev failures : ℕ → ℕ → ℕ → Failures
 failures source dest log = record { source = source; dest = dest; log = log }
@@ -36,19 +36,19 @@ pub ruleset counting = (calls_none, one_more, no_more)
 -- ---- the source
 
 module _ (r r' : Option Reading) (w : Option Writing) (g : Option (List ℕ)) (n n' d l : ℕ) where
-  answers : (asked : Asked) → Answers asked r r' → n' ≡ n → Did (asks asked) (world r w g n d l) (world r' w g n' d l)
+  answers : (asked : Asked) → Answers asked r r' → n' ≡ n → Did (asks asked) (states r w g n d l) (states r' w g n' d l)
   unfolding Did Changes Puts
   answers asked is count = (record { source = is; dest = refl; log = refl }, ap (λ (k : ℕ). failures k d l) count)
 
-  pub did_list : (p : Path) (entries : List Entry) → IsListed r p entries → IsTrue (names_rise entries) → r' ≡ r → n' ≡ n → Did (asks (Lists p entries)) (world r w g n d l) (world r' w g n' d l)
+  pub did_list : (p : Path) (entries : List Entry) → IsListed r p entries → IsTrue (names_rise entries) → r' ≡ r → n' ≡ n → Did (asks (Lists p entries)) (states r w g n d l) (states r' w g n' d l)
   unfolding Answers
   did_list p entries is rise same count = answers (Lists p entries) (is, rise, same) count
 
-  pub did_open : (p : Path) → r' ≡ option_map (after_open p) r → n' ≡ n → Did (asks (Opens p)) (world r w g n d l) (world r' w g n' d l)
+  pub did_open : (p : Path) → r' ≡ option_map (after_open p) r → n' ≡ n → Did (asks (Opens p)) (states r w g n d l) (states r' w g n' d l)
   unfolding Answers
   did_open p = answers (Opens p)
 
-  pub did_next : (block : List ℕ) → IsRead r block → r' ≡ option_map after_next r → n' ≡ n → Did (asks (Reads block)) (world r w g n d l) (world r' w g n' d l)
+  pub did_next : (block : List ℕ) → IsRead r block → r' ≡ option_map after_next r → n' ≡ n → Did (asks (Reads block)) (states r w g n d l) (states r' w g n' d l)
   unfolding Answers
   did_next block read is count = answers (Reads block) (read, is) count
 
@@ -60,7 +60,7 @@ module _ (r r' : Option Reading) (w : Option Writing) (g : Option (List ℕ)) (n
   source_not_log tree.Device = tt
   source_not_log tree.Memory = tt
 
-  pub stays_source : (f : TreeFault) (h : Fault) → h ≡ source_fault f → r' ≡ r → IsCounted {T = Unit {0}} n n' (Err f) → FailsUnchanged h (world r w g n d l) (world r' w g n' d l)
+  pub stays_source : (f : TreeFault) (h : Fault) → h ≡ source_fault f → r' ≡ r → IsCounted {T = Unit {0}} n n' (Err f) → FailsUnchanged h (states r w g n d l) (states r' w g n' d l)
   unfolding FailsUnchanged
   stays_source f h is same count = (ap source_tree same, refl, refl, rw is (source_counted f count), subst IsNotOfLog (sym is) (source_not_log f))
 
@@ -76,35 +76,35 @@ file_there w p can = λ s is. by (s.tree p) (can s is)
     by _ is = absurd (cc)
 
 module _ (r : Option Reading) (w w' : Option Writing) (g : Option (List ℕ)) (n d d' l : ℕ) where
-  changes : (change : Change) → Changes change w w' → d' ≡ d → Did (does change) (world r w g n d l) (world r w' g n d' l)
+  changes : (change : Change) → Changes change w w' → d' ≡ d → Did (does change) (states r w g n d l) (states r w' g n d' l)
   unfolding Did Answers Puts
   changes change is count = (record { source = refl; dest = is; log = refl }, ap (λ (k : ℕ). failures n k l) count)
 
-  pub did_kind : (p : Path) (here : Option Kind) → IsKindAt w p here → w' ≡ w → d' ≡ d → Did (does (Finds p here)) (world r w g n d l) (world r w' g n d' l)
+  pub did_kind : (p : Path) (here : Option Kind) → IsKindAt w p here → w' ≡ w → d' ≡ d → Did (does (Finds p here)) (states r w g n d l) (states r w' g n d' l)
   unfolding Changes
   did_kind p here is same count = changes (Finds p here) (is, same) count
 
-  pub did_peek : (p : Path) (block : List ℕ) → CanPeek w p → IsPeeked w p block → w' ≡ w → d' ≡ d → Did (does (Peeks p block)) (world r w g n d l) (world r w' g n d' l)
+  pub did_peek : (p : Path) (block : List ℕ) → CanPeek w p → IsPeeked w p block → w' ≡ w → d' ≡ d → Did (does (Peeks p block)) (states r w g n d l) (states r w' g n d' l)
   unfolding Changes
   did_peek p block can is same count = changes (Peeks p block) (file_there w p can, is, same) count
 
-  pub did_mkdir : (p : Path) → w' ≡ option_map (after_mkdir p) w → d' ≡ d → Did (does (Makes (MakeFolder p))) (world r w g n d l) (world r w' g n d' l)
+  pub did_mkdir : (p : Path) → w' ≡ option_map (after_mkdir p) w → d' ≡ d → Did (does (Makes (MakeFolder p))) (states r w g n d l) (states r w' g n d' l)
   unfolding Changes
   did_mkdir p = changes (Makes (MakeFolder p))
 
-  pub did_create : (p : Path) → w' ≡ option_map (after_create p) w → d' ≡ d → Did (does (Creates p)) (world r w g n d l) (world r w' g n d' l)
+  pub did_create : (p : Path) → w' ≡ option_map (after_create p) w → d' ≡ d → Did (does (Creates p)) (states r w g n d l) (states r w' g n d' l)
   unfolding Changes
   did_create p = changes (Creates p)
 
-  pub did_append : (piece : List ℕ) → w' ≡ option_map (after_append piece) w → d' ≡ d → Did (does (Adds piece)) (world r w g n d l) (world r w' g n d' l)
+  pub did_append : (piece : List ℕ) → w' ≡ option_map (after_append piece) w → d' ≡ d → Did (does (Adds piece)) (states r w g n d l) (states r w' g n d' l)
   unfolding Changes
   did_append piece = changes (Adds piece)
 
-  pub did_finish : w' ≡ option_map after_finish w → d' ≡ d → Did (does Finishes) (world r w g n d l) (world r w' g n d' l)
+  pub did_finish : w' ≡ option_map after_finish w → d' ≡ d → Did (does Finishes) (states r w g n d l) (states r w' g n d' l)
   unfolding Changes
   did_finish = changes Finishes
 
-  pub did_rename : (p q : Path) → w' ≡ option_map (after_rename p q) w → d' ≡ d → Did (does (Renames p q)) (world r w g n d l) (world r w' g n d' l)
+  pub did_rename : (p q : Path) → w' ≡ option_map (after_rename p q) w → d' ≡ d → Did (does (Renames p q)) (states r w g n d l) (states r w' g n d' l)
   unfolding Changes
   did_rename p q = changes (Renames p q)
 
@@ -116,11 +116,11 @@ module _ (r : Option Reading) (w w' : Option Writing) (g : Option (List ℕ)) (n
   dest_not_log tree.Device = tt
   dest_not_log tree.Memory = tt
 
-  pub stays_dest : (f : TreeFault) (h : Fault) → h ≡ dest_fault f → w' ≡ w → IsCounted {T = Unit {0}} d d' (Err f) → FailsUnchanged h (world r w g n d l) (world r w' g n d' l)
+  pub stays_dest : (f : TreeFault) (h : Fault) → h ≡ dest_fault f → w' ≡ w → IsCounted {T = Unit {0}} d d' (Err f) → FailsUnchanged h (states r w g n d l) (states r w' g n d' l)
   unfolding FailsUnchanged
   stays_dest f h is same count = (refl, same, refl, rw is (dest_counted f count), subst IsNotOfLog (sym is) (dest_not_log f))
 
-  pub leaves_piece : (piece : List ℕ) (f : TreeFault) (h : Fault) → h ≡ dest_fault f → LeavesPart w w' piece → IsCounted {T = Unit {0}} d d' (Err f) → FailsPartway (does (Adds piece)) h (world r w g n d l) (world r w' g n d' l)
+  pub leaves_piece : (piece : List ℕ) (f : TreeFault) (h : Fault) → h ≡ dest_fault f → LeavesPart w w' piece → IsCounted {T = Unit {0}} d d' (Err f) → FailsPartway (does (Adds piece)) h (states r w g n d l) (states r w' g n d' l)
   unfolding FailsPartway
   leaves_piece piece f h is left count =
       (record { read = tt; found = tt; source = refl; dest = OfPiece piece left.count left.left; log = refl }, rw is (dest_counted f count), subst IsNotOfLog (sym is) (dest_not_log f))
@@ -128,7 +128,7 @@ module _ (r : Option Reading) (w w' : Option Writing) (g : Option (List ℕ)) (n
 -- ---- the log
 
 module _ (r : Option Reading) (w : Option Writing) (g g' : Option (List ℕ)) (n d l l' : ℕ) where
-  pub did_put : (line : Line) (text : List ℕ) → text ≡ line_text line → Appends g g' text → l' ≡ l → Did (tells line) (world r w g n d l) (world r w g' n d l')
+  pub did_put : (line : Line) (text : List ℕ) → text ≡ line_text line → Appends g g' text → l' ≡ l → Did (tells line) (states r w g n d l) (states r w g' n d l')
   unfolding Did Answers Changes Puts
   did_put line text is put count = (record { source = refl; dest = refl; log = rw is at put }, ap (λ (k : ℕ). failures n d k) count)
 
@@ -136,7 +136,7 @@ module _ (r : Option Reading) (w : Option Writing) (g g' : Option (List ℕ)) (n
   log_counted tree.Device is = (refl, refl, is)
   log_counted tree.Memory is = ap (λ (k : ℕ). failures n d k) is
 
-  pub leaves_front : (line : Line) (text : List ℕ) (f : TreeFault) (h : Fault) → text ≡ line_text line → h ≡ log_fault f → AppendsFront g g' text → IsCounted {T = Unit {0}} l l' (Err f) → FailsPartway (tells line) h (world r w g n d l) (world r w g' n d l')
+  pub leaves_front : (line : Line) (text : List ℕ) (f : TreeFault) (h : Fault) → text ≡ line_text line → h ≡ log_fault f → AppendsFront g g' text → IsCounted {T = Unit {0}} l l' (Err f) → FailsPartway (tells line) h (states r w g n d l) (states r w g' n d l')
   unfolding FailsPartway
   leaves_front line text f h is why front count =
       (record { read = tt; found = tt; source = refl; dest = Untouched _ refl; log = rw is at front }, rw why (log_counted f count), tt)

@@ -1,7 +1,7 @@
 pub mod Asking
 pub mod Together
 pub mod Turns
-pub mod LineTexts
+pub mod Fronts
 pub mod Whole
 pub mod Words
 pub mod Starts

@@ -51,7 +51,7 @@ asked_then asked f a b c first next = stays_then f a b c (asked_stays asked a b 
 pub looked_then : (p : Path) (here : Option Kind) (f : Fault) (a b c : DeviceStates) → Did (does (Finds p here)) a b → FailsUnchanged f b c → FailsUnchanged f a c
 looked_then p here f a b c first next = stays_then f a b c (looked_stays p here a b first) next
 
--- a look leaves the very world
+-- a look leaves the very states
 pub looked_same : (p : Path) (here : Option Kind) (a b : DeviceStates) → Did (does (Finds p here)) a b → b ≡ a
 unfolding Did Answers Changes Puts
 looked_same p here a b did = λ i. record { source = did.0.source i; dest = did.0.dest.1 i; log = did.0.log i; failures = did.1 i }

@@ -6,7 +6,7 @@ unfoldable pub use Rattle.pt_object.specs.Hasher.{HasBeenFed}
 pub use Rattle.pt_object.specs.Script.{MakeFile, MakeFolder}
 pub use Rattle.pt_object.specs.Scripts.{staging}
 pub use Rattle.pt_object.specs.declared.algorithm.Algorithm.{Algorithm}
-pub use Rattle.pt_object.specs.declared.contents.Content.{Content}
+pub use Rattle.pt_object.specs.declared.table.contents.Content.{Content}
 pub use Rattle.pt_object.specs.declared.hasher.Hasher.{Hasher}
 pub use Rattle.pt_object.specs.declared.rows.Row.{Row}
 pub use Rattle.pt_plan.specs.Answer.{Answer, phase_after}

@@ -2,7 +2,7 @@
 use Rattle.std.specs.Prelude.{◌≡◌, ℕ, List, String}
 use Rattle.std.specs.Global.{Global}
 use Rattle.pt_object.specs.Hasher.{IsItsCore}
-use Rattle.pt_object.specs.declared.contents.Content.{Content}
+use Rattle.pt_object.specs.declared.table.contents.Content.{Content}
 use Rattle.pt_object.specs.declared.hasher.Hasher.{Hasher}
 use Rattle.pt_object.specs.declared.rows.Row.{Row}
 use Rattle.pt_walk.specs.declared.frame.Frame.{Frame}

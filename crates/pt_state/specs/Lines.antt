@@ -1,12 +1,7 @@
--- The lines of a log, as they are put and counted.
-use Rattle.std.specs.Prelude.{◌≡◌, ◌+◌}
-use Rattle.pt_plan.specs.Lines.{Line, Done, Present, Skipped, End, line_tree}
-use Rattle.serde_json.specs.Data.{Data}
+-- The lines of a log, as they are counted.
+use Rattle.std.specs.Prelude.{◌+◌}
+use Rattle.pt_plan.specs.Lines.{Line, Done, Present, Skipped, End}
 use Rattle.pt_state.specs.declared.job.Report.{Report}
-
--- the JSON is the line's
-unfoldable pub IsTreeOf : Line → Data → Type 0
-IsTreeOf line tree = tree ≡ line_tree line
 
 -- one done line more
 abbrev pub with_done : Report → Report

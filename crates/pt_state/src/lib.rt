@@ -1,4 +1,4 @@
-//! What a run holds, the calls that it makes of its devices, and the lines that it tells.
+//! What a run holds, the calls that it makes of its devices, and the lines that it puts.
 //!
 //! What it promises: a call of the devices as one (`Io`) did what it was asked, or it failed, changed nothing or left a part of its piece,
 //! and halts the run for that device (`Called`, `Listed`, `Found`, `Wrote`, `Told`). A line is counted exactly where its `put` was answered Ok.
@@ -6,7 +6,6 @@
 
 pub mod files;
 mod job;
-pub mod kinds;
 pub mod lines;
 pub mod outside;
 pub mod paths;

@@ -10,7 +10,7 @@ ghost use Rattle.pt_tree.specs.Forest.{is_proper};
 ghost use Rattle.pt_tree.specs.Source.{Reading, CanList, CanOpen, CanRead};
 ghost use Rattle.pt_tree.specs.Tree.{IsTree};
 ghost use Rattle.pt_state.specs.Counting.{AtMostCalls, calls_after, calls_more, calls_most, calls_none, calls_still};
-ghost use Rattle.pt_state.specs.Outside.{Called, Found, Listed, Wrote, world_of};
+ghost use Rattle.pt_state.specs.Outside.{Called, Found, Listed, Wrote, states_of};
 
 use pt_plan::Fault;
 use pt_tree::{Block, Dest, Kind, Listing, Log, NamePath, Source};
@@ -21,7 +21,7 @@ use pt_tree::{Block, Dest, Kind, Listing, Log, NamePath, Source};
 /// It changes nothing then, but for `append` and `put`, which leave a part of what they were to add. Only `put` halts it for the log.
 pub trait Io {
     /// What the three tell, and how often each failed.
-    ghost world: { Self → DeviceStates };
+    ghost states: { Self → DeviceStates };
 
     /// It is over the same three devices; the source was called at most so many times more, and the destination asked at
     /// most so many times more what stands.
@@ -29,62 +29,64 @@ pub trait Io {
 
     /// Lists a directory of the source.
     fn list(&mut self, path: &NamePath) -> Result<Listing, Fault>
-        requires { CanList (world self.old).source path.now }
-        ensures { Listed world (within 1 0) path.now self.old self.new result };
+        requires { CanList (states self.old).source path.now }
+        ensures { Listed states (within 1 0) path.now self.old self.new result };
 
     /// Opens a file of the source.
     fn open(&mut self, path: &NamePath) -> Result<(), Fault>
-        requires { CanOpen (world self.old).source path.now }
-        ensures { Called world (within 1 0) (asks (Opens path.now)) self.old self.new result };
+        requires { CanOpen (states self.old).source path.now }
+        ensures { Called states (within 1 0) (asks (Opens path.now)) self.old self.new result };
 
     /// Reads the next block of the open file of the source.
     fn next(&mut self, block: &mut Block) -> Result<(), Fault>
-        requires { CanRead (world self.old).source }
-        ensures { Called world (within 1 0) (asks (Reads block.new.items)) self.old self.new result };
+        requires { CanRead (states self.old).source }
+        ensures { Called states (within 1 0) (asks (Reads block.new.items))
+            self.old self.new result };
 
     /// Asks what stands at a path of the destination.
     fn kind(&mut self, path: &NamePath) -> Result<Option<Kind>, Fault>
-        ensures { Found world (within 0 1) path.now self.old self.new result };
+        ensures { Found states (within 0 1) path.now self.old self.new result };
 
     /// Reads the first block of a file of the destination.
     fn peek(&mut self, path: &NamePath, block: &mut Block) -> Result<(), Fault>
-        requires { CanPeek (world self.old).dest path.now }
-        ensures { Called world (within 0 1) (does (Peeks path.now block.new.items))
+        requires { CanPeek (states self.old).dest path.now }
+        ensures { Called states (within 0 1) (does (Peeks path.now block.new.items))
             self.old self.new result };
 
     /// Makes a directory in the destination.
     fn mkdir(&mut self, path: &NamePath) -> Result<(), Fault>
-        requires { MayMake (world self.old).dest path.now }
-        ensures { Called world (within 0 0) (does (Makes (MakeFolder path.now)))
+        requires { MayMake (states self.old).dest path.now }
+        ensures { Called states (within 0 0) (does (Makes (MakeFolder path.now)))
             self.old self.new result };
 
     /// Makes an empty file in the destination, which is then the open one.
     fn create(&mut self, path: &NamePath) -> Result<(), Fault>
-        requires { MayMake (world self.old).dest path.now }
-        ensures { Called world (within 0 0) (does (Creates path.now)) self.old self.new result };
+        requires { MayMake (states self.old).dest path.now }
+        ensures { Called states (within 0 0) (does (Creates path.now)) self.old self.new result };
 
     /// Adds a piece to the destination's open file.
     fn append(&mut self, piece: &[u8]) -> Result<(), Fault>
-        requires { CanWrite (world self.old).dest }
-        ensures { Wrote world (within 0 0) (does (Adds piece.now)) self.old self.new result };
+        requires { CanWrite (states self.old).dest }
+        ensures { Wrote states (within 0 0) (does (Adds piece.now)) self.old self.new result };
 
     /// Closes the destination's open file.
     fn finish(&mut self) -> Result<(), Fault>
-        requires { CanWrite (world self.old).dest }
-        ensures { Called world (within 0 0) (does Finishes) self.old self.new result };
+        requires { CanWrite (states self.old).dest }
+        ensures { Called states (within 0 0) (does Finishes) self.old self.new result };
 
     /// Moves what stands at a path of the destination to another.
     fn rename(&mut self, from: &NamePath, to: &NamePath) -> Result<(), Fault>
-        requires { MayMove (world self.old).dest from.now to.now }
-        ensures { Called world (within 0 0) (does (Renames from.now to.now))
+        requires { MayMove (states self.old).dest from.now to.now }
+        ensures { Called states (within 0 0) (does (Renames from.now to.now))
             self.old self.new result };
 
     /// Puts the text of a line at the end of the log.
     fn put(&mut self, text: &[u8]) -> Result<(), Fault>
         ensures ok { (line : Line) → text.now ≡ line_text line → OnOk result (Did (tells line)
-            (world self.old) (world self.new)) }
+            (states self.old) (states self.new)) }
         ensures err { (line : Line) → text.now ≡ line_text line
-            → IfErr result (λ why. FailsPartway (tells line) why (world self.old) (world self.new)) }
+            → IfErr result (λ why. FailsPartway (tells line) why (states self.old)
+            (states self.new)) }
         ensures calls { within 0 0 self.old self.new };
 
     /// Nothing was called.
@@ -110,11 +112,11 @@ pub trait Io {
     ghost both: { (a b c : Self) → within 0 1 a b → within 0 1 b c → within 0 2 a c };
 
     /// In each directory of a source that tells the names rise.
-    ghost proper: { (o : Self) (told : Reading) → (world o).source ≡ Some told
+    ghost proper: { (o : Self) (told : Reading) → (states o).source ≡ Some told
         → is_proper told.tree ≡ true };
 
     /// What a destination tells is a tree.
-    ghost is_tree: { (o : Self) (told : Writing) → (world o).dest ≡ Some told → IsTree told.tree };
+    ghost is_tree: { (o : Self) (told : Writing) → (states o).dest ≡ Some told → IsTree told.tree };
 }
 
 /// The three devices of a run.
@@ -126,7 +128,7 @@ pub struct Devices<'s, 'd, 'l, S: Source, D: Dest, L: Log> {
 }
 
 impl<'s, 'd, 'l, S: Source, D: Dest, L: Log> Io for Devices<'s, 'd, 'l, S, D, L> {
-    ghost world = { λ o. world_of S.Source D.Dest L.Log o.source.now o.dest.now o.log.now };
+    ghost states = { λ o. states_of S.Source D.Dest L.Log o.source.now o.dest.now o.log.now };
 
     ghost within = { λ n k a b. (b.source.ghost_name ≡ a.source.ghost_name)
         × (b.dest.ghost_name ≡ a.dest.ghost_name) × (b.log.ghost_name ≡ a.log.ghost_name)

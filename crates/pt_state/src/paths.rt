@@ -1,10 +1,8 @@
 //! The paths of a run, in the source and in the destination.
 ghost use Rattle.std.specs.Prelude.{◌≡◌, ◌++◌, IfOk, take, length, ◌≤◌};
-ghost use Rattle.std.specs.String.{string_bytes};
-ghost use Rattle.pt_plan.specs.TurnMake.{in_content, path_of_source};
+ghost use Rattle.pt_plan.specs.TurnMake.{staged_content, path_of_source};
 ghost use Rattle.pt_object.specs.Scripts.{staging};
 ghost use Rattle.pt_plan.specs.TurnWalk.{in_pairtree as in_pairtree_of, in_root};
-ghost use Rattle.pt_tree.specs.Path.{joined};
 ghost use Rattle.pt_walk.specs.Trail.{names_to};
 
 use pt_object::WellKnownName;
@@ -86,9 +84,13 @@ pub fn source_path(object: &Object, trail: &Trail, path: &NamePath) -> Result<Na
 }
 
 /// The content path in `staging` that has so many names of a logical path.
-pub fn content_path(alloc: Global, path: &NamePath, names: usize) -> Result<NamePath, MemoryFault>
+pub fn staged_content_path(
+    alloc: Global,
+    path: &NamePath,
+    names: usize,
+) -> Result<NamePath, MemoryFault>
     requires { names ≤ length path.now }
-    ensures { IfOk result (λ whole. whole ≡ in_content (take names path.now)) }
+    ensures { IfOk result (λ whole. whole ≡ staged_content (take names path.now)) }
 {
     let above = [
         WellKnownName::Staging,
@@ -96,11 +98,4 @@ pub fn content_path(alloc: Global, path: &NamePath, names: usize) -> Result<Name
         WellKnownName::Content,
     ];
     NamePath::of_known_with_room(alloc, &above, names)?.followed_by(&path.names()[..names])
-}
-
-/// The names with `/` between, as a text.
-pub fn text_of(path: &NamePath) -> Result<String, MemoryFault>
-    ensures { IfOk result (λ text. string_bytes text ≡ joined path.now) }
-{
-    Ok(String::from_utf8(path.join()?).unwrap())
 }

@@ -4,7 +4,7 @@ use Rattle.std.specs.Prelude.{Option, Some}
 use Rattle.std.proofs.lemmas.List.{length-append}
 use Rattle.pt_object.specs.Algorithm.{digest_of}
 use Rattle.pt_object.specs.Contents.{content_of, is_noted, noted}
-use Rattle.pt_object.specs.declared.contents.Content.{Content}
+use Rattle.pt_object.specs.declared.table.contents.Content.{Content}
 use Rattle.pt_object.specs.declared.rows.Row.{Row}
 use Rattle.pt_tree.specs.Forest.{Forest}
 use Rattle.pt_tree.specs.Path.{Path}

@@ -13,11 +13,11 @@ use Rattle.pt_object.specs.Object.{content_file, stored_files, version_folder}
 use Rattle.pt_object.specs.Script.{Item, MakeFile, MakeFolder, files_items, folders_above, item_in}
 use Rattle.pt_object.specs.Scripts.{object_items, staging}
 use Rattle.pt_object.specs.Inventory.{inventory_text}
-use Rattle.pt_object.specs.declared.contents.Content.{Content}
+use Rattle.pt_object.specs.declared.table.contents.Content.{Content}
 use Rattle.pt_object.specs.declared.rows.Row.{Row}
 use Rattle.pt_tree.specs.Path.{Path, parent}
 use Rattle.pt_plan.specs.Job.{Job}
-use Rattle.pt_plan.specs.TurnMake.{behind_stored, content_at, in_content, in_version, is_stored, shared, standing, with_folder}
+use Rattle.pt_plan.specs.TurnMake.{behind_stored, content_at, staged_content, in_version, is_stored, common_names, standing, with_folder}
 use Rattle.pt_plan.specs.declared.object.Object.{Object}
 use Rattle.pt_plan.specs.declared.phase.Part.TheVariants as part
 use Rattle.pt_plan.specs.declared.phase.Position.{Position}
@@ -76,7 +76,7 @@ distinct_here {row} it = its_content _ it.are it.order it.is it.stored it.at
 
 module _ (job : Job) (object : Object) (rows : List Row) (contents : List Content) (bytes : Path → List ℕ) (position : Position) (row : Row) where
   pub folder_next : IsHere rows contents position row → position.directories < length row.path
-      → IsNext (script_of_object job object rows bytes) (made_before job object rows bytes (part.Content position)) (MakeFolder (in_content (take position.directories row.path)))
+      → IsNext (script_of_object job object rows bytes) (made_before job object rows bytes (part.Content position)) (MakeFolder (staged_content (take position.directories row.path)))
   folder_next it more =
       let one = distinct_here it in
       next_content job object rows bytes position (MakeFolder (codes "content" ∷ take position.directories row.path))
@@ -84,7 +84,7 @@ module _ (job : Job) (object : Object) (rows : List Row) (contents : List Conten
       (folder_at row.path position.directories more) (new_folders bytes row one it.at))
 
   pub folder_made : IsHere rows contents position row → position.directories < length row.path
-      → made_before job object rows bytes (part.Content (with_folder position)) ≡ made_before job object rows bytes (part.Content position) ++ MakeFolder (in_content (take position.directories row.path)) ∷ []
+      → made_before job object rows bytes (part.Content (with_folder position)) ≡ made_before job object rows bytes (part.Content position) ++ MakeFolder (staged_content (take position.directories row.path)) ∷ []
   folder_made it more =
       let one = distinct_here it in
       after_content job object rows bytes position (with_folder position) (MakeFolder (codes "content" ∷ take position.directories row.path))
@@ -95,7 +95,7 @@ all_stand : (row : Row) (directories : ℕ) → length row.path ≤ directories 
 all_stand row directories stand = let many = folders_many (codes "content") row.path in omega (arith, many, stand)
 
 pub file_next : (job : Job) (object : Object) (rows : List Row) (contents : List Content) (bytes : Path → List ℕ) (position : Position) (row : Row) → IsHere rows contents position row → length row.path ≤ position.directories
-    → IsNext (script_of_object job object rows bytes) (made_before job object rows bytes (part.Content position)) (MakeFile (in_content row.path) (bytes row.path))
+    → IsNext (script_of_object job object rows bytes) (made_before job object rows bytes (part.Content position)) (MakeFile (staged_content row.path) (bytes row.path))
 file_next job object rows contents bytes position row it stand =
     next_content job object rows bytes position (MakeFile (stored_at row) (bytes row.path))
     (next_file _ position _ (content_is rows bytes position.stored (distinct_here it)) (all_stand row position.directories stand))
@@ -110,7 +110,7 @@ standing_made rows bytes stored row is order None end =
     (ap (λ (l : List File). slice_get l (suc stored)) (files_as bytes (distinct rows)) ∙ get_map_none (content bytes) (distinct rows) (suc stored) end)
 standing_made rows bytes stored row is order (Some next) there =
     let files = contents_of rows bytes in
-    let k = suc (shared (parent row.path) (parent next.path)) in
+    let k = suc (common_names (parent row.path) (parent next.path)) in
     let parts = parted _ stored row next is there (order_distinct [] rows order) in
     let number : standing row.path (slice_get (map content_of_row (distinct rows)) (suc stored)) ≡ k = ap (standing row.path) (get_map content_of_row (distinct rows) (suc stored) next there) in
     let within : list_all (λ folder. leads folder (stored_at row)) (take k (folders_above (stored_at next))) ≡ true =
@@ -137,7 +137,7 @@ standing_made rows bytes stored row is order (Some next) there =
     parted (x ∷ l) (suc n) a b one two order = parted l n a b one two (and_parts _ _ order).1
 
 pub file_made : (job : Job) (object : Object) (rows : List Row) (contents : List Content) (bytes : Path → List ℕ) (position : Position) (row : Row) → IsHere rows contents position row → length row.path ≤ position.directories
-    → made_before job object rows bytes (part.Content (behind_stored contents position row.path)) ≡ made_before job object rows bytes (part.Content position) ++ MakeFile (in_content row.path) (bytes row.path) ∷ []
+    → made_before job object rows bytes (part.Content (behind_stored contents position row.path)) ≡ made_before job object rows bytes (part.Content position) ++ MakeFile (staged_content row.path) (bytes row.path) ∷ []
 file_made job object rows contents bytes position row it stand =
     let one = distinct_here it in
     let next = behind_stored contents position row.path in
@@ -180,12 +180,12 @@ module _ (job : Job) (object : Object) (rows : List Row) where
 
   -- so with what was read of it the file that was copied is the item
   pub copy_made : (contents : List Content) (bytes : Path → List ℕ) (read : List ℕ) (position : Position) (row : Row) → IsHere rows contents position row → length row.path ≤ position.directories
-      → made_before job object rows bytes (part.Content position) ++ MakeFile (in_content row.path) read ∷ []
+      → made_before job object rows bytes (part.Content position) ++ MakeFile (staged_content row.path) read ∷ []
       ≡ made_before job object rows (with_bytes_of (slice_get rows position.row) read bytes) (part.Content (behind_stored contents position row.path))
   copy_made contents bytes read position row it stand =
       let later = with_bytes row.path read bytes in
-      ap (λ l. l ++ MakeFile (in_content row.path) read ∷ []) (made_same bytes read position row it)
-      ∙ ap (λ b. made_before job object rows later (part.Content position) ++ MakeFile (in_content row.path) b ∷ []) (now_held row.path bytes)
+      ap (λ l. l ++ MakeFile (staged_content row.path) read ∷ []) (made_same bytes read position row it)
+      ∙ ap (λ b. made_before job object rows later (part.Content position) ++ MakeFile (staged_content row.path) b ∷ []) (now_held row.path bytes)
       ∙ sym (file_made job object rows contents later position row it stand)
       ∙ ap (λ (o : Option Row). made_before job object rows (with_bytes_of o read bytes) (part.Content (behind_stored contents position row.path))) (sym it.is)
 

@@ -19,7 +19,7 @@ use Rattle.pt_plan.specs.Job.{Job}
 use Rattle.pt_plan.specs.Lines.{Line}
 use Rattle.pt_plan.specs.Roots.{root_in, storage_root, with_root}
 use Rattle.pt_plan.specs.Run.{Held, with_fed}
-use Rattle.pt_plan.specs.TurnMake.{MakesStaging, MakesDeclaration, MakesVersion, PassesRow, MakesFolder, OpensCopy, CopiesOn, EndsCopy, MakesVersionInventory, MakesVersionSidecar, MakesInventory, MakesSidecar, behind, behind_stored, content_at, in_content, is_stored, sidecar_file}
+use Rattle.pt_plan.specs.TurnMake.{MakesStaging, MakesDeclaration, MakesVersion, PassesRow, MakesFolder, OpensCopy, CopiesOn, EndsCopy, MakesVersionInventory, MakesVersionSidecar, MakesInventory, MakesSidecar, behind, behind_stored, content_at, staged_content, is_stored, sidecar_file}
 use Rattle.pt_plan.specs.DeviceStates.{Changes, after_make}
 use Rattle.pt_plan.specs.declared.object.Object.{Object}
 use Rattle.pt_plan.specs.declared.phase.Part.{Part}
@@ -106,13 +106,13 @@ copy_stands held position row is it =
 -- ---- a file is copied
 
 opened : (job : Job) (past : History) (start : Tree) (object : Object) (position : Position) (held : Held) (old new : Writing) (row : Row) → HeldAt job past (phase.Carrying object (stage.Make (a_part.Content position))) held → slice_get held.rows position.row ≡ Some row
-    → is_stored held.contents position.stored row.path ≡ true → nat_lt position.directories (length row.path) ≡ false → new ≡ after_create (in_content row.path) old → DestPart job past (phase.Carrying object (stage.Make (a_part.Content position))) held start old
+    → is_stored held.contents position.stored row.path ≡ true → nat_lt position.directories (length row.path) ≡ false → new ≡ after_create (staged_content row.path) old → DestPart job past (phase.Carrying object (stage.Make (a_part.Content position))) held start old
     → DestAfter job past (phase.Carrying object (stage.Make (a_part.Content position))) (phase.Carrying object (stage.Copy position row.length)) held (with_fed held []) start new
 opened job past start object position held old new row at is stored all change part =
     let front = made_before job object held.rows past.bytes (a_part.Content position) in
     let next = file_next job object held.rows held.contents past.bytes position row (is_here job past object position held row at is stored) (ltb-false position.directories (length row.path) all) in
     let may = item_may job start past.placed object held.rows past.bytes front _ old part.started at.rows.order next part.at in
-    let tree_is : new.tree ≡ done (MakeFile (in_content row.path) []) old.tree = ap (λ (w : Writing). w.tree) change in
+    let tree_is : new.tree ≡ done (MakeFile (staged_content row.path) []) old.tree = ap (λ (w : Writing). w.tree) change in
     record {
       started = part.started;
       tree = subst IsTree (sym tree_is) (tree_put _ _ (Bytes []) part.tree may);
@@ -126,7 +126,7 @@ pub copied : (job : Job) (past : History) (start : Tree) (object : Object) (posi
     → DestAfter job past (phase.Carrying object (stage.Copy position left)) (phase.Carrying object (stage.Copy position more)) held (with_fed held (held.fed ++ piece)) start new
 copied job past start object position left more held old new line piece change part =
     let row = part.at.writes.row in
-    let path = in_content row.path in
+    let path = staged_content row.path in
     let front = made_before job object held.rows past.bytes (a_part.Content position) in
     let root = with_root start (root_on_way job start past.placed object.place 0) in
     let tree_is : new.tree ≡ added old.tree path piece = ap (λ (w : Writing). w.tree) change ∙ ap (λ o. added_to old.tree o piece) part.at.writes.writing in
@@ -156,7 +156,7 @@ closed job past start object position left held old new row at is change part =
     let later = with_bytes_of (slice_get held.rows position.row) held.fed past.bytes in
     let wrote : part.at.writes.row ≡ row = some_same part.at.writes.row row (sym part.at.writes.is_row ∙ is) in
     let tree_is : new.tree ≡ old.tree = ap (λ (w : Writing). w.tree) change in
-    let items = ap (λ (r : Row). made_before job object held.rows past.bytes (a_part.Content position) ++ MakeFile (in_content r.path) held.fed ∷ []) wrote
+    let items = ap (λ (r : Row). made_before job object held.rows past.bytes (a_part.Content position) ++ MakeFile (staged_content r.path) held.fed ∷ []) wrote
     ∙ copy_made job object held.rows held.contents past.bytes held.fed position row here (copy_stands held position row is at.numbers)
     ∙ sym (made_at job object held.rows later next (stored_more held.rows held.contents position row here.are here.order is here.stored here.at)) in
     record {
@@ -225,7 +225,7 @@ makes_dest job past start old new here held after calls next (MakesFolder was ob
     let less = ltb-true position.directories (length row.path) more in
     part_made at refl change
     (folder_next job object was.rows was.contents past.bytes position row one less) (sym (folder_made job object was.rows was.contents past.bytes position row one less)) dest
-makes_dest job past start old new here held after calls next (OpensCopy was object position row is stored all) change at dest = opened job past start object position was old new row at is stored all (some_same new (after_create (in_content row.path) old) change) dest
+makes_dest job past start old new here held after calls next (OpensCopy was object position row is stored all) change at dest = opened job past start object position was old new row at is stored all (some_same new (after_create (staged_content row.path) old) change) dest
 makes_dest job past start old new here held after calls next (CopiesOn was object position left byte block fits) change at dest = copied job past start object position left _ was old new None (byte ∷ block) (some_same new (after_append (byte ∷ block) old) change) dest
 makes_dest job past start old new here held after calls next (EndsCopy was object position row left is same) change at dest = closed job past start object position left was old new row at is (some_same new (after_finish old) change) dest
 makes_dest job past start old new here held after calls next (MakesVersionInventory was object) change at dest =

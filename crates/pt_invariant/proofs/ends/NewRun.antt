@@ -7,7 +7,7 @@ use Rattle.pt_tree.specs.Dest.{Writing}
 use Rattle.pt_tree.specs.Forest.{Forest, is_proper}
 use Rattle.pt_tree.specs.Source.{Reading}
 use Rattle.pt_tree.specs.Tree.{IsTree, Tree}
-use Rattle.pt_invariant.specs.RunInvariant.{RunInvariant, HasTold, IsHistory, IsQuiet, IsWorld, TellsAsBefore, TellsStill, start_of}
+use Rattle.pt_invariant.specs.RunInvariant.{RunInvariant, HasTold, IsHistory, IsQuiet, AreStates, TellsAsBefore, TellsStill, start_of}
 use Rattle.pt_invariant.specs.DestInvariant.{DestPart}
 use Rattle.pt_invariant.specs.SourceInvariant.{SourcePart}
 use Rattle.pt_plan.specs.Roots.{root_in}
@@ -51,15 +51,15 @@ quiet_new None = tt
 quiet_new (Some _) = refl
 
 -- nothing is behind it
-pub new_past : {job : Job} {world : DeviceStates} → IsLayout job.tuples → IsWorld world → IsHistory job (start_of world) world new_run no_history
-new_past {job} {world} layout is = record {
+pub new_past : {job : Job} {states : DeviceStates} → IsLayout job.tuples → AreStates states → IsHistory job (start_of states) states new_run no_history
+new_past {job} {states} layout is = record {
   layout = layout;
   held = held_new job;
   source = λ s e. source_new job (is.source s e);
-  dest = dest_new job world.dest is.dest;
+  dest = dest_new job states.dest is.dest;
   items = λ s e old f. record { places = record { placed = refl; next = tt }; lines_are = record { done = refl; present = refl; skipped = refl } };
-  log = λ s e old f. log_new job s.tree (root_in old) world.log;
-  quiet = quiet_new world.log;
+  log = λ s e old f. log_new job s.tree (root_in old) states.log;
+  quiet = quiet_new states.log;
   left = λ s e old f now g first h last i. tt;
 }
 

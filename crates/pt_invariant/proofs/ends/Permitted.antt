@@ -196,5 +196,5 @@ told_both P (Some start) (Some now) tells b is = (start, subst (P start) (some_s
 
 pub invariant_enables : InvariantEnables
 unfolding RunInvariant
-invariant_enables job start world run (past, is) =
-    permits run.phase is.held is.source (told_both (DestPart job past run.phase run.kept.held) start.dest world.dest is.dest)
+invariant_enables job start states run (past, is) =
+    permits run.phase is.held is.source (told_both (DestPart job past run.phase run.kept.held) start.dest states.dest is.dest)

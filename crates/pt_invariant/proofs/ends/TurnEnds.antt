@@ -187,7 +187,7 @@ module _ (job : Job) (past : History) (start : Start) (old new : DeviceStates) (
 
 pub stops_leave : StopsLeave
 unfolding RunInvariant
-stops_leave job start world run s t now first last (past, is) source_is start_is dest_is first_is last_is = left_same job past start world world run s t now first last is source_is start_is (sym dest_is) first_is (sym last_is) refl
+stops_leave job start states run s t now first last (past, is) source_is start_is dest_is first_is last_is = left_same job past start states states run s t now first last is source_is start_is (sym dest_is) first_is (sym last_is) refl
 
 pub halts_leave : HaltsLeave
 unfolding RunInvariant

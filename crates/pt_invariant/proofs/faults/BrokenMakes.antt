@@ -15,7 +15,7 @@ use Rattle.pt_plan.specs.Job.{Job}
 use Rattle.pt_plan.specs.Lines.{text}
 use Rattle.pt_plan.specs.Roots.{root_in, with_root}
 use Rattle.pt_plan.specs.Run.{Counts, Held}
-use Rattle.pt_plan.specs.TurnMake.{MakeStep, MakesDeclaration, OpensCopy, CopiesOn, MakesVersionInventory, MakesVersionSidecar, MakesInventory, MakesSidecar, in_content}
+use Rattle.pt_plan.specs.TurnMake.{MakeStep, MakesDeclaration, OpensCopy, CopiesOn, MakesVersionInventory, MakesVersionSidecar, MakesInventory, MakesSidecar, staged_content}
 use Rattle.pt_plan.specs.TurnStart.{StartStep, MakesRoot}
 use Rattle.pt_plan.specs.DeviceStates.{Adds, Calls, Creates, LeavesFront, LeavesPart, Makes, NewFile, OfFile, OfPiece, Untouched}
 use Rattle.pt_plan.specs.declared.object.Object.{Object}
@@ -91,13 +91,13 @@ module _ (job : Job) (past : History) (s : Reading) (start : Tree) (prefix : Lis
       (stands_cut count next (tree_is ∙ ap (done (MakeFile path (take count bytes))) known.dest.at.tree)))
 
   opened_broken : {object : Object} {position : Position} {held : Held} (row : Row) → Before held (phase.Carrying object (stage.Make (a_part.Content position)))
-      → IsNext (script_of_object job object held.rows past.bytes) (made_before job object held.rows past.bytes (a_part.Content position)) (MakeFile (in_content row.path) (past.bytes row.path)) → LeavesPart (Some old) (Some new) (Creates (in_content row.path)) → Quiet → Left
+      → IsNext (script_of_object job object held.rows past.bytes) (made_before job object held.rows past.bytes (a_part.Content position)) (MakeFile (staged_content row.path) (past.bytes row.path)) → LeavesPart (Some old) (Some new) (Creates (staged_content row.path)) → Quiet → Left
   opened_broken {object} {position} {held} _ before _ (Untouched _ same) put = left_quiet new before (some_same new.tree old.tree same) put
   opened_broken {object} {position} {held} row before next (NewFile p same) put =
       let known = before.known in
       let source = known.source in
       let front = made_before job object held.rows past.bytes (a_part.Content position) in
-      let item = MakeFile (in_content row.path) [] in
+      let item = MakeFile (staged_content row.path) [] in
       let tree_is = some_same new.tree _ same in
       left_untold new before put
       (carrying_left job past s start object held {n = 0} known.dest.started known.dest.at.root known.held_at.ends.0 known.held_at.rows (omega arith) known.items.places.placed
@@ -128,7 +128,7 @@ module _ (job : Job) (past : History) (s : Reading) (start : Tree) (prefix : Lis
       (carried_next past s (root_in start) source.proper source.at.0 source.at.1 source.bytes known.items.places.next)
       (content_stands
       (file_next job object held.rows held.contents past.bytes position row (copy_here job past object position left held row at is) (copy_stands held position row is at.numbers)) (begins_cut count held.fed piece begins)
-      (it.at.making.tree ∙ made_in_turn front (MakeFile (in_content row.path) (held.fed ++ more) ∷ []) root)))
+      (it.at.making.tree ∙ made_in_turn front (MakeFile (staged_content row.path) (held.fed ++ more) ∷ []) root)))
 
   pub makes_broken : {here : Phase} {held after : Held} {calls : Calls} {answer : Answer} → MakeStep job here held after calls answer → Before held here → WereAnswered calls s old → LeavesPart (Some old) (Some new) calls.change → LeavesFront calls.line (Some log) (Some last) → Left
   makes_broken (MakesDeclaration was object) before _ left put = part_broken before (next_declaration job object was.rows past.bytes) left put

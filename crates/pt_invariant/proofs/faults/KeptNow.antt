@@ -18,7 +18,7 @@ use Rattle.pt_plan.specs.Fixity as kept
 use Rattle.pt_plan.specs.Job.{Job}
 use Rattle.pt_plan.specs.Roots.{root_in, storage_root, tuple_folders, with_folders, with_root}
 use Rattle.pt_plan.specs.Run.{Held}
-use Rattle.pt_plan.specs.TurnMake.{in_content}
+use Rattle.pt_plan.specs.TurnMake.{staged_content}
 use Rattle.pt_plan.specs.declared.object.Object.{Object}
 use Rattle.pt_plan.specs.declared.phase.Part.{Part}
 use Rattle.pt_plan.specs.declared.phase.Part.TheVariants as a_part
@@ -113,18 +113,18 @@ module _ (job : Job) (past : History) (start : Tree) (object : Object) (held : H
       (rw (own_script rows) at at)))
 
   -- and with a content that holds other bytes
-  pub copy_kept : {front : List Item} {path : Path} {bytes : List ℕ} (read : List ℕ) {now : Tree} → IsTree start → IsObject job object → AreRows job past.bytes held → {w : Writing} → IsMakingObject job start past.placed object (front ++ MakeFile (in_content path) read ∷ []) 0 w
-      → IsNext script front (MakeFile (in_content path) bytes) → {other : List ℕ} → now ≡ done (MakeFile (in_content path) other) (made front (with_root start (root_on_way job start past.placed object.place 0))) → DestFaultState job start now
+  pub copy_kept : {front : List Item} {path : Path} {bytes : List ℕ} (read : List ℕ) {now : Tree} → IsTree start → IsObject job object → AreRows job past.bytes held → {w : Writing} → IsMakingObject job start past.placed object (front ++ MakeFile (staged_content path) read ∷ []) 0 w
+      → IsNext script front (MakeFile (staged_content path) bytes) → {other : List ℕ} → now ≡ done (MakeFile (staged_content path) other) (made front (with_root start (root_on_way job start past.placed object.place 0))) → DestFaultState job start now
   copy_kept {front} {path} {bytes} read {now} tree it rows making next {other} is =
       let root = with_root start (root_on_way job start past.placed object.place 0) in
       let at : StandsAtContent script root now = record {
         items = length front;
-        path = in_content path;
+        path = staged_content path;
         bytes = bytes;
         held = other;
-        next = ap (λ (l : List Item). slice_get l (length front)) next.is ∙ get_behind front (MakeFile (in_content path) bytes ∷ next.rest);
+        next = ap (λ (l : List Item). slice_get l (length front)) next.is ∙ get_behind front (MakeFile (staged_content path) bytes ∷ next.rest);
         content = refl;
-        stands = is ∙ ap (λ (l : List Item). done (MakeFile (in_content path) other) (made l root)) (sym (ap (take (length front)) next.is ∙ taken_front front (MakeFile (in_content path) bytes ∷ next.rest)));
+        stands = is ∙ ap (λ (l : List Item). done (MakeFile (staged_content path) other) (made l root)) (sym (ap (take (length front)) next.is ∙ taken_front front (MakeFile (staged_content path) bytes ∷ next.rest)));
       } in
       Making past.placed carried 0 now (comes it rows making.came making.free)
       (inr (rw (on_way {n = 0} tree making.root it (omega arith)) at
@@ -171,7 +171,7 @@ copying_kept {job} {past} {start} {object} {position} {left} {held} {now} at des
     let root = with_root start (root_on_way job start past.placed object.place 0) in
     copy_kept job past start object held held.fed dest.started at.ends.0 at.rows dest.at.making
     (file_next job object held.rows held.contents past.bytes position row (copy_here job past object position left held row at is) (copy_stands held position row is at.numbers))
-    (dest.at.making.tree ∙ made_in_turn front (MakeFile (in_content row.path) held.fed ∷ []) root)
+    (dest.at.making.tree ∙ made_in_turn front (MakeFile (staged_content row.path) held.fed ∷ []) root)
 
 as_it_was : (job : Job) {start : Tree} (now : Writing) → now.tree ≡ start → DestFaultState job start now.tree
 as_it_was job {start} _ same = subst (DestFaultState job start) (sym same) kept.AsItWas

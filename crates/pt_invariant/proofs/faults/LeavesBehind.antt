@@ -13,7 +13,7 @@ use Rattle.pt_plan.specs.Fixity.{DestFaultState}
 use Rattle.pt_plan.specs.Job.{Job}
 use Rattle.pt_plan.specs.Run.{Counts, Held, with_fed}
 use Rattle.pt_plan.specs.Turn.{Next, Start as a_start, Walk, Scan, Make, Place}
-use Rattle.pt_plan.specs.TurnMake.{MakesDeclaration, OpensCopy, CopiesOn, MakesVersionInventory, MakesVersionSidecar, MakesInventory, MakesSidecar, in_content}
+use Rattle.pt_plan.specs.TurnMake.{MakesDeclaration, OpensCopy, CopiesOn, MakesVersionInventory, MakesVersionSidecar, MakesInventory, MakesSidecar, staged_content}
 use Rattle.pt_plan.specs.TurnPlace.{MakesTuple}
 use Rattle.pt_plan.specs.TurnScan.{StartsInSite}
 use Rattle.pt_plan.specs.TurnStart.{MakesRoot}
@@ -112,11 +112,11 @@ part_left {job} {past} {start} {object} {here} {path} {bytes} {held} {old} {new}
     }
 
 opened_left : {job : Job} {past : History} {start : Tree} {object : Object} {position : Position} {held : Held} (row : Row) {old new : Writing} → HeldAt job past (phase.Carrying object (stage.Make (a_part.Content position))) held → DestPart job past (phase.Carrying object (stage.Make (a_part.Content position))) held start old
-    → IsNext (script_of_object job object held.rows past.bytes) (made_before job object held.rows past.bytes (a_part.Content position)) (MakeFile (in_content row.path) (past.bytes row.path)) → LeavesPart (Some old) (Some new) (Creates (in_content row.path)) → IsLeftTree job start new
+    → IsNext (script_of_object job object held.rows past.bytes) (made_before job object held.rows past.bytes (a_part.Content position)) (MakeFile (staged_content row.path) (past.bytes row.path)) → LeavesPart (Some old) (Some new) (Creates (staged_content row.path)) → IsLeftTree job start new
 opened_left {job} {past} {start} {object} {position} {held} _ {old} {new} at dest _ (Untouched _ same) = same_left job past start (phase.Carrying object (stage.Make (a_part.Content position))) held old new at dest (some_same new.tree old.tree same)
 opened_left {job} {past} {start} {object} {position} {held} row {old} {new} at dest next (NewFile _ same) =
     let front = made_before job object held.rows past.bytes (a_part.Content position) in
-    let item = MakeFile (in_content row.path) [] in
+    let item = MakeFile (staged_content row.path) [] in
     let tree_is = some_same new.tree _ same in
     let may = item_may job start past.placed object held.rows past.bytes front _ old dest.started at.rows.order next dest.at in
     record {

@@ -15,7 +15,7 @@ use Rattle.pt_plan.specs.Job.{Job}
 use Rattle.pt_plan.specs.Lines.{text}
 use Rattle.pt_plan.specs.Roots.{root_in, with_root}
 use Rattle.pt_plan.specs.Run.{Counts, Held}
-use Rattle.pt_plan.specs.TurnMake.{in_content}
+use Rattle.pt_plan.specs.TurnMake.{staged_content}
 use Rattle.pt_plan.specs.declared.object.Object.{Object}
 use Rattle.pt_plan.specs.declared.phase.Part.{Part}
 use Rattle.pt_plan.specs.declared.phase.Part.TheVariants as a_part
@@ -109,7 +109,7 @@ module _ (job : Job) (past : History) (s : Reading) (start : Tree) (prefix : Lis
       (carried_next past s (root_in start) source.proper source.at.0 source.at.1 source.bytes known.items.places.next)
       (content_stands
       (file_next job object held.rows held.contents past.bytes position row (copy_here job past object position left held row at is) (copy_stands held position row is at.numbers)) begins
-      (known.dest.at.making.tree ∙ made_in_turn front (MakeFile (in_content row.path) held.fed ∷ []) root))
+      (known.dest.at.making.tree ∙ made_in_turn front (MakeFile (staged_content row.path) held.fed ∷ []) root))
 
   -- all of the object is made, and some folders on the way to its place
   script_stands : {object : Object} {n : ℕ} → IsMakingObject job start past.placed object (script_of_object job object held.rows past.bytes) n now

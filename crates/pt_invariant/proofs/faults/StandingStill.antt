@@ -116,7 +116,7 @@ left_behind_stands_still job start now tree left = by left.stood
 
 pub invariant_stands_still : InvariantStandsStill
 unfolding RunInvariant
-invariant_stands_still job start world run t now (past, is) start_is dest_is =
-    let had = both_tell (DestPart job past run.phase run.kept.held) start.dest world.dest start_is is.dest in
+invariant_stands_still job start states run t now (past, is) start_is dest_is =
+    let had = both_tell (DestPart job past run.phase run.kept.held) start.dest states.dest start_is is.dest in
     let same = some_same had.0 now (sym had.1 ∙ dest_is) in
     rw same at (left_behind_stands_still job t had.0 had.2.started (kept_now job past t run.phase run.kept.held had.0 is.held had.2))

@@ -11,11 +11,11 @@ use Rattle.pt_object.specs.Distinct.{content_of_row, distinct, distinct_after}
 use Rattle.pt_object.specs.FilePaths.{File, part_in_order, parts_before, paths_of, row_paths}
 use Rattle.pt_object.specs.Holding.{leads_to}
 use Rattle.pt_object.specs.Script.{folders_above}
-use Rattle.pt_object.specs.declared.contents.Content.{Content}
+use Rattle.pt_object.specs.declared.table.contents.Content.{Content}
 use Rattle.pt_object.specs.declared.rows.Row.{Row}
 use Rattle.pt_tree.specs.Listing.{is_before}
 use Rattle.pt_tree.specs.Path.{Path, parent, rest_below}
-use Rattle.pt_plan.specs.TurnMake.{behind, behind_stored, is_stored, shared, standing, with_folder}
+use Rattle.pt_plan.specs.TurnMake.{behind, behind_stored, is_stored, common_names, standing, with_folder}
 use Rattle.pt_plan.specs.declared.phase.Position.{Position}
 use Rattle.pt_invariant.specs.PartsMade.{AreNewFrom, IsAtRow, content_paths, is_above_one}
 use Rattle.pt_invariant.proofs.held.DistinctRows.{distinct_around, distinct_more, get_behind, get_map, get_map_none, is_known, order_distinct, stored_where_new, unless_known}
@@ -41,10 +41,10 @@ other_way : (a b : List ℕ) (path : Path) (folders : List Path) → bytes_eq b 
 other_way a b path folders differ = all_true (λ folder. not (leads (b ∷ folder) (a ∷ path))) (λ folder. ap (λ t. not (is_some (cond t (rest_below folder path) None))) differ) folders
 
 -- of the folders above the second path those beyond what it shares with the first one don't lead to the first
-beyond_shared : (p q : Path) → parts_before p q ≡ true → list_all (λ folder. not (leads folder p)) (drop (shared (parent p) (parent q)) (folders_above q)) ≡ true
+beyond_shared : (p q : Path) → parts_before p q ≡ true → list_all (λ folder. not (leads folder p)) (drop (common_names (parent p) (parent q)) (folders_above q)) ≡ true
 beyond_shared [] q h = absurd (false≢true h)
 beyond_shared (a ∷ p) [] h = absurd (false≢true h)
-beyond_shared (a ∷ p) (b ∷ []) h = ap (list_all (λ folder. not (leads folder (a ∷ p)))) (drop_nil (shared (parent (a ∷ p)) []))
+beyond_shared (a ∷ p) (b ∷ []) h = ap (list_all (λ folder. not (leads folder (a ∷ p)))) (drop_nil (common_names (parent (a ∷ p)) []))
 beyond_shared (a ∷ []) (b ∷ next ∷ q) h = by (bytes_eq a b) refl h
   where
     by : (t : Bool) → bytes_eq a b ≡ t → cond t (parts_before [] (next ∷ q)) (is_before a b) ≡ true → list_all (λ folder. not (leads folder (a ∷ []))) (folders_above (b ∷ next ∷ q)) ≡ true
@@ -59,11 +59,11 @@ beyond_shared (a ∷ more ∷ p) (b ∷ next ∷ q) h = by (bytes_eq a b) refl (
     below : Path
     below = more ∷ p
 
-    by : (t : Bool) → bytes_eq a b ≡ t → (parts_before (more ∷ p) (next ∷ q) ≡ true → list_all (λ folder. not (leads folder (more ∷ p))) (drop (shared (parent (more ∷ p)) (parent (next ∷ q))) (folders_above (next ∷ q))) ≡ true)
+    by : (t : Bool) → bytes_eq a b ≡ t → (parts_before (more ∷ p) (next ∷ q) ≡ true → list_all (λ folder. not (leads folder (more ∷ p))) (drop (common_names (parent (more ∷ p)) (parent (next ∷ q))) (folders_above (next ∷ q))) ≡ true)
         → cond t (parts_before (more ∷ p) (next ∷ q)) (is_before a b) ≡ true
-        → list_all (λ folder. not (leads folder (a ∷ more ∷ p))) (drop (cond t (suc (shared (parent (more ∷ p)) (parent (next ∷ q)))) 0) (folders_above (b ∷ next ∷ q))) ≡ true
+        → list_all (λ folder. not (leads folder (a ∷ more ∷ p))) (drop (cond t (suc (common_names (parent (more ∷ p)) (parent (next ∷ q)))) 0) (folders_above (b ∷ next ∷ q))) ≡ true
     by true same later h =
-        let k = shared (parent (more ∷ p)) (parent (next ∷ q)) in
+        let k = common_names (parent (more ∷ p)) (parent (next ∷ q)) in
         ap (list_all (λ folder. not (leads folder (a ∷ more ∷ p)))) (drop_map (λ folder. b ∷ folder) k (folders_above (next ∷ q)))
         ∙ all_map (λ folder. b ∷ folder) (λ folder. not (leads folder (a ∷ more ∷ p))) (drop k (folders_above (next ∷ q)))
         ∙ all_then (λ folder. not (leads folder (more ∷ p))) (λ folder. not (leads (b ∷ folder) (a ∷ more ∷ p)))
@@ -75,17 +75,17 @@ beyond_shared (a ∷ more ∷ p) (b ∷ next ∷ q) h = by (bytes_eq a b) refl (
         (all_map (λ folder. b ∷ folder) (λ folder. not (leads folder (a ∷ more ∷ p))) (folders_above (next ∷ q)) ∙ other_way a b (more ∷ p) _ back)
 
 -- those within what it shares with the first one do
-pub within_shared : (p q : Path) → list_all (λ folder. leads folder p) (take (shared (parent p) (parent q)) (folders_above q)) ≡ true
+pub within_shared : (p q : Path) → list_all (λ folder. leads folder p) (take (common_names (parent p) (parent q)) (folders_above q)) ≡ true
 within_shared [] q = refl
 within_shared (a ∷ []) q = refl
 within_shared (a ∷ more ∷ p) [] = refl
 within_shared (a ∷ more ∷ p) (b ∷ []) = refl
 within_shared (a ∷ more ∷ p) (b ∷ next ∷ q) = by (bytes_eq a b) refl (within_shared (more ∷ p) (next ∷ q))
   where
-    by : (t : Bool) → bytes_eq a b ≡ t → list_all (λ folder. leads folder (more ∷ p)) (take (shared (parent (more ∷ p)) (parent (next ∷ q))) (folders_above (next ∷ q))) ≡ true
-        → list_all (λ folder. leads folder (a ∷ more ∷ p)) (take (cond t (suc (shared (parent (more ∷ p)) (parent (next ∷ q)))) 0) (folders_above (b ∷ next ∷ q))) ≡ true
+    by : (t : Bool) → bytes_eq a b ≡ t → list_all (λ folder. leads folder (more ∷ p)) (take (common_names (parent (more ∷ p)) (parent (next ∷ q))) (folders_above (next ∷ q))) ≡ true
+        → list_all (λ folder. leads folder (a ∷ more ∷ p)) (take (cond t (suc (common_names (parent (more ∷ p)) (parent (next ∷ q)))) 0) (folders_above (b ∷ next ∷ q))) ≡ true
     by true same later =
-        let k = shared (parent (more ∷ p)) (parent (next ∷ q)) in
+        let k = common_names (parent (more ∷ p)) (parent (next ∷ q)) in
         let back = bytes_eq-sym a b true same in
         and_from _ _
         (ap (λ t. is_some (cond t (rest_below [] (more ∷ p)) None)) back)
@@ -120,9 +120,9 @@ last_tells earlier last next folder order on =
 
 -- so the folders beyond what the last path shares with the next one are new
 beyond_last : (earlier : List Path) (last next : Path) → part_in_order (earlier ++ last ∷ next ∷ []) ≡ true → parts_before last next ≡ true
-    → list_all (λ folder. not (is_above_one (earlier ++ last ∷ []) folder)) (drop (shared (parent last) (parent next)) (folders_above next)) ≡ true
+    → list_all (λ folder. not (is_above_one (earlier ++ last ∷ []) folder)) (drop (common_names (parent last) (parent next)) (folders_above next)) ≡ true
 beyond_last earlier last next order parts =
-    let k = shared (parent last) (parent next) in
+    let k = common_names (parent last) (parent next) in
     all_both (λ folder. not (leads folder last)) (λ folder. leads folder next) (λ folder. not (is_above_one (earlier ++ last ∷ []) folder))
     (λ folder one two. ap not (last_tells earlier last next folder order two) ∙ one) (drop k (folders_above next))
     (beyond_shared last next parts) (all_drop (λ folder. leads folder next) k (folders_above next) (above_lead next))
@@ -144,7 +144,7 @@ contents_in_order (row ∷ rows) order =
         let parts = and_parts _ _ h in
         and_from _ _ parts.0 (each others parts.1)
 
-pub shared_in_content : (p q : Path) → parts_before p q ≡ true → shared (parent (codes "content" ∷ p)) (parent (codes "content" ∷ q)) ≡ suc (shared (parent p) (parent q))
+pub shared_in_content : (p q : Path) → parts_before p q ≡ true → common_names (parent (codes "content" ∷ p)) (parent (codes "content" ∷ q)) ≡ suc (common_names (parent p) (parent q))
 shared_in_content [] q parts = absurd (false≢true parts)
 shared_in_content (a ∷ p) [] parts = absurd (false≢true parts)
 shared_in_content (a ∷ p) (b ∷ q) parts = refl

@@ -65,9 +65,9 @@ top_of {job} {t} tree (inr usable) = inl (root_stands job t tree usable.files)
 
 -- ---- the law
 
-tree_of : (job : Job) (start : Start) (world : DeviceStates) (run : Run) {t : Tree} → RunInvariant job start world run → start.dest ≡ Some t → IsTree t
+tree_of : (job : Job) (start : Start) (states : DeviceStates) (run : Run) {t : Tree} → RunInvariant job start states run → start.dest ≡ Some t → IsTree t
 unfolding RunInvariant
-tree_of job start world run (past, is) some = (both_tell (DestPart job past run.phase run.kept.held) start.dest world.dest some is.dest).2.started
+tree_of job start states run (past, is) some = (both_tell (DestPart job past run.phase run.kept.held) start.dest states.dest some is.dest).2.started
 
 pub nothing_is_refused : NothingIsRefused
 nothing_is_refused _ _ _ _ _ _ fault.Memory _ _ _ _ _ _ _ _ _ = refl

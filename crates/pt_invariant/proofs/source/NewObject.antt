@@ -1,10 +1,9 @@
 -- A site that was judged to have an object, with the object before it is entered.
 use Rattle.std.proofs.Common.{◌≡◌, ◌-◌, ℕ, Bool, true, false, List, [], ◌∷◌, ◌++◌, refl, ap, sym, ◌∙◌, cond, length, arith, drop}
 use Rattle.std.specs.Prelude.{Option, None, Some, Result, Ok, Err, is_none, ◌+◌}
-use Rattle.std.specs.Str.{is_utf8}
+use Rattle.pt_name.specs.Identifying.{identifier_at}
 use Rattle.pt_name.specs.Share.{Portion, holds, is_first}
-use Rattle.std.specs.List.{concat}
-use Rattle.pt_name.specs.Reading.{reading_of}
+use Rattle.pt_name.specs.declared.identifying.Refusal.{Refusal}
 use Rattle.pt_tree.specs.Forest.{Forest, Dir, none, file, other, dir, is_proper, listing_of}
 use Rattle.pt_tree.specs.Listing.{Item}
 use Rattle.pt_tree.specs.Path.{Path}
@@ -18,8 +17,6 @@ use Rattle.pt_walk.specs.Object.{Entry, emptiness, entries_in, without_shorties}
 use Rattle.pt_walk.specs.Site.{found, found_at_top, found_below, is_short, non_shorties, non_shorties_from}
 use Rattle.pt_walk.specs.Sites.{Listed, at_of}
 use Rattle.pt_walk.specs.Trail.{current_entry, is_dir_entry, names_to, sought, trail_path}
-use Rattle.pt_walk.specs.declared.cause.Cause.{Cause}
-use Rattle.pt_walk.specs.declared.cause.Cause.TheVariants as cause
 use Rattle.pt_walk.specs.declared.frame.Frame.{Frame}
 use Rattle.pt_walk.specs.declared.site.At.{At}
 use Rattle.pt_walk.specs.declared.site.At.TheVariants as at
@@ -27,29 +24,12 @@ use Rattle.pt_walk.specs.declared.site.Form.{Form}
 use Rattle.pt_walk.specs.declared.site.Finding.{Finding}
 use Rattle.pt_walk.specs.declared.site.Finding.TheVariants as finding
 use Rattle.pt_invariant.specs.SourceInvariant.{IsInObject, IsSiteOf, IsToJudge, inside_object, object_at}
-use Rattle.pt_plan.specs.Items.{is_reserved, Interior, Named, PairtreeObject, Skip, Verdict, VerdictOn, encapsulated, ours, verdict_by_finding, verdict_by_reading, verdict_by_visit, verdict_of, verdict_on_candidate}
+use Rattle.pt_plan.specs.Items.{Interior, Named, Skip, Verdict, VerdictOn, encapsulated, ours, verdict_by_finding, verdict_by_identifier, verdict_by_visit, verdict_of, verdict_on_candidate}
 use Rattle.pt_plan.specs.Job.{Job, form_of}
 use Rattle.pt_plan.specs.Store.{pairtree_of}
 use Rattle.pt_plan.specs.TurnScan.{to_site}
-use Rattle.pt_plan.specs.TurnWalk.{at_object, found_at, has_object, identifier_at, identifier_by, judged_at, judged_by_finding, judged_by_identifier, new_object}
+use Rattle.pt_plan.specs.TurnWalk.{at_object, found_at, has_object, judged_at, judged_by_finding, new_object}
 use Rattle.pt_plan.specs.declared.object.Object.{Object}
-
--- ---- an identifier is that of the verdict
-
--- the object named so, or passed over
-abbrev verdict_on_reading : PairtreeObject → Result (List ℕ) Cause → Verdict
-verdict_on_reading object (Ok id) = Named id object
-verdict_on_reading object (Err why) = Skip why
-
-by_tests : (utf8 reserved : Bool) (read : List ℕ) (object : PairtreeObject) → cond utf8 (cond reserved (Skip cause.Reserved) (Named read object)) (Skip cause.Utf8)
-    ≡ verdict_on_reading object (cond utf8 (cond reserved (Err cause.Reserved) (Ok read)) (Err cause.Utf8))
-by_tests false reserved read object = refl
-by_tests true true read object = refl
-by_tests true false read object = refl
-
-as_identified : (job : Job) (prefix : List ℕ) (object : PairtreeObject) (read : Option (List ℕ)) → verdict_by_reading job prefix object read ≡ verdict_on_reading object (identifier_by job prefix read)
-as_identified job prefix object None = refl
-as_identified job prefix object (Some read) = by_tests (is_utf8 read) (is_reserved job (prefix ++ read)) (prefix ++ read) object
 
 -- ---- the entry that encapsulates an object
 
@@ -82,7 +62,7 @@ found_there job top frame frames proper fits is =
 visit_there : (job : Job) (source : Forest) (prefix : List ℕ) (frame : Frame) (frames : List Frame) (index : Option ℕ) → is_proper (pairtree_of source) ≡ true → Fits (pairtree_of source) (frame ∷ frames)
     → found_at (form_of job) (frame ∷ frames) ≡ has_object index
     → verdict_by_visit job prefix (names_to frames) (Listed (inside_at (pairtree_of source) (names_to frames)))
-    ≡ verdict_by_reading job prefix (object_at source (new_object job [] index (frame ∷ frames)) (at_object index (frame ∷ frames))) (reading_of (concat (names_to frames)))
+    ≡ verdict_by_identifier (object_at source (new_object job [] index (frame ∷ frames)) (at_object index (frame ∷ frames))) (identifier_at job.tuples prefix (names_to frames))
 visit_there job source prefix frame frames None proper fits is =
     ap (verdict_by_finding job prefix (names_to frames) (inside_at (pairtree_of source) (names_to frames))) (found_there job _ frame frames proper fits is)
 visit_there job source prefix frame frames (Some i) proper fits is =
@@ -95,7 +75,7 @@ visit_there job source prefix frame frames (Some i) proper fits is =
     let path : site ++ name ∷ [] ≡ names_to (there ∷ frames) = sym (path_grows there frames (name, kind.Dir) entry.1) in
     ap (verdict_by_finding job prefix site (inside_at top site)) (found_there job top frame frames proper fits is)
     ∙ ap (verdict_on_candidate job prefix site) (encapsulated_is site _ _ next)
-    ∙ ap (λ (p : Path). verdict_by_reading job prefix (record { at = p; gathered = false; inside = inside_at top p }) (reading_of (concat site))) path
+    ∙ ap (λ (p : Path). verdict_by_identifier (record { at = p; gathered = false; inside = inside_at top p }) (identifier_at job.tuples prefix site)) path
 
 -- what an item comes to whose site is judged to be this where the trail stands
 abbrev pub verdict_there : Job → Forest → List Frame → VerdictOn (Option ℕ) → Verdict
@@ -105,11 +85,11 @@ verdict_there job source t (Named id index) = Named id (object_at source (new_ob
 
 module _ (job : Job) (source : Forest) where
   module _ (prefix : List ℕ) (frame : Frame) (frames : List Frame) where
-    by_identifier : (index : Option ℕ) (read : Result (List ℕ) Cause) → is_proper (pairtree_of source) ≡ true → Fits (pairtree_of source) (frame ∷ frames)
-        → found_at (form_of job) (frame ∷ frames) ≡ has_object index → identifier_at job prefix (names_to frames) ≡ read
-        → verdict_by_visit job prefix (names_to frames) (Listed (inside_at (pairtree_of source) (names_to frames))) ≡ verdict_there job source (frame ∷ frames) (judged_by_identifier index read)
-    by_identifier index (Ok id) proper fits is reads = visit_there job source prefix frame frames index proper fits is ∙ as_identified job prefix _ _ ∙ ap (verdict_on_reading _) reads
-    by_identifier index (Err why) proper fits is reads = visit_there job source prefix frame frames index proper fits is ∙ as_identified job prefix _ _ ∙ ap (verdict_on_reading _) reads
+    by_identifier : (index : Option ℕ) (read : Result (List ℕ) Refusal) → is_proper (pairtree_of source) ≡ true → Fits (pairtree_of source) (frame ∷ frames)
+        → found_at (form_of job) (frame ∷ frames) ≡ has_object index → identifier_at job.tuples prefix (names_to frames) ≡ read
+        → verdict_by_visit job prefix (names_to frames) (Listed (inside_at (pairtree_of source) (names_to frames))) ≡ verdict_there job source (frame ∷ frames) (verdict_by_identifier index read)
+    by_identifier index (Ok id) proper fits is reads = visit_there job source prefix frame frames index proper fits is ∙ ap (verdict_by_identifier _) reads
+    by_identifier index (Err why) proper fits is reads = visit_there job source prefix frame frames index proper fits is ∙ ap (verdict_by_identifier _) reads
 
     by_found : (what : Finding) → is_proper (pairtree_of source) ≡ true → Fits (pairtree_of source) (frame ∷ frames) → found_at (form_of job) (frame ∷ frames) ≡ what
         → verdict_by_visit job prefix (names_to frames) (Listed (inside_at (pairtree_of source) (names_to frames))) ≡ verdict_there job source (frame ∷ frames) (judged_by_finding job prefix (names_to frames) what)
@@ -156,7 +136,7 @@ ours_named share (Named i o) id index is = either (holds share i) is
     either true h = h
     either false h = absurd (cc)
 
-named_identifier : {own index : Option ℕ} (read : Result (List ℕ) Cause) (id : List ℕ) → judged_by_identifier own read ≡ Named id index → own ≡ index
+named_identifier : {own index : Option ℕ} (read : Result (List ℕ) Refusal) (id : List ℕ) → verdict_by_identifier own read ≡ Named id index → own ≡ index
 named_identifier (Ok i) id is = cc
 named_identifier (Err why) id is = absurd (cc)
 

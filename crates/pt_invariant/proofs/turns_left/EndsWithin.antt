@@ -42,19 +42,19 @@ turn_ends_within_work job start old new run after why (past, is, within) going t
     )
 
 -- its own count has no part in what a run that ended is
-without_turn : (job : Job) (start : Start) (world : DeviceStates) (kept : Kept) → RunInvariant job start world (record { phase = phase.Ended; kept = turning kept }) → RunInvariant job start world (record { phase = phase.Ended; kept = kept })
+without_turn : (job : Job) (start : Start) (states : DeviceStates) (kept : Kept) → RunInvariant job start states (record { phase = phase.Ended; kept = turning kept }) → RunInvariant job start states (record { phase = phase.Ended; kept = kept })
 unfolding RunInvariant
 without_turn _ _ _ _ (past, is) = (past, record { layout = is.layout; held = is.held; source = is.source; dest = is.dest; items = λ s e old f. record { places = (is.items s e old f).places; lines_are = record { done = (is.items s e old f).lines_are.done; present = (is.items s e old f).lines_are.present; skipped = (is.items s e old f).lines_are.skipped } }; log = is.log; quiet = is.quiet; left = is.left })
 
-no_turn : (job : Job) (here : Phase) (kept : Kept) (world : DeviceStates) → Turn job here (turning kept) (turning kept) world world (Err fault.Memory)
+no_turn : (job : Job) (here : Phase) (kept : Kept) (states : DeviceStates) → Turn job here (turning kept) (turning kept) states states (Err fault.Memory)
 unfolding FailsUnchanged
 no_turn _ _ _ _ = FailsAtFirst fault.Memory (refl, refl, refl, refl, tt) (record { prefix = refl; trail = refl; rows_are = refl; contents = refl; counts = refl })
 
-stops_begun : (job : Job) (start : Start) (world : DeviceStates) (run : Run) → RunInvariant job start world run → RunInvariant job start world (record { phase = phase.Ended; kept = run.kept })
-stops_begun job start world run begun = without_turn job start world run.kept (turn_ends_invariant job start world world run (turning run.kept) fault.Memory begun (no_turn job run.phase run.kept world))
+stops_begun : (job : Job) (start : Start) (states : DeviceStates) (run : Run) → RunInvariant job start states run → RunInvariant job start states (record { phase = phase.Ended; kept = run.kept })
+stops_begun job start states run begun = without_turn job start states run.kept (turn_ends_invariant job start states states run (turning run.kept) fault.Memory begun (no_turn job run.phase run.kept states))
 
 pub stops_within_work : StopsWithinWork
 unfolding InvariantWithinWork RunInvariant
-stops_within_work job start world run (past, is, within) =
-    let ends = stops_begun job start world run (past, is) in
+stops_within_work job start states run (past, is, within) =
+    let ends = stops_begun job start states run (past, is) in
     (ends.0, ends.1, λ v same t some. no_more ends.0.count (let was = (within v same t some).within in omega (arith, was)))

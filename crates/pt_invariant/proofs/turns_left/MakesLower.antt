@@ -7,7 +7,7 @@ use Rattle.std.proofs.lemmas.List.{length-append}
 use Rattle.pt_object.specs.Distinct.{content_of_row, distinct}
 use Rattle.pt_object.specs.FilePaths.{part_in_order, row_paths}
 use Rattle.pt_object.specs.Script.{Item}
-use Rattle.pt_object.specs.declared.contents.Content.{Content}
+use Rattle.pt_object.specs.declared.table.contents.Content.{Content}
 use Rattle.pt_object.specs.declared.rows.Row.{Row}
 use Rattle.pt_tree.specs.Forest.{Forest}
 use Rattle.pt_tree.specs.Source.{Reading, IsRead}

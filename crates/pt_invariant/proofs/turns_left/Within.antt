@@ -76,7 +76,7 @@ same_turns (Some (End done present skipped)) _ = refl
 
 pub new_run_is_within_work : NewRunIsWithinWork
 unfolding InvariantWithinWork
-new_run_is_within_work job world layout is = (no_history, new_past layout is, λ s e old f. record { within = omega arith })
+new_run_is_within_work job states layout is = (no_history, new_past layout is, λ s e old f. record { within = omega arith })
 
 pub within_work_holds_invariant : WithinWorkHoldsInvariant
 unfolding InvariantWithinWork RunInvariant
@@ -111,7 +111,7 @@ turn_keeps_within_work job start old new run after next (past, is, within) (Goes
 
 pub turn_is_left : TurnIsLeft
 unfolding InvariantWithinWork
-turn_is_left job start world run s t (past, is, within) not told some =
+turn_is_left job start states run s t (past, is, within) not told some =
     let was = (within s told t some).within in
     let more = some_left job s.tree (marked job s.tree (root_in t)) past.count run.phase run.kept.held not in
     omega (arith, was, more)

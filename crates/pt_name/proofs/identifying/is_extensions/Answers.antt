@@ -1,6 +1,6 @@
 use Rattle.std.proofs.Common.{arith}
-use Rattle.pt_scan.proofs.Judged.{one_name}
-use Rattle.pt_scan.proofs.judging.is_extensions.Goals as goal
+use Rattle.pt_name.proofs.Identified.{one_name}
+use Rattle.pt_name.proofs.identifying.is_extensions.Goals as goal
 
 pub returns-then-len-eq1 : goal.returns-then-len-eq1
 returns-then-len-eq1 c =

@@ -1,0 +1,134 @@
+//! What the names of a site say of its object: its identifier, and its place.
+#![tactic(auto, using(crate::proofs::Identified::identifying))]
+
+ghost use Rattle.std.specs.Prelude.{◌≡◌, ◌<◌, ◌++◌, ◌∷◌, [], codes, length, IfOk};
+ghost use Rattle.std.specs.List.{concat};
+ghost use Rattle.pt_name.specs.Identifying.{identification_by, identification_of, is_own_place, unless_reserved};
+ghost use Rattle.pt_tree.specs.Path.{same_path};
+
+use crate::joining::concatenate;
+use crate::reading::{UncleanFault, unclean};
+use crate::{Identifier, Layout, Share};
+use pt_tree::{MemoryFault, NamePath};
+use std::alloc::Global;
+
+/// An object with its identifier and its place.
+#[derive(Drop)]
+pub struct Candidate {
+    /// Its identifier.
+    pub id: Identifier,
+    /// Its place, from the storage root on.
+    pub place: NamePath,
+}
+
+/// Why an object has no identifier that can be carried.
+#[derive(Clone, Copy, Debug, PartialEq, Eq)]
+pub enum Refusal {
+    /// The names are no cleaned identifier.
+    Malformed,
+    /// They read bytes that aren't UTF-8.
+    NotUtf8,
+    /// The identifier's place is kept for the storage root's own use.
+    Reserved,
+}
+
+/// What the names of a site say of its object.
+#[derive(Drop)]
+pub enum Identification {
+    /// It has no identifier that can be carried.
+    Refused(Refusal),
+    /// It is of another share.
+    OtherShare,
+    /// It is of this share, and can be carried.
+    Candidate(Candidate),
+}
+
+/// What the names of a site's path say of its object, in a store of this prefix. They are read with nothing between, and
+/// the identifier is what they read, behind the prefix (Pairtree 0.1, "Identifier string cleaning"); its place is that of
+/// the layout.
+///
+/// Asked in this order: whether the names read something (`Malformed`), whether that is UTF-8 (`NotUtf8`), whether the place
+/// is the storage root's own (`Reserved`), and whether the object is of this share. The path isn't empty. `Memory` where a
+/// growth was refused.
+pub fn identify(
+    site: &NamePath,
+    prefix: &str,
+    layout: Layout,
+    share: Share,
+) -> Result<Identification, MemoryFault>
+    requires { 0 < length site.now }
+    ensures { IfOk result (λ answer. answer
+        ≡ identification_of layout share prefix.now site.now) }
+{
+    let alloc = site.allocator();
+    let text = text_of_names(alloc, site)?;
+    match unclean(alloc, &text) {
+        Ok(read) => {
+            let id = with_prefix(alloc, prefix, &read)?;
+            with_place(alloc, id, layout, share)
+        }
+        Err(UncleanFault::Malformed) => Ok(Identification::Refused(Refusal::Malformed)),
+        Err(UncleanFault::NotUtf8) => Ok(Identification::Refused(Refusal::NotUtf8)),
+        Err(UncleanFault::Memory) => Err(MemoryFault::Memory),
+    }
+}
+
+// The names of a path, joined by nothing. There is a name, and no name is empty.
+fn text_of_names(alloc: Global, path: &NamePath) -> Result<Vec<u8>, MemoryFault>
+    requires { 0 < length path.now }
+    ensures text { IfOk result (λ text. text.items ≡ concat path.now) }
+    ensures some { 0 < length (concat path.now) }
+{
+    let Some(first) = path.get(0) else {
+        unreachable!()
+    };
+    let _bytes = first.bytes();
+    concatenate(alloc, path)
+}
+
+// The identifier that has this text behind the prefix.
+fn with_prefix(alloc: Global, prefix: &str, text: &str) -> Result<Identifier, MemoryFault>
+    ensures { IfOk result (λ id. id ≡ prefix.now ++ text.now) }
+{
+    let mut id = String::from_str(alloc, prefix)?;
+    id.push_str(text)?;
+    Ok(Identifier::of(id))
+}
+
+// The object of this identifier with its place, unless that is the storage root's own, or the object of another share.
+fn with_place(
+    alloc: Global,
+    id: Identifier,
+    layout: Layout,
+    share: Share,
+) -> Result<Identification, MemoryFault>
+    requires { 0 < length id }
+    ensures { IfOk result (λ answer. answer
+        ≡ identification_by layout share (unless_reserved layout id)) }
+{
+    let place = layout.place(alloc, id.as_str().as_bytes())?;
+    if is_reserved(layout, &place) {
+        return Ok(Identification::Refused(Refusal::Reserved));
+    }
+    if !share.holds(id.as_str().as_bytes()) {
+        return Ok(Identification::OtherShare);
+    }
+    Ok(Identification::Candidate(Candidate { id, place }))
+}
+
+// Whether no tuples are used, and a place is that of the storage root's own extensions.
+fn is_reserved(layout: Layout, place: &NamePath) -> bool
+    ensures { result ≡ is_own_place layout place.now }
+{
+    layout.count() == 0 && is_extensions(place)
+}
+
+// Whether a path is that of the storage root's own extensions (OCFL 1.1, "Root Structure").
+fn is_extensions(path: &NamePath) -> bool
+    ensures { result ≡ same_path path.now (codes "extensions" ∷ []) }
+{
+    match path.get(0) {
+        Some(name) => path.len() == 1 && name.bytes() == b"extensions".as_slice(),
+        None => false,
+    }
+}
