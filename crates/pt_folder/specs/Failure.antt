@@ -1,5 +1,6 @@
 -- The failure that a folder keeps.
-use Rattle.std.specs.Prelude.{◌≡◌, ◌⊎◌, ℕ, ◌<◌, ◌≤◌, ◌++◌, ⊤, false, [], List, length, Option, IfSome, IsSomeAnd, Result, Ok, Err, string_bytes}
+use Rattle.std.specs.Prelude.{◌≡◌, ◌⊎◌, ℕ, ◌<◌, ◌≤◌, ◌++◌, ⊤, false, [], List, length, Option, IfSome, IsSomeAnd, Result, Ok, Err, String, string_bytes}
+use Rattle.std.specs.Global.{Global}
 use Rattle.std.specs.declared.io.Error.{Error}
 use Rattle.pt_tree.specs.declared.faults.TreeFault.{TreeFault}
 use Rattle.pt_tree.specs.declared.faults.TreeFault.TheVariants.{Device, Memory}
@@ -12,6 +13,10 @@ use Rattle.pt_folder.specs.Folder.{entry_text}
 use Rattle.pt_folder.specs.Listing.{dir_front}
 use Rattle.pt_folder.specs.Runs.{FailsToRead}
 use Rattle.pt_tree.specs.declared.kind.Kind.{Kind}
+
+-- the failure of a call on this path, for this cause
+abbrev pub failure_at : String Global → FailureReason → Failure
+failure_at path why = record { path = path; cause = why }
 
 -- it was at this path, for this cause
 abbrev pub IsAt : List ℕ → FailureReason → Failure → Type 0

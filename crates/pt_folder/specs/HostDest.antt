@@ -9,6 +9,7 @@ use Rattle.pt_tree.specs.declared.faults.TreeFault.{TreeFault}
 use Rattle.pt_tree.specs.declared.faults.TreeFault.TheVariants.{Device}
 use Rattle.pt_folder.specs.Calls.{AsksOnce, IsAnswer, MakesOnce}
 use Rattle.pt_folder.specs.DestHeld.{told_with}
+use Rattle.pt_folder.specs.DestLaws.{Kept}
 use Rattle.pt_folder.specs.Failure.{FailsToPeek, KeepsCall, KeepsMaking}
 use Rattle.pt_folder.specs.Folder.{entry_text}
 use Rattle.pt_folder.specs.Moving.{IsOfMove, MovesOnce}
@@ -17,6 +18,7 @@ use Rattle.pt_folder.specs.Settings.{IsSetAs}
 use Rattle.pt_folder.specs.Writing.{FailsToAdd, ClosesBy, IsOfWriting, MakesAt, WritesTo}
 use Rattle.pt_folder.specs.declared.syscalls.Syscalls.{Syscalls}
 use Rattle.pt_folder.specs.declared.dest.HostDest.{HostDest}
+use Rattle.pt_folder.specs.declared.failure.Failure.{Failure}
 use Rattle.pt_folder.specs.declared.folder.Folder.{Folder}
 use Rattle.pt_folder.specs.declared.unsynced_change.UnsyncedChange.{UnsyncedChange}
 use Rattle.pt_folder.specs.declared.system.Handle.{Ghosts as OfHandle}
@@ -26,6 +28,30 @@ use Rattle.pt_tree.specs.declared.kind.Kind.{Kind}
 
 module _ {S F D : Type 0} {sys : OfSystem S F D} {handle : OfHandle F} {file : OfInput F}
     {dir : OfInput D} where
+  -- the system, as the calls left it
+  abbrev pub system_of : HostDest S F D sys handle file dir → S
+  system_of d = d.desk.system
+
+  -- the path of the folder
+  abbrev pub folder_path : HostDest S F D sys handle file dir → List ℕ
+  folder_path d = d.folder.path.now
+
+  -- the failure that is kept
+  abbrev pub failure_of : HostDest S F D sys handle file dir → Option Failure
+  failure_of d = d.desk.last.failure
+
+  -- the greatest length of a path at which something is made
+  abbrev pub longest_of : HostDest S F D sys handle file dir → ℕ
+  longest_of d = d.longest
+
+  -- what is stuck
+  abbrev pub stuck_of : HostDest S F D sys handle file dir → Option UnsyncedChange
+  stuck_of d = d.stuck
+
+  -- what the system keeps of it
+  abbrev pub kept_by : HostDest S F D sys handle file dir → Kept F
+  kept_by d = sys.kept (system_of d) (folder_path d)
+
   -- the tree that the system keeps there, and the path of the open file; where something is stuck, as they were before
   abbrev pub told : HostDest S F D sys handle file dir → Option Writing
   told d = told_with (sys.kept d.desk.system d.folder.path.now) d.stuck d.writing

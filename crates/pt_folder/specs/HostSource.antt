@@ -1,18 +1,21 @@
 -- What a folder as a source tells, and what its calls ask of the system and leave.
-use Rattle.std.specs.Prelude.{◌≡◌, ◌≤◌, ℕ, List, length, Option, Result, Err, IfSome, String, string_bytes}
+use Rattle.std.specs.Prelude.{◌≡◌, ◌≤◌, ℕ, List, length, Option, Result, Err, IfSome, OnErr, OnOk, String, string_bytes}
 use Rattle.std.specs.Global.{Global}
 use Rattle.pt_tree.specs.declared.faults.TreeFault.{TreeFault}
+use Rattle.pt_tree.specs.declared.kind.Kind.{Kind}
 use Rattle.pt_tree.specs.Failures.{IsCounted, IsOneMoreCall}
+use Rattle.pt_tree.specs.Forest.{Forest}
 use Rattle.pt_tree.specs.Listing.{Item}
 use Rattle.pt_tree.specs.Path.{Path}
 use Rattle.pt_tree.specs.Source.{Reading}
+use Rattle.pt_folder.specs.declared.failure.Failure.{Failure}
 use Rattle.pt_folder.specs.declared.folder.Folder.{Folder}
 use Rattle.pt_folder.specs.declared.reading.Reading.{Reading as Open}
 use Rattle.pt_folder.specs.declared.source.HostSource.{HostSource}
 use Rattle.pt_folder.specs.declared.system.Handle.{Ghosts as OfHandle}
 use Rattle.pt_folder.specs.declared.system.Input.{Ghosts as OfInput}
 use Rattle.pt_folder.specs.declared.system.System.{Ghosts as OfSystem}
-use Rattle.pt_folder.specs.Calls.{IsDueTo}
+use Rattle.pt_folder.specs.Calls.{AsksOnce, IsDueTo, LeadsToKind}
 use Rattle.pt_folder.specs.Devices.{was_called}
 use Rattle.pt_folder.specs.Failure.{KeepsCall, KeepsListing}
 use Rattle.pt_folder.specs.Folder.{entry_text}
@@ -23,9 +26,37 @@ use Rattle.pt_folder.specs.SourceHeld.{told_of}
 
 module _ {S F D : Type 0} {sys : OfSystem S F D} {handle : OfHandle F} {file : OfInput F}
     {dir : OfInput D} where
-  -- the tree that the system keeps there, and what isn't read of the open file
+  -- the system, as the calls left it
+  abbrev pub system_of : HostSource S F D sys handle file dir → S
+  system_of s = s.desk.system
+
+  -- the path of the folder
+  abbrev pub folder_path : HostSource S F D sys handle file dir → List ℕ
+  folder_path s = s.folder.path.now
+
+  -- the failure that is kept
+  abbrev pub failure_of : HostSource S F D sys handle file dir → Option Failure
+  failure_of s = s.desk.last.failure
+
+  -- the tree that the system keeps there
+  abbrev pub kept_by : HostSource S F D sys handle file dir → Option Forest
+  kept_by s = sys.forest (system_of s) (folder_path s)
+
+  -- that tree, and what isn't read of the open file
   abbrev pub told : HostSource S F D sys handle file dir → Option Reading
-  told s = told_of (sys.forest s.desk.system s.folder.path.now) (unread_open file.bytes s.reading)
+  told s = told_of (kept_by s) (unread_open file.bytes s.reading)
+
+  -- the system is asked once to look at an entry, and its answer is the kind
+  abbrev pub Looks : (old new : HostSource S F D sys handle file dir) → Path
+      → Result (Option Kind) TreeFault → Type 0
+  Looks old new p result =
+      AsksOnce sys.looks LeadsToKind (folder_path old) p (system_of old) (system_of new) result
+
+  -- the path that was looked at last is this one where that was answered, else the one before
+  pub record IsLookedAt {T : Type 0} (old new : HostSource S F D sys handle file dir) (p : Path)
+      (result : Result T TreeFault) : Type 0 where
+    pub looked : OnOk result (string_bytes new.looked ≡ entry_text (folder_path old) p)
+    pub unlooked : OnErr result (new.looked ≡ old.looked)
 
   -- what is kept of a failed look
   abbrev pub KeepsLook : (old new : HostSource S F D sys handle file dir) → Path → Type 0

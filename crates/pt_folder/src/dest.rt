@@ -41,12 +41,12 @@ pub struct HostDest<'a, S: System> {
 }
 
 impl<'a, S: System> HostDest<'a, S> {
-    ghost use Rattle.pt_folder.specs.HostDest.{IsOtherCall, lasting};
+    ghost use Rattle.pt_folder.specs.HostDest.{IsOtherCall, failure_of, folder_path, lasting, system_of};
 
     /// A destination over the folder at a path of a system, as the runtime's. It calls nothing and takes no memory.
     pub fn new(system: S, alloc: Global, path: &'a str) -> HostDest<'a, S>
         ensures failures { result.failures ≡ 0 }
-        ensures path { result.folder.path.now ≡ path.now }
+        ensures path { folder_path result ≡ path.now }
         ensures desk { result.desk ≡ new_desk system alloc }
         ensures writing { result.writing ≡ None }
         ensures longest { result.longest ≡ greatest_length }
@@ -95,7 +95,7 @@ impl<'a, S: System> HostDest<'a, S> {
 
     /// The last failure, if there was one, and where it was a write's or a sync's at closing, memory for its path.
     pub fn last_failure(&self) -> Option<&Failure>
-        ensures { option_map (λ f. f.now) result ≡ self.now.desk.last.failure }
+        ensures { option_map (λ f. f.now) result ≡ failure_of self.now }
     {
         self.desk.last.failure.as_ref()
     }
@@ -109,7 +109,7 @@ impl<'a, S: System> HostDest<'a, S> {
 
     /// The system, as the calls left it; the open file is closed.
     pub fn into_system(self) -> S
-        ensures { result ≡ self.entry.desk.system }
+        ensures { result ≡ system_of self.entry }
     {
         self.desk.system
     }
@@ -117,13 +117,13 @@ impl<'a, S: System> HostDest<'a, S> {
     /// Whether `mkdir` and `create` would ask the system to make this entry: `Device` where its path is too long or the
     /// folder's is empty, `Memory` where a growth was refused. The system isn't asked.
     pub fn may_make(&mut self, path: &NamePath) -> Result<(), TreeFault>
-        ensures fits { OnOk result (length (entry_text self.old.folder.path.now path.now)
+        ensures fits { OnOk result (length (entry_text (folder_path self.old) path.now)
             ≤ self.old.longest) }
         ensures refused { OnDevice result
-            (CannotMake self.old.longest self.old.folder.path.now path.now) }
-        ensures kept { OnDevice result (KeepsUnmade self.old.longest self.old.folder.path.now
-            path.now self.new.desk.last.failure) }
-        ensures system { self.new.desk.system ≡ self.old.desk.system }
+            (CannotMake self.old.longest (folder_path self.old) path.now) }
+        ensures kept { OnDevice result (KeepsUnmade self.old.longest (folder_path self.old)
+            path.now (failure_of self.new)) }
+        ensures system { system_of self.new ≡ system_of self.old }
         ensures call { IsOtherCall self.old self.new result }
     {
         let text = self
@@ -169,14 +169,14 @@ impl<'a, S: System> HostDest<'a, S> {
 }
 
 impl<'a, S: System> HostDest<'a, S> {
-    ghost use Rattle.pt_folder.specs.HostDest.{IsOtherCall};
+    ghost use Rattle.pt_folder.specs.HostDest.{IsOtherCall, failure_of, system_of};
 
     /// Refuses a call, as one that was asked of another device over this one, or where something is stuck: `Device` always. It
     /// counts as a failure, without a path; the system isn't asked.
     pub fn refuse<T>(&mut self) -> Result<T, TreeFault>
         ensures refused { result ≡ Err Device }
-        ensures system { self.new.desk.system ≡ self.old.desk.system }
-        ensures last { self.new.desk.last.failure ≡ None }
+        ensures system { system_of self.new ≡ system_of self.old }
+        ensures last { failure_of self.new ≡ None }
         ensures call { IsOtherCall self.old self.new result }
     {
         self.desk.last.failure = None;
@@ -189,7 +189,7 @@ impl<'a, S: System> Dest for HostDest<'a, S> {
     ghost use Rattle.pt_folder.specs.DestHeld.{tree_with};
     ghost use Rattle.pt_folder.specs.Steps.{Serves, none, steps_on};
     ghost use Rattle.pt_folder.specs.UnsyncedChange.{open_if_stuck, stuck_by_finish};
-    ghost use Rattle.pt_folder.specs.HostDest.{Closes, IsCall, IsLook, IsOtherCall, KeepsClose, KeepsDir, KeepsFile, KeepsLook, KeepsMove, KeepsPeek, KeepsWrite, Looks, MakesDir, MakesFile, Moves, Peeks, Writes, told};
+    ghost use Rattle.pt_folder.specs.HostDest.{Closes, IsCall, IsLook, IsOtherCall, KeepsClose, KeepsDir, KeepsFile, KeepsLook, KeepsMove, KeepsPeek, KeepsWrite, Looks, MakesDir, MakesFile, Moves, Peeks, Writes, folder_path, system_of, told};
 
     ghost told = { told };
 
@@ -217,7 +217,7 @@ impl<'a, S: System> Dest for HostDest<'a, S> {
         ensures asked { Looks LeadsToKind self.old self.new path.now result }
         ensures kept { OnDevice result (KeepsLook self.old self.new path.now) }
         ensures at { OnOk result (string_bytes self.new.at
-            ≡ entry_text self.old.folder.path.now path.now) }
+            ≡ entry_text (folder_path self.old) path.now) }
         ensures still { OnErr result (self.new.at ≡ self.old.at) }
         ensures call { IsLook self.old self.new result }
     {
@@ -304,7 +304,7 @@ impl<'a, S: System> Dest for HostDest<'a, S> {
         ensures closed { Closes self.old result }
         ensures kept { OnDevice result (KeepsClose self.old self.new) }
         ensures writing { self.new.writing ≡ open_if_stuck self.old.stuck self.old.writing }
-        ensures system { self.new.desk.system ≡ self.old.desk.system }
+        ensures system { system_of self.new ≡ system_of self.old }
         ensures call { IsCall self.old self.new
             (stuck_by_finish self.old.stuck self.old.writing result) result }
     {

@@ -3,7 +3,7 @@ ghost use Rattle.std.specs.Prelude.{◌≡◌, IfSome, Some, string_bytes};
 ghost use Rattle.std.specs.IoError.{error_kind};
 ghost use Rattle.pt_tree.specs.declared.faults.TreeFault.TheVariants.{Device};
 ghost use Rattle.pt_folder.specs.Folder.{fault_of_kind};
-ghost use Rattle.pt_folder.specs.Failure.{IsAt};
+ghost use Rattle.pt_folder.specs.Failure.{IsAt, failure_at};
 
 use crate::folder::fault_of;
 use pt_tree::TreeFault;
@@ -59,7 +59,7 @@ pub struct Failure {
 impl Failure {
     /// A failure of a call on a path.
     pub fn at(path: String, cause: FailureReason) -> Failure
-        ensures { result ≡ record { path = path; cause = cause } }
+        ensures { result ≡ failure_at path cause }
     {
         Failure { path, cause }
     }
@@ -89,7 +89,7 @@ pub struct Last {
 impl Last {
     /// Keeps a failure at a path.
     pub fn keep(&mut self, path: String, cause: FailureReason)
-        ensures { self.new.failure ≡ Some (record { path = path; cause = cause }) }
+        ensures { self.new.failure ≡ Some (failure_at path cause) }
     {
         self.failure = Some(Failure::at(path, cause));
     }
@@ -107,7 +107,7 @@ impl Last {
     /// Keeps the system's error at a path, and gives what it is answered: `Memory` for want of memory, else `Device`.
     pub fn record_error(&mut self, path: String, error: io::Error) -> TreeFault
         ensures fault { result ≡ fault_of_kind (error_kind error) }
-        ensures kept { self.new.failure ≡ Some (record { path = path; cause = FailureReason.System error }) }
+        ensures kept { self.new.failure ≡ Some (failure_at path (FailureReason.System error)) }
     {
         self.keep(path, FailureReason::System(error));
         fault_of(error)
@@ -126,7 +126,7 @@ impl Last {
     /// The system has done its part by then, and no growth of ours was refused.
     pub fn record_unsynced(&mut self, path: String, error: io::Error) -> TreeFault
         ensures fault { result ≡ Device }
-        ensures kept { self.new.failure ≡ Some (record { path = path; cause = FailureReason.System error }) }
+        ensures kept { self.new.failure ≡ Some (failure_at path (FailureReason.System error)) }
     {
         self.keep(path, FailureReason::System(error));
         TreeFault::Device

@@ -3,7 +3,6 @@ ghost use Rattle.std.specs.Prelude.{◌≡◌, [], Some, None, Err, IfErr, IfOk,
 ghost use Rattle.std.specs.Prelude.{drop as drop_items};
 ghost use Rattle.std.specs.Option.{option_map, ForSome};
 ghost use Rattle.pt_tree.specs.declared.faults.TreeFault.TheVariants.{Device};
-ghost use Rattle.pt_folder.specs.Calls.{AsksOnce, LeadsToKind};
 ghost use Rattle.pt_tree.specs.Failures.{IsCounted};
 ghost use Rattle.pt_tree.specs.Forest.{Dir, dir_at, kind_of, node_at};
 ghost use Rattle.pt_tree.specs.Path.{parent};
@@ -39,13 +38,13 @@ pub struct HostSource<'a, S: System> {
 }
 
 impl<'a, S: System> HostSource<'a, S> {
-    ghost use Rattle.pt_folder.specs.HostSource.{KeepsLook, lasting};
+    ghost use Rattle.pt_folder.specs.HostSource.{IsLookedAt, KeepsLook, Looks, failure_of, folder_path, kept_by, lasting, system_of};
 
     /// A source over the folder at a path of a system, as the runtime's. It calls nothing and takes no memory.
     pub fn new(system: S, alloc: Global, path: &'a str) -> HostSource<'a, S>
         ensures failures { result.failures ≡ 0 }
         ensures calls { result.calls ≡ 0 }
-        ensures path { result.folder.path.now ≡ path.now }
+        ensures path { folder_path result ≡ path.now }
         ensures desk { result.desk ≡ new_desk system alloc }
         ensures reading { result.reading ≡ None }
         ensures at { string_bytes result.at ≡ [] }
@@ -65,7 +64,7 @@ impl<'a, S: System> HostSource<'a, S> {
 
     /// The last failure, if there was one, and where it was a listing's or a read's, memory for its path.
     pub fn last_failure(&self) -> Option<&Failure>
-        ensures { option_map (λ f. f.now) result ≡ self.now.desk.last.failure }
+        ensures { option_map (λ f. f.now) result ≡ failure_of self.now }
     {
         self.desk.last.failure.as_ref()
     }
@@ -88,20 +87,14 @@ impl<'a, S: System> HostSource<'a, S> {
     ///
     /// Where the system keeps a tree, a directory has to be above the path. The open file stays as it is.
     pub fn lstat(&mut self, path: &NamePath) -> Result<Option<Kind>, TreeFault>
-        requires { ForSome (S.forest self.old.desk.system self.old.folder.path.now)
-            (λ f. IsSome (dir_at f (parent path.now))) }
-        ensures kind { IfOk result (λ here.
-            ForSome (S.forest self.old.desk.system self.old.folder.path.now)
+        requires { ForSome (kept_by self.old) (λ f. IsSome (dir_at f (parent path.now))) }
+        ensures kind { IfOk result (λ here. ForSome (kept_by self.old)
             (λ f. option_map kind_of (node_at (Dir f) path.now) ≡ here)) }
-        ensures same { S.forest self.new.desk.system self.new.folder.path.now
-            ≡ S.forest self.old.desk.system self.old.folder.path.now }
-        ensures asked { AsksOnce S.looks LeadsToKind self.old.folder.path.now path.now
-            self.old.desk.system self.new.desk.system result }
+        ensures same { kept_by self.new ≡ kept_by self.old }
+        ensures asked { Looks self.old self.new path.now result }
         ensures kept { OnDevice result (KeepsLook self.old self.new path.now) }
         ensures still { lasting self.new ≡ lasting self.old }
-        ensures looked { OnOk result (string_bytes self.new.looked
-            ≡ entry_text self.old.folder.path.now path.now) }
-        ensures unlooked { OnErr result (self.new.looked ≡ self.old.looked) }
+        ensures looked { IsLookedAt self.old self.new path.now result }
         ensures failures { IsCounted self.old.failures self.new.failures result }
     {
         let kind = self.desk.kind_at(&self.folder, path, &mut self.looked);
@@ -110,7 +103,7 @@ impl<'a, S: System> HostSource<'a, S> {
 
     /// The system, as the calls left it; the open file is closed.
     pub fn into_system(self) -> S
-        ensures { result ≡ self.entry.desk.system }
+        ensures { result ≡ system_of self.entry }
     {
         self.desk.system
     }
@@ -120,7 +113,7 @@ impl<'a, S: System> Source for HostSource<'a, S> {
     ghost use Rattle.std.specs.Prelude.{Option};
     ghost use Rattle.pt_tree.specs.Source.{CanList, IsListed, CanOpen, CanRead, IsRead, after_open, after_next};
     ghost use Rattle.pt_folder.specs.Devices.{was_called};
-    ghost use Rattle.pt_folder.specs.HostSource.{CannotList, IsCall, IsReading, KeepsList, KeepsOpen, KeepsRead, Lists, Opens, Reads, open_file, told};
+    ghost use Rattle.pt_folder.specs.HostSource.{CannotList, IsCall, IsReading, KeepsList, KeepsOpen, KeepsRead, Lists, Opens, Reads, folder_path, open_file, told};
     ghost use Rattle.pt_folder.specs.SourceHeld.{proper_held};
 
     ghost told = { told };
@@ -166,7 +159,7 @@ impl<'a, S: System> Source for HostSource<'a, S> {
         ensures reading { OnErr result (open_file self.new ≡ open_file self.old) }
         ensures asked { Opens self.old self.new path.now result }
         ensures at { OnOk result (string_bytes self.new.at
-            ≡ entry_text self.old.folder.path.now path.now) }
+            ≡ entry_text (folder_path self.old) path.now) }
         ensures kept { OnDevice result (KeepsOpen self.old self.new path.now) }
         ensures call { IsCall self.old self.new result }
     {
