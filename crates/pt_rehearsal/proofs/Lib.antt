@@ -1,8 +1,10 @@
 mod Changes
+mod Divided
 mod Fitted
 mod Moves
+mod Named
+mod Packed
 pub mod Staying
 mod Steps
-mod TextSets
 mod Walks
 pub mod Moved

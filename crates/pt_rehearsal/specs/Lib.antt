@@ -1,3 +1,4 @@
+pub mod Buckets
 pub mod Fitting
 pub mod Noted
 pub mod Rehearsal

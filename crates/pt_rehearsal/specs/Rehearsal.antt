@@ -44,6 +44,7 @@ module _ {S F D : Type 0} {sys : OfSystem S F D} {handle : OfHandle F} {file : O
   abbrev pub told : Rehearsal S F D sys handle file dir → Option Writing
   told r = told_over (told_by r.dest) r.played.steps
 
+  -- its destination stays as it was, and the system keeps of its folder what it kept
   abbrev pub IsSame : (old new : Rehearsal S F D sys handle file dir) → Type 0
   IsSame old new = Stays old.dest new.dest
 

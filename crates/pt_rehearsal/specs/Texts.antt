@@ -1,14 +1,12 @@
--- The texts that a set holds.
+-- The texts that a set has.
 use Rattle.std.specs.Prelude.{◌||◌, ℕ, Bool, List}
-use Rattle.std.specs.BTreeSet.{BTreeSet, contains_by}
-use Rattle.std.specs.Cmp.Lexicographic.{slice_cmp}
-use Rattle.std.specs.Global.{Vec}
-use Rattle.std.specs.Ordering.{nat_cmp}
 use Rattle.std.specs.Str.{bytes_eq}
+use Rattle.pt_rehearsal.specs.Buckets.{is_held}
+use Rattle.pt_rehearsal.specs.declared.text_set.TextSet.{TextSet}
 
 -- the set has this text
-abbrev pub has : BTreeSet (Vec ℕ) → List ℕ → Bool
-has set = λ text. contains_by (λ k. slice_cmp nat_cmp text k.items) set
+abbrev pub has : TextSet → List ℕ → Bool
+has set = is_held set.base set.buckets.items
 
 -- one text more
 abbrev pub with_text : List ℕ → (List ℕ → Bool) → List ℕ → Bool

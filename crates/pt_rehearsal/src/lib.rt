@@ -7,7 +7,8 @@
 //!   tree with each step played over it (`played`); no bytes are kept for that, the steps exist in proofs alone.
 //! - What it remembers is a text for each directory that it would have made and each place that it would have moved something to, and the names
 //!   that it would have made in one directory at a time (`View`); after each call by an equation (`Remembers`). It fits the tree (`Fits`): what
-//!   is remembered as a directory is one, all that isn't hidden is as in the folder.
+//!   is remembered as a directory is one, all that isn't hidden is as in the folder. The texts lie packed (text_set.rt): no text takes memory
+//!   of its own, and none is taken for another.
 //! - It refuses, with `Device`, exactly what it doesn't know: a look at what is hidden (`IsFromMemory`, `IsNotPeeked`); a directory or a file
 //!   whose making, and a move whose effect, can't be remembered (`made_dir`, `made_file`, `moved_to`); beside that a path that is too long,
 //!   and, where an entry right in the folder is made, a failed look at the folder. That a run asks for none of these isn't proved:
@@ -19,6 +20,6 @@
 mod played;
 mod rehearsal;
 mod remembered;
-mod texts;
+mod text_set;
 
 pub use rehearsal::Rehearsal;

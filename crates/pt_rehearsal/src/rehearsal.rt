@@ -5,7 +5,7 @@ ghost use Rattle.pt_folder.specs.Calls.{CannotMake};
 ghost use Rattle.pt_folder.specs.DestHeld.{told_of};
 ghost use Rattle.pt_folder.specs.Failure.{OnDevice};
 ghost use Rattle.pt_folder.specs.Folder.{entry_text};
-ghost use Rattle.pt_folder.specs.HostDest.{told as told_by};
+ghost use Rattle.pt_folder.specs.HostDest.{folder_path, kept_by, lasting, longest_of, stuck_of, system_of, told as told_by};
 ghost use Rattle.pt_rehearsal.specs.Fitting.{FitsTold};
 ghost use Rattle.pt_tree.specs.Failures.{IsCounted};
 ghost use Rattle.pt_rehearsal.specs.Stays.{LooksAtFolder, Stays};
@@ -39,13 +39,10 @@ impl<'a, S: System> Rehearsal<'a, S> {
     /// A rehearsal over a folder, of which nothing is put onto the disk, that remembers nothing yet. It calls nothing and
     /// takes no memory.
     pub fn new(alloc: Global, dest: HostDest<'a, S>) -> Rehearsal<'a, S>
-        ensures system { result.dest.desk.system ≡ dest.entry.desk.system }
-        ensures folder { result.dest.folder ≡ dest.entry.folder }
-        ensures longest { result.dest.longest ≡ dest.entry.longest }
-        ensures failures { result.dest.failures ≡ dest.entry.failures }
-        ensures told { told result
-            ≡ told_of (S.kept dest.entry.desk.system dest.entry.folder.path.now) None }
-        ensures stuck { result.dest.stuck ≡ None }
+        ensures still { lasting result.dest ≡ lasting dest.entry }
+        ensures longest { longest_of result.dest ≡ longest_of dest.entry }
+        ensures told { told result ≡ told_of (kept_by dest.entry) None }
+        ensures stuck { stuck_of result.dest ≡ None }
         ensures remembered { view result.remembered ≡ nothing }
     {
         Rehearsal {
@@ -135,11 +132,11 @@ impl<'a, S: System> Dest for Rehearsal<'a, S> {
         ensures made { OnOk result (told self.new
             ≡ option_map (after_mkdir path.now) (told self.old)) }
         ensures same { OnErr result (told self.new ≡ told self.old) }
-        ensures fits { OnOk result (length (entry_text self.old.dest.folder.path.now path.now)
-            ≤ self.old.dest.longest) }
+        ensures fits { OnOk result (length (entry_text (folder_path self.old.dest) path.now)
+            ≤ longest_of self.old.dest) }
         ensures asked { LooksAtFolder self.old.dest self.new.dest path.now result }
         ensures refused { OnDevice result ((length path.now ≡ 1)
-            ⊎ (CannotMake self.old.dest.longest self.old.dest.folder.path.now path.now
+            ⊎ (CannotMake (longest_of self.old.dest) (folder_path self.old.dest) path.now
             ⊎ (made_dir (view self.old.remembered) path.now ≡ None))) }
         ensures remembered { Remembers (made_dir (view self.old.remembered) path.now) result
             (view self.old.remembered) (view self.new.remembered) }
@@ -158,11 +155,11 @@ impl<'a, S: System> Dest for Rehearsal<'a, S> {
         ensures made { OnOk result (told self.new
             ≡ option_map (after_create path.now) (told self.old)) }
         ensures same { OnErr result (told self.new ≡ told self.old) }
-        ensures system { self.new.dest.desk.system ≡ self.old.dest.desk.system }
-        ensures fits { OnOk result (length (entry_text self.old.dest.folder.path.now path.now)
-            ≤ self.old.dest.longest) }
+        ensures system { system_of self.new.dest ≡ system_of self.old.dest }
+        ensures fits { OnOk result (length (entry_text (folder_path self.old.dest) path.now)
+            ≤ longest_of self.old.dest) }
         ensures refused { OnDevice result
-            (CannotMake self.old.dest.longest self.old.dest.folder.path.now path.now
+            (CannotMake (longest_of self.old.dest) (folder_path self.old.dest) path.now
             ⊎ (made_file (view self.old.remembered) path.now ≡ None)) }
         ensures remembered { Remembers (made_file (view self.old.remembered) path.now) result
             (view self.old.remembered) (view self.new.remembered) }
@@ -208,7 +205,7 @@ impl<'a, S: System> Dest for Rehearsal<'a, S> {
         ensures moved { OnOk result (told self.new
             ≡ option_map (after_rename from.now to.now) (told self.old)) }
         ensures same { OnErr result (told self.new ≡ told self.old) }
-        ensures system { self.new.dest.desk.system ≡ self.old.dest.desk.system }
+        ensures system { system_of self.new.dest ≡ system_of self.old.dest }
         ensures refused { OnDevice result
             (moved_to (view self.old.remembered) from.now to.now ≡ None) }
         ensures remembered { Remembers (moved_to (view self.old.remembered) from.now to.now) result
@@ -225,11 +222,11 @@ impl<'a, S: System> Dest for Rehearsal<'a, S> {
 
 // Whether a directory may be made, as far as the folder knows: its path isn't too long, and one at the top needs the folder.
 fn may_make_dir<S: System>(dest: &mut HostDest<'_, S>, path: &NamePath) -> Result<(), TreeFault>
-    ensures fits { OnOk result (length (entry_text dest.old.folder.path.now path.now)
-        ≤ dest.old.longest) }
+    ensures fits { OnOk result (length (entry_text (folder_path dest.old) path.now)
+        ≤ longest_of dest.old) }
     ensures asked { LooksAtFolder dest.old dest.new path.now result }
     ensures refused { OnDevice result ((length path.now ≡ 1)
-        ⊎ CannotMake dest.old.longest dest.old.folder.path.now path.now) }
+        ⊎ CannotMake (longest_of dest.old) (folder_path dest.old) path.now) }
     ensures stays { Stays dest.old dest.new }
     ensures failures { IsCounted dest.old.failures dest.new.failures result }
 {

@@ -5,10 +5,9 @@ ghost use Rattle.pt_tree.specs.Name.{AreNames};
 ghost use Rattle.pt_tree.specs.Path.{joined};
 ghost use Rattle.pt_rehearsal.specs.Seeing.{Becomes, inner_of, is_inside, is_itself, is_met, made_dir, made_file, made_inside, made_known, met_in, moved_known, moved_to, nothing, renamed_to, seen_at, view, with_folder, with_met};
 
-use crate::texts::put;
+use crate::text_set::TextSet;
 use pt_tree::{MemoryFault, Name, NamePath};
 use std::alloc::Global;
-use std::collections::BTreeSet;
 
 /// What a rehearsal says of a path by what it remembers.
 #[derive(Clone, Copy, Drop)]
@@ -25,7 +24,7 @@ pub(crate) enum Seen {
 #[derive(Drop)]
 struct Inner {
     name: Name,
-    names: BTreeSet<Vec<u8>>,
+    names: TextSet,
 }
 
 /// What would have been made: the texts of directories, of those of two names and more and of those to which something was
@@ -34,7 +33,7 @@ struct Inner {
 #[derive(Drop)]
 pub(crate) struct Remembered {
     alloc: Global,
-    folders: BTreeSet<Vec<u8>>,
+    folders: TextSet,
     filling: Option<Inner>,
     filled: Option<Inner>,
     least: usize,
@@ -47,7 +46,7 @@ impl Remembered {
     {
         Remembered {
             alloc,
-            folders: BTreeSet::new(alloc),
+            folders: TextSet::new(alloc),
             filling: None,
             filled: None,
             least: usize::MAX,
@@ -146,7 +145,8 @@ impl Remembered {
 
     // A directory at a path, of this text, of which nothing is remembered.
     fn make_known(&mut self, path: &NamePath, text: &[u8]) -> Result<bool, MemoryFault>
-        requires { text.now ≡ joined path.now }
+        requires text { text.now ≡ joined path.now }
+        requires named { AreNames path.now }
         ensures ok { IfOk result (λ can.
             Becomes (made_known (view self.old) path.now) can (view self.old) (view self.new)) }
         ensures err { OnErr result (view self.new ≡ view self.old) }
@@ -159,7 +159,7 @@ impl Remembered {
                 }
                 self.filling = Some(Inner {
                     name: name.copy()?,
-                    names: BTreeSet::new(self.alloc),
+                    names: TextSet::new(self.alloc),
                 });
                 Ok(true)
             }
@@ -172,7 +172,8 @@ impl Remembered {
 
     // The directory that is being filled goes to a path, of this text, of which nothing is remembered.
     fn move_known(&mut self, to: &NamePath, text: &[u8]) -> Result<bool, MemoryFault>
-        requires { text.now ≡ joined to.now }
+        requires text { text.now ≡ joined to.now }
+        requires named { AreNames to.now }
         ensures ok { IfOk result (λ can.
             Becomes (moved_known (view self.old) to.now) can (view self.old) (view self.new)) }
         ensures err { OnErr result (view self.new ≡ view self.old) }
@@ -201,11 +202,12 @@ impl Remembered {
 
     // A directory stands at a path, of this text.
     fn note(&mut self, path: &NamePath, text: &[u8]) -> Result<(), MemoryFault>
-        requires { text.now ≡ joined path.now }
+        requires text { text.now ≡ joined path.now }
+        requires named { AreNames path.now }
         ensures ok { OnOk result (view self.new ≡ with_folder path.now (view self.old)) }
         ensures err { OnErr result (view self.new ≡ view self.old) }
     {
-        put(self.alloc, &mut self.folders, text)
+        self.folders.put(text)
     }
 
     // Something stands at a path in the directory that is being filled.
@@ -214,21 +216,19 @@ impl Remembered {
         ensures err { OnErr result (view self.new ≡ view self.old) }
     {
         match &mut self.filling {
-            Some(inner) => meet_in(self.alloc, inner, names),
+            Some(inner) => meet_in(inner, names),
             None => Ok(()),
         }
     }
 }
 
 // Notes the name that a path has in a directory, if it is the directory's own entry.
-fn meet_in(alloc: Global, inner: &mut Inner, names: &[Name]) -> Result<(), MemoryFault>
+fn meet_in(inner: &mut Inner, names: &[Name]) -> Result<(), MemoryFault>
     ensures ok { OnOk result (inner_of inner.new ≡ met_in names.now (inner_of inner.old)) }
     ensures err { OnErr result (inner_of inner.new ≡ inner_of inner.old) }
 {
     match names {
-        [dir, name] if dir.bytes() == inner.name.bytes() => {
-            put(alloc, &mut inner.names, name.bytes())
-        }
+        [dir, name] if dir.bytes() == inner.name.bytes() => { inner.names.put(name.bytes()) }
         _ => Ok(()),
     }
 }

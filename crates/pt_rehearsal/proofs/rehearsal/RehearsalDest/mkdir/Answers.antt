@@ -1,6 +1,6 @@
-use Rattle.std.proofs.Common.{refl}
+use Rattle.std.proofs.Common.{refl, subst, sym}
 use Rattle.pt_folder.specs.HostDest.{told as told_by}
-use Rattle.pt_rehearsal.specs.Seeing.{made_dir, view}
+use Rattle.pt_rehearsal.specs.Seeing.{made_dir, view, Remembers}
 use Rattle.pt_rehearsal.proofs.Staying.{becomes_next, becomes_same, fits_dir_made, fits_still, stays_on, told_still, unasked}
 use Rattle.pt_rehearsal.proofs.rehearsal.RehearsalDest.mkdir.Goals as goal
 
@@ -41,3 +41,10 @@ pub returns-clause-remembered : goal.returns-clause-remembered
 returns-clause-remembered g c =
     let old = view c.args.self.now.remembered in
     becomes_next (made_dir old c.args.path.now) c.in_ok-make_dir.field-0 old (view c.make_dir.new.self) c.if-not-branch.false c.in_ok-make_dir.ensures.ok
+
+pub returns-then-not-branch-clause-remembered : goal.returns-then-not-branch-clause-remembered
+returns-then-not-branch-clause-remembered g c =
+    let old = view c.args.self.now.remembered in
+    let new = view c.make_dir.new.self in
+    let same = becomes_same (made_dir old c.args.path.now) c.in_ok-make_dir.field-0 old new c.if-not-branch.true c.in_ok-make_dir.ensures.ok in
+    subst (λ r. Remembers (made_dir old c.args.path.now) r old new) (sym c.refuse.ensures.refused) same.1

@@ -1,6 +1,6 @@
-use Rattle.std.proofs.Common.{refl}
+use Rattle.std.proofs.Common.{refl, subst, sym}
 use Rattle.pt_folder.specs.HostDest.{told as told_by}
-use Rattle.pt_rehearsal.specs.Seeing.{moved_to, view}
+use Rattle.pt_rehearsal.specs.Seeing.{moved_to, view, Remembers}
 use Rattle.pt_rehearsal.proofs.Staying.{becomes_next, becomes_same, fits_move_made, fits_still, told_still, unasked}
 use Rattle.pt_rehearsal.proofs.rehearsal.RehearsalDest.rename.Goals as goal
 
@@ -26,3 +26,10 @@ invariant_of-self-2 g c =
           fits_move_made (told_by old.dest) (told_by old.dest) (view old.remembered) (view c.move_to.new.self) old.played.steps c.then-self.result.steps refl
           c.args.from.now c.args.to.now (c.in_ok-move_to.ensures.named c.if-not-branch.false) c.requires next c.then-self.ensures old.fits;
     }
+
+pub returns-then-not-branch-clause-remembered : goal.returns-then-not-branch-clause-remembered
+returns-then-not-branch-clause-remembered g c =
+    let old = view c.args.self.now.remembered in
+    let new = view c.move_to.new.self in
+    let same = becomes_same (moved_to old c.args.from.now c.args.to.now) c.in_ok-move_to.field-0 old new c.if-not-branch.true c.in_ok-move_to.ensures.ok in
+    subst (λ r. Remembers (moved_to old c.args.from.now c.args.to.now) r old new) (sym c.refuse.ensures.refused) same.1
