@@ -3,4 +3,5 @@ pub mod Declaration
 pub mod Guard
 pub mod LockAttempt
 pub mod Paths
+pub mod PlaceCall
 pub mod Wanting

@@ -1,7 +1,8 @@
 -- What an answer to the question for a lock says.
-use Rattle.std.specs.Prelude.{◌≡◌, ◌⊎◌, ℕ, Bool, true, false, List, Option, Result, Ok, Err, MatchResult}
+use Rattle.std.specs.Prelude.{◌≡◌, ◌⊎◌, ⊤, ℕ, Bool, true, false, List, Option, Result, Ok, Err, MatchResult}
 use Rattle.std.specs.declared.io.Error.{Error}
 use Rattle.pt_guard.specs.Declaration.{TellsOfOne}
+use Rattle.pt_guard.specs.PlaceCall.{PlaceCall, Hold}
 use Rattle.pt_guard.specs.Wanting.{IsWanting}
 use Rattle.pt_guard.specs.declared.places.Claim.{Claim}
 use Rattle.pt_guard.specs.declared.places.LockAttempt.{LockAttempt}
@@ -32,3 +33,9 @@ abbrev pub AsksFolder : {D F : Type 0} → (D → Option (List ℕ)) → (Claim 
     → Claim → LockAttempt F → Type 0
 AsksFolder remaining answers claim came = (told : Result Bool Error)
     × TellsOfOne remaining told × HoldsBy answers claim told came
+
+-- of a call on the runtime's folders: what asking for a lock comes to is by the folder's names and the question for it; of the others nothing is said
+abbrev pub SaysOfLocks : {S D F : Type 0} → (D → Option (List ℕ)) → (Claim → F → Result Bool Error → Type 0)
+    → S → PlaceCall F → S → Type 0
+SaysOfLocks remaining answers old (Hold claim path came) new = AsksFolder remaining answers claim came
+SaysOfLocks remaining answers old _ new = ⊤

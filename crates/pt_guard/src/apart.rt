@@ -41,7 +41,7 @@ fn nesting_of_error(error: &io::Error, otherwise: Nesting) -> Nesting
 
 // Whether a path leads to a folder, or to something that lies in it; asked of the path and of each folder above, at most `left` of them.
 fn has_ancestor<S: Places>(system: &mut S, path: PathBuf, target: FileId, left: usize) -> Nesting
-    ensures { Climbs S.identifies target left (path_buf_bytes path) system.old system.new result }
+    ensures { Climbs S.does target left (path_buf_bytes path) system.old system.new result }
 {
     if left == 0 {
         return Nesting::Unknown;
@@ -64,7 +64,7 @@ fn has_ancestor<S: Places>(system: &mut S, path: PathBuf, target: FileId, left: 
 
 // The same of a resolved path and the folder at another path, which was resolved too.
 fn held_against<S: Places>(system: &mut S, inner: PathBuf, outer: &str) -> Nesting
-    ensures { IsHeld S.identifies outer.now (path_buf_bytes inner) system.old system.new result }
+    ensures { IsHeld S.does outer.now (path_buf_bytes inner) system.old system.new result }
 {
     match system.identify(outer) {
         Ok(target) => {
@@ -77,7 +77,7 @@ fn held_against<S: Places>(system: &mut S, inner: PathBuf, outer: &str) -> Nesti
 
 // What is said of a path that can't be resolved, for this error: memory was wanting, nothing lies there, or it isn't known where it is.
 fn judge_unresolved<S: Places>(system: &mut S, path: &str, error: io::Error) -> Nesting
-    ensures { IsUnresolved S.identifies path.now error system.old system.new result }
+    ensures { IsUnresolved S.does path.now error system.old system.new result }
 {
     if is_wanting(&error) {
         return Nesting::Wanting;
@@ -90,7 +90,7 @@ fn judge_unresolved<S: Places>(system: &mut S, path: &str, error: io::Error) -> 
 
 // How what a path leads to lies to what another leads to.
 fn lies_in<S: Places>(system: &mut S, alloc: Global, inner: &str, outer: &str) -> Nesting
-    ensures { LiesIn S.resolves S.identifies inner.now outer.now system.old system.new result }
+    ensures { LiesIn S.does inner.now outer.now system.old system.new result }
 {
     match system.resolve(alloc, inner) {
         Ok(place) => match system.resolve(alloc, outer) {
@@ -117,7 +117,7 @@ pub(crate) fn overlap<S: Places>(
 ) -> Result<Nesting, AllocError>
     ensures err { IfErr result (λ _. system.new ≡ system.old) }
     ensures ok { IfOk result (λ lie.
-        Overlaps S.resolves S.identifies source.now dest.now system.old system.new lie) }
+        Overlaps S.does source.now dest.now system.old system.new lie) }
 {
     let tree = below(alloc, source, TREE)?;
     let root = below(alloc, dest, ROOT)?;
@@ -143,7 +143,7 @@ fn first_found<S: Places>(
     root: &str,
     staging: &str,
 ) -> Nesting
-    ensures { Finds S.resolves S.identifies source.now tree.now dest.now root.now staging.now
+    ensures { Finds S.does source.now tree.now dest.now root.now staging.now
         system.old system.new result }
 {
     match in_either(system, alloc, dest, source, tree) {
@@ -167,7 +167,7 @@ fn in_either<S: Places>(
     one: &str,
     other: &str,
 ) -> Nesting
-    ensures { InEither S.resolves S.identifies inner.now one.now other.now
+    ensures { InEither S.does inner.now one.now other.now
         system.old system.new result }
 {
     match lies_in(system, alloc, inner, one) {

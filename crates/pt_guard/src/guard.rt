@@ -54,8 +54,7 @@ pub fn begin<S: Places>(
     source: &str,
     dest: &str,
 ) -> Result<io::Result<S::Lock>, GuardFault>
-    ensures { Begins S.resolves S.identifies (S.holds claim) source.now dest.now
-        system.old system.new result }
+    ensures { Begins S.does claim (source.now, dest.now) system.old system.new result }
 {
     match overlap(system, alloc, source, dest)? {
         Nesting::Inside => Err(GuardFault::Overlap),

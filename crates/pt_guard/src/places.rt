@@ -1,13 +1,12 @@
-//! The calls of the system that look where folders are and lock them. Each has a ghost word of what it may answer, so that a
-//! contract over them says which calls are made and what becomes of their answers.
-ghost use Rattle.std.specs.Prelude.{◌≡◌, ◌↔◌, ⊤, ℕ, Bool, IsTrue, List, MatchResult};
+//! The calls of the system that look where folders are and lock them. One ghost word says of each call what it may come to, so that a
+//! contract over it says which calls are made and what becomes of their answers.
+ghost use Rattle.std.specs.Prelude.{◌≡◌, ◌↔◌, ⊤, Bool, IsTrue, MatchResult};
 ghost use Rattle.std.specs.declared.io.Error.{Error};
-ghost use Rattle.pt_guard.specs.Paths.{Place};
 ghost use Rattle.std.specs.declared.result.Result.{Result};
 ghost use Rattle.pt_guard.specs.declared.places.Claim.{Claim};
-ghost use Rattle.pt_guard.specs.declared.places.FileId.{FileId};
 ghost use Rattle.pt_guard.specs.declared.places.LockAttempt.{LockAttempt};
-ghost use Rattle.pt_guard.specs.LockAttempt.{AsksFolder, AsksLock, HoldsBy, hold_of};
+ghost use Rattle.pt_guard.specs.LockAttempt.{AsksLock, HoldsBy, SaysOfLocks, hold_of};
+ghost use Rattle.pt_guard.specs.PlaceCall.{PlaceCall, Hold, Identify, Release, Resolve};
 ghost use Rattle.pt_guard.specs.Wanting.{IsWanting};
 
 use crate::declared::declares;
@@ -80,33 +79,24 @@ impl Lockable for File {
 pub trait Places {
     type Lock;
 
-    /// Where a path leads, links resolved, may be this.
-    ghost resolves: { Self → List ℕ → Result Place Error → Self → Type 0 };
-
-    /// What a path leads to may be told to be this.
-    ghost identifies: { Self → List ℕ → Result FileId Error → Self → Type 0 };
-
-    /// Asking so for the lock of the folder at a path may come to this.
-    ghost holds: { Claim → Self → List ℕ → LockAttempt Self.Lock → Self → Type 0 };
-
-    /// Giving a lock back may leave it so.
-    ghost releases: { Self → Self.Lock → Self → Type 0 };
+    /// A call may come to this, and leave it so.
+    ghost does: { Self → PlaceCall Self.Lock → Self → Type 0 };
 
     /// Where a path leads, from the top, links resolved.
     fn resolve(&mut self, alloc: Global, path: &str) -> io::Result<PathBuf>
-        ensures { resolves self.old path.now result self.new };
+        ensures { does self.old (Resolve path.now result) self.new };
 
     /// What a path leads to, links followed.
     fn identify(&mut self, path: &str) -> io::Result<FileId>
-        ensures { identifies self.old path.now result self.new };
+        ensures { does self.old (Identify path.now result) self.new };
 
     /// Asks for the lock of the folder at a path, unless that is a storage root or an object itself.
     fn hold(&mut self, path: &str, claim: Claim) -> LockAttempt<Self::Lock>
-        ensures { holds claim self.old path.now result self.new };
+        ensures { does self.old (Hold claim path.now result) self.new };
 
     /// Gives a lock back, which isn't held from then on.
     fn release(&mut self, lock: Self::Lock)
-        ensures { releases self.old lock self.new };
+        ensures { does self.old (Release lock) self.new };
 }
 
 impl<'a, R: Files + AllocGlobal> Places for &'a R
@@ -115,13 +105,7 @@ where
 {
     type Lock = R::File;
 
-    ghost resolves = { λ _ _ _ _. ⊤ };
-
-    ghost identifies = { λ _ _ _ _. ⊤ };
-
-    ghost holds = { λ claim _ _ came _. AsksFolder R.Dir.remaining R.File.answers claim came };
-
-    ghost releases = { λ _ _ _. ⊤ };
+    ghost does = { SaysOfLocks R.Dir.remaining R.File.answers };
 
     fn resolve(&mut self, alloc: Global, path: &str) -> io::Result<PathBuf> {
         self.canonicalize(alloc, path)

@@ -14,7 +14,7 @@ use Rattle.pt_rehearsal.specs.Rehearsal.{told}
 use Rattle.pt_rehearsal.specs.Stays.{Stays}
 use Rattle.pt_rehearsal.specs.declared.rehearsal.Rehearsal.{Rehearsal}
 use Rattle.pt_rehearsal.proofs.Staying.{told_still}
-use Rattle.pt_state.specs.Outside.{world}
+use Rattle.pt_state.specs.Outside.{states}
 use Rattle.pt_state.specs.declared.job.Job.{Job}
 use Rattle.pt_state.specs.declared.job.Report.{Report}
 use Rattle.pt_tree.specs.Dest.{Writing}
@@ -39,8 +39,8 @@ leaves_at kept rehearse was system same leaves = rw same at leaves
 module _ (job : Job) (was : Option Writing) (s s' : Option Reading) (l l' : Option (List ℕ)) (sf sf' lf lf' : ℕ) (ran : Result Report Fault) where
   pub rehearsed : (rehearse : Bool) (begun ended d d' : Option Writing) (df df' begun-df ended-df : ℕ)
       → rehearse ≡ true → begun ≡ was → is_some ended ≡ is_some begun → begun-df ≡ df → ended-df ≡ df'
-      → Migrates job (world s begun l sf begun-df lf) (world s' ended l' sf' ended-df lf') ran
-      → IsRun job rehearse was (world s d l sf df lf) (world s' d' l' sf' df' lf') ran
+      → Migrates job (states s begun l sf begun-df lf) (states s' ended l' sf' ended-df lf') ran
+      → IsRun job rehearse was (states s d l sf df lf) (states s' d' l' sf' df' lf') ran
   rehearsed false begun ended d d' df df' begun-df ended-df is told tells fails fails' m = absurd (cc)
   rehearsed true begun ended d d' df df' begun-df ended-df is told tells fails fails' m = record {
     plays = ended;
@@ -49,7 +49,7 @@ module _ (job : Job) (was : Option Writing) (s s' : Option Reading) (l l' : Opti
   }
 
   pub carried : (rehearse : Bool) (d d' : Option Writing) (df df' : ℕ) → rehearse ≡ false
-      → Migrates job (world s d l sf df lf) (world s' d' l' sf' df' lf') ran
-      → IsRun job rehearse was (world s d l sf df lf) (world s' d' l' sf' df' lf') ran
+      → Migrates job (states s d l sf df lf) (states s' d' l' sf' df' lf') ran
+      → IsRun job rehearse was (states s d l sf df lf) (states s' d' l' sf' df' lf') ran
   carried true d d' df df' is m = absurd (cc)
   carried false d d' df df' is m = record { plays = was; tells = refl; promises = m }

@@ -10,7 +10,8 @@ use Rattle.pt_folder.specs.SourceHeld.{told_of as source_told}
 use Rattle.pt_guard.specs.declared.places.Claim.TheVariants.{Shared}
 use Rattle.pt_tree.specs.Ignoring.{told_without}
 use Rattle.pt_plan.specs.declared.fault.Fault.{Fault}
-use Rattle.pt_host.specs.Machine.{AsksGuard, HostIoOf, HostIoWords, MachineWords}
+use Rattle.pt_host.specs.HostCall.{Lend, TakeBack}
+use Rattle.pt_host.specs.Machine.{HostIoOf, HostIoWords, MachineWords}
 use Rattle.pt_host.specs.Made.{Guarded}
 use Rattle.pt_host.specs.declared.host.HostIo.{HostIo}
 use Rattle.pt_host.specs.declared.options.AuditOptions.{AuditOptions}
@@ -71,17 +72,14 @@ pub record AuditsOver {S D W : Type 0} (words : HostIoWords S D W (Option Forest
   pub grows : Grows (words.output old.output) (words.output new.output)
   pub status_is : status ≡ audit_status call.options.skips_ok ran
 
--- an audit once it may begin: it is asked what is expected of it, and made over what the machine lends, which is given back
-abbrev pub Compares : {H : Type 0} → MachineWords H → (Option (List ℕ) → Type 0)
-    → AuditCall → H → H → ℕ → Type 0
-Compares {H} words asks call old new status =
-    asks call.options.feedback.expected
-    × (ground : HostIoOf words) × (lent : H) × words.lends old ground lent × (after : HostIoOf words)
-    × AuditsOver words.read call ground after status × words.takes_back lent after new
+module _ {H : Type 0} (words : MachineWords H) (asks : Option (List ℕ) → Type 0) (call : AuditCall) where
+  -- an audit once it may begin: it is asked what is expected of it, and made over what the machine lends, which is given back
+  abbrev pub Compares : H → H → ℕ → Type 0
+  Compares old new status = asks call.options.feedback.expected
+      × (ground : HostIoOf words) × (lent : H) × words.host old (Lend ground) lent × (after : HostIoOf words)
+      × AuditsOver words.read call ground after status × words.host lent (TakeBack after) new
 
--- what `audit_guarded` does on a machine, by the words of that: the guard, with a lock that others may share, the audit that
--- is asked for, and the lock
-abbrev pub Audits : {H : Type 0} → MachineWords H → (Option (List ℕ) → Type 0)
-    → AuditCall → H → H → ℕ → Type 0
-Audits words asks call =
-    Guarded (AsksGuard words Shared (call.store, call.folder)) (Compares words asks call) words.releases
+  -- what `audit_guarded` does on a machine, by the words of that: the guard, with a lock that others may share, the audit that
+  -- is asked for, and the lock
+  abbrev pub Audits : H → H → ℕ → Type 0
+  Audits = Guarded words.places Shared (call.store, call.folder) Compares

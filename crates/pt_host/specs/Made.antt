@@ -10,7 +10,10 @@ use Rattle.pt_folder.specs.SourceHeld.{told_of as source_told}
 use Rattle.pt_folder.specs.declared.unsynced_change.UnsyncedChange.{UnsyncedChange}
 use Rattle.pt_folder.specs.declared.writing.Writing.{Writing as Open}
 use Rattle.pt_tree.specs.Ignoring.{told_without}
+use Rattle.pt_guard.specs.Guard.{Begins}
+use Rattle.pt_guard.specs.PlaceCall.{PlaceCall, Release}
 use Rattle.pt_guard.specs.declared.guard.GuardFault.{GuardFault}
+use Rattle.pt_guard.specs.declared.places.Claim.{Claim}
 use Rattle.pt_guard.specs.declared.places.Claim.TheVariants.{Alone}
 use Rattle.pt_move.specs.Migrates.{Migrates}
 use Rattle.pt_plan.specs.declared.fault.Fault.{Fault}
@@ -20,16 +23,17 @@ use Rattle.pt_state.specs.declared.job.Report.{Report}
 use Rattle.pt_tree.specs.Dest.{Writing}
 use Rattle.pt_host.specs.Durable.{IsLogged}
 use Rattle.pt_host.specs.Ends.{guard_status, run_status}
-use Rattle.pt_host.specs.Machine.{AsksGuard, HostIoOf, HostIoWords, MachineWords}
+use Rattle.pt_host.specs.HostCall.{Lend, OpenOutput, TakeBack}
+use Rattle.pt_host.specs.Machine.{HostIoOf, HostIoWords, MachineWords}
 use Rattle.pt_host.specs.declared.host.HostIo.{HostIo}
 use Rattle.pt_host.specs.declared.options.RunOptions.{RunOptions}
 
--- the world of a rehearsal, whose destination tells this; that of a run is its own
+-- the states of a rehearsal, whose destination tells this; those of a run are its own
 abbrev pub seen : Bool → Option Writing → DeviceStates → DeviceStates
-seen true plays world = record world { dest = plays }
-seen false plays world = world
+seen true plays states = record states { dest = plays }
+seen false plays states = states
 
--- a run as it is wanted, or a rehearsal of it, was made from one world to another, with what `migrate` promises of
+-- a run as it is wanted, or a rehearsal of it, was made from some states to others, with what `migrate` promises of
 -- it. The destination of a rehearsal tells at first what the folder told, with no file open, and at the end the tree
 -- that it plays, if the folder told one
 pub record IsRun (job : Job) (rehearse : Bool) (was : Option Writing) (old new : DeviceStates)
@@ -54,9 +58,9 @@ pub record Between : Type 0 where
 
 -- what the devices of a run tell: over the trees that the systems keep at these folders, with this open for reading,
 -- and this stuck and open for writing, and what the output holds
-abbrev pub world_of : {S D W F : Type 0} → HostIoWords S D W (Kept F) → Between → HostIo S D W
+abbrev pub host_io_of : {S D W F : Type 0} → HostIoWords S D W (Kept F) → Between → HostIo S D W
     → Option (List ℕ) → Option UnsyncedChange → Option (Open F) → Failures → DeviceStates
-world_of words at ground reading stuck writing failures = record {
+host_io_of words at ground reading stuck writing failures = record {
   source = told_without at.ignored (source_told (words.store ground.store at.store) reading);
   dest = dest_told (words.folder ground.folder at.folder) stuck writing;
   log = words.output ground.output;
@@ -73,10 +77,10 @@ abbrev pub IsStuckBy : Bool → ℕ → ℕ → Option UnsyncedChange → Type 0
 IsStuckBy synced failures status stuck =
     ForSome stuck (λ _. (synced ≡ true) × (failures ≡ 0 → status ≡ 3))
 
--- where a run starts: between which folders, from which world, and what the system keeps of the destination's
+-- where a run starts: between which folders, from which states, and what the system keeps of the destination's
 pub record Start (F : Type 0) : Type 0 where
   pub at : Between
-  pub world : DeviceStates
+  pub states : DeviceStates
   pub kept : Kept F
 
 -- a run was made from this start to what its devices then tell over these systems and this output, with this status and
@@ -85,10 +89,10 @@ abbrev pub RunsFrom : {S D W F : Type 0} → HostIoWords S D W (Kept F) → RunO
     → HostIo S D W → ℕ → Type 0
 RunsFrom {S} {D} {W} {F} words options start ground status =
     (reading : Option (List ℕ)) × (stuck : Option UnsyncedChange) × (writing : Option (Open F))
-    × (failures : Failures) × IsMade options (dest_told start.kept None None) start.world
-    (world_of words start.at ground reading stuck writing failures) status
+    × (failures : Failures) × IsMade options (dest_told start.kept None None) start.states
+    (host_io_of words start.at ground reading stuck writing failures) status
     × LeavesKept options.rehearse start.kept (words.folder ground.folder start.at.folder)
-    × IsStuckBy start.at.synced start.world.failures.dest status stuck
+    × IsStuckBy start.at.synced start.states.failures.dest status stuck
 
 -- no device failed yet
 abbrev pub none_failed : Failures
@@ -117,7 +121,7 @@ between call = record {
 abbrev pub start_of : {S D W F : Type 0} → HostIoWords S D W (Kept F) → RunCall → HostIo S D W → Start F
 start_of words call ground = record {
   at = between call;
-  world = world_of words (between call) ground None None None none_failed;
+  states = host_io_of words (between call) ground None None None none_failed;
   kept = words.folder ground.folder call.folder;
 }
 
@@ -144,55 +148,50 @@ IsTried syncs (Ok None) answer = answer ≡ Ok None
 IsTried {F} syncs (Ok (Some file)) answer = (reply : Result (Unit {0}) Error) × (after : F)
     × syncs file reply after × IsSynced after reply answer
 
--- where the log is to be synced its file is asked for, and tried; else nothing is asked
-abbrev pub FindsLog : {H : Type 0} (words : MachineWords H) → Bool → H → H
-    → Result (Option words.OutputFile) Error → Type 0
-FindsLog words false old new answer = (answer ≡ Ok None) × (new ≡ old)
-FindsLog words true old new answer = (found : Result (Option words.OutputFile) Error)
-    × words.finds old found new × IsTried words.syncs found answer
+-- ---- the guard and the lock
+
+module _ {H L : Type 0} (places : H → PlaceCall L → H → Type 0) where
+  -- where a run may not begin, that is its status, and nothing is done; else it is made, and then the lock is given
+  -- back, if there is one
+  abbrev pub GoesOn : (H → H → ℕ → Type 0) → Result (Result L Error) GuardFault → H → H → ℕ → Type 0
+  GoesOn carries (Err fault) mid new status = (status ≡ guard_status fault) × (new ≡ mid)
+  GoesOn carries (Ok (Err error)) mid new status = carries mid new status
+  GoesOn carries (Ok (Ok lock)) mid new status = (after : H) × carries mid after status
+      × places after (Release lock) new
+
+  -- the guard is asked of two folders, with a lock for this run alone or to be shared, and then it goes on by its answer
+  abbrev pub Guarded : Claim → List ℕ × List ℕ → (H → H → ℕ → Type 0) → H → H → ℕ → Type 0
+  Guarded claim folders carries old new status = (answer : Result (Result L Error) GuardFault) × (mid : H)
+      × Begins places claim folders old mid answer × GoesOn carries answer mid new status
 
 -- ---- the run, on a machine
 
--- a run over what the machine lends, before which it is asked what is expected of it; that is given back as the run left it,
--- its log put onto the disk by this file, and of the destination's system what serving it left; none is made where the
--- log can't be put onto its disk, which is a fault
-abbrev pub GoesOver : {H : Type 0} (words : MachineWords H) → (Option (List ℕ) → Type 0)
-    → RunCall → Result (Option words.OutputFile) Error → H → H → ℕ → Type 0
-GoesOver words asks call (Err error) mid new status = (status ≡ 3) × (new ≡ mid)
-GoesOver {H} words asks call (Ok file) mid new status =
-    asks call.options.feedback.expected
-    × (ground : HostIoOf words) × (lent : H) × words.lends mid ground lent × (after : HostIoOf words)
-    × RunsOver words.written call ground after status
-    × IsLogged words.puts file ground.output after.output status
-    × words.serves call.options call.folder ground.folder after.folder × words.takes_back lent after new
+module _ {H : Type 0} (words : MachineWords H) where
+  -- where the log is to be synced its file is asked for, and tried; else nothing is asked
+  abbrev pub FindsLog : Bool → H → H → Result (Option words.OutputFile) Error → Type 0
+  FindsLog false old new answer = (answer ≡ Ok None) × (new ≡ old)
+  FindsLog true old new answer = (found : Result (Option words.OutputFile) Error)
+      × words.host old (OpenOutput found) new × IsTried words.syncs found answer
 
--- a run once it may begin: the log's file, if that is to be synced, and then the run
-abbrev pub Carries : {H : Type 0} → MachineWords H → (Option (List ℕ) → Type 0)
-    → RunCall → H → H → ℕ → Type 0
-Carries {H} words asks call old new status = (file : Result (Option words.OutputFile) Error) × (mid : H)
-    × FindsLog words call.options.sync old mid file × GoesOver words asks call file mid new status
+module _ {H : Type 0} (words : MachineWords H) (asks : Option (List ℕ) → Type 0) (call : RunCall) where
+  -- a run over what the machine lends, before which it is asked what is expected of it; that is given back as the run left it,
+  -- its log put onto the disk by this file, and of the destination's system what serving it left; none is made where the
+  -- log can't be put onto its disk, which is a fault
+  abbrev pub GoesOver : Result (Option words.OutputFile) Error → H → H → ℕ → Type 0
+  GoesOver (Err error) mid new status = (status ≡ 3) × (new ≡ mid)
+  GoesOver (Ok file) mid new status = asks call.options.feedback.expected
+      × (ground : HostIoOf words) × (lent : H) × words.host mid (Lend ground) lent × (after : HostIoOf words)
+      × RunsOver words.written call ground after status
+      × IsLogged words.puts file ground.output after.output status
+      × words.serves call.options call.folder ground.folder after.folder
+      × words.host lent (TakeBack after) new
 
--- ---- the guard, the lock and the run
+  -- a run once it may begin: the log's file, if that is to be synced, and then the run
+  abbrev pub Carries : H → H → ℕ → Type 0
+  Carries old new status = (file : Result (Option words.OutputFile) Error) × (mid : H)
+      × FindsLog words call.options.sync old mid file × GoesOver file mid new status
 
--- where a run may not begin, that is its status, and nothing is done; else it is made, and then the lock is given
--- back, if there is one
-abbrev pub GoesOn : {H L : Type 0} → (H → H → ℕ → Type 0) → (H → L → H → Type 0)
-    → Result (Result L Error) GuardFault → H → H → ℕ → Type 0
-GoesOn carries releases (Err fault) mid new status = (status ≡ guard_status fault) × (new ≡ mid)
-GoesOn carries releases (Ok (Err error)) mid new status = carries mid new status
-GoesOn {H} carries releases (Ok (Ok lock)) mid new status = (after : H) × carries mid after status
-    × releases after lock new
-
--- the guard is asked, and then it goes on by its answer
-abbrev pub Guarded : {H L : Type 0} → (H → H → Result (Result L Error) GuardFault → Type 0)
-    → (H → H → ℕ → Type 0) → (H → L → H → Type 0) → H → H → ℕ → Type 0
-Guarded {H} {L} begins carries releases old new status =
-    (answer : Result (Result L Error) GuardFault) × (mid : H) × begins old mid answer
-    × GoesOn carries releases answer mid new status
-
--- what `run_guarded` does on a machine, by the words of that: the guard, with the lock for it alone, the run that is asked
--- for, and the lock
-abbrev pub Runs : {H : Type 0} → MachineWords H → (Option (List ℕ) → Type 0)
-    → RunCall → H → H → ℕ → Type 0
-Runs words asks call =
-    Guarded (AsksGuard words Alone (call.store, call.folder)) (Carries words asks call) words.releases
+  -- what `run_guarded` does on a machine, by the words of that: the guard, with the lock for it alone, the run that is asked
+  -- for, and the lock
+  abbrev pub Runs : H → H → ℕ → Type 0
+  Runs = Guarded words.places Alone (call.store, call.folder) Carries

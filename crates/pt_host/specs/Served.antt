@@ -1,5 +1,6 @@
 -- What a run asks of its destination.
 use Rattle.std.specs.Prelude.{◌≡◌, ◌+◌, ⊤, ℕ, Bool, true, false, List, None}
+use Rattle.pt_folder.specs.HostDest.{folder_path, system_of}
 use Rattle.pt_folder.specs.Steps.{Steps}
 use Rattle.pt_folder.specs.declared.dest.HostDest.{HostDest}
 use Rattle.pt_folder.specs.declared.system.Handle.{Ghosts as OfHandle}
@@ -18,13 +19,13 @@ module _ {S F D : Type 0} {sys : OfSystem S F D} {handle : OfHandle F} {file : O
   -- the same to one over this system
   abbrev pub ServesTo : Bool → HostDest S F D sys handle file dir → S → Type 0
   ServesTo rehearse old system =
-      (new : HostDest S F D sys handle file dir) × IsServed rehearse old new × (new.desk.system ≡ system)
+      (new : HostDest S F D sys handle file dir) × IsServed rehearse old new × (system_of new ≡ system)
 
   -- a destination over this folder of a system, of which nothing was asked, set as its options say: whether files are put onto
   -- the disk, and the greatest length of a path, which leaves room at the longest place
   pub record IsSetUp (options : RunOptions) (folder : List ℕ) (system : S)
       (dest : HostDest S F D sys handle file dir) : Type 0 where
-    pub over : (dest.desk.system ≡ system) × (dest.folder.path.now ≡ folder)
+    pub over : (system_of dest ≡ system) × (folder_path dest ≡ folder)
     pub begun : (dest.writing ≡ None) × (dest.stuck ≡ None)
     pub synced : dest.synced ≡ options.sync
     pub longest : dest.longest + place_overhead options.job.layout ≡ 4095

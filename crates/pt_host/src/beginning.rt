@@ -1,7 +1,7 @@
 //! What is seen to before a run or an audit.
-ghost use Rattle.pt_host.specs.Machine.{AsksGuard};
+ghost use Rattle.pt_guard.specs.Guard.{Begins};
 
-use crate::{Host, Machine};
+use crate::Host;
 use pt_guard::{Claim, GuardFault, begin};
 use pt_messages::{Reads, prefix, reason};
 use std::alloc::AllocGlobal;
@@ -17,8 +17,7 @@ pub(crate) fn check_guard<R: Reads + Eprint + AllocGlobal, H: Host>(
     source: &str,
     dest: &str,
 ) -> Result<io::Result<H::Lock>, GuardFault>
-    ensures { AsksGuard ⟦<H as Machine>⟧.words claim (source.now, dest.now)
-        host.old host.new result }
+    ensures { Begins H.Places.does claim (source.now, dest.now) host.old host.new result }
 {
     let answer = begin(host, rt.alloc(), claim, source, dest);
     if verbose && let Ok(lock) = &answer {

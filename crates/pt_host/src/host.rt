@@ -1,8 +1,7 @@
-//! The machine that a run is made on. Each call has a ghost word of what it may answer and leave, so that a contract over them says
-//! which calls are made, in which order, and what becomes of their answers.
-ghost use Rattle.std.specs.Prelude.{⊤, Option};
-ghost use Rattle.std.specs.declared.io.Error.{Error};
-ghost use Rattle.std.specs.declared.result.Result.{Result};
+//! The machine that a run is made on. One ghost word says of each call what it may come to, so that a contract over it says which
+//! calls are made, in which order, and what becomes of their answers.
+ghost use Rattle.std.specs.Prelude.{⊤};
+ghost use Rattle.pt_host.specs.HostCall.{HostCall, Lend, OpenOutput, TakeBack};
 ghost use Rattle.pt_host.specs.declared.host.HostIo.{HostIo};
 
 use crate::log::{Syncs, SyncsOutput};
@@ -39,26 +38,21 @@ pub trait Host: Places {
 
     type File: SyncsOutput<Self::Output> + Drop;
 
-    /// The file that its output goes to may be this.
-    ghost finds: { Self → Result (Option Self.File) Error → Self → Type 0 };
-
-    /// It may lend this, and be left so.
-    ghost lends: { Self → HostIo Self.Store Self.Folder Self.Output → Self → Type 0 };
-
-    /// Taking this back may leave it so.
-    ghost takes_back: { Self → HostIo Self.Store Self.Folder Self.Output → Self → Type 0 };
+    /// A call may come to this, and leave it so.
+    ghost does: { Self → HostCall Self.File (HostIo Self.Store Self.Folder Self.Output) → Self
+        → Type 0 };
 
     /// The file that its output goes to, opened once more; nothing where it goes to what isn't a file, as a terminal or a pipe.
     fn output_file(&mut self) -> io::Result<Option<Self::File>>
-        ensures { finds self.old result self.new };
+        ensures { does self.old (OpenOutput result) self.new };
 
     /// Lends what a run is made over.
     fn lend(&mut self) -> HostIo<Self::Store, Self::Folder, Self::Output>
-        ensures { lends self.old result self.new };
+        ensures { does self.old (Lend result) self.new };
 
     /// Takes back what it lent.
     fn take_back(&mut self, ground: HostIo<Self::Store, Self::Folder, Self::Output>)
-        ensures { takes_back self.old ground self.new };
+        ensures { does self.old (TakeBack ground) self.new };
 }
 
 /// A file that standard output goes to, opened once more. Having one opening of a file put onto its disk does that for what was written
@@ -86,11 +80,7 @@ where
 
     type File = OutputFile<R::File>;
 
-    ghost finds = { λ _ _ _. ⊤ };
-
-    ghost lends = { λ _ _ _. ⊤ };
-
-    ghost takes_back = { λ _ _ _. ⊤ };
+    ghost does = { λ _ _ _. ⊤ };
 
     fn output_file(&mut self) -> io::Result<Option<OutputFile<R::File>>> {
         if self.output_is_terminal() || !self.metadata(OUTPUT)?.is_file() {

@@ -2,7 +2,7 @@
 //! what it ends with.
 //!
 //! What it promises of a migration on a machine (`Host`): a system with places and locks, which lends what a run is made over and takes it
-//! back. Each call of a machine has a ghost word of what it may answer and leave, so that a contract says which calls are made and in which
+//! back. One ghost word says of each call of a machine what it may come to, so that a contract says which calls are made and in which
 //! order. Beside the machine these functions have the runtime's clock, standard error, allocator and terminals, and `Reads`, by bounds; no call
 //! of these can change a file or write to the output. The bounds that can, `Files` and `Print`, stand at the runtime's own instances alone.
 //!

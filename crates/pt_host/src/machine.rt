@@ -22,15 +22,10 @@ where
       DestFile = H.Folder.File;
       Output = H.Output;
       OutputFile = H.File;
-      resolves = H.resolves;
-      identifies = H.identifies;
-      holds = H.holds;
-      releases = H.releases;
-      finds = H.finds;
+      places = H.Places.does;
+      host = H.Host.does;
       syncs = H.File.syncs;
       puts = H.File.puts;
-      lends = H.lends;
-      takes_back = H.takes_back;
       written = host_io_words H.Store.forest H.Folder.kept H.Output.contents;
       read = host_io_words H.Store.forest H.Folder.forest H.Output.contents;
       serves = Serves H.Folder.System H.Folder.File.Handle.own

@@ -1,12 +1,14 @@
 //! A run over its devices, and what it came to.
 ghost use Rattle.std.specs.Prelude.{◌≡◌, Bool};
-ghost use Rattle.pt_host.specs.Devices.{dest_path, kept_by, seen_without, store_path, told_at_rest};
+ghost use Rattle.pt_folder.specs.HostDest.{folder_path as dest_path, kept_by};
+ghost use Rattle.pt_folder.specs.HostSource.{folder_path as store_path};
+ghost use Rattle.pt_host.specs.Devices.{seen_without, told_at_rest};
 ghost use Rattle.pt_host.specs.Durable.{IsLogged};
 ghost use Rattle.pt_host.specs.Ends.{run_status};
 ghost use Rattle.pt_host.specs.Machine.{host_io_words};
 ghost use Rattle.pt_host.specs.Made.{IsRun, IsStuckBy, LeavesKept, RunsFrom};
 ghost use Rattle.pt_host.specs.Served.{IsServed, ServesTo};
-ghost use Rattle.pt_state.specs.Outside.{world_of};
+ghost use Rattle.pt_state.specs.Outside.{states_of};
 
 use crate::devices::Devices;
 use crate::log::{DurableLog, SyncsOutput};
@@ -48,7 +50,7 @@ where
             ignored = options.ignored;
             synced = devices.entry.dest.synced;
           };
-          world = seen_without options.ignored (world_of ⟦<HostSource<'static, S> as Source>⟧
+          states = seen_without options.ignored (states_of ⟦<HostSource<'static, S> as Source>⟧
               ⟦<HostDest<'static, D> as Dest>⟧ ⟦<DurableLog<W, F> as Log>⟧
               devices.entry.source devices.entry.dest devices.entry.log);
           kept = kept_by devices.entry.dest;
@@ -109,8 +111,8 @@ fn run_or_rehearse<'a, S: Source, D: System, L: Log>(
     tally: &Tally,
 ) -> Ran<'a, D>
     ensures promises { IsRun job rehearse (told_at_rest dest.entry)
-        (world_of S.Source ⟦<HostDest<'a, D> as Dest>⟧ L.Log source.old dest.entry log.old)
-        (world_of S.Source ⟦<HostDest<'a, D> as Dest>⟧ L.Log source.new result.dest log.new)
+        (states_of S.Source ⟦<HostDest<'a, D> as Dest>⟧ L.Log source.old dest.entry log.old)
+        (states_of S.Source ⟦<HostDest<'a, D> as Dest>⟧ L.Log source.new result.dest log.new)
         result.ran }
     ensures source { S.keeps source.old source.new }
     ensures log { L.keeps log.old log.new }

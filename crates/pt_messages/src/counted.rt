@@ -11,7 +11,7 @@ const CAUSES: [&str; 9] = [
     "root", "empty", "split", "past", "name", "utf8", "other", "limit", "reserved",
 ];
 
-const REASONS: [&str; 4] = ["missing", "extra", "kind", "bytes"];
+const REASONS: [&str; 5] = ["missing", "extra", "kind", "bytes", "twin"];
 
 /// The lines of a log, how many there are of each kind.
 #[derive(Drop)]
@@ -23,7 +23,7 @@ pub struct LineCounts {
     present: u64,
     absent: u64,
     // Those of objects that differ, and of skips, by the words above.
-    differing: [u64; 4],
+    differing: [u64; 5],
     skipped: [u64; 9],
 }
 
@@ -94,7 +94,7 @@ impl LineCounts {
             bytes: 0,
             present: 0,
             absent: 0,
-            differing: [0; 4],
+            differing: [0; 5],
             skipped: [0; 9],
         }
     }

@@ -12,7 +12,7 @@ returns-then-rehearse-clause-promises g c =
     rehearsed c.args.job (dest_told (g.D.System.kept c.args.dest.desk.system c.args.dest.folder.path.now) None None) _ _ _ _ _ _ _ _ _
     c.args.rehearse (told begun) (told ended) _ _ _ _ begun.dest.failures ended.dest.failures
     c.if-rehearse.true c.new-rehearsal.ensures.told (tells_still begun ended c.migrate_observed-ran.ensures.dest_stays)
-    c.new-rehearsal.ensures.failures (ap (λ d. d.failures) (sym c.into_dest-dest.ensures)) c.migrate_observed-ran.ensures.promises
+    (ap (λ t. t.3) c.new-rehearsal.ensures.still) (ap (λ d. d.failures) (sym c.into_dest-dest.ensures)) c.migrate_observed-ran.ensures.promises
 
 pub returns-clause-promises : goal.returns-clause-promises
 returns-clause-promises g c =
