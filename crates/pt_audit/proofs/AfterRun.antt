@@ -1,6 +1,6 @@
 -- What a run carried is found to stand whole where it left it.
 use Rattle.std.proofs.Common.{◌≡◌, ◌∙◌, ℕ, zero, suc, List, [], ◌∷◌, ◌++◌, true, false, Bool, refl, ap, sym, subst, arith, append_assoc, length}
-use Rattle.std.specs.Prelude.{All, Option, None, Some, cond, flat_map, if◌then◌else◌, is_none, nat_lt, slice_get, take, ⊤}
+use Rattle.std.specs.Prelude.{All, Option, None, Some, Ok, Err, cond, flat_map, if◌then◌else◌, is_none, nat_lt, slice_get, take, ⊤}
 use Rattle.std.specs.List.{list_all}
 use Rattle.std.specs.Option.{option_map}
 use Rattle.std.specs.Str.{IsUtf8, is_utf8}
@@ -20,9 +20,11 @@ use Rattle.pt_compare.specs.Marks.{inside}
 use Rattle.pt_compare.specs.declared.difference.Comparison.{Comparison}
 use Rattle.pt_compare.specs.declared.difference.Comparison.TheVariants as found
 use Rattle.pt_invariant.proofs.source.ScannedFiles.{get_map_back}
+use Rattle.pt_name.specs.Identifying.{identifier_by}
 use Rattle.pt_name.specs.Place.{place_of}
 use Rattle.pt_name.specs.Prefix.{without_line_ends}
 use Rattle.pt_name.specs.Reading.{reading_of}
+use Rattle.pt_name.specs.declared.identifying.Refusal.TheVariants as refusal
 use Rattle.pt_name.specs.declared.prefix.PrefixFault.TheVariants as prefix
 use Rattle.pt_object.proofs.InventoryIsText.{inventory_is_text}
 use Rattle.pt_object.proofs.ObjectScripts.{in_order_apart, paths_of_rows}
@@ -37,7 +39,7 @@ use Rattle.pt_plan.proofs.MovedIn.{roots_have_no_gaps}
 use Rattle.pt_plan.proofs.WholeObjects.{carried_stand_whole}
 use Rattle.pt_plan.specs.Carried.{Carried, Marked, after, after_all, all_carried, carried_among, carried_by, carried_by_outcome, is_taken, marked}
 use Rattle.pt_plan.specs.FileLaws.{comes_in_order}
-use Rattle.pt_plan.specs.Items.{Holds, Interior, Item, Named, PairtreeObject, Skip, Verdict, encapsulated, gathered_from, is_ours, is_reserved, item_of, items, outcome, verdict_by_finding, verdict_by_reading, verdict_by_visit, verdict_on_candidate}
+use Rattle.pt_plan.specs.Items.{Holds, Interior, Item, Named, PairtreeObject, Skip, Verdict, encapsulated, gathered_from, is_ours, is_reserved, item_of, items, outcome, verdict_by_finding, verdict_by_identifier, verdict_by_visit, verdict_on_candidate}
 use Rattle.pt_plan.specs.Job.{Job, form_of}
 use Rattle.pt_plan.specs.Lines.{Line}
 use Rattle.pt_plan.specs.Roots.{root_in, storage_root}
@@ -50,7 +52,6 @@ use Rattle.pt_tree.specs.Path.{Path, joined}
 use Rattle.pt_walk.specs.Left.{entries_from}
 use Rattle.pt_walk.specs.Site.{found as found_at}
 use Rattle.pt_walk.specs.Sites.{Site, Visit, Listed, Past, Deep, at_of}
-use Rattle.pt_walk.specs.declared.cause.Cause.TheVariants as cause
 use Rattle.pt_walk.specs.declared.site.Finding as walk
 use Rattle.pt_walk.specs.declared.site.Finding.TheVariants as finding
 use Rattle.pt_tree.specs.Tree.{IsTree, Tree, tree_of}
@@ -136,11 +137,11 @@ HasText (Skip why) = ⊤
 HasText (Named id object) = IsUtf8 id
 
 module _ (job : Job) (first : List ℕ) (text : IsUtf8 first) where
-  by_reading : (object : PairtreeObject) (o : Option (List ℕ)) → HasText (verdict_by_reading job first object o)
+  by_reading : (object : PairtreeObject) (o : Option (List ℕ)) → HasText (verdict_by_identifier object (identifier_by job.tuples first o))
   by_reading object None = tt
   by_reading object (Some read) = by (is_utf8 read) (is_reserved job (first ++ read)) refl
     where
-      by : (good reserved : Bool) → is_utf8 read ≡ good → HasText (cond good (cond reserved (Skip cause.Reserved) (Named (first ++ read) object)) (Skip cause.Utf8))
+      by : (good reserved : Bool) → is_utf8 read ≡ good → HasText (verdict_by_identifier object (cond good (cond reserved (Err refusal.Reserved) (Ok (first ++ read))) (Err refusal.NotUtf8)))
       by true true is = tt
       by true false is = IsUtf8-append first read text (IsUtf8-from_is_utf8 read is)
       by false reserved is = tt

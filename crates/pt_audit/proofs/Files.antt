@@ -18,7 +18,7 @@ use Rattle.pt_plan.specs.declared.phase.Phase.{Phase}
 use Rattle.pt_plan.specs.declared.phase.Phase.TheVariants as phase
 use Rattle.pt_plan.specs.declared.phase.Stage.TheVariants as stage
 use Rattle.pt_scan.specs.Blocks.{ReadsNext}
-use Rattle.pt_state.specs.Outside.{world}
+use Rattle.pt_state.specs.Outside.{states}
 use Rattle.pt_state.specs.States.{job_of, kept_of}
 use Rattle.pt_state.specs.declared.state.State.{State}
 use Rattle.pt_audit.proofs.Seen.{making_is_none, placing_is_none}
@@ -90,20 +90,20 @@ module _ (here next : Phase) (s s' : State) (told told' : Option Reading) (w v :
   abbrev After : Running
   After = record { phase = spot; state = s' }
 
-  pub step_scans : spot ≡ passed next → is_looking here ≡ true → Surveys told Before → CountedTurn here s s' (world told w l a b c) (world told' v l' a' b' c') (Ok next) → ReadsNext here told s'.block.items (Ok next) → ScansOn told told' Before After
+  pub step_scans : spot ≡ passed next → is_looking here ≡ true → Surveys told Before → CountedTurn here s s' (states told w l a b c) (states told' v l' a' b' c') (Ok next) → ReadsNext here told s'.block.items (Ok next) → ScansOn told told' Before After
   unfolding Surveys CountedTurn Did
   step_scans is looking (count, it) counted block =
       let made = counted.1 it.fed (fed_going s.job.algorithm s.hasher it.fed (going here it.stands) it.was) in
       by made.0 made.1.1
     where
-      by : (later : List ℕ) → Turn (job_of s.job) here (turning (kept_of s it.fed)) (kept_of s' later) (world told w l a b c) (world told' v l' a' b' c') (Ok next) → ScansOn told told' Before After
+      by : (later : List ℕ) → Turn (job_of s.job) here (turning (kept_of s it.fed)) (kept_of s' later) (states told w l a b c) (states told' v l' a' b' c') (Ok next) → ScansOn told told' Before After
       by later (GoesOn calls _ follows did _) =
           subst (λ (p : Phase). MatchBool (is_scanning here) (Scanned told told' Before After) (is_of_object p ≡ false)) (sym is)
           (scans_or_not (Scanned told told' Before After) looking follows
           (λ scans. record { fed = it.fed; later = later; next = next; calls = calls; scans = scans; answers = did.0.source; here = is; block = block }))
 
   -- nor does the one that passes the object at hand
-  pub step_scans_none : spot ≡ passed next → is_at_hand here ≡ true → Surveys told Before → CountedTurn here s s' (world told w l a b c) (world told' v l' a' b' c') (Ok next) → ScansOn told told' Before After
+  pub step_scans_none : spot ≡ passed next → is_at_hand here ≡ true → Surveys told Before → CountedTurn here s s' (states told w l a b c) (states told' v l' a' b' c') (Ok next) → ScansOn told told' Before After
   unfolding Surveys CountedTurn
   step_scans_none is hand (count, it) counted =
       let made = counted.1 it.fed (fed_going s.job.algorithm s.hasher it.fed (going here it.stands) it.was) in

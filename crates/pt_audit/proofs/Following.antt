@@ -13,11 +13,11 @@ use Rattle.pt_audit.specs.declared.root_reader.RootReader.{RootReader}
 use Rattle.pt_compare.specs.Beside.{OpensStanding, StandsAlike}
 use Rattle.pt_compare.specs.Bytes.{CameNext, TellsEnd, left_in}
 use Rattle.pt_compare.specs.Marks.{inside}
-use Rattle.pt_compare.specs.Parts.{in_content}
+use Rattle.pt_object.specs.Object.{in_content}
 use Rattle.pt_compare.specs.Root.{is_standing, same_kind, tree_in}
 use Rattle.pt_move.proofs.Outcomes.{reading_of}
 use Rattle.pt_move.specs.Running.{Running}
-use Rattle.pt_object.specs.declared.contents.Content.{Content}
+use Rattle.pt_object.specs.declared.table.contents.Content.{Content}
 use Rattle.pt_plan.specs.TurnScan.{logical_path}
 use Rattle.pt_plan.specs.TurnWalk.{in_pairtree, in_root}
 use Rattle.pt_plan.specs.declared.object.Object.{Object}
@@ -27,7 +27,8 @@ use Rattle.pt_plan.specs.declared.phase.Phase.TheVariants as phase
 use Rattle.pt_plan.specs.declared.phase.Stage.TheVariants as stage
 use Rattle.pt_state.specs.declared.state.State.{State}
 use Rattle.pt_audit.specs.Surveying.{sight_at}
-use Rattle.pt_audit.specs.Files.{IsOpened as IsOpenedFile, IsOpenedAt, names_before}
+use Rattle.pt_audit.specs.Files.{IsOpened as IsOpenedFile, IsOpenedAt}
+use Rattle.pt_plan.specs.Object.{names_before}
 use Rattle.pt_audit.specs.declared.survey.Opened.{Opened as OpenedFile}
 use Rattle.pt_audit.specs.declared.survey.SurveyEvent.{SurveyEvent}
 use Rattle.pt_audit.specs.declared.survey.SurveyEvent.TheVariants as sight

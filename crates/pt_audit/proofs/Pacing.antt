@@ -15,13 +15,13 @@ use Rattle.pt_compare.proofs.Opening.{dir_above}
 use Rattle.pt_compare.proofs.Passed.{block_is}
 use Rattle.pt_compare.specs.Beside.{StandsAlike}
 use Rattle.pt_compare.specs.Bytes.{left_in}
-use Rattle.pt_compare.specs.Parts.{in_content}
+use Rattle.pt_object.specs.Object.{in_content}
 use Rattle.pt_compare.proofs.Roots.{top_stands}
 use Rattle.pt_compare.specs.Root.{Reads, Stands, tree_in}
 use Rattle.pt_move.specs.Running.{Running}
 use Rattle.pt_object.specs.Algorithm.{digest_of}
 use Rattle.pt_object.specs.Contents.{content_of, is_noted, noted}
-use Rattle.pt_object.specs.declared.contents.Content.{Content}
+use Rattle.pt_object.specs.declared.table.contents.Content.{Content}
 use Rattle.pt_plan.specs.Job.{Job}
 use Rattle.pt_plan.specs.Run.{Held}
 use Rattle.pt_plan.specs.TurnScan.{EndsFile, EndsObject, EndsSite, EntersDirectory, EntersObject, IsTooDeep, IsTooLong, LeavesDirectory, MeetsDeep, MeetsLimit, MeetsOther, OpensFile, PassesShorty, ReadsOn, ScanStep, StartsInSite, logical_path}
@@ -37,7 +37,8 @@ use Rattle.pt_scan.specs.Blocks.{IsNextBlock, is_reading}
 use Rattle.pt_state.specs.States.{held_of, job_of}
 use Rattle.pt_state.specs.declared.state.State.{State}
 use Rattle.pt_audit.proofs.Stepping.{stands_so}
-use Rattle.pt_audit.specs.Files.{Scanned, ScansOn, is_of_object, is_scanning, names_before}
+use Rattle.pt_audit.specs.Files.{Scanned, ScansOn, is_of_object, is_scanning}
+use Rattle.pt_plan.specs.Object.{names_before}
 use Rattle.pt_audit.specs.Surveying.{IsHand, IsHandAt, Surveys, passed, sight_at}
 use Rattle.pt_audit.specs.declared.survey.AtHand.{AtHand}
 use Rattle.pt_audit.specs.declared.survey.SurveyEvent.{SurveyEvent}

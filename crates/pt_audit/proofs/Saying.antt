@@ -1,5 +1,5 @@
 -- What the faults of an audit say, and whom they blame.
-use Rattle.std.proofs.Common.{◌≡◌, ℕ, zero, suc, Bool, true, refl, ap, sym, ◌∙◌, subst, arith, inl, inr}
+use Rattle.std.proofs.Common.{◌≡◌, ◌≢◌, ◌⊎◌, ℕ, zero, suc, Bool, true, false, refl, ap, sym, ◌∙◌, subst, arith, inl, inr}
 use Rattle.std.specs.Prelude.{IfErr, Option, Some, Result, Ok, Err}
 use Rattle.std.specs.String.{string_bytes}
 use Rattle.std.specs.Option.{ForSome}
@@ -11,7 +11,7 @@ use Rattle.pt_plan.specs.declared.fault.Fault.{Fault}
 use Rattle.pt_name.specs.Tuples.{IsLayout}
 use Rattle.std.proofs.lemmas.Bool.{true≢false}
 use Rattle.pt_move.specs.Outcome.{SaysRightly}
-use Rattle.pt_move.specs.Running.{Running}
+use Rattle.pt_move.specs.Running.{IsNew, Running}
 use Rattle.pt_move.proofs.Outcomes.{reading_of}
 use Rattle.pt_plan.specs.Store.{has_prefix, is_store}
 use Rattle.pt_plan.specs.Turn.{HasFailed}
@@ -35,10 +35,10 @@ use Rattle.pt_tree.specs.Source.{Reading}
 -- a device's fault and want of memory say nothing of source and root
 pub says_failed : (job : own.Job) (source root : Option Forest) (why : Fault) (old new : Failures) → HasFailed why old new → AuditSays job source root why
 unfolding SaysRightly
-says_failed job source root fault.Source old new it = record { rightly = (λ s e. tt, λ t e. absurd (cc), λ s t e f. absurd (cc)); target = λ is. absurd (cc); staging = λ is. absurd (cc); turns = λ is. absurd (cc) }
-says_failed job source root fault.Dest old new it = record { rightly = (λ s e. tt, λ t e. absurd (cc), λ s t e f. absurd (cc)); target = λ is. absurd (cc); staging = λ is. absurd (cc); turns = λ is. absurd (cc) }
-says_failed job source root fault.Log old new it = record { rightly = (λ s e. tt, λ t e. absurd (cc), λ s t e f. absurd (cc)); target = λ is. absurd (cc); staging = λ is. absurd (cc); turns = λ is. absurd (cc) }
-says_failed job source root fault.Memory old new it = record { rightly = (λ s e. tt, λ t e. absurd (cc), λ s t e f. absurd (cc)); target = λ is. absurd (cc); staging = λ is. absurd (cc); turns = λ is. absurd (cc) }
+says_failed job source root fault.Source old new it = record { rightly = (λ s e. tt, λ t e. absurd (cc), λ s t e f. absurd (cc)); target = λ is. absurd (cc); staging = λ is. absurd (cc); turns = λ is. absurd (cc); ended = λ is. absurd (cc) }
+says_failed job source root fault.Dest old new it = record { rightly = (λ s e. tt, λ t e. absurd (cc), λ s t e f. absurd (cc)); target = λ is. absurd (cc); staging = λ is. absurd (cc); turns = λ is. absurd (cc); ended = λ is. absurd (cc) }
+says_failed job source root fault.Log old new it = record { rightly = (λ s e. tt, λ t e. absurd (cc), λ s t e f. absurd (cc)); target = λ is. absurd (cc); staging = λ is. absurd (cc); turns = λ is. absurd (cc); ended = λ is. absurd (cc) }
+says_failed job source root fault.Memory old new it = record { rightly = (λ s e. tt, λ t e. absurd (cc), λ s t e f. absurd (cc)); target = λ is. absurd (cc); staging = λ is. absurd (cc); turns = λ is. absurd (cc); ended = λ is. absurd (cc) }
 says_failed job source root _ old new it = absurd it
 
 -- so an answer with it says
@@ -49,13 +49,38 @@ pub says_fault : {T : Type 0} (answer : Result T Fault) (f : Fault) (job : own.J
 says_fault {T} answer f job source root is says = subst (λ (r : Result T Fault). IfErr r (AuditSays job source root)) (sym is) says
 
 -- what a survey says
-pub says_survey : (job : own.Job) (source root : Option Forest) (f : Fault) → SurveySays job source f → AuditSays job source root f
-says_survey job source root f says = record {
+pub says_survey : (job : own.Job) (here : Phase) (source root : Option Forest) (f : Fault) → here ≢ phase.End → SurveySays job here source f → AuditSays job source root f
+says_survey job here source root f more says = record {
   rightly = says.rightly;
   target = λ is. absurd (true≢false (sym (ap is_of_dest is) ∙ says.no_dest));
   staging = λ is. absurd (true≢false (sym (ap is_of_dest is) ∙ says.no_dest));
   turns = says.turns;
+  ended = λ is. more (says.ended is);
 }
+
+-- a survey that is to begin isn't at its end
+pub begun_is_not_over : {job : own.Job} {r : Running} → IsNew job r → r.phase ≢ phase.End
+begun_is_not_over new end = let both : (phase.Opening opening.Begin) ≡ phase.End = sym new.phase ∙ end in absurd (cc)
+
+-- nor is one that saw something else by its last step
+abbrev is_end : SurveyEvent → Bool
+is_end sight.End = true
+is_end _ = false
+
+not_over : {what other : SurveyEvent} (r : Running) → what ≡ sight_at r.phase → what ≡ other → is_end other ≡ false → r.phase ≢ phase.End
+not_over r saw is more end = true≢false (sym (ap is_end (sym is ∙ saw ∙ ap sight_at end)) ∙ more)
+
+pub store_is_not_over : {what : SurveyEvent} (r : Running) → what ≡ sight_at r.phase → what ≡ sight.Store → r.phase ≢ phase.End
+store_is_not_over r saw is = not_over r saw is refl
+
+pub object_is_not_over : {what : SurveyEvent} (r : Running) → what ≡ sight_at r.phase → what ≡ sight.Object → r.phase ≢ phase.End
+object_is_not_over r saw is = not_over r saw is refl
+
+pub more_is_not_over : {what : SurveyEvent} (r : Running) → what ≡ sight_at r.phase → (what ≡ sight.More) ⊎ ((what ≡ sight.Scan) ⊎ ((what ≡ sight.Opened) ⊎ (what ≡ sight.Block))) → r.phase ≢ phase.End
+more_is_not_over r saw (inl is) = not_over r saw is refl
+more_is_not_over r saw (inr (inl is)) = not_over r saw is refl
+more_is_not_over r saw (inr (inr (inl is))) = not_over r saw is refl
+more_is_not_over r saw (inr (inr (inr is))) = not_over r saw is refl
 
 -- the layout that a survey has
 pub has_layout : (told : Option Reading) (what : SurveyEvent) (r : Running) (job : own.Job) → job ≡ r.state.job → IsAt told what r → IsLayout job.layout
@@ -78,6 +103,7 @@ says_layout told root r fault.Target old new job same at layout it = record {
   target = λ is. subst (λ (j : own.Job). ForSome root (IsOfAnother (job_of j))) same layout;
   staging = λ is. absurd (cc);
   turns = λ is. absurd (cc);
+  ended = λ is. absurd (cc);
 }
   where
     started : (s : Forest) → source_tree told ≡ Some s → (count : ℕ) × IsSurvey told count r → (is_store s ≡ true) × (has_prefix s ≡ true)
@@ -141,4 +167,4 @@ blames_told why a b c a' b' c' a'' b'' c'' sa sb sc it =
     not_of (is, same) = subst (λ (w : Fault). BlamesRightly {T = Bool} (failures a' b' c') (failures a'' b'' c'') (Err w)) (sym is)
         (record { source = ap (λ (f : Failures). f.source) same; root = ap (λ (f : Failures). f.dest) same; log = ap (λ (f : Failures). f.log) same })
 
-pub ruleset saying = (read_fails, says_read, has_layout, says_failed, says_survey, says_layout, layout_fails, log_fails, blames_told)
+pub ruleset saying = (read_fails, says_read, has_layout, says_failed, says_survey, store_is_not_over, says_layout, layout_fails, log_fails, blames_told)

@@ -176,6 +176,7 @@ has_at_hand {job} {past} {s} {object} {held} at part =
       whole = comes_whole it;
       rows = it.rows_are ∙ ap (λ l. rows_of job.algorithm (files l)) (sym front);
       stored = stored_there s.tree object site part.at.0.store part.proper it at.rows.order;
+      site = ap trail_path (site_itself object held.trail part.at.1.at_site);
       at = ap (path_of_source object) (site_itself object held.trail part.at.1.at_site);
       place = part.at.1.stands.place;
       lines_are = ap (line_by_verdict job (trail_path site) false) (named_so part.at.0 part.at.1.stands.site)

@@ -1,6 +1,6 @@
 -- What a step of a survey needs, and that the survey goes on.
-use Rattle.std.proofs.Common.{◌≡◌, ◌≢◌, ◌<◌, ◌≤◌, ◌+◌, arith, ℕ, suc, true, false, List, [], ◌∷◌, refl, ap, sym, ◌∙◌, subst, take}
-use Rattle.std.specs.Prelude.{◌==◌, Option, None, Some, Result, Ok, Err, count_by, option_to_list}
+use Rattle.std.proofs.Common.{◌≡◌, ◌≢◌, ◌⊎◌, inl, inr, ◌<◌, ◌≤◌, ◌+◌, arith, ℕ, suc, true, false, List, [], ◌∷◌, refl, ap, sym, ◌∙◌, subst, take}
+use Rattle.std.specs.Prelude.{◌==◌, IfErr, Option, None, Some, Result, Ok, Err, count_by, option_to_list}
 use Rattle.std.specs.Option.{ForSome}
 use Rattle.std.proofs.lemmas.Bool.{true≢false}
 use Rattle.pt_name.specs.Tuples.{IsLayout}
@@ -31,7 +31,7 @@ use Rattle.pt_invariant.specs.History.{History, done_after, no_history, history_
 use Rattle.pt_invariant.specs.WorkLaws.{InvariantWithinWork}
 use Rattle.pt_invariant.proofs.ends.NewRun.{new_past}
 use Rattle.pt_invariant.proofs.ends.TurnKeeps.{turned}
-use Rattle.pt_state.specs.Outside.{world}
+use Rattle.pt_state.specs.Outside.{states}
 use Rattle.pt_state.specs.States.{held_of, job_of, kept_of}
 use Rattle.pt_state.specs.declared.job.Job as own
 use Rattle.pt_state.specs.declared.state.State.{State}
@@ -61,11 +61,11 @@ pub going : (here : Phase) → is_of_survey here ≡ true → here ≢ phase.End
 going here is ended = true≢false (sym is ∙ ap is_of_survey ended)
 
 module _ {told : Option Reading} {count : ℕ} {r : Running} (a b c : ℕ) where
-  pub is_begun : IsSurvey told count r → IsBegun no_start (world told None None a b c) r
+  pub is_begun : IsSurvey told count r → IsBegun no_start (states told None None a b c) r
   unfolding IsBegun InvariantWithinWork
   is_begun it = record { fed = it.fed; was = it.was; begun = (it.past, it.is, λ s e old f. absurd (cc)) }
 
-  pub began : IsSurvey told count r → BeganSomewhere (world told None None a b c) r
+  pub began : IsSurvey told count r → BeganSomewhere (states told None None a b c) r
   unfolding BeganSomewhere
   began it = (no_start, is_begun it)
 
@@ -87,15 +87,15 @@ permits_any job _ held r w v is may = absurd (true≢false (sym is))
 module _ (told : Option Reading) (here : Phase) (s : State) where
   pub may_look : (w : Option Writing) → is_of_survey here ≡ true → Surveys told (record { phase = here; state = s }) → Enabled (job_of s.job) here (held_of s []) told w
   unfolding Surveys
-  may_look w is (count, it) = permits_any (job_of s.job) here (held_of s []) told None w is (may_turn here s (world told None None 0 0 0) (going here is) (began 0 0 0 it))
+  may_look w is (count, it) = permits_any (job_of s.job) here (held_of s []) told None w is (may_turn here s (states told None None 0 0 0) (going here is) (began 0 0 0 it))
 
   pub stands_so : is_of_survey here ≡ true → Surveys told (record { phase = here; state = s }) → Stands here s
   unfolding Surveys
-  stands_so is (count, it) = stands_there here s (world told None None 0 0 0) (going here is) (began 0 0 0 it)
+  stands_so is (count, it) = stands_there here s (states told None None 0 0 0) (going here is) (began 0 0 0 it)
 
   pub fed_so : is_of_survey here ≡ true → Surveys told (record { phase = here; state = s }) → HasFed here s.job.algorithm s.hasher
   unfolding Surveys
-  fed_so is (count, it) = has_fed here s (world told None None 0 0 0) (going here is) (began 0 0 0 it)
+  fed_so is (count, it) = has_fed here s (states told None None 0 0 0) (going here is) (began 0 0 0 it)
 
 pub of_survey : (told : Option Reading) (r : Running) → Surveys told r → is_of_survey r.phase ≡ true
 unfolding Surveys
@@ -186,7 +186,7 @@ module _ (here next : Phase) (s s' : State) (told told' : Option Reading) where
 
 -- a turn that looks
 pub looks : (here next : Phase) (s s' : State) (told told' : Option Reading) (w : Option Writing) (l l' : Option (List ℕ)) (a b c a' b' c' : ℕ) (count : ℕ) → is_looking here ≡ true → IsSurvey told count (record { phase = here; state = s })
-    → CountedTurn here s s' (world told (Some bare) l a b c) (world told' w l' a' b' c') (Ok next) → GoesOn told told' l l' count (record { phase = here; state = s }) (record { phase = passed next; state = s' })
+    → CountedTurn here s s' (states told (Some bare) l a b c) (states told' w l' a' b' c') (Ok next) → GoesOn told told' l l' count (record { phase = here; state = s }) (record { phase = passed next; state = s' })
 unfolding CountedTurn Did
 looks here next s s' told told' w l l' a b c a' b' c' count looking it counted =
     let made = counted.1 it.fed (fed_going s.job.algorithm s.hasher it.fed (going here it.stands) it.was) in
@@ -195,7 +195,7 @@ looks here next s s' told told' w l l' a b c a' b' c' count looking it counted =
     later : History
     later = history_after here next (held_of s it.fed) it.past
 
-    by : (fed' : List ℕ) → HasBeenFed s.job.algorithm s'.hasher fed' → Turn (job_of s.job) here (turning (kept_of s it.fed)) (kept_of s' fed') (world told (Some bare) l a b c) (world told' w l' a' b' c') (Ok next)
+    by : (fed' : List ℕ) → HasBeenFed s.job.algorithm s'.hasher fed' → Turn (job_of s.job) here (turning (kept_of s it.fed)) (kept_of s' fed') (states told (Some bare) l a b c) (states told' w l' a' b' c') (Ok next)
         → GoesOn told told' l l' count (record { phase = here; state = s }) (record { phase = passed next; state = s' })
     by fed' was (TurnGoesOn calls _ follows did counts) = record {
       next = later.count;
@@ -223,7 +223,7 @@ line_follows (Place (place.TellsDone _ _)) = (refl, refl)
 
 -- the object at hand is passed
 pub passes : (object : Object) (next : Phase) (s s' : State) (told told' : Option Reading) (w : Option Writing) (l : Option (List ℕ)) (a b c a' b' c' : ℕ) (count : ℕ) → IsSurvey told count (record { phase = phase.Carrying object stage.Line; state = s })
-    → CountedTurn (phase.Carrying object stage.Line) s s' (world told (Some bare) None a b c) (world told' w None a' b' c') (Ok next) → GoesOn told told' l l count (record { phase = phase.Carrying object stage.Line; state = s }) (record { phase = passed next; state = s' })
+    → CountedTurn (phase.Carrying object stage.Line) s s' (states told (Some bare) None a b c) (states told' w None a' b' c') (Ok next) → GoesOn told told' l l count (record { phase = phase.Carrying object stage.Line; state = s }) (record { phase = passed next; state = s' })
 unfolding CountedTurn Did Puts
 passes object next s s' told told' w l a b c a' b' c' count it counted =
     let made = counted.1 it.fed (fed_going s.job.algorithm s.hasher it.fed (going (phase.Carrying object stage.Line) it.stands) it.was) in
@@ -232,7 +232,7 @@ passes object next s s' told told' w l a b c a' b' c' count it counted =
     later : History
     later = history_after (phase.Carrying object stage.Line) next (held_of s it.fed) it.past
 
-    by : (fed' : List ℕ) → HasBeenFed s.job.algorithm s'.hasher fed' → Turn (job_of s.job) (phase.Carrying object stage.Line) (turning (kept_of s it.fed)) (kept_of s' fed') (world told (Some bare) None a b c) (world told' w None a' b' c') (Ok next)
+    by : (fed' : List ℕ) → HasBeenFed s.job.algorithm s'.hasher fed' → Turn (job_of s.job) (phase.Carrying object stage.Line) (turning (kept_of s it.fed)) (kept_of s' fed') (states told (Some bare) None a b c) (states told' w None a' b' c') (Ok next)
         → GoesOn told told' l l count (record { phase = phase.Carrying object stage.Line; state = s }) (record { phase = passed next; state = s' })
     by fed' was (TurnGoesOn calls _ follows did kept) =
         let walks = line_follows follows in
@@ -254,13 +254,13 @@ passes object next s s' told told' w l a b c a' b' c' count it counted =
 
 module _ (here : Phase) (s s' : State) (told told' : Option Reading) (w v : Option Writing) (l l' : Option (List ℕ)) (a b c a' b' c' : ℕ) (answer : Answer) where
   abbrev Old : DeviceStates
-  Old = world told None None a b c
+  Old = states told None None a b c
 
   abbrev New : DeviceStates
-  New = world told' None None a' b' c'
+  New = states told' None None a' b' c'
 
   abbrev Counted : Type 0
-  Counted = CountedTurn here s s' (world told w l a b c) (world told' v l' a' b' c') answer
+  Counted = CountedTurn here s s' (states told w l a b c) (states told' v l' a' b' c') answer
 
   alone : Counted → CountedTurn here s s' Old New answer
   alone counted = counted_alone here s s' told told' w v l l' a b c a' b' c' answer counted
@@ -287,12 +287,12 @@ front_grows : (line : Option Line) (l l' : Option (List ℕ)) → LeavesFront li
 front_grows None l l' same = subst (Grows l) (sym same) (grows_none l)
 front_grows (Some line) l l' (n, puts) = (take n (line_text line), puts)
 
-pub log_of_turn : (here : Phase) (s s' : State) (told told' : Option Reading) (w v : Option Writing) (l l' : Option (List ℕ)) (a b c a' b' c' : ℕ) (answer : Answer) → Surveys told (record { phase = here; state = s }) → CountedTurn here s s' (world told w l a b c) (world told' v l' a' b' c') answer → Grows l l'
+pub log_of_turn : (here : Phase) (s s' : State) (told told' : Option Reading) (w v : Option Writing) (l l' : Option (List ℕ)) (a b c a' b' c' : ℕ) (answer : Answer) → Surveys told (record { phase = here; state = s }) → CountedTurn here s s' (states told w l a b c) (states told' v l' a' b' c') answer → Grows l l'
 unfolding Surveys CountedTurn Did FailsUnchanged FailsPartway
 log_of_turn here s s' told told' w v l l' a b c a' b' c' answer (count, it) counted =
     by (counted.1 it.fed (fed_going s.job.algorithm s.hasher it.fed (going here it.stands) it.was)).1.1
   where
-    by : {before after : Kept} {answer : Answer} → Turn (job_of s.job) here before after (world told w l a b c) (world told' v l' a' b' c') answer → Grows l l'
+    by : {before after : Kept} {answer : Answer} → Turn (job_of s.job) here before after (states told w l a b c) (states told' v l' a' b' c') answer → Grows l l'
     by (TurnGoesOn calls _ _ did _) = put_grows calls.line l l' did.0.log
     by (IsRefused _ _ calls _ _ did _) = put_grows calls.line l l' did.0.log
     by (FailsAtFirst _ stays _) = subst (Grows l) (sym stays.2) (grows_none l)
@@ -337,26 +337,30 @@ fails_rightly _ _ _ _ _ failed = absurd failed
 no_turns : (why : Fault) → IsOfTurn why → why ≡ fault.Turns → ⊥
 no_turns why own is = subst IsOfTurn is own
 
-pub says_of_turn : (here : Phase) (s s' : State) (told told' : Option Reading) (w v : Option Writing) (l l' : Option (List ℕ)) (a c a' c' : ℕ) (why : Fault) → Surveys told (record { phase = here; state = s }) → CountedTurn here s s' (world told w l a 0 c) (world told' v l' a' 0 c') (Err why)
-    → SurveySays s.job (source_tree told) why
+no_end : (why : Fault) → IsOfTurn why → why ≡ fault.Ended → ⊥
+no_end why own is = subst IsOfTurn is own
+
+pub says_of_turn : (here : Phase) (s s' : State) (told told' : Option Reading) (w v : Option Writing) (l l' : Option (List ℕ)) (a c a' c' : ℕ) (why : Fault) → Surveys told (record { phase = here; state = s }) → CountedTurn here s s' (states told w l a 0 c) (states told' v l' a' 0 c') (Err why)
+    → (at : Phase) → SurveySays s.job at (source_tree told) why
 unfolding Surveys TurnKeeps CountedTurn Did FailsUnchanged FailsPartway
-says_of_turn here s s' told told' w v l l' a c a' c' why (count, it) counted = record {
-  rightly = (keeps_after here s s' (world told None None a 0 c) (world told' None None a' 0 c') (Err why) (going here it.stands) (counted_alone here s s' told told' w v l l' a 0 c a' 0 c' (Err why) counted) no_start (is_begun a 0 c it)).says.says;
+says_of_turn here s s' told told' w v l l' a c a' c' why (count, it) counted at = record {
+  rightly = (keeps_after here s s' (states told None None a 0 c) (states told' None None a' 0 c') (Err why) (going here it.stands) (counted_alone here s s' told told' w v l l' a 0 c a' 0 c' (Err why) counted) no_start (is_begun a 0 c it)).says.says;
   no_dest = by (counted.1 it.fed (fed_going s.job.algorithm s.hasher it.fed (going here it.stands) it.was)).1.1;
   turns = λ is. absurd (no_turns why (of_turn (counted.1 it.fed (fed_going s.job.algorithm s.hasher it.fed (going here it.stands) it.was)).1.1) is);
+  ended = λ is. absurd (no_end why (of_turn (counted.1 it.fed (fed_going s.job.algorithm s.hasher it.fed (going here it.stands) it.was)).1.1) is);
 }
   where
-    by : {before after : Kept} {why : Fault} → Turn (job_of s.job) here before after (world told w l a 0 c) (world told' v l' a' 0 c') (Err why) → is_of_dest why ≡ false
+    by : {before after : Kept} {why : Fault} → Turn (job_of s.job) here before after (states told w l a 0 c) (states told' v l' a' 0 c') (Err why) → is_of_dest why ≡ false
     by (IsRefused _ _ _ _ follows _ _) = refuses follows it.stands
     by (FailsAtFirst why stays _) = fails_rightly why _ _ _ _ stays.3
     by (FailsLater _ _ _ _ _ why _ left _ _) = fails_rightly why _ _ _ _ left.1
 
 -- what is held after it
-pub bound_of_turn : (here : Phase) (s s' : State) (told told' : Option Reading) (w v : Option Writing) (l l' : Option (List ℕ)) (a b c a' b' c' : ℕ) (answer : Answer) → Surveys told (record { phase = here; state = s }) → CountedTurn here s s' (world told w l a b c) (world told' v l' a' b' c') answer
+pub bound_of_turn : (here : Phase) (s s' : State) (told told' : Option Reading) (w v : Option Writing) (l l' : Option (List ℕ)) (a b c a' b' c' : ℕ) (answer : Answer) → Surveys told (record { phase = here; state = s }) → CountedTurn here s s' (states told w l a b c) (states told' v l' a' b' c') answer
     → HoldsWithinBound s.job (source_tree told) s'
 unfolding Surveys TurnKeeps
 bound_of_turn here s s' told told' w v l l' a b c a' b' c' answer (count, it) counted =
-    (keeps_after here s s' (world told None None a b c) (world told' None None a' b' c') answer (going here it.stands) (counted_alone here s s' told told' w v l l' a b c a' b' c' answer counted) no_start (is_begun a b c it)).bound
+    (keeps_after here s s' (states told None None a b c) (states told' None None a' b' c') answer (going here it.stands) (counted_alone here s s' told told' w v l l' a b c a' b' c' answer counted) no_start (is_begun a b c it)).bound
 
 -- an object that is at hand
 the_object : (here : Phase) → is_at_hand here ≡ true → (object : Object) × (here ≡ phase.Carrying object stage.Line)
@@ -365,12 +369,12 @@ the_object _ is = absurd (true≢false (sym is))
 
 -- over whatever log
 pub passes_there : (here next : Phase) (s s' : State) (told told' : Option Reading) (w : Option Writing) (l : Option (List ℕ)) (a b c a' b' c' : ℕ) (count : ℕ) → is_at_hand here ≡ true → IsSurvey told count (record { phase = here; state = s })
-    → CountedTurn here s s' (world told (Some bare) None a b c) (world told' w None a' b' c') (Ok next) → GoesOn told told' l l count (record { phase = here; state = s }) (record { phase = passed next; state = s' })
+    → CountedTurn here s s' (states told (Some bare) None a b c) (states told' w None a' b' c') (Ok next) → GoesOn told told' l l count (record { phase = here; state = s }) (record { phase = passed next; state = s' })
 passes_there here next s s' told told' w l a b c a' b' c' count is it counted =
     let line = the_object here is in
     subst (λ (p : Phase). GoesOn told told' l l count (record { phase = p; state = s }) (record { phase = passed next; state = s' })) (sym line.1)
     (passes line.0 next s s' told told' w l a b c a' b' c' count (subst (λ (p : Phase). IsSurvey told count (record { phase = p; state = s })) line.1 it)
-    (subst (λ (p : Phase). CountedTurn p s s' (world told (Some bare) None a b c) (world told' w None a' b' c') (Ok next)) line.1 counted))
+    (subst (λ (p : Phase). CountedTurn p s s' (states told (Some bare) None a b c) (states told' w None a' b' c') (Ok next)) line.1 counted))
 
 -- what isn't at hand nor at the end is looked at
 pub looking_is : (told : Option Reading) (here : Phase) (s : State) → Surveys told (record { phase = here; state = s }) → is_at_hand here ≡ false → here ≢ phase.End → is_looking here ≡ true
@@ -382,7 +386,7 @@ looking_is told here s it off more = by here (of_survey told (record { phase = h
     by _ is off more = is
 
 -- what it leaves
-pub leaves_ok : (here next : Phase) (s s' : State) (told told' : Option Reading) (v : Option Writing) (l l' : Option (List ℕ)) (a c a' c' : ℕ) → Surveys told (record { phase = here; state = s }) → CountedTurn here s s' (world told (Some bare) l a 0 c) (world told' v l' a' 0 c') (Ok next)
+pub leaves_ok : (here next : Phase) (s s' : State) (told told' : Option Reading) (v : Option Writing) (l l' : Option (List ℕ)) (a c a' c' : ℕ) → Surveys told (record { phase = here; state = s }) → CountedTurn here s s' (states told (Some bare) l a 0 c) (states told' v l' a' 0 c') (Ok next)
     → Leaves told told' l l' a a' c c' s.job (Ok (passed next))
 leaves_ok here next s s' told told' v l l' a c a' c' it counted = record {
   tree = tree_of_turn here s s' told told' (Some bare) v l l' a 0 c a' 0 c' (Ok next) it counted;
@@ -391,7 +395,7 @@ leaves_ok here next s s' told told' v l l' a c a' c' it counted = record {
   says = tt;
 }
 
-pub leaves_err : (here : Phase) (why : Fault) (s s' : State) (told told' : Option Reading) (v : Option Writing) (l l' : Option (List ℕ)) (a c a' c' : ℕ) → Surveys told (record { phase = here; state = s }) → CountedTurn here s s' (world told (Some bare) l a 0 c) (world told' v l' a' 0 c') (Err why)
+pub leaves_err : (here : Phase) (why : Fault) (s s' : State) (told told' : Option Reading) (v : Option Writing) (l l' : Option (List ℕ)) (a c a' c' : ℕ) → Surveys told (record { phase = here; state = s }) → CountedTurn here s s' (states told (Some bare) l a 0 c) (states told' v l' a' 0 c') (Err why)
     → Leaves told told' l l' a a' c c' s.job (Err why)
 leaves_err here why s s' told told' v l l' a c a' c' it counted = record {
   tree = tree_of_turn here s s' told told' (Some bare) v l l' a 0 c a' 0 c' (Err why) it counted;
@@ -412,20 +416,20 @@ leaves_log l c {result = Err why} it = record { tree = it.tree; grows = grows_no
     never _ is = refl
 
 -- so it is where the object at hand was passed
-pub leaves_passed : (here next : Phase) (s s' : State) (told told' : Option Reading) (v : Option Writing) (l : Option (List ℕ)) (c a a' : ℕ) → Surveys told (record { phase = here; state = s }) → CountedTurn here s s' (world told (Some bare) None a 0 0) (world told' v None a' 0 0) (Ok next)
+pub leaves_passed : (here next : Phase) (s s' : State) (told told' : Option Reading) (v : Option Writing) (l : Option (List ℕ)) (c a a' : ℕ) → Surveys told (record { phase = here; state = s }) → CountedTurn here s s' (states told (Some bare) None a 0 0) (states told' v None a' 0 0) (Ok next)
     → Leaves told told' l l a a' c c s.job (Ok (passed next))
 leaves_passed here next s s' told told' v l c a a' it counted = leaves_log l c (leaves_ok here next s s' told told' v None None a 0 a' 0 it counted)
 
-pub leaves_halted : (here : Phase) (why : Fault) (s s' : State) (told told' : Option Reading) (v : Option Writing) (l : Option (List ℕ)) (c a a' : ℕ) → Surveys told (record { phase = here; state = s }) → CountedTurn here s s' (world told (Some bare) None a 0 0) (world told' v None a' 0 0) (Err why)
+pub leaves_halted : (here : Phase) (why : Fault) (s s' : State) (told told' : Option Reading) (v : Option Writing) (l : Option (List ℕ)) (c a a' : ℕ) → Surveys told (record { phase = here; state = s }) → CountedTurn here s s' (states told (Some bare) None a 0 0) (states told' v None a' 0 0) (Err why)
     → Leaves told told' l l a a' c c s.job (Err why)
 leaves_halted here why s s' told told' v l c a a' it counted = leaves_log l c (leaves_err here why s s' told told' v None None a 0 a' 0 it counted)
 
 pub well_ok : (here next : Phase) (s s' : State) (told told' : Option Reading) (v : Option Writing) (l l' : Option (List ℕ)) (a b c a' b' c' : ℕ) → Surveys told (record { phase = here; state = s }) → TypeInvariant (record { phase = here; state = s }) → s.counts.turns < s.job.limits.turns
-    → CountedTurn here s s' (world told (Some bare) l a b c) (world told' v l' a' b' c') (Ok next) → TypeInvariant (record { phase = passed next; state = s' })
+    → CountedTurn here s s' (states told (Some bare) l a b c) (states told' v l' a' b' c') (Ok next) → TypeInvariant (record { phase = passed next; state = s' })
 well_ok here next s s' told told' v l l' a b c a' b' c' it well more counted = passed_well next (well_of_turn here s s' told told' (Some bare) v l l' a b c a' b' c' (Ok next) it well more counted)
 
 pub well_err : (here : Phase) (why : Fault) (s s' : State) (told told' : Option Reading) (v : Option Writing) (l l' : Option (List ℕ)) (a b c a' b' c' : ℕ) → Surveys told (record { phase = here; state = s }) → TypeInvariant (record { phase = here; state = s }) → s.counts.turns < s.job.limits.turns
-    → CountedTurn here s s' (world told (Some bare) l a b c) (world told' v l' a' b' c') (Err why) → TypeInvariant (record { phase = phase.Ended; state = s' })
+    → CountedTurn here s s' (states told (Some bare) l a b c) (states told' v l' a' b' c') (Err why) → TypeInvariant (record { phase = phase.Ended; state = s' })
 well_err here why s s' told told' v l l' a b c a' b' c' it well more counted = well_of_turn here s s' told told' (Some bare) v l l' a b c a' b' c' (Err why) it well more counted
 
 -- ---- a survey that is to begin
@@ -438,7 +442,7 @@ new_survey r job new layout told proper = record {
   seen = refl;
   is = subst (λ j. IsHistory (job_of j) no_start (source_alone told) (run_of r []) no_history) (sym new.job_is)
       (subst (λ (run : Run). IsHistory (job_of job) no_start (source_alone told) run no_history) (sym run_is)
-      (new_past {world = source_alone told} layout (record { source = proper; dest = λ s e. absurd (cc) })));
+      (new_past {states = source_alone told} layout (record { source = proper; dest = λ s e. absurd (cc) })));
   within = subst (λ j. ForSome told (λ s. IsWithinWork (job_of j) s.tree 0 (run_of r []))) (sym new.job_is)
       (subst (λ (run : Run). ForSome told (λ s. IsWithinWork (job_of job) s.tree 0 run)) (sym run_is) (λ s is. omega arith));
   stands = ap is_of_survey new.phase;
@@ -448,50 +452,58 @@ new_survey r job new layout told proper = record {
     run_is = λ i. record { phase = new.phase i; kept = new.kept i }
 
 -- a step that isn't made
-pub says_no_turn : (told : Option Reading) (r : Running) → Surveys told r → r.state.job.limits.turns ≤ r.state.counts.turns → SurveySays r.state.job (source_tree told) fault.Turns
+pub says_no_turn : (told : Option Reading) (r : Running) → Surveys told r → r.state.job.limits.turns ≤ r.state.counts.turns → SurveySays r.state.job r.phase (source_tree told) fault.Turns
 unfolding Surveys SaysRightly
 says_no_turn told r (count, it) most = record {
   rightly = (λ s e. tt, λ t e. absurd (cc), λ s t e f. absurd (cc));
   no_dest = refl;
   turns = λ is s e. let less = is_left it (going r.phase it.stands) s e in omega (arith, most, less);
+  ended = λ is. absurd (cc);
 }
 
-pub says_ended : (job : own.Job) (source : Option Forest) → SurveySays job source fault.Ended
-unfolding SaysRightly
-says_ended job source = record {
+-- nor is one where all was seen
+pub says_ended : (told : Option Reading) (r : Running) (here : Phase) → here ≡ r.phase → Surveys told r → (here ≡ phase.Ended) ⊎ (here ≡ phase.End) → SurveySays r.state.job r.phase (source_tree told) fault.Ended
+unfolding Surveys SaysRightly
+says_ended told r here same (count, it) (inl ended) = absurd (going r.phase it.stands (sym same ∙ ended))
+says_ended told r here same (count, it) (inr end) = record {
   rightly = (λ s e. tt, λ t e. absurd (cc), λ s t e f. absurd (cc));
   no_dest = refl;
   turns = λ is. absurd (cc);
+  ended = λ is. sym same ∙ end;
 }
+
+-- what a turn says is said at whatever phase
+pub says_step : {T : Type 0} (answer : Result T Fault) (why : Fault) (job : own.Job) (at : Phase) (source : Option Forest) → answer ≡ Err why → ((here : Phase) → SurveySays job here source why) → IfErr answer (SurveySays job at source)
+says_step {T} answer why job at source is says = subst (λ (r : Result T Fault). IfErr r (SurveySays job at source)) (sym is) (says at)
 
 -- ---- by what a step makes of the answer
 
 module _ (here next : Phase) (s s' : State) (told told' : Option Reading) (v : Option Writing) (l l' : Option (List ℕ)) (a c a' c' : ℕ) (at : Phase) where
-  pub step_looks : (count : ℕ) → at ≡ passed next → is_looking here ≡ true → CountedTurn here s s' (world told (Some bare) l a 0 c) (world told' v l' a' 0 c') (Ok next) → IsSurvey told count (record { phase = here; state = s })
+  pub step_looks : (count : ℕ) → at ≡ passed next → is_looking here ≡ true → CountedTurn here s s' (states told (Some bare) l a 0 c) (states told' v l' a' 0 c') (Ok next) → IsSurvey told count (record { phase = here; state = s })
       → GoesOn told told' l l' count (record { phase = here; state = s }) (record { phase = at; state = s' })
   step_looks count is looking counted it = subst (λ (p : Phase). GoesOn told told' l l' count (record { phase = here; state = s }) (record { phase = p; state = s' })) (sym is) (looks here next s s' told told' v l l' a 0 c a' 0 c' count looking it counted)
 
-  pub step_well : at ≡ passed next → IsReady told here s → CountedTurn here s s' (world told (Some bare) l a 0 c) (world told' v l' a' 0 c') (Ok next) → TypeInvariant (record { phase = at; state = s' })
+  pub step_well : at ≡ passed next → IsReady told here s → CountedTurn here s s' (states told (Some bare) l a 0 c) (states told' v l' a' 0 c') (Ok next) → TypeInvariant (record { phase = at; state = s' })
   step_well is ready counted = subst (λ (p : Phase). TypeInvariant (record { phase = p; state = s' })) (sym is) (well_ok here next s s' told told' v l l' a 0 c a' 0 c' ready.under_way ready.well ready.within counted)
 
-  pub step_leaves : at ≡ passed next → IsReady told here s → CountedTurn here s s' (world told (Some bare) l a 0 c) (world told' v l' a' 0 c') (Ok next) → Leaves told told' l l' a a' c c' s.job (Ok at)
+  pub step_leaves : at ≡ passed next → IsReady told here s → CountedTurn here s s' (states told (Some bare) l a 0 c) (states told' v l' a' 0 c') (Ok next) → Leaves told told' l l' a a' c c' s.job (Ok at)
   step_leaves is ready counted = subst (λ (p : Phase). Leaves told told' l l' a a' c c' s.job (Ok p)) (sym is) (leaves_ok here next s s' told told' v l l' a c a' c' ready.under_way counted)
 
-  pub step_passes : (count : ℕ) → at ≡ passed next → is_at_hand here ≡ true → CountedTurn here s s' (world told (Some bare) None a 0 0) (world told' v None a' 0 0) (Ok next) → IsSurvey told count (record { phase = here; state = s })
+  pub step_passes : (count : ℕ) → at ≡ passed next → is_at_hand here ≡ true → CountedTurn here s s' (states told (Some bare) None a 0 0) (states told' v None a' 0 0) (Ok next) → IsSurvey told count (record { phase = here; state = s })
       → GoesOn told told' l l count (record { phase = here; state = s }) (record { phase = at; state = s' })
   step_passes count is line counted it = subst (λ (p : Phase). GoesOn told told' l l count (record { phase = here; state = s }) (record { phase = p; state = s' })) (sym is) (passes_there here next s s' told told' v l a 0 0 a' 0 0 count line it counted)
 
-  pub step_leaves_log : at ≡ passed next → IsReady told here s → CountedTurn here s s' (world told (Some bare) None a 0 0) (world told' v None a' 0 0) (Ok next) → Leaves told told' l l a a' c c s.job (Ok at)
+  pub step_leaves_log : at ≡ passed next → IsReady told here s → CountedTurn here s s' (states told (Some bare) None a 0 0) (states told' v None a' 0 0) (Ok next) → Leaves told told' l l a a' c c s.job (Ok at)
   step_leaves_log is ready counted = subst (λ (p : Phase). Leaves told told' l l a a' c c s.job (Ok p)) (sym is) (leaves_passed here next s s' told told' v l c a a' ready.under_way counted)
 
 module _ (here : Phase) (why : Fault) (s s' : State) (told told' : Option Reading) (v : Option Writing) (l l' : Option (List ℕ)) (a c a' c' : ℕ) (answer : Answer) where
-  pub halt_well : answer ≡ Err why → IsReady told here s → CountedTurn here s s' (world told (Some bare) l a 0 c) (world told' v l' a' 0 c') (Err why) → TypeInvariant (record { phase = phase_after answer; state = s' })
+  pub halt_well : answer ≡ Err why → IsReady told here s → CountedTurn here s s' (states told (Some bare) l a 0 c) (states told' v l' a' 0 c') (Err why) → TypeInvariant (record { phase = phase_after answer; state = s' })
   halt_well is ready counted = subst (λ (r : Answer). TypeInvariant (record { phase = phase_after r; state = s' })) (sym is) (well_err here why s s' told told' v l l' a 0 c a' 0 c' ready.under_way ready.well ready.within counted)
 
-  pub halt_leaves : answer ≡ Err why → IsReady told here s → CountedTurn here s s' (world told (Some bare) l a 0 c) (world told' v l' a' 0 c') (Err why) → Leaves told told' l l' a a' c c' s.job answer
+  pub halt_leaves : answer ≡ Err why → IsReady told here s → CountedTurn here s s' (states told (Some bare) l a 0 c) (states told' v l' a' 0 c') (Err why) → Leaves told told' l l' a a' c c' s.job answer
   halt_leaves is ready counted = subst (λ (r : Answer). Leaves told told' l l' a a' c c' s.job r) (sym is) (leaves_err here why s s' told told' v l l' a c a' c' ready.under_way counted)
 
-  pub halt_leaves_log : answer ≡ Err why → IsReady told here s → CountedTurn here s s' (world told (Some bare) None a 0 0) (world told' v None a' 0 0) (Err why) → Leaves told told' l l a a' c c s.job answer
+  pub halt_leaves_log : answer ≡ Err why → IsReady told here s → CountedTurn here s s' (states told (Some bare) None a 0 0) (states told' v None a' 0 0) (Err why) → Leaves told told' l l a a' c c s.job answer
   halt_leaves_log is ready counted = subst (λ (r : Answer). Leaves told told' l l a a' c c s.job r) (sym is) (leaves_halted here why s s' told told' v l c a a' ready.under_way counted)
 
-pub ruleset steps = (may_look, stands_so, fed_so, looking_is, new_survey, says_no_turn, says_ended, grows_none, step_looks, step_well, step_leaves, step_passes, step_leaves_log, halt_well, halt_leaves, halt_leaves_log)
+pub ruleset steps = (may_look, stands_so, fed_so, looking_is, new_survey, says_no_turn, says_ended, says_step, grows_none, step_looks, step_well, step_leaves, step_passes, step_leaves_log, halt_well, halt_leaves, halt_leaves_log)

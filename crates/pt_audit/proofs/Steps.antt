@@ -12,7 +12,7 @@ use Rattle.pt_plan.specs.DeviceStates.{Calls, source_tree}
 use Rattle.pt_plan.specs.declared.phase.Phase.{Phase}
 use Rattle.pt_plan.specs.declared.phase.Opening.TheVariants as opening
 use Rattle.pt_plan.specs.declared.phase.Phase.TheVariants as phase
-use Rattle.pt_state.specs.Outside.{world}
+use Rattle.pt_state.specs.Outside.{states}
 use Rattle.pt_state.specs.States.{job_of}
 use Rattle.pt_state.specs.declared.state.State.{State}
 use Rattle.pt_state.proofs.Whole.{holds_nothing_else}
@@ -38,7 +38,7 @@ opens (phase.Opening (opening.Prefix _)) is (Place turn) = elim turn [ ]
 opens _ is _ = absurd (true≢false (sym is))
 
 module _ (here next : Phase) (s s' : State) (told told' : Option Reading) (w v : Option Writing) (l l' : Option (List ℕ)) (a b c a' b' c' : ℕ) where
-  steps_there : Surveys told (record { phase = here; state = s }) → s.counts.turns < s.job.limits.turns → CountedTurn here s s' (world told w l a b c) (world told' v l' a' b' c') (Ok next)
+  steps_there : Surveys told (record { phase = here; state = s }) → s.counts.turns < s.job.limits.turns → CountedTurn here s s' (states told w l a b c) (states told' v l' a' b' c') (Ok next)
       → Steps (source_tree told) (record { phase = here; state = s }) (record { phase = passed next; state = s' })
   unfolding Surveys CountedTurn
   steps_there (count, it) more counted =
@@ -54,9 +54,9 @@ module _ (here next : Phase) (s s' : State) (told told' : Option Reading) (w v :
         order = by (counted.1 it.fed (fed_going s.job.algorithm s.hasher it.fed (going here it.stands) it.was)).1.1;
       }
     where
-      by : {before after : Kept} → Turn (job_of s.job) here before after (world told w l a b c) (world told' v l' a' b' c') (Ok next) → is_before_store here ≡ true → is_before_sites (passed next) ≡ true
+      by : {before after : Kept} → Turn (job_of s.job) here before after (states told w l a b c) (states told' v l' a' b' c') (Ok next) → is_before_store here ≡ true → is_before_sites (passed next) ≡ true
       by (TurnGoesOn calls _ follows did counts) is = opens here is follows
 
-  pub step_steps : (at : Phase) → at ≡ passed next → IsReady told here s → CountedTurn here s s' (world told w l a b c) (world told' v l' a' b' c') (Ok next)
+  pub step_steps : (at : Phase) → at ≡ passed next → IsReady told here s → CountedTurn here s s' (states told w l a b c) (states told' v l' a' b' c') (Ok next)
       → Steps (source_tree told) (record { phase = here; state = s }) (record { phase = at; state = s' })
   step_steps at is ready counted = subst (λ (p : Phase). Steps (source_tree told) (record { phase = here; state = s }) (record { phase = p; state = s' })) (sym is) (steps_there ready.under_way ready.within counted)

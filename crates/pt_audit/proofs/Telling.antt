@@ -1,15 +1,16 @@
 -- What an audit tells after each step, and after an object was compared.
 use Rattle.std.proofs.Common.{◌≡◌, ◌⊎◌, inl, inr, ℕ, zero, suc, ◌+◌, Bool, true, false, List, [], ◌∷◌, ◌++◌, refl, ap, sym, ◌∙◌, subst, arith, append-nil, append_assoc, drop, length, min}
-use Rattle.std.specs.Prelude.{IfOk, IsSome, Option, None, Some, Result, Ok, Err, get_or, map, slice_get, option_to_list, count_by}
+use Rattle.std.specs.Prelude.{◌&&◌, IfOk, IsSome, Option, None, Some, Result, Ok, Err, get_or, map, slice_get, option_to_list, count_by}
 use Rattle.std.specs.String.{string_bytes}
 use Rattle.std.specs.Option.{ForSome, option_map}
 use Rattle.std.specs.Io.KnownBytes.{Appends}
 use Rattle.std.proofs.lemmas.Bool.{true≢false}
 use Rattle.std.proofs.lemmas.List.{drop-map}
 use Rattle.std.proofs.lemmas.Option.{slice_get-get_or}
-use Rattle.pt_audit.specs.Auditing.{CanCompare, EndsAs, Finds, GoesOn as AuditGoesOn, Nothing, HasToldOf, IsAt, IsFoundAtHand, IsFoundOf, IsSeen, IsUnderWay, CanGoOn, Leads, Next, is_told, Passes, TellsOf, Told, counted, last_text, sought, sought_at_hand, told_at}
+use Rattle.pt_audit.specs.Auditing.{CanCompare, EndsAs, Finds, GoesOn as AuditGoesOn, Nothing, HasToldOf, IsAt, IsFoundAtHand, IsFoundOf, IsSeen, IsTwinAtHand, IsUnderWay, CanGoOn, Leads, Next, is_told, Passes, TellsOf, Told, counted, last_text, sought, sought_at_hand, told_at}
 use Rattle.pt_audit.specs.Counting.{counts_with, no_counts}
 use Rattle.pt_audit.specs.Layout.{IsOfLayout}
+use Rattle.pt_audit.specs.Twin.{is_differing, is_twin}
 use Rattle.pt_audit.specs.Lines as audit
 use Rattle.pt_audit.specs.declared.counts.Counts.{Counts}
 use Rattle.pt_invariant.specs.HeldInvariant.{HeldAt}
@@ -58,11 +59,12 @@ use Rattle.pt_tree.specs.Forest.{Forest, file_at}
 use Rattle.pt_tree.specs.Path.{Path}
 use Rattle.pt_tree.specs.Source.{CanOpen, Reading}
 use Rattle.pt_walk.specs.Left.{bytes_at}
+use Rattle.pt_walk.specs.Trail.{trail_path}
 
 -- ---- where it stands
 
 -- an object is at hand
-object_at_hand : (here : Phase) → sight_at here ≡ sight.Object → (object : Object) × (here ≡ phase.Carrying object stage.Line)
+pub object_at_hand : (here : Phase) → sight_at here ≡ sight.Object → (object : Object) × (here ≡ phase.Carrying object stage.Line)
 object_at_hand (phase.Carrying object stage.Line) is = (object, refl)
 object_at_hand (phase.Carrying object (stage.Read zero)) is = absurd (cc)
 object_at_hand (phase.Carrying object (stage.Read (suc bytes))) is = absurd (cc)
@@ -289,16 +291,22 @@ found_of {job} {source} {root} {count} {object} {s} {at} {finding} same it mine 
     }
 
 -- its line
-line_is : {object : Object} {s : State} {at : hand.AtHand} (finding : Comparison) → IsOf object s at
-    → audit.line_text (audit.line_by (audit.told_of at.told) finding)
-    ≡ audit.line_text (audit.line_by (record { at = path_of_source object s.trail; bytes = min (bytes_in_rows s.rows) greatest_count; empty = object.empty; files = length s.rows; id = object.id; to = object.place }) finding)
-line_is finding mine = λ i. audit.line_text (audit.line_by (record { at = mine.told.at i; bytes = mine.told.bytes i; empty = mine.told.empty i; files = mine.told.files i; id = mine.told.id i; to = mine.told.to i }) finding)
+line_is : {object : Object} {s : State} {at : hand.AtHand} (twin : Bool) (finding : Comparison) → IsOf object s at
+    → audit.line_text (audit.line_by (audit.told_of at.told) twin finding)
+    ≡ audit.line_text (audit.line_by (record { at = path_of_source object s.trail; bytes = min (bytes_in_rows s.rows) greatest_count; empty = object.empty; files = length s.rows; id = object.id; to = object.place }) twin finding)
+line_is twin finding mine = λ i. audit.line_text (audit.line_by (record { at = mine.told.at i; bytes = mine.told.bytes i; empty = mine.told.empty i; files = mine.told.files i; id = mine.told.id i; to = mine.told.to i }) twin finding)
+
+-- whether it is a twin is told only where it differs
+line_so : (told : audit.Told) (twin : Bool) (finding : Comparison) → audit.line_by told (is_differing finding && twin) finding ≡ audit.line_by told twin finding
+line_so told twin found.Same = refl
+line_so told twin found.Absent = refl
+line_so told twin (found.Differs difference) = refl
 
 -- its line was put, and it is counted
-pub told_object : (told again : Option Reading) (source root : Option Forest) (first now new : Option (List ℕ)) (counts : Counts) (r : Running) (at : hand.AtHand) (finding : Comparison) (text : List ℕ) (job : own.Job) (later : Counts) → job ≡ r.state.job → later ≡ counts_with finding counts → sight_at r.phase ≡ sight.Object → source_tree told ≡ source → source_tree again ≡ source_tree told
-    → IsHand r (Some at) → IsFoundAtHand job at source root finding → text ≡ audit.line_text (audit.line_by (audit.told_of at.told) finding) → Appends now new text
+pub told_object : (told again : Option Reading) (source root : Option Forest) (first now new : Option (List ℕ)) (counts : Counts) (r : Running) (at : hand.AtHand) (finding : Comparison) (twin : Bool) (text : List ℕ) (job : own.Job) (later : Counts) → job ≡ r.state.job → later ≡ counts_with finding counts → sight_at r.phase ≡ sight.Object → source_tree told ≡ source → source_tree again ≡ source_tree told
+    → IsHand r (Some at) → IsFoundAtHand job at source root finding → IsTwinAtHand source r at.told.id.now finding twin → text ≡ audit.line_text (audit.line_by (audit.told_of at.told) twin finding) → Appends now new text
     → IsSeen told source root first now counts r → IsUnderWay again source root first new later r
-told_object told again source root first now new counts r at finding text job later job_is counted_is is tree same mine found_there line puts it = record {
+told_object told again source root first now new counts r at finding twin text job later job_is counted_is is tree same mine found_there twin_there line puts it = record {
   count = it.count;
   is = source_again is same it.is;
   so_far = subst (λ (k : Counts). HasToldOf (job_of r.state.job) source root first new (told_at r.phase it.count) (counted k r)) (sym counted_is) (λ s e o f old g.
@@ -312,7 +320,7 @@ told_object told again source root first now new counts r at finding text job la
         subst (λ (k : Counts). Told (job_of r.state.job) s o (suc it.count) (had.0 ++ text) k) (counts_are finding)
             (Next item.item had.2 item.is
             (subst (λ (l : List Line). TellsOf (job_of r.state.job) s o item.item l text (counted counts r) (counts_with finding (counted counts r))) (sym item.lines_are)
-            (subst (λ (t : List ℕ). TellsOf (job_of r.state.job) s o item.item (done_line here.0 (held_of r.state []) ∷ []) t (counted counts r) (counts_with finding (counted counts r))) (sym (line ∙ line_is finding of))
+            (subst (λ (t : List ℕ). TellsOf (job_of r.state.job) s o item.item (done_line here.0 (held_of r.state []) ∷ []) t (counted counts r) (counts_with finding (counted counts r))) (sym (line ∙ ap (λ (b : Bool). audit.line_text (audit.line_by (audit.told_of at.told) b finding)) (twin_is s e item.item.path item.site) ∙ ap audit.line_text (line_so (audit.told_of at.told) (is_twin (job_of r.state.job) s item.item.path here.0.id) finding) ∙ line_is (is_twin (job_of r.state.job) s item.item.path here.0.id) finding of))
             (Finds finding (found_of refl item of (is_found s e o f)))))),
       ));
   opened = λ later. it.opened (ap is_before_sites here.1);
@@ -327,12 +335,18 @@ told_object told again source root first now new counts r at finding text job la
     of : IsOf here.0 r.state at
     of = subst (λ (p : Phase). IsHandAt p r.state (Some at)) here.1 mine
 
+    twin_is : (s : Forest) → source ≡ Some s → (path : Path) → path ≡ trail_path r.state.trail → twin ≡ (is_differing finding && is_twin (job_of r.state.job) s path here.0.id)
+    twin_is s e path at_site =
+        twin_there s e
+        ∙ ap (λ (p : Path). is_differing finding && is_twin (job_of r.state.job) s p at.told.id.now) (sym at_site)
+        ∙ ap (λ (id : List ℕ). is_differing finding && is_twin (job_of r.state.job) s path id) of.told.id
+
     at_hand_there : (s : Reading) → told ≡ Some s → HasAtHand (job_of r.state.job) s.tree it.is.past.count here.0 (held_of r.state [])
     at_hand_there s e =
         let fed = it.is.fed in
         let known = has_at_hand (subst (λ (p : Phase). HeldAt (job_of r.state.job) it.is.past p (held_of r.state fed)) here.1 it.is.is.held)
         (subst (λ (p : Phase). SourcePart (job_of r.state.job) it.is.past p (string_bytes r.state.prefix) (held_of r.state fed) s) here.1 (it.is.is.source s e)) in
-        record { item = known.item; inner = known.inner; files = known.files; is = known.is; named = known.named; whole = known.whole; rows = known.rows; stored = known.stored; at = known.at; place = known.place; lines_are = known.lines_are }
+        record { item = known.item; inner = known.inner; files = known.files; is = known.is; named = known.named; whole = known.whole; rows = known.rows; stored = known.stored; site = known.site; at = known.at; place = known.place; lines_are = known.lines_are }
 
     counts_are : (f : Comparison) → counts_with f (counted counts r) ≡ counted (counts_with f counts) r
     counts_are found.Same = refl

@@ -1,5 +1,5 @@
 -- An audit: what it tells of the objects of a store and a storage root, and an audit under way.
-use Rattle.std.specs.Prelude.{◌≡◌, ℕ, suc, ◌+◌, All, Bool, true, false, List, [], ◌∷◌, ◌++◌, drop, map, min, Option, Some, slice_get}
+use Rattle.std.specs.Prelude.{◌≡◌, ℕ, suc, ◌+◌, ◌&&◌, All, Bool, true, false, List, [], ◌∷◌, ◌++◌, drop, map, min, Option, Some, slice_get}
 use Rattle.std.specs.Option.{ForSome}
 use Rattle.pt_audit.specs.Counting.{counts_with, no_counts}
 use Rattle.pt_audit.specs.Layout.{IsOfLayout}
@@ -23,6 +23,7 @@ use Rattle.pt_plan.specs.declared.phase.Phase.TheVariants as phase
 use Rattle.pt_plan.specs.declared.phase.Stage.TheVariants as stage
 use Rattle.pt_state.specs.States.{job_of}
 use Rattle.pt_state.specs.declared.job.Job as own
+use Rattle.pt_audit.specs.Twin.{is_differing, is_twin}
 use Rattle.pt_audit.specs.Surveying.{IsSurvey, Surveys, is_before_sites, is_before_store, sight_at}
 use Rattle.pt_audit.specs.declared.survey.SurveyEvent.{SurveyEvent}
 use Rattle.pt_audit.specs.declared.survey.SurveyEvent.TheVariants as sight
@@ -32,6 +33,7 @@ use Rattle.pt_tree.specs.Forest.{Forest}
 use Rattle.pt_tree.specs.Path.{Path}
 use Rattle.pt_tree.specs.Source.{CanOpen, Reading}
 use Rattle.pt_walk.specs.Left.{bytes_at}
+use Rattle.pt_walk.specs.Trail.{trail_path}
 use Rattle.pt_walk.specs.declared.cause.Cause.{Cause}
 
 -- ---- what is told of an item
@@ -54,7 +56,7 @@ pub record IsFoundOf (job : Job) (source root : Forest) (item : Item) (finding :
   pub found : IsFound (sought job id files)
       (inside root (in_root (place_of job.tuples id))) finding
 
--- The text that is told of an item, by the line that a run would tell of it over no root, and what is counted. Where it only leads on nothing is; what is passed over is told as a run tells it; of an object it is told what is found
+-- The text that is told of an item, by the line that a run would tell of it over no root, and what is counted. Where it only leads on nothing is; what is passed over is told as a run tells it; of an object it is told what is found, and where that is a difference, whether it is a twin
 pub data TellsOf (job : Job) (source root : Forest) (item : Item) : List Line → List ℕ → Counts → Counts → Type 0 where
   Leads : {counts : Counts} → TellsOf job source root item [] [] counts counts
   Passes : {counts : Counts} (at : Path) (why : Cause)
@@ -71,7 +73,7 @@ pub data TellsOf (job : Job) (source root : Forest) (item : Item) : List Line �
         files = files;
         id = id;
         to = to;
-      }) finding))
+      }) (is_twin job source item.path id) finding))
       counts (counts_with finding counts)
 
 -- of the first so many items of a store, the text that is told of them, one after another, and the counts
@@ -147,6 +149,12 @@ abbrev pub IsFoundAtHand : own.Job → AtHand → Option Forest → Option Fores
 IsFoundAtHand job hand source root finding =
     ForSome source (λ s. ForSome root
     (λ r. IsFound (sought_at_hand job hand s) (inside r (in_root hand.told.to.now)) finding))
+
+-- whether it is told as a twin, where the source is told: it differs, and is one
+abbrev pub IsTwinAtHand : Option Forest → Running → List ℕ → Comparison → Bool → Type 0
+IsTwinAtHand source r id finding twin =
+    ForSome source
+    (λ s. twin ≡ (is_differing finding && is_twin (job_of r.state.job) s (trail_path r.state.trail) id))
 
 -- the object at hand can be compared: its contents are those of its rows, these are in order, and the source's files can be opened
 pub record CanCompare (told : Option Reading) (hand : AtHand) : Type 0 where

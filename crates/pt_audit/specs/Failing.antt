@@ -60,3 +60,5 @@ pub record AuditSays (job : own.Job) (source root : Option Forest) (f : Fault) :
   -- what else is in the destination never is
   pub staging : f ≢ fault.StagingLeft
   pub turns : MeetsLimit job source f
+  -- and it has never ended already
+  pub ended : f ≢ fault.Ended

@@ -1,7 +1,8 @@
 -- The files of an object that a survey scans: which one is read, and what a step reads of it.
-use Rattle.std.specs.Prelude.{◌≡◌, ℕ, zero, ◌-◌, Bool, true, false, cond, List, Option, None, Some, Ok}
+use Rattle.std.specs.Prelude.{◌≡◌, ℕ, zero, Bool, true, false, List, Option, None, Some, Ok}
 use Rattle.std.specs.Bool.{MatchBool, OnTrue}
 use Rattle.pt_move.specs.Running.{Running}
+use Rattle.pt_plan.specs.Object.{names_before}
 use Rattle.pt_plan.specs.TurnScan.{ScanStep}
 use Rattle.pt_plan.specs.DeviceStates.{Answers, Calls, source_tree}
 use Rattle.pt_plan.specs.declared.object.Object.{Object}
@@ -52,10 +53,6 @@ ScansOn told told' before after =
 pub record MakesStep (told told' : Option Reading) (before after : Running) : Type 0 where
   pub steps : Steps (source_tree told) before after
   pub scans : ScansOn told told' before after
-
--- how many names lead to an object, of the path of a file of it
-abbrev pub names_before : Object → ℕ
-names_before object = cond object.gathered (object.site - 1) object.site
 
 -- it is the file that was just opened, if one was
 abbrev pub IsOpenedAt : Phase → State → Option Opened → Type 0

@@ -44,10 +44,10 @@ pub record BlamesRightly {T : Type 0} (source source' log log' : ℕ) (result : 
   pub log_is : Counts 3 log log' result
   pub no_dest : IfErr result (λ f. f ≢ fault.Dest)
 
--- what a turn leaves outside, whatever it answers: the source's tree is as it was, the log has grown, devices are blamed rightly, and a refusal is true
+-- what a turn leaves outside, whatever it answers: the source's tree is as it was, the log has grown, devices are blamed rightly, and a refusal is true and never that it has ended
 pub record Leaves (told told' : Option Reading) (old new : Option (List ℕ)) (source source' log log' : ℕ)
     (job : Job) (result : Result Phase Fault) : Type 0 where
   pub tree : source_tree told' ≡ source_tree told
   pub grows : Grows old new
   pub blames : BlamesRightly source source' log log' result
-  pub says : IfErr result (λ why. SurveySays job (source_tree told) why)
+  pub says : IfErr result (λ why. (here : Phase) → SurveySays job here (source_tree told) why)

@@ -11,3 +11,4 @@ pub mod Lines
 pub mod RootReader
 pub mod Surveying
 pub mod Surveys
+pub mod Twin

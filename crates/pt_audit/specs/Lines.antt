@@ -1,5 +1,5 @@
 -- The lines of an audit's log: each one compact JSON object with its keys in byte order, and LF.
-use Rattle.std.specs.Prelude.{ℕ, List, [], ◌∷◌, ◌++◌, codes}
+use Rattle.std.specs.Prelude.{ℕ, Bool, cond, List, [], ◌∷◌, ◌++◌, codes}
 use Rattle.pt_compare.specs.Difference.{why_word}
 use Rattle.pt_compare.specs.declared.difference.Comparison.{Comparison}
 use Rattle.pt_compare.specs.declared.difference.Comparison.TheVariants as finding
@@ -24,14 +24,18 @@ pub record Told : Type 0 where
 pub data Line : Type 0 where
   Same : Told → Line
   Absent : Told → Line
-  Differs : Told → (path : Path) → (why : Why) → Line
+  Differs : Told → (path : Path) → (why : List ℕ) → Line
   End : (same absent differs skipped : ℕ) → Line
 
--- the line of an object, by what was found at its place
-abbrev pub line_by : Told → Comparison → Line
-line_by told finding.Same = Same told
-line_by told finding.Absent = Absent told
-line_by told (finding.Differs difference) = Differs told difference.path difference.why
+-- the word of why an object differs: that it is a twin, or else what is wrong at the path
+abbrev pub why_told : Bool → Why → List ℕ
+why_told twin why = cond twin (codes "twin") (why_word why)
+
+-- the line of an object, by whether it is a twin, and what was found at its place
+abbrev pub line_by : Told → Bool → Comparison → Line
+line_by told twin finding.Same = Same told
+line_by told twin finding.Absent = Absent told
+line_by told twin (finding.Differs difference) = Differs told difference.path (why_told twin difference.why)
 
 -- the line as a tree of JSON
 abbrev pub line_tree : Line → Data
@@ -54,7 +58,7 @@ line_tree (Differs told path why) = json.object
     (text_member (codes "id") told.id
     (text_member (codes "path") (joined path)
     (text_member (codes "to") (joined told.to)
-    (text_member (codes "why") (why_word why) no_members))))))
+    (text_member (codes "why") why no_members))))))
 line_tree (End same absent differs skipped) = json.object
     (number_member (codes "absent") absent
     (text_member (codes "as") (codes "end")

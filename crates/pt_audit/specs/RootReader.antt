@@ -1,5 +1,5 @@
 -- The files of the root that are read beside those of an object, and how far they are alike.
-use Rattle.std.specs.Prelude.{◌≡◌, ◌≤◌, ◌⊎◌, ℕ, zero, suc, Bool, false, All, List, [], ◌∷◌, ◌++◌, drop, length, take, Option, Some, ⊤}
+use Rattle.std.specs.Prelude.{◌≡◌, ◌≢◌, ◌≤◌, ◌⊎◌, ℕ, zero, suc, Bool, false, All, List, [], ◌∷◌, ◌++◌, drop, length, take, Option, Some, ⊤}
 use Rattle.std.specs.Bool.{OnTrue}
 use Rattle.std.specs.Global.{Global}
 use Rattle.std.specs.Option.{ForSome}
@@ -8,10 +8,10 @@ use Rattle.pt_audit.specs.Counting.{no_counts}
 use Rattle.pt_audit.specs.declared.root_reader.RootReader.{RootReader}
 use Rattle.pt_compare.specs.Beside.{StandsAlike}
 use Rattle.pt_compare.specs.Marks.{inside}
-use Rattle.pt_compare.specs.Parts.{in_content}
+use Rattle.pt_object.specs.Object.{in_content}
 use Rattle.pt_compare.specs.Root.{Reads, Stands, tree_in}
 use Rattle.pt_move.specs.Running.{Running}
-use Rattle.pt_object.specs.declared.contents.Content.{Content}
+use Rattle.pt_object.specs.declared.table.contents.Content.{Content}
 use Rattle.pt_plan.specs.TurnScan.{logical_path}
 use Rattle.pt_plan.specs.TurnWalk.{in_pairtree, in_root}
 use Rattle.pt_plan.specs.declared.object.Object.{Object}
@@ -19,7 +19,7 @@ use Rattle.pt_plan.specs.declared.phase.Phase.{Phase}
 use Rattle.pt_plan.specs.declared.phase.Phase.TheVariants as phase
 use Rattle.pt_plan.specs.declared.phase.Stage.TheVariants as stage
 use Rattle.pt_state.specs.declared.state.State.{State}
-use Rattle.pt_audit.specs.Files.{names_before}
+use Rattle.pt_plan.specs.Object.{names_before}
 use Rattle.pt_audit.specs.Surveying.{Surveys, sight_at}
 use Rattle.pt_audit.specs.declared.survey.AtHand.{AtHand}
 use Rattle.pt_audit.specs.declared.survey.SurveyEvent.{SurveyEvent}
@@ -185,10 +185,15 @@ pub record Follows (source root : Option Reading) (b : RootReader) (r : Running)
   pub paced : IsPaced source root b r
   pub can : CanFollow root b
 
+-- and there is more to see
+pub record FollowsOn (source root : Option Reading) (b : RootReader) (r : Running) : Type 0 where
+  pub follows : Follows source root b r
+  pub more : r.phase ≢ phase.End
+
 -- nothing was seen yet, and nothing is counted
 pub record Begins (source root : Option Reading) (log : Option (List ℕ)) (b : RootReader) (r : Running) : Type 0 where
   pub under_way : IsUnderWay source (tree_in source) (tree_in root) log log no_counts r
-  pub follows : Follows source root b r
+  pub follows : FollowsOn source root b r
 
 -- so it is where a step was made that came to this
 pub record Saw (source root : Option Reading) (b : RootReader) (what : SurveyEvent) (r : Running) : Type 0 where

@@ -27,7 +27,7 @@ use Rattle.pt_plan.specs.declared.phase.Opening.TheVariants as opening
 use Rattle.pt_plan.specs.declared.phase.Phase.TheVariants as phase
 use Rattle.pt_plan.specs.declared.phase.Stage.TheVariants as stage
 use Rattle.pt_state.specs.Fields.{HoldsNothingElse}
-use Rattle.pt_state.specs.Outside.{world}
+use Rattle.pt_state.specs.Outside.{states}
 use Rattle.pt_state.specs.States.{held_of, job_of}
 use Rattle.pt_state.specs.declared.job.Job as own
 use Rattle.pt_state.specs.declared.state.State.{State}
@@ -44,6 +44,7 @@ use Rattle.pt_tree.specs.Source.{Reading}
 use Rattle.pt_tree.specs.declared.log.Log.{Ghosts as OfLog}
 use Rattle.pt_tree.specs.declared.source.Source.{Ghosts as OfSource}
 use Rattle.pt_walk.specs.Left.{bytes_at}
+use Rattle.pt_walk.specs.Trail.{trail_path}
 use Rattle.pt_walk.specs.declared.cause.Cause.{Cause}
 
 -- ---- where it stands
@@ -52,17 +53,17 @@ use Rattle.pt_walk.specs.declared.cause.Cause.{Cause}
 abbrev pub no_start : Start
 no_start = record { dest = None; log = None }
 
--- a world in which the source alone tells, and nothing failed
+-- states in which the source alone tells, and nothing failed
 abbrev pub source_alone : Option Reading → DeviceStates
-source_alone told = world told None None 0 0 0
+source_alone told = states told None None 0 0 0
 
--- the world of a survey's devices, by the words of their traits: its source and its log, over a bare root that never fails
-abbrev pub bare_world : {S L : Type 0} → OfSource S → OfLog L → S → L → DeviceStates
-bare_world s l source log = world (s.told source) (Some bare) (l.told log) (s.failed source) 0 (l.failed log)
+-- the states of a survey's devices, by the words of their traits: its source and its log, over a bare root that never fails
+abbrev pub bare_states : {S L : Type 0} → OfSource S → OfLog L → S → L → DeviceStates
+bare_states s l source log = states (s.told source) (Some bare) (l.told log) (s.failed source) 0 (l.failed log)
 
 -- the same with a log that nobody reads
-abbrev pub unlogged_world : {S : Type 0} → OfSource S → S → DeviceStates
-unlogged_world s source = world (s.told source) (Some bare) None (s.failed source) 0 0
+abbrev pub unlogged_states : {S : Type 0} → OfSource S → S → DeviceStates
+unlogged_states s source = states (s.told source) (Some bare) None (s.failed source) 0 0
 
 -- what stands in the source is looked at
 abbrev pub is_looking : Phase → Bool
@@ -192,13 +193,15 @@ abbrev pub MeetsLimit : own.Job → Option Forest → Fault → Type 0
 MeetsLimit job source f =
     f ≡ fault.Turns → ForSome source (λ s. job.limits.turns < work_of_survey (job_of job) s)
 
--- a fault says so of the store alone
-pub record SurveySays (job : own.Job) (source : Option Forest) (f : Fault) : Type 0 where
+-- a fault says so of the store alone, in a step from this phase
+pub record SurveySays (job : own.Job) (here : Phase) (source : Option Forest) (f : Fault) : Type 0 where
   -- a store is refused only for what it is
   pub rightly : SaysRightly job source None f
   -- a destination is never refused
   pub no_dest : is_of_dest f ≡ false
   pub turns : MeetsLimit job source f
+  -- it has ended only where all was seen
+  pub ended : f ≡ fault.Ended → here ≡ phase.End
 
 -- ---- what a step sees
 
@@ -248,6 +251,7 @@ pub record HasAtHand (job : Job) (source : Forest) (count : ℕ) (object : Objec
   pub rows : held.rows ≡ rows_of job.algorithm files
   pub stored : stored_files held.rows (λ path. bytes_at source (in_pairtree (inner.at ++ path)))
       ≡ stored_files held.rows (bytes_in files)
+  pub site : item.path ≡ trail_path held.trail
   pub at : inner.at ≡ path_of_source object held.trail
   pub place : object.place ≡ place_of job.tuples object.id
   pub lines_are : line_by_verdict job item.path false item.verdict ≡ done_line object held ∷ []

@@ -1,10 +1,10 @@
 //! A whole audit.
-ghost use Rattle.std.specs.Prelude.{◌≡◌, ℕ, IfErr, IfOk, List, OnOk, Option};
-ghost use Rattle.pt_audit.specs.Auditing.{CanCompare, EndsAs, GoesOn, IsFoundAtHand, IsSeen, IsUnderWay, last_text};
-ghost use Rattle.std.specs.Bool.{OnFalse};
+ghost use Rattle.std.specs.Prelude.{◌≡◌, ◌≢◌, ℕ, IfErr, IfOk, List, OnOk, Option, Some, drop, length};
+ghost use Rattle.pt_audit.specs.Auditing.{CanCompare, EndsAs, GoesOn, IsFoundAtHand, IsSeen, IsTwinAtHand, IsUnderWay, last_text};
+ghost use Rattle.std.specs.Bool.{OnFalse, OnTrue};
 ghost use Rattle.std.specs.Option.{ForSome};
 ghost use Rattle.std.specs.Io.KnownBytes.{Appends};
-ghost use Rattle.pt_audit.specs.RootReader.{AreAlikeAtHand, Begins, CanFollow, Follows, Saw};
+ghost use Rattle.pt_audit.specs.RootReader.{AreAlikeAtHand, Begins, CanFollow, Follows, FollowsOn, Saw};
 ghost use Rattle.pt_audit.specs.Bounds.{IsMade, IsMadeFrom};
 ghost use Rattle.pt_audit.specs.Failing.{AuditSays, BlamesRightly, FailsAs, TellFails, failures};
 ghost use Rattle.pt_audit.specs.Layout.{IsOfLayout};
@@ -13,7 +13,7 @@ ghost use Rattle.pt_state.specs.States.{job_of};
 ghost use Rattle.pt_plan.specs.DeviceStates.{source_tree};
 ghost use Rattle.pt_plan.specs.declared.phase.Phase.TheVariants as phase;
 ghost use Rattle.pt_audit.specs.Growing.{KeepsLog};
-ghost use Rattle.pt_audit.specs.Surveying.{GoesOn as SurveyGoesOn, IsSurvey, Steps, Surveys, sight_at};
+ghost use Rattle.pt_audit.specs.Surveying.{GoesOn as SurveyGoesOn, IsHand, IsSurvey, Steps, Surveys, sight_at};
 ghost use Rattle.pt_audit.specs.declared.survey.SurveyEvent.TheVariants as sight;
 
 use crate::Counts;
@@ -21,6 +21,7 @@ use crate::layout::check_layout;
 use crate::lines::{end_line, object_line};
 use crate::root_reader::RootReader;
 use crate::survey::{AtHand, Survey, SurveyEvent};
+use crate::twin::is_second;
 use pt_compare::{Comparison, Root, Scanned, compare};
 use pt_move::{Job, Observer};
 use pt_plan::Fault;
@@ -35,7 +36,7 @@ use std::alloc::Global;
 /// job's description of the version nothing is compared: moment, user and message may be whatever the inventory that stands
 /// gives. `Dest` is answered where the root can't be read, `Target` where it isn't one of this layout, once the store was found
 /// to be one with a good prefix, `Turns` only where the limit is less than a survey's work, and the other faults as by
-/// `migrate`; `StagingLeft` never. Nothing is made or changed, but that the log gets its lines; how many there are is told after
+/// `migrate`; `StagingLeft` and `Ended` never. Nothing is made or changed, but that the log gets its lines; how many there are is told after
 /// each step.
 ///
 /// It is made by steps of a survey (`made`), of which there are no more than the limit of turns, nor than a survey's work; after
@@ -114,7 +115,7 @@ fn go_on<S: Source, R: Root, L: Log>(
     root: &mut R,
     log: &mut L,
 ) -> Result<bool, Fault>
-    requires { Follows (S.told source.old) (R.told root.old) beside.old survey.old }
+    requires { FollowsOn (S.told source.old) (R.told root.old) beside.old survey.old }
     ensures on { (first : Option (List ℕ)) → IsUnderWay (S.told source.old)
         (tree_in (S.told source.old)) (tree_in (R.told root.old)) first (L.told log.old)
         counts.old survey.old
@@ -122,7 +123,8 @@ fn go_on<S: Source, R: Root, L: Log>(
         (tree_in (R.told root.old)) first (L.told log.new) counts.new survey.new) }
     ensures still { IfOk result (λ more. Steps (source_tree (S.told source.old))
         survey.old survey.new × Follows (S.told source.new) (R.told root.new) beside.new survey.new
-        × OnFalse more (survey.new.phase ≡ phase.End)) }
+        × OnFalse more (survey.new.phase ≡ phase.End)
+        × OnTrue more (survey.new.phase ≢ phase.End)) }
     ensures source { KeepsRoot S.told S.keeps source.old source.new }
     ensures root { KeepsRoot R.told R.keeps root.old root.new }
     ensures log { KeepsLog L.told L.keeps log.old log.new }
@@ -144,7 +146,7 @@ fn see<S: Source, R: Root, L: Log>(
     root: &mut R,
     log: &mut L,
 ) -> Result<SurveyEvent, Fault>
-    requires { Follows (S.told source.old) (R.told root.old) beside.old survey.old }
+    requires { FollowsOn (S.told source.old) (R.told root.old) beside.old survey.old }
     ensures on { (count : ℕ) → IsSurvey (S.told source.old) count survey.old
         → OnOk result (SurveyGoesOn (S.told source.old) (S.told source.new)
         (L.told log.old) (L.told log.new) count survey.old survey.new) }
@@ -182,7 +184,8 @@ fn tell<S: Source, R: Root, L: Log>(
         → IfOk result (λ more. GoesOn more (S.told source.new) (tree_in (S.told source.old))
         (tree_in (R.told root.old)) first (L.told log.new) counts.new survey.now) }
     ensures still { IfOk result (λ more. Follows (S.told source.new) (R.told root.new)
-        beside.now survey.now × OnFalse more (survey.now.phase ≡ phase.End)) }
+        beside.now survey.now × OnFalse more (survey.now.phase ≡ phase.End)
+        × OnTrue more (survey.now.phase ≢ phase.End)) }
     ensures source { KeepsRoot S.told S.keeps source.old source.new }
     ensures root { KeepsRoot R.told R.keeps root.old root.new }
     ensures log { KeepsLog L.told L.keeps log.old log.new }
@@ -240,11 +243,51 @@ fn tell_object<S: Source, R: Root, L: Log>(
         unreachable!()
     };
     let alike = beside.alike_at(&hand.told.at, hand.told.to);
-    let finding = found(alloc, source, root, survey.job(), &hand, beside, alike)?;
-    let line = object_line(alloc, &hand.told, &finding)?;
+    let finding = judge(alloc, source, root, survey, &hand, beside, alike)?;
+    let line = object_line(alloc, &hand.told, finding.is_twin, &finding.comparison)?;
     log.put(line.as_bytes()).map_err(Fault::of_log)?;
-    *counts = counts.with(&finding);
+    *counts = counts.with(&finding.comparison);
     Ok(())
+}
+
+// What is found of an object, and whether it is told as the difference of a twin.
+#[derive(Drop)]
+struct AuditFinding {
+    comparison: Comparison,
+    is_twin: bool,
+}
+
+// What is found of the object at hand.
+fn judge<S: Source, R: Root>(
+    alloc: Global,
+    source: &mut S,
+    root: &mut R,
+    survey: &Survey,
+    hand: &AtHand<'_>,
+    beside: &RootReader,
+    alike: usize,
+) -> Result<AuditFinding, Fault>
+    requires under_way { Surveys (S.told source.old) survey.now }
+    requires at_hand { sight_at survey.now.phase ≡ sight.Object }
+    requires hand { IsHand survey.now (Some hand.now) }
+    requires folder { CanFollow (R.told root.old) beside.now }
+    requires alike { AreAlikeAtHand (tree_in (S.told source.old)) (tree_in (R.told root.old))
+        hand.now alike }
+    ensures found { IfOk result (λ it. IsFoundAtHand survey.now.state.job hand.now
+        (tree_in (S.told source.old)) (tree_in (R.told root.old)) it.comparison) }
+    ensures twin { IfOk result (λ it. IsTwinAtHand (tree_in (S.told source.old)) survey.now
+        hand.now.told.id.now it.comparison it.is_twin) }
+    ensures source { KeepsRoot S.told S.keeps source.old source.new }
+    ensures root { KeepsRoot R.told R.keeps root.old root.new }
+    ensures fails { FailsAs result (failures (S.failed source.old) (R.failed root.old) 0)
+        (failures (S.failed source.new) (R.failed root.new) 0) }
+{
+    let comparison = found(alloc, source, root, survey.job(), hand, beside, alike)?;
+    let is_twin = finds_twin(source, survey, hand.told.id.as_str(), &comparison)?;
+    Ok(AuditFinding {
+        comparison,
+        is_twin,
+    })
 }
 
 // What is found of the object at hand.
@@ -281,6 +324,41 @@ fn found<S: Source, R: Root>(
         to: &to,
     };
     compare(alloc, source, root, &object)
+}
+
+// Whether what was found of the object at hand, which has this identifier, is told as the difference of a twin. Where it doesn't
+// differ, nothing is looked at.
+fn finds_twin<S: Source>(
+    source: &mut S,
+    survey: &Survey,
+    id: &str,
+    finding: &Comparison,
+) -> Result<bool, Fault>
+    requires under_way { Surveys (S.told source.old) survey.now }
+    requires at_hand { sight_at survey.now.phase ≡ sight.Object }
+    ensures twin { IfOk result (IsTwinAtHand (tree_in (S.told source.old)) survey.now
+        id.now finding.now) }
+    ensures source { KeepsRoot S.told S.keeps source.old source.new }
+    ensures fails { FailsAs result (failures (S.failed source.old) 0 0)
+        (failures (S.failed source.new) 0 0) }
+{
+    match finding {
+        Comparison::Same | Comparison::Absent => Ok(false),
+        Comparison::Differs(_) => {
+            let site = survey.site()?;
+            let own = behind(id.as_bytes(), survey.prefix().as_bytes());
+            let is_twin = is_second(source, survey.job(), &site, own).map_err(Fault::of_source)?;
+            Ok(is_twin)
+        }
+    }
+}
+
+// What is behind so many bytes as a prefix has.
+fn behind<'a>(text: &'a [u8], prefix: &[u8]) -> &'a [u8]
+    ensures { result.now ≡ drop (length prefix.now) text.now }
+{
+    let (_, rest) = text.split_at(prefix.len().min(text.len()));
+    rest
 }
 
 // Tells the end, with the counts.

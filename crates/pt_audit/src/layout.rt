@@ -12,7 +12,7 @@ use pt_compare::{Root, standing};
 use pt_move::Job;
 use pt_object::{WellKnownName, root_files};
 use pt_plan::Fault;
-use pt_state::kinds::{is_dir, is_file};
+use pt_plan::kinds::{is_dir, is_file};
 use pt_state::paths::in_storage_root;
 use pt_tree::{Block, NamePath, TreeFault};
 use std::alloc::Global;

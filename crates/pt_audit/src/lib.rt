@@ -7,9 +7,11 @@
 //!   That is of each item of the store, in the order of the walk, what is told of it, and the end line with the counts of these lines. Of what
 //!   is passed over that is a run's line; of an object what was found at its place, which is so (`IsFoundOf`). The object of each item is told
 //!   of, also a second one of an identifier.
+//! - An object that differs is told as a twin exactly where its site isn't the pairpath of its identifier without the prefix, and an object stands
+//!   at that, as a run judges what is listed there (`is_twin`).
 //! - Store and root are the same, with the same trees, and what stood in the log stands. A device is blamed exactly where it failed. A store is
 //!   refused only for what it is, the limit of turns is met only where it is less than a survey's work, and of what else is in the destination
-//!   nothing is refused (`AuditSays`).
+//!   nothing is refused; that it has ended already is never answered (`AuditSays`).
 //! - Where the root tells, an audit ends well only if nothing stands at `ocfl`, or a directory with the three files of this layout
 //!   (`IsOfLayout`). `Target` is answered only where something else does (`IsOfAnother`), after the store was found to be one with a good
 //!   prefix.
@@ -31,8 +33,9 @@
 //!   of the store were seen as the definitions have (`IsSurvey`); where the store tells, a step sees nothing more, or the next item: it only
 //!   leads on, or is passed over, and its line is put, or its object was scanned whole and is at hand (`Sees`). What is at hand then are its
 //!   identifier, its place and the rows and contents of all its files, and what is stored of these stands in the source (`HasAtHand`).
-//! - A step never blames or refuses a destination; it blames source and log exactly where they failed, and refuses a store only for what it is
-//!   (`SurveySays`). The source's tree is as it was, and what stood in the log stands. The store is seen before its sites.
+//! - A step never blames or refuses a destination; it blames source and log exactly where they failed, refuses a store only for what it is, and
+//!   says that the survey has ended only at its end (`SurveySays`). The source's tree is as it was, and what stood in the log stands. The store
+//!   is seen before its sites.
 //! - A step calls the source at most once, or twice where it reads the prefix.
 //! - Each step is counted, and there are no more than the limit. Where the store tells there are no more than a survey's work
 //!   (`work_of_survey`: as many as a run over no root makes turns at most, where no identifier comes twice), so the limit is met only where it
@@ -48,6 +51,7 @@ mod layout;
 mod lines;
 mod root_reader;
 mod survey;
+mod twin;
 
 pub use auditing::audit;
 pub use counts::Counts;

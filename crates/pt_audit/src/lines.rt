@@ -7,27 +7,34 @@ ghost use Rattle.pt_audit.specs.Lines.{line_by, line_text, line_tree};
 ghost use Rattle.pt_audit.specs.Lines as line;
 ghost use Rattle.pt_audit.specs.Lines.{told_of};
 
-use crate::{Comparison, Counts, Difference};
+use crate::{Comparison, Counts};
 use pt_move::Carried;
 use pt_object::members::{put_number, put_text};
-use pt_state::paths::text_of;
-use pt_tree::MemoryFault;
+use pt_plan::lines::text_of;
+use pt_tree::{MemoryFault, NamePath};
 use serde_json::{Map, Value};
 use std::alloc::Global;
 
-/// The line of an object, by what was found at its place.
+// Why a twin differs, in the place of what is wrong at the path.
+const TWIN: &str = "twin";
+
+/// The line of an object, by whether it is a twin, and what was found at its place.
 pub(crate) fn object_line(
     alloc: Global,
     object: &Carried<'_>,
+    is_twin: bool,
     finding: &Comparison,
 ) -> Result<String, MemoryFault>
     ensures { IfOk result (λ text. string_bytes text
-        ≡ line_text (line_by (told_of object.now) finding.now)) }
+        ≡ line_text (line_by (told_of object.now) is_twin finding.now)) }
 {
     match finding {
         Comparison::Same => text(alloc, &same_line(alloc, object)?),
         Comparison::Absent => text(alloc, &absent_line(alloc, object)?),
-        Comparison::Differs(difference) => text(alloc, &differs_line(alloc, object, difference)?),
+        Comparison::Differs(difference) => {
+            let why = if is_twin { TWIN } else { difference.why.word() };
+            text(alloc, &differs_line(alloc, object, &difference.path, why)?)
+        }
     }
 }
 
@@ -63,13 +70,14 @@ fn absent_line(alloc: Global, object: &Carried<'_>) -> Result<Value, MemoryFault
 fn differs_line(
     alloc: Global,
     object: &Carried<'_>,
-    difference: &Difference,
+    path: &NamePath,
+    why: &str,
 ) -> Result<Value, MemoryFault>
     ensures { IfOk result (λ value. view value
-        ≡ line_tree (line.Differs (told_of object.now) difference.now.path difference.now.why)) }
+        ≡ line_tree (line.Differs (told_of object.now) path.now why.now)) }
 {
     let at = text_of(&object.at)?;
-    let path = text_of(&difference.path)?;
+    let path = text_of(path)?;
     let to = text_of(object.to)?;
     let mut members = Map::new(alloc);
     put_text(&mut members, alloc, "as", "differs")?;
@@ -77,7 +85,7 @@ fn differs_line(
     put_text(&mut members, alloc, "id", object.id.as_str())?;
     put_text(&mut members, alloc, "path", path.as_str())?;
     put_text(&mut members, alloc, "to", to.as_str())?;
-    put_text(&mut members, alloc, "why", difference.why.word())?;
+    put_text(&mut members, alloc, "why", why)?;
     Ok(Value::from(members))
 }
 

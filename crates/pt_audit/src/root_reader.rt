@@ -3,7 +3,7 @@
 ghost use Rattle.std.specs.Prelude.{◌≡◌, ◌++◌, IfOk, OnOk, Option, is_some};
 ghost use Rattle.pt_audit.specs.RootReader.{CanFollow, HasBegun, IsAlikeAt, IsAtObject, IsBehind, IsPaced};
 ghost use Rattle.pt_audit.specs.Failing.{ReadFailsAs};
-ghost use Rattle.pt_compare.specs.Parts.{in_content};
+ghost use Rattle.pt_object.specs.Object.{in_content};
 ghost use Rattle.pt_compare.specs.Root.{KeepsRoot};
 ghost use Rattle.pt_plan.specs.TurnWalk.{in_root};
 ghost use Rattle.pt_audit.specs.Surveying.{sight_at};

@@ -4,6 +4,7 @@
 
 ghost use Rattle.std.specs.Option.{ForSome};
 ghost use Rattle.std.specs.Prelude.{◌≡◌, ◌≢◌, ℕ, true, length, Option, Some, None, IfErr, OnOk, IfOk};
+ghost use Rattle.std.specs.String.{string_bytes};
 ghost use Rattle.pt_move.specs.Bounds.{most_calls};
 ghost use Rattle.pt_move.specs.Running.{IsNew, TypeInvariant};
 ghost use Rattle.pt_plan.specs.Answer.{phase_after};
@@ -13,16 +14,17 @@ ghost use Rattle.pt_state.specs.Counting.{AtMostCalls};
 ghost use Rattle.pt_move.specs.Turning.{CountedTurn};
 ghost use Rattle.pt_plan.specs.declared.phase.Phase.TheVariants as phase;
 ghost use Rattle.pt_scan.specs.Blocks.{ReadsNext};
-ghost use Rattle.pt_audit.specs.Files.{IsOpened, MakesStep, names_before as names_before_file};
-ghost use Rattle.pt_audit.specs.Surveying.{GoesOn, IsHand, IsReady, IsSurvey, SurveySays, Surveys, bare_world, is_at_hand as is_at_hand_there, is_looking, passed as passed_phase, sight_at, unlogged_world};
+ghost use Rattle.pt_audit.specs.Files.{IsOpened, MakesStep};
+ghost use Rattle.pt_audit.specs.Surveying.{GoesOn, IsHand, IsReady, IsSurvey, SurveySays, Surveys, bare_states, is_at_hand as is_at_hand_there, is_looking, passed as passed_phase, sight_at, unlogged_states};
 ghost use Rattle.pt_tree.specs.Forest.{is_proper};
 ghost use Rattle.pt_tree.specs.Source.{Reading};
+ghost use Rattle.pt_walk.specs.Trail.{trail_path};
 
 use crate::empty_dest::{EmptyDest, NullLog};
 use pt_move::turning::{new_state, turn};
 use pt_move::{Carried, Job, Report, as_told};
 use pt_object::{Contents, Rows};
-use pt_plan::{Fault, Object, Opening, Part, Phase, Stage};
+use pt_plan::{Fault, Opening, Part, Phase, Stage};
 use pt_state::paths::entry_path;
 use pt_state::{Devices, State};
 use pt_tree::{Block, Log, MemoryFault, NamePath, Source};
@@ -133,7 +135,7 @@ impl Survey {
         ensures log { KeepsLog L.told L.keeps log.old log.new }
         ensures blames { BlamesRightly (S.failed source.old) (S.failed source.new)
             (L.failed log.old) (L.failed log.new) result }
-        ensures says { IfErr result (SurveySays self.old.state.job
+        ensures says { IfErr result (SurveySays self.old.state.job self.old.phase
             (source_tree (S.told source.old))) }
     {
         let here = match mem::replace(&mut self.phase, Phase::Ended) {
@@ -169,7 +171,7 @@ impl Survey {
             Phase::Carrying(object, Stage::Read(0)) => Ok(Some(Opened {
                 place: &object.place,
                 path: entry_path(&self.state.trail)?,
-                before: names_before(object),
+                before: object.names_before(),
             })),
             _ => Ok(None),
         }
@@ -187,6 +189,21 @@ impl Survey {
         ensures { result ≡ length self.now.state.contents }
     {
         self.state.contents.len()
+    }
+
+    /// The path of the directory that was listed last of those on the way, from below `pairtree_root` on: the site of the object at hand;
+    /// `Memory` where a growth was refused.
+    pub(crate) fn site(&self) -> Result<NamePath, MemoryFault>
+        ensures { IfOk result (λ site. site ≡ trail_path self.now.state.trail) }
+    {
+        self.state.trail.path()
+    }
+
+    /// What each identifier begins with.
+    pub(crate) fn prefix(&self) -> &str
+        ensures { result.now ≡ string_bytes self.now.state.prefix }
+    {
+        self.state.prefix.as_str()
     }
 
     /// What it was asked for.
@@ -254,8 +271,8 @@ fn look<S: Source, L: Log>(
     requires ready { IsReady (S.told source.old) here state.old }
     requires looks { is_looking here ≡ true }
     ensures turn { CountedTurn here state.old state.new
-        (bare_world S.Source L.Log source.old log.old)
-        (bare_world S.Source L.Log source.new log.new) result }
+        (bare_states S.Source L.Log source.old log.old)
+        (bare_states S.Source L.Log source.new log.new) result }
     ensures block { ReadsNext here (S.told source.old) state.new.block.items result }
     ensures source_stays { S.keeps source.old source.new
         × AtMostCalls (most_calls here) (S.called source.old) (S.called source.new) }
@@ -277,7 +294,7 @@ fn pass<S: Source>(state: &mut State, here: Phase, source: &mut S) -> Result<Pha
     requires ready { IsReady (S.told source.old) here state.old }
     requires at_hand { is_at_hand_there here ≡ true }
     ensures turn { CountedTurn here state.old state.new
-        (unlogged_world S.Source source.old) (unlogged_world S.Source source.new) result }
+        (unlogged_states S.Source source.old) (unlogged_states S.Source source.new) result }
     ensures source_stays { S.keeps source.old source.new
         × AtMostCalls (most_calls here) (S.called source.old) (S.called source.new) }
 {
@@ -315,16 +332,5 @@ fn seen_at(here: &Phase) -> SurveyEvent
         Phase::Carrying(_, Stage::Line) => SurveyEvent::Object,
         Phase::End => SurveyEvent::End,
         _ => SurveyEvent::More,
-    }
-}
-
-// How many names lead to an object, of the path of a file of it.
-fn names_before(object: &Object) -> usize
-    ensures { result ≡ names_before_file object.now }
-{
-    if object.gathered {
-        object.site.saturating_sub(1)
-    } else {
-        object.site
     }
 }

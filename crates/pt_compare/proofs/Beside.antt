@@ -5,13 +5,13 @@ use Rattle.std.specs.Prelude.{All, Option, Some, Result, Ok, Err, slice_get}
 use Rattle.pt_compare.specs.Beside.{AreAlike, StandsAlike, TakesFile}
 use Rattle.pt_compare.specs.Marks.{Marks, inside}
 use Rattle.pt_compare.specs.Meeting.{MeetsFrom, MeetsIn}
-use Rattle.pt_compare.specs.Parts.{in_content}
+use Rattle.pt_object.specs.Object.{in_content}
 use Rattle.pt_compare.specs.declared.scanned.Scanned.{Scanned}
 use Rattle.pt_compare.specs.declared.stop.Stop.{Stop}
 use Rattle.pt_compare.specs.declared.stop.Stop.TheVariants as stop
 use Rattle.pt_compare.proofs.Single.{as_item, one_stands, one_stops}
 use Rattle.pt_object.specs.Script.{MakeFile}
-use Rattle.pt_object.specs.declared.contents.Content.{Content}
+use Rattle.pt_object.specs.declared.table.contents.Content.{Content}
 use Rattle.pt_tree.specs.Forest.{Forest}
 use Rattle.pt_tree.specs.Path.{Path}
 use Rattle.pt_walk.specs.Left.{bytes_at}

@@ -30,7 +30,7 @@ use Rattle.pt_object.specs.MetaParts.{MetaParts}
 use Rattle.pt_object.specs.Object.{stored_files}
 use Rattle.pt_object.specs.Script.{Item, MakeFile}
 use Rattle.pt_object.specs.declared.algorithm.Algorithm.{Algorithm}
-use Rattle.pt_object.specs.declared.contents.Content.{Content}
+use Rattle.pt_object.specs.declared.table.contents.Content.{Content}
 use Rattle.pt_object.specs.declared.rows.Row.{Row}
 use Rattle.pt_tree.specs.Forest.{Dir, Forest, node_at}
 use Rattle.pt_tree.specs.Path.{Path, same_path}

@@ -6,9 +6,10 @@ use Rattle.std.specs.Cmp.Lexicographic.{same_text}
 use Rattle.std.specs.Str.{bytes_eq}
 use Rattle.std.proofs.lemmas.Bool.{true≢false}
 use Rattle.std.proofs.lemmas.List.{drop_all, drop_more, take-append-drop}
-use Rattle.pt_compare.specs.Root.{CanLook, Stands, is_dir, kind_at, same_kind}
-use Rattle.pt_compare.specs.Ways.{common_names}
-use Rattle.pt_compare.proofs.Roots.{below, stands_dir}
+use Rattle.pt_compare.specs.Root.{CanLook, Stands, kind_at, same_kind}
+use Rattle.pt_plan.specs.TurnMake.{common_names}
+use Rattle.pt_plan.specs.TurnStart.{is_dir_kind}
+use Rattle.pt_compare.proofs.Roots.{below, one_dir, stands_dir}
 use Rattle.pt_tree.specs.Forest.{Dir, Forest, kind_of}
 use Rattle.pt_tree.specs.Path.{Path, parent, split_path}
 use Rattle.pt_tree.specs.declared.kind.Kind.TheVariants as kind
@@ -17,10 +18,10 @@ use Rattle.pt_tree.specs.declared.kind.Kind.TheVariants as kind
 pub dir_above : (tree : Option Forest) (p q : Path) → Stands tree (p ++ q, kind.Dir) → Stands tree (p, kind.Dir)
 dir_above None p q stands = refl
 dir_above (Some f) p [] stands = subst (λ (x : Path). Stands (Some f) (x, kind.Dir)) (append-nil p) stands
-dir_above (Some f) p (n ∷ q) stands = by (is_dir (kind_at f p)) refl
+dir_above (Some f) p (n ∷ q) stands = by (is_dir_kind (kind_at f p)) refl
   where
-    by : (b : Bool) → is_dir (kind_at f p) ≡ b → is_dir (kind_at f p) ≡ true
-    by true is = is
+    by : (b : Bool) → is_dir_kind (kind_at f p) ≡ b → Stands (Some f) (p, kind.Dir)
+    by true is = one_dir (kind_at f p) is
     by false is = absurd (let none = below (Dir f) p n q is in true≢false (sym stands ∙ ap (λ o. option_map_or (same_kind kind.Dir) (option_map kind_of o) false) none))
 
 -- the names that two paths begin with alike are the same

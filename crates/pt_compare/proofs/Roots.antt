@@ -7,8 +7,8 @@ use Rattle.pt_tree.specs.Forest.{Forest, Node, File, Dir, Other, as_dir, as_file
 use Rattle.pt_tree.specs.Path.{Path, parent}
 use Rattle.pt_tree.specs.declared.kind.Kind.{Kind}
 use Rattle.pt_tree.specs.declared.kind.Kind.TheVariants as kind
-use Rattle.pt_compare.specs.Root.{CanLook, IsSeen, Stands, is_dir, kind_at, same_kind}
-use Rattle.pt_plan.specs.TurnStart.{is_file_kind}
+use Rattle.pt_compare.specs.Root.{CanLook, IsSeen, Stands, kind_at, same_kind}
+use Rattle.pt_plan.specs.TurnStart.{is_dir_kind, is_file_kind}
 use Rattle.pt_compare.proofs.Listed.{itself}
 use Rattle.pt_tree.proofs.Paths.{parent-push}
 
@@ -20,7 +20,7 @@ seen_stands (Some f) p k seen = ap (λ o. option_map_or (same_kind k) o false) (
 pub seen_kind : (tree : Option Forest) (p : Path) (here : Option Kind) (k : Kind) → IsSeen tree p here → here ≡ Some k → Stands tree (p, k)
 seen_kind tree p here k seen is = seen_stands tree p k (subst (IsSeen tree p) is seen)
 
-pub below : (x : Node) (p : Path) (n : List ℕ) (q : Path) → is_dir (option_map kind_of (node_at x p)) ≡ false → node_at x (p ++ n ∷ q) ≡ None
+pub below : (x : Node) (p : Path) (n : List ℕ) (q : Path) → is_dir_kind (option_map kind_of (node_at x p)) ≡ false → node_at x (p ++ n ∷ q) ≡ None
 below (File b) [] n q other = refl
 below Other [] n q other = refl
 below (Dir d) [] n q other = absurd (cc)
@@ -28,8 +28,8 @@ below (File b) (m ∷ p) n q other = refl
 below Other (m ∷ p) n q other = refl
 below (Dir d) (m ∷ p) n q other = on (find d m) (λ x. below x p n q) other
   where
-    on : (o : Option Node) → ((x : Node) → is_dir (option_map kind_of (node_at x p)) ≡ false → node_at x (p ++ n ∷ q) ≡ None)
-        → is_dir (option_map kind_of (option_and_then (λ x. node_at x p) o)) ≡ false → option_and_then (λ x. node_at x (p ++ n ∷ q)) o ≡ None
+    on : (o : Option Node) → ((x : Node) → is_dir_kind (option_map kind_of (node_at x p)) ≡ false → node_at x (p ++ n ∷ q) ≡ None)
+        → is_dir_kind (option_map kind_of (option_and_then (λ x. node_at x p) o)) ≡ false → option_and_then (λ x. node_at x (p ++ n ∷ q)) o ≡ None
     on None deeper other = refl
     on (Some x) deeper other = deeper x other
 
@@ -39,15 +39,22 @@ way_more way longer path n d i is within item long = long ∙ ap (λ (p : Path).
 
 -- below what is no directory nothing stands
 pub none_below : (tree : Option Forest) (path way : Path) (i : ℕ) (n d : List ℕ) (here : Option Kind) → i < length path → n ≡ get_or path i d → way ≡ take i path
-    → IsSeen tree way here → is_dir here ≡ false → IsSeen tree path None
+    → IsSeen tree way here → is_dir_kind here ≡ false → IsSeen tree path None
 none_below tree path way i n d here within is way_is seen other =
     let whole : way ++ n ∷ drop (i + 1) path ≡ path = ap (λ (p : Path). p ++ n ∷ drop (i + 1) path) way_is ∙ ap (λ (p : Path). take i path ++ p) (ap (λ (x : List ℕ). x ∷ drop (i + 1) path) is ∙ sym (drop_more path i d within)) ∙ take-append-drop i path in
-    λ f told. ap (λ (p : Path). kind_at f p) (sym whole) ∙ ap (option_map kind_of) (below (Dir f) way n (drop (i + 1) path) (ap is_dir (seen f told) ∙ other))
+    λ f told. ap (λ (p : Path). kind_at f p) (sym whole) ∙ ap (option_map kind_of) (below (Dir f) way n (drop (i + 1) path) (ap is_dir_kind (seen f told) ∙ other))
+
+-- what is a directory is of that kind
+pub one_dir : (here : Option Kind) → is_dir_kind here ≡ true → option_map_or (same_kind kind.Dir) here false ≡ true
+one_dir None is = absurd (cc)
+one_dir (Some kind.File) is = absurd (cc)
+one_dir (Some kind.Dir) is = refl
+one_dir (Some kind.Other) is = absurd (cc)
 
 -- below a directory that is seen one may look
-pub seen_dir : (tree : Option Forest) (p : Path) (here : Option Kind) → IsSeen tree p here → is_dir here ≡ true → Stands tree (p, kind.Dir)
+pub seen_dir : (tree : Option Forest) (p : Path) (here : Option Kind) → IsSeen tree p here → is_dir_kind here ≡ true → Stands tree (p, kind.Dir)
 seen_dir None p here seen is = refl
-seen_dir (Some f) p here seen is = ap is_dir (seen f refl) ∙ is
+seen_dir (Some f) p here seen is = one_dir (kind_at f p) (ap is_dir_kind (seen f refl) ∙ is)
 
 -- what is seen as a file stands as one
 pub file_seen : (tree : Option Forest) (p : Path) (here : Option Kind) → IsSeen tree p here → is_file_kind here ≡ true → Stands tree (p, kind.File)
@@ -97,5 +104,5 @@ pub can_look : (tree : Option Forest) (p : Path) (n : List ℕ) → Stands tree 
 unfolding CanLook
 can_look tree p n stands = λ f is. subst (λ q. IsSome (dir_at f q)) (sym (parent-push p n)) (stands_dir tree p stands f is)
 
-pub look_below : (tree : Option Forest) (p : Path) (n : List ℕ) (here : Option Kind) → IsSeen tree p here → is_dir here ≡ true → CanLook tree (p ++ n ∷ [])
+pub look_below : (tree : Option Forest) (p : Path) (n : List ℕ) (here : Option Kind) → IsSeen tree p here → is_dir_kind here ≡ true → CanLook tree (p ++ n ∷ [])
 look_below tree p n here seen is = can_look tree p n (seen_dir tree p here seen is)

@@ -4,8 +4,10 @@ use Rattle.std.specs.Prelude.{Option, None, Some, is_some, nat_lt}
 use Rattle.std.specs.Str.{bytes_eq}
 use Rattle.std.proofs.lemmas.Bool.{le-ltb, lt-ltb}
 use Rattle.std.proofs.lemmas.List.{take_all}
-use Rattle.pt_compare.specs.Parts.{in_content, leads_to_last}
-use Rattle.pt_compare.specs.Ways.{AreMet, common_names}
+use Rattle.pt_object.specs.Object.{in_content}
+use Rattle.pt_compare.specs.Parts.{leads_to_last}
+use Rattle.pt_compare.specs.Ways.{AreMet}
+use Rattle.pt_plan.specs.TurnMake.{common_names}
 use Rattle.pt_tree.specs.Path.{Path, rest_below}
 
 lt_suc : (a b : ℕ) → nat_lt (suc a) (suc b) ≡ nat_lt a b

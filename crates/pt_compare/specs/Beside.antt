@@ -3,7 +3,7 @@ use Rattle.std.specs.Prelude.{◌≡◌, Bool, true, false, ◌++◌, take, Opti
 use Rattle.std.specs.Option.{ForSome, option_map}
 use Rattle.pt_compare.specs.Marks.{Marks, inside, without_mark}
 use Rattle.pt_compare.specs.Meeting.{IsWrongFile}
-use Rattle.pt_compare.specs.Parts.{in_content}
+use Rattle.pt_object.specs.Object.{in_content}
 use Rattle.pt_compare.specs.Root.{Stands, tree_in}
 use Rattle.pt_compare.specs.declared.scanned.Scanned.{Scanned}
 use Rattle.pt_compare.specs.declared.stop.Stop.{Stop}

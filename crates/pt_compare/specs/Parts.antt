@@ -2,17 +2,13 @@
 use Rattle.std.specs.Prelude.{ℕ, Bool, false, codes, filter, is_some, map, not, List, [], ◌∷◌, ◌++◌, Option, None, Some}
 use Rattle.pt_object.specs.FilePaths.{File}
 use Rattle.pt_object.specs.Files.{object_declaration_bytes, sidecar_text}
-use Rattle.pt_object.specs.Object.{inventory_name, object_declaration_name, sidecar_name, version_folder}
+use Rattle.pt_object.specs.Object.{in_content, inventory_name, object_declaration_name, sidecar_name, version_folder}
 use Rattle.pt_object.specs.Script.{Item, MakeFolder, MakeFile}
 use Rattle.pt_object.specs.declared.algorithm.Algorithm.{Algorithm}
-use Rattle.pt_object.specs.declared.contents.Content.{Content}
+use Rattle.pt_object.specs.declared.table.contents.Content.{Content}
 use Rattle.pt_tree.specs.Forest.{Forest}
 use Rattle.pt_tree.specs.Path.{Path, rest_below}
 use Rattle.pt_walk.specs.Left.{bytes_at}
-
--- where the content of a logical path is stored, or a folder on the way to it
-abbrev pub in_content : Path → Path
-in_content path = version_folder ++ codes "content" ∷ path
 
 -- each path that begins this one, but for itself, from the empty one on
 abbrev pub fronts : Path → List Path

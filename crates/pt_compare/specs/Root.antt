@@ -32,10 +32,6 @@ abbrev pub is_standing : Option Forest → Path × Kind → Bool
 is_standing None e = true
 is_standing (Some f) e = option_map_or (same_kind e.1) (kind_at f e.0) false
 
--- it is a directory
-abbrev pub is_dir : Option Kind → Bool
-is_dir here = option_map_or (same_kind kind.Dir) here false
-
 -- this stands there, where the root tells
 abbrev pub Stands : Option Forest → Path × Kind → Type 0
 Stands tree e = is_standing tree e ≡ true

@@ -1,14 +1,7 @@
 -- The folders on the way to a content that the content before it needed too.
-use Rattle.std.specs.Prelude.{◌≡◌, ◌≤◌, ℕ, suc, [], ◌∷◌, Option, cond, length, nat_lt, take}
-use Rattle.std.specs.Str.{bytes_eq}
+use Rattle.std.specs.Prelude.{◌≡◌, ◌≤◌, ℕ, suc, Option, length, nat_lt, take}
 use Rattle.pt_compare.specs.Parts.{leads_to_last}
 use Rattle.pt_tree.specs.Path.{Path}
-
--- how many names two paths begin with alike
-abbrev pub common_names : Path → Path → ℕ
-common_names [] other = 0
-common_names (name ∷ path) [] = 0
-common_names (name ∷ path) (first ∷ other) = cond (bytes_eq name first) (suc (common_names path other)) 0
 
 -- of the folders on the way to what is stored at the path, from the version's folder for contents on, just so many lead to the
 -- content that was met last

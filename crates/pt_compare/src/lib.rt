@@ -31,5 +31,6 @@ mod stop;
 pub use bytes::{come_next, has_ended};
 pub use comparing::compare;
 pub use difference::{Comparison, Difference, Why};
+pub use names::alike_names;
 pub use root::{Root, open_standing, standing};
 pub use scanned::Scanned;

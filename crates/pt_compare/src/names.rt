@@ -1,11 +1,11 @@
 //! What two paths have in common.
 ghost use Rattle.std.specs.Prelude.{◌≡◌, ◌≤◌, length};
-ghost use Rattle.pt_compare.specs.Ways.{common_names};
+ghost use Rattle.pt_plan.specs.TurnMake.{common_names};
 
 use pt_tree::Name;
 
 /// How many names two paths begin with alike.
-pub(crate) fn alike_names(path: &[Name], other: &[Name]) -> usize
+pub fn alike_names(path: &[Name], other: &[Name]) -> usize
     ensures alike { result ≡ common_names path.now other.now }
     ensures within { result ≤ length path.now }
 {

@@ -1,6 +1,6 @@
 //! The paths of an object, from its place on.
 ghost use Rattle.std.specs.Prelude.{◌≡◌, ◌++◌, ◌≤◌, IfOk, length, take};
-ghost use Rattle.pt_compare.specs.Parts.{in_content};
+ghost use Rattle.pt_object.specs.Object.{in_content};
 
 use pt_object::WellKnownName;
 use pt_tree::{MemoryFault, NamePath};

@@ -1,12 +1,12 @@
 //! The storage root that stands, as an audit reads it.
 ghost use Rattle.std.specs.Prelude.{◌≡◌, IfOk, IsTrue};
-ghost use Rattle.pt_plan.specs.TurnStart.{is_file_kind};
 ghost use Rattle.pt_compare.specs.Beside.{OpensStanding};
 ghost use Rattle.pt_tree.specs.declared.kind.Kind.TheVariants as kind;
 ghost use Rattle.pt_tree.specs.Failures.{IsCounted};
-ghost use Rattle.pt_compare.specs.Root.{CanLook, IsSeen, Stands, is_dir as is_dir_kind, tree_in};
+ghost use Rattle.pt_compare.specs.Root.{CanLook, IsSeen, Stands, tree_in};
 
 use crate::names::alike_names;
+use pt_plan::kinds::{is_dir, is_file};
 use pt_tree::{Kind, Name, NamePath, Source, TreeFault};
 use std::alloc::Global;
 
@@ -45,12 +45,6 @@ pub fn standing<R: Root>(
         here = root.kind(&way)?;
     }
     Ok(here)
-}
-
-fn is_dir(here: Option<Kind>) -> bool
-    ensures { result ≡ is_dir_kind here }
-{
-    matches!(here, Some(Kind::Dir))
 }
 
 /// Opens the file at a path of a root, if one stands there; whether it does.
@@ -112,10 +106,4 @@ fn stand_above<R: Root>(
     }
     *folder = way;
     Ok(true)
-}
-
-fn is_file(here: Option<Kind>) -> bool
-    ensures { result ≡ is_file_kind here }
-{
-    matches!(here, Some(Kind::File))
 }

@@ -9,13 +9,17 @@ use Rattle.pt_state.specs.declared.job.Job.{Job}
 use Rattle.pt_audit.proofs.Bounding.{first_of, made_within, second_of}
 use Rattle.pt_audit.proofs.Telling.{first_step, surveys_first}
 use Rattle.pt_audit.proofs.Pacing.{follows_first}
+use Rattle.pt_audit.proofs.Saying.{begun_is_not_over}
 use Rattle.pt_audit.proofs.auditing.audit.Goals as goal
 
 pub go_through-requires : goal.go_through-requires
 go_through-requires g c =
     let it = c.start-survey.ensures.begun (g.S.Source.told c.args.source.now) (g.met.S.Source.proper c.args.source.now) in record {
       under_way = first_step c.args.job _ _ _ _ _ _ c.start-survey.ensures.new it refl;
-      follows = follows_first _ _ _ c.start-survey.result c.new-beside.ensures c.start-survey.ensures.new.phase (surveys_first _ 0 _ it);
+      follows = record {
+        follows = follows_first _ _ _ c.start-survey.result c.new-beside.ensures c.start-survey.ensures.new.phase (surveys_first _ 0 _ it);
+        more = begun_is_not_over c.start-survey.ensures.new;
+      };
     }
 
 pub returns-clause-ends : goal.returns-clause-ends

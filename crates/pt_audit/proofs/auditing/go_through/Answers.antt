@@ -5,6 +5,7 @@ use Rattle.pt_audit.specs.Surveying.{Steps}
 use Rattle.pt_tree.specs.Forest.{Forest}
 use Rattle.pt_audit.proofs.Telling.{same_end, same_layout, same_trees}
 use Rattle.pt_audit.proofs.Saying.{same_failures}
+use Rattle.std.proofs.lemmas.Bool.{OnTrue_at}
 use Rattle.pt_audit.specs.Growing.{grows_none, grows_on}
 use Rattle.pt_audit.proofs.auditing.go_through.Goals as goal
 
@@ -82,7 +83,7 @@ loop-more-preserved g c =
     let was = c.loop-more.invariant in
     let went = c.in_ok-more.ensures in (
       same_trees c.in_ok-more.more _ _ _ _ _ _ _ _ c.go_on.new.survey (search rules) went.source.1 went.root.1 (went.on _ was.0),
-      went.still.1,
+      record { follows = went.still.1; more = OnTrue_at {b = c.in_ok-more.more} (search rules) went.still.3 },
       went.still.0.job ∙ was.2,
       (g.met.S.Source.keeps_on _ _ _ was.3.0 went.source.0, went.source.1 ∙ was.3.1),
       (g.met.R.Source.keeps_on _ _ _ was.4.0 went.root.0, went.root.1 ∙ was.4.1),

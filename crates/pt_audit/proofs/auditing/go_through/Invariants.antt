@@ -1,6 +1,6 @@
 use Rattle.std.proofs.Common.{◌≡◌, ◌-◌, ℕ}
 use Rattle.pt_audit.specs.Auditing.{IsUnderWay}
-use Rattle.pt_audit.specs.RootReader.{Follows}
+use Rattle.pt_audit.specs.RootReader.{FollowsOn}
 use Rattle.pt_audit.specs.Bounds.{Surveyed}
 use Rattle.pt_audit.specs.Failing.{failures}
 use Rattle.pt_compare.specs.Root.{KeepsRoot, tree_in}
@@ -11,7 +11,7 @@ use Rattle.pt_audit.proofs.auditing.go_through.Given as goal
 abbrev pub invariant-loop-more : goal.invariant-loop-more
 invariant-loop-more g l =
     IsUnderWay (g.S.Source.told l.source) (tree_in (g.S.Source.told l.source)) (tree_in (g.R.Source.told l.root)) (g.L.Log.told l.fn.log) (g.L.Log.told l.log) l.counts l.survey
-    × Follows (g.S.Source.told l.source) (g.R.Source.told l.root) l.beside l.survey
+    × FollowsOn (g.S.Source.told l.source) (g.R.Source.told l.root) l.beside l.survey
     × (l.survey.state.job ≡ l.fn.survey.state.job)
     × KeepsRoot g.S.Source.told g.S.Source.keeps l.fn.source l.source
     × KeepsRoot g.R.Source.told g.R.Source.keeps l.fn.root l.root

@@ -1,5 +1,5 @@
 use Rattle.std.proofs.Common.{ap, refl, rules, subst}
-use Rattle.pt_audit.proofs.Saying.{has_layout, says_err, says_failed, says_layout}
+use Rattle.pt_audit.proofs.Saying.{has_layout, more_is_not_over, object_is_not_over, says_err, says_failed, says_layout, store_is_not_over}
 use Rattle.pt_audit.proofs.Pacing.{at_sight, follows_told}
 use Rattle.pt_audit.proofs.Telling.{not_told, on_end, on_more, on_store}
 use Rattle.pt_audit.specs.Auditing.{IsAt, is_told}
@@ -44,7 +44,7 @@ returns-in_ok-check_layout-in-Store-clause-on g c = λ first it.
 pub returns-in-More : goal.returns-in-More
 returns-in-More g c = record {
   on = λ first it. on_more _ c.args.counts.now c.args.survey.now c.args.sight (not_told c.args.sight c.in-More.is) (at_sight c.requires) it;
-  still = (c.requires.follows, tt);
+  still = (c.requires.follows, tt, more_is_not_over c.args.survey.now c.requires.saw c.in-More.is);
   source = (g.met.S.Source.is_kept _, refl);
   root = (g.met.R.Source.is_kept _, refl);
   log = (g.met.L.Log.is_kept _, grows_none _);
@@ -54,4 +54,7 @@ returns-in-More g c = record {
 
 pub returns-in_ok-tell_object-in-Object-clause-still : goal.returns-in_ok-tell_object-in-Object-clause-still
 returns-in_ok-tell_object-in-Object-clause-still g c =
-    (follows_told _ _ _ _ c.args.beside.now c.args.survey.now c.args.sight c.requires.saw (ap is_told c.in-Object.is) c.in_ok-tell_object-in-Object.ensures.source.1 c.in_ok-tell_object-in-Object.ensures.root.1 c.in_ok-tell_object-in-Object.ensures.still c.requires.follows, tt)
+    (follows_told _ _ _ _ c.args.beside.now c.args.survey.now c.args.sight c.requires.saw (ap is_told c.in-Object.is) c.in_ok-tell_object-in-Object.ensures.source.1 c.in_ok-tell_object-in-Object.ensures.root.1 c.in_ok-tell_object-in-Object.ensures.still c.requires.follows, tt, object_is_not_over c.args.survey.now c.requires.saw c.in-Object.is)
+
+pub returns-in_ok-check_layout-in-Store-clause-still : goal.returns-in_ok-check_layout-in-Store-clause-still
+returns-in_ok-check_layout-in-Store-clause-still g c = (search rules, tt, store_is_not_over c.args.survey.now c.requires.saw c.in-Store.is)

@@ -2,9 +2,10 @@ use Rattle.std.proofs.Common.{arith, rules, refl, ap, sym, subst, ◌≡◌, ◌
 use Rattle.std.specs.Prelude.{None, slice_get}
 use Rattle.std.proofs.lemmas.List.{take_all}
 use Rattle.pt_compare.specs.Marks.{marks_of}
-use Rattle.pt_compare.specs.Parts.{fronts, in_content, way_items}
+use Rattle.pt_object.specs.Object.{in_content}
+use Rattle.pt_compare.specs.Parts.{fronts, way_items}
 use Rattle.pt_compare.specs.Root.{tree_in}
-use Rattle.pt_object.specs.declared.contents.Content.{Content}
+use Rattle.pt_object.specs.declared.table.contents.Content.{Content}
 use Rattle.pt_plan.specs.DeviceStates.{Failures}
 use Rattle.pt_plan.specs.declared.fault.Fault.TheVariants as fault
 use Rattle.pt_tree.specs.Path.{Path}

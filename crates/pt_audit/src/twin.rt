@@ -1,0 +1,149 @@
+//! Whether an object is a twin: its site isn't where its identifier belongs, and an object stands there.
+#![tactic(auto, using(crate::proofs::Twins::twins))]
+
+ghost use Rattle.std.specs.Prelude.{◌≡◌, IfOk, slice_get};
+ghost use Rattle.std.specs.Option.{ForSome};
+ghost use Rattle.pt_audit.specs.Twin.{has_object as has_object_finding, is_second as is_second_site, proper_site as proper_site_of};
+ghost use Rattle.pt_compare.specs.Root.{Stands, kind_at as kind_there, tree_in};
+ghost use Rattle.pt_plan.specs.TurnStart.{is_dir_kind, kind_in as kind_listed};
+ghost use Rattle.pt_scan.specs.Store.{kind_if_named};
+ghost use Rattle.pt_plan.specs.TurnWalk.{in_pairtree as in_pairtree_of};
+ghost use Rattle.pt_state.specs.States.{job_of};
+ghost use Rattle.pt_tree.specs.Failures.{IsCounted};
+ghost use Rattle.pt_tree.specs.declared.kind.Kind.TheVariants as kind;
+ghost use Rattle.pt_walk.specs.Sites.{at_of as at_of_path};
+
+use pt_compare::alike_names;
+use pt_move::Job;
+use pt_name::pairpath;
+use pt_plan::kinds::is_dir;
+use pt_scan::judging::form_of;
+use pt_state::paths::in_pairtree;
+use pt_tree::{Kind, Listing, MemoryFault, Name, NameFault, NamePath, Source, TreeFault};
+use pt_walk::{At, Finding, judge};
+use std::alloc::Global;
+
+/// Whether a site isn't where an identifier belongs, which is given without the store's prefix, and an object stands there, as a
+/// run judges a site.
+///
+/// Of what leads there each folder is listed, one after another, from the last that leads to the site too, up to the first that
+/// lacks the next one. `Device` where one can't be listed, `Memory` where a growth was refused.
+pub(crate) fn is_second<S: Source>(
+    source: &mut S,
+    job: &Job,
+    site: &NamePath,
+    id: &[u8],
+) -> Result<bool, TreeFault>
+    requires { Stands (tree_in (S.told source.old)) (in_pairtree_of site.now, kind.Dir) }
+    ensures second { IfOk result (λ second. ForSome (tree_in (S.told source.old))
+        (λ s. second ≡ is_second_site (job_of job.now) s site.now id.now)) }
+    ensures same { S.told source.new ≡ S.told source.old }
+    ensures failures { IsCounted (S.failed source.old) (S.failed source.new) result }
+    ensures keeps { S.keeps source.old source.new }
+{
+    let proper = proper_site(site.allocator(), id)?;
+    if *site == proper || proper.len() as u64 > job.limits.depth() {
+        return Ok(false);
+    }
+    let stands = leads_to(source, site, &proper)?;
+    if !stands {
+        return Ok(false);
+    }
+    let at = at_of(&proper);
+    let path = in_pairtree(proper)?;
+    let listing = source.list(&path)?;
+    Ok(has_object(judge(&listing, at, form_of(job.gather))))
+}
+
+// The site where an identifier belongs: its pairpath.
+fn proper_site(alloc: Global, id: &[u8]) -> Result<NamePath, MemoryFault>
+    ensures { IfOk result (λ site. site ≡ proper_site_of id.now) }
+{
+    let text = pairpath(alloc, id)?;
+    match NamePath::of_text(alloc, &text) {
+        Ok(site) => Ok(site),
+        Err(fault) => match fault {
+            NameFault::Memory => Err(MemoryFault::Memory),
+            _ => unreachable!(),
+        },
+    }
+}
+
+// Whether a directory stands at a path of the pairtree. It is looked for from where a directory that stands has another name.
+fn leads_to<S: Source>(
+    source: &mut S,
+    standing: &NamePath,
+    path: &NamePath,
+) -> Result<bool, TreeFault>
+    requires { Stands (tree_in (S.told source.old)) (in_pairtree_of standing.now, kind.Dir) }
+    ensures there { IfOk result (λ there. ForSome (tree_in (S.told source.old))
+        (λ s. there ≡ is_dir_kind (kind_there s (in_pairtree_of path.now)))) }
+    ensures same { S.told source.new ≡ S.told source.old }
+    ensures failures { IsCounted (S.failed source.old) (S.failed source.new) result }
+    ensures keeps { S.keeps source.old source.new }
+{
+    let names = path.names();
+    let alike = alike_names(names, standing.names());
+    let (first, rest) = names.split_at(alike);
+    let front = NamePath::new(path.allocator()).followed_by(first)?;
+    let mut way = in_pairtree(front)?;
+    for name in rest {
+        let listing = source.list(&way)?;
+        if !is_dir(kind_in(&listing, name)) {
+            return Ok(false);
+        }
+        way.push(name.copy()?)?;
+    }
+    Ok(true)
+}
+
+// The kind of the entry of this name.
+fn kind_in(listing: &Listing, name: &Name) -> Option<Kind>
+    ensures { result ≡ kind_listed listing.now name.now }
+{
+    for i in 0..listing.len() {
+        if let Some(kind) = kind_at(listing, i, name) {
+            return Some(kind);
+        }
+    }
+    None
+}
+
+// The kind of the entry of this index, if it has this name.
+fn kind_at(listing: &Listing, i: usize, name: &Name) -> Option<Kind>
+    ensures { result ≡ kind_if_named (slice_get listing.now i) name.now }
+{
+    match listing.get(i) {
+        Some((entry, kind)) => {
+            if entry.bytes() == name.bytes() {
+                Some(kind)
+            } else {
+                None
+            }
+        }
+        None => None,
+    }
+}
+
+// Where a path stands as a site, by its last name.
+fn at_of(path: &NamePath) -> At
+    ensures { result ≡ at_of_path path.now }
+{
+    match path.split() {
+        None => At::Root,
+        Some((_, last)) => {
+            if last.bytes().len() == 1 {
+                At::Last
+            } else {
+                At::Pair
+            }
+        }
+    }
+}
+
+// Whether a site that is found to be this has an object.
+fn has_object(finding: Finding) -> bool
+    ensures { result ≡ has_object_finding finding }
+{
+    matches!(finding, Finding::Candidate(_) | Finding::Gathered)
+}
