@@ -1,8 +1,9 @@
+//! An inventory is the text that its files, its user and its moment make, byte for byte.
 ghost use Rattle.std.specs.Prelude.{◌≡◌, IfOk, map};
 ghost use Rattle.pt_object.specs.Distinct.{content_of_row, distinct};
 
-use crate::answers::{Holds, all_hold, gives_text};
 use crate::objects::{OF_ABC, OF_NOTHING, SHORT_OF_ABC};
+use crate::tables::{Holds, all_hold, gives_text};
 use pt_memory::texts::path;
 use pt_object::{Algorithm, Contents, Digest, Hasher, Meta, MetaFault, Rows, inventory};
 use pt_tree::{MemoryFault, NamePath};
@@ -171,7 +172,7 @@ fn text_of(alloc: Global, case: &Case, manifest: &str, state: &str) -> Result<St
     )
 }
 
-fn wanted(alloc: Global, case: &Case) -> Result<String, AllocError> {
+fn expect_text(alloc: Global, case: &Case) -> Result<String, AllocError> {
     let manifest = by_digest(alloc, case.manifest)?;
     let state = by_digest(alloc, case.state)?;
     text_of(alloc, case, manifest.as_str(), state.as_str())
@@ -179,7 +180,7 @@ fn wanted(alloc: Global, case: &Case) -> Result<String, AllocError> {
 
 impl Holds for Case {
     fn holds(&self, alloc: Global) -> bool {
-        match wanted(alloc, self) {
+        match expect_text(alloc, self) {
             Ok(want) => is_written(alloc, self, want.as_str()),
             Err(_) => false,
         }
@@ -187,6 +188,6 @@ impl Holds for Case {
 }
 
 #[test]
-fn inventories(rt: HostRuntime) {
+fn inventories_have_their_files_and_their_user(rt: HostRuntime) {
     all_hold(&rt, rt.alloc(), "inventories", CASES);
 }

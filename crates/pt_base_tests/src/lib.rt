@@ -1,24 +1,33 @@
-//! Tests of the libraries below a run by their public calls: names, trees in memory, walking, places and the texts of
-//! an object. No code of the program stands on this crate.
+//! Tests of the libraries below a run by their public calls: names and paths, trees and logs in memory, sites and trails,
+//! identifiers and places, digests, inventories and the other texts of an object. No code of the program stands on this
+//! crate.
 #![tactic(auto)]
 
 #[cfg(test)]
-mod answers;
+mod identification;
+#[cfg(test)]
+mod identifiers;
 #[cfg(test)]
 mod inventories;
 #[cfg(test)]
-mod lengths;
-#[cfg(test)]
-mod listings;
-#[cfg(test)]
 mod logs;
 #[cfg(test)]
-mod naming;
+mod memory_trees;
+#[cfg(test)]
+mod name_lengths;
+#[cfg(test)]
+mod names;
 #[cfg(test)]
 mod objects;
 #[cfg(test)]
+mod rows_and_contents;
+#[cfg(test)]
 mod sidecars;
 #[cfg(test)]
-mod trees;
+mod sites;
 #[cfg(test)]
-mod walking;
+mod tables;
+#[cfg(test)]
+mod trails;
+#[cfg(test)]
+mod walk_laws;

@@ -1,7 +1,7 @@
 //! Logs in memory and over a writer: what they take, and how they fail.
 use pt_memory::MemLog;
 use pt_tree::{Log, TreeFault, WriterLog};
-use std::alloc::Global;
+use std::cell::Cell;
 use std::io;
 use std::io::Write;
 
@@ -43,18 +43,28 @@ fn a_log_takes_what_fits_its_fuse(rt: HostRuntime) {
     assert!(rt; takes_what_fits(&mut MemLog::new(rt.alloc())));
 }
 
-// A writer that takes so many bytes at a time, and may fail when it is flushed.
+// A writer that takes so many bytes at a time, and may fail when it is flushed. What it took is one number: its bytes are
+// the digits.
 #[derive(Drop)]
-struct Taker {
-    taken: Vec<u8>,
+struct Taker<'a> {
+    taken: &'a Cell<u64>,
     at_a_time: usize,
     flushes: bool,
 }
 
-impl Write for Taker {
+// The number that these bytes follow in its digits.
+fn add_digits(number: u64, bytes: &[u8]) -> u64 {
+    let mut number = number;
+    for byte in bytes {
+        number = number.wrapping_mul(256).wrapping_add(*byte as u64);
+    }
+    number
+}
+
+impl<'a> Write for Taker<'a> {
     fn write(&mut self, buf: &[u8]) -> io::Result<usize> {
         let count = buf.len().min(self.at_a_time);
-        self.taken.extend_from_slice(&buf[..count])?;
+        self.taken.set(add_digits(self.taken.get(), &buf[..count]));
         Ok(count)
     }
 
@@ -67,26 +77,37 @@ impl Write for Taker {
     }
 }
 
-// A log over a writer that takes five bytes in two pieces, and fails so often.
-fn takes_both(alloc: Global, at_a_time: usize, flushes: bool, failures: u64) -> bool {
-    let mut log = WriterLog::new(Taker {
-        taken: Vec::new(alloc),
-        at_a_time,
-        flushes,
-    });
-    let takes_all = takes(&mut log, b"ab") && takes(&mut log, b"cde");
-    takes_all == (failures == 0) && log.failures() == failures
+// How many bytes a writer takes at a time, whether it is flushed, how often a log over it fails, and what it took of the pieces
+// `ab` and `cde`.
+#[derive(Clone, Copy)]
+struct Writer(usize, bool, u64, &'static [u8]);
+
+impl Writer {
+    fn takes_pieces(&self) -> bool {
+        let Writer(at_a_time, flushes, failures, bytes) = *self;
+        let taken = Cell::new(0);
+        let mut log = WriterLog::new(Taker {
+            taken: &taken,
+            at_a_time,
+            flushes,
+        });
+        let takes_all = takes(&mut log, b"ab") && takes(&mut log, b"cde");
+        takes_all == (failures == 0)
+            && log.failures() == failures
+            && taken.get() == add_digits(0, bytes)
+    }
 }
 
-// How many bytes a writer takes at a time, whether it is flushed, and how often the log fails.
-const WRITERS: &[(usize, bool, u64)] = &[(1, true, 0), (3, true, 0), (0, true, 1), (3, false, 1)];
+const WRITERS: &[Writer] = &[
+    Writer(1, true, 0, b"abcde"),
+    Writer(3, true, 0, b"abcde"),
+    Writer(0, true, 1, b""),
+    Writer(3, false, 1, b"ab"),
+];
 
 #[test]
 fn a_writer_takes_a_piece_in_parts(rt: HostRuntime) {
-    for (at_a_time, flushes, failures) in WRITERS {
-        assert!(rt;
-            takes_both(rt.alloc(), *at_a_time, *flushes, *failures),
-            "{at_a_time}, {flushes}"
-        );
+    for (i, writer) in WRITERS.iter().enumerate() {
+        assert!(rt; writer.takes_pieces(), "row {i}");
     }
 }

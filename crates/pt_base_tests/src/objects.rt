@@ -1,12 +1,12 @@
-use crate::answers::{Holds, all_hold, gives_text, is_path, refuses};
-use pt_memory::texts::path;
+//! Digests of blocks, the moments and names that an inventory may have, sidecars, and the files of a root.
+use crate::tables::{Holds, all_hold, gives_text, is_path, refuses};
 use pt_name::Layout;
 use pt_object::{
-    Algorithm, Content, Contents, Digest, Hasher, Meta, MetaFault, RootFiles, Row, Rows,
-    object_declaration, root_declaration, root_files, sidecar,
+    Algorithm, Digest, Hasher, Meta, MetaFault, RootFiles, object_declaration, root_declaration,
+    root_files, sidecar,
 };
 use pt_tree::{Block, NamePath};
-use std::alloc::{AllocError, Global};
+use std::alloc::Global;
 
 // The SHA-512 of `abc` and of the empty text.
 pub(crate) const OF_ABC: &str =
@@ -19,7 +19,8 @@ pub(crate) const OF_NOTHING: &str =
 pub(crate) const SHORT_OF_ABC: &str =
     "ba7816bf8f01cfea414140de5dae2223b00361a396177a9cb410ff61f20015ad";
 
-fn digest_of_blocks(algorithm: Algorithm, blocks: &[&[u8]]) -> Digest {
+/// The digest of these blocks.
+pub(crate) fn digest_of_blocks(algorithm: Algorithm, blocks: &[&[u8]]) -> Digest {
     let mut hasher = Hasher::start(algorithm);
     for bytes in blocks {
         let mut block = Block::new();
@@ -33,8 +34,8 @@ fn digest_of_blocks(algorithm: Algorithm, blocks: &[&[u8]]) -> Digest {
     hasher.end()
 }
 
-// The digest of this many letters `a`, in blocks that are full but for the last.
-fn digest_of_letters(algorithm: Algorithm, count: usize) -> Digest {
+/// The digest of this many letters `a`, in blocks that are full but for the last.
+pub(crate) fn digest_of_letters(algorithm: Algorithm, count: usize) -> Digest {
     let mut hasher = Hasher::start(algorithm);
     let mut block = Block::new();
     for _ in 0..count {
@@ -94,7 +95,7 @@ impl Holds for Worked {
             Worked::Sidecar(algorithm, word, digest) => {
                 algorithm.word() == *word && is_sidecar(alloc, *algorithm, digest)
             }
-            Worked::Moment(created) => Meta::of(alloc, created, "Ada", None, "").is_ok(),
+            Worked::Moment(created) => is_moment(alloc, created),
             Worked::NoMoment(created) => is_no_moment(alloc, created),
             Worked::NoName(created, name) => refuses(
                 Meta::of(alloc, created, name, Some("a"), "m"),
@@ -105,7 +106,8 @@ impl Holds for Worked {
     }
 }
 
-const ABC: &[&[u8]] = &[b"abc"];
+/// The text `abc` as one block.
+pub(crate) const ABC: &[&[u8]] = &[b"abc"];
 
 const A_AND_BC: &[&[u8]] = &[b"a", b"bc"];
 
@@ -142,201 +144,6 @@ const LETTERS: &[Worked] = &[
     ),
 ];
 
-fn is_row(row: Option<&Row>, path: &NamePath, digest: &Digest, length: u64) -> bool {
-    match row {
-        Some(row) => row.path == *path && row.digest == *digest && row.length == length,
-        None => false,
-    }
-}
-
-fn takes_row(rows: &mut Rows, path: &NamePath, digest: &Digest) -> bool {
-    rows.push(path, digest, 1).is_ok()
-}
-
-// Having no rows, it keeps this one, until it is cleared.
-fn keeps_a_row(rows: &mut Rows, path: &NamePath, digest: &Digest) -> bool {
-    rows.is_empty()
-        && takes_row(rows, path, digest)
-        && rows.len() == 1
-        && is_row(rows.get(0), path, digest, 1)
-        && rows.get(1).is_none()
-        && is_cleared(rows)
-}
-
-fn is_cleared(rows: &mut Rows) -> bool {
-    rows.clear();
-    rows.is_empty()
-}
-
-fn keeps_rows(alloc: Global) -> bool {
-    let digest = digest_of_letters(Algorithm::Sha512, 1);
-    match path(alloc, "a/x") {
-        Ok(path) => keeps_a_row(&mut Rows::new(alloc), &path, &digest),
-        Err(_) => false,
-    }
-}
-
-#[test]
-fn keeps_rows_in_order(rt: HostRuntime) {
-    assert!(rt; keeps_rows(rt.alloc()));
-}
-
-fn is_item(item: Option<&Content>, digest: &Digest, path: &NamePath) -> bool {
-    match item {
-        Some(content) => content.digest == *digest && content.path == *path,
-        None => false,
-    }
-}
-
-// A digest is noted at a path of this text, and it is new; or it isn't.
-fn is_noted(contents: &mut Contents, alloc: Global, digest: &Digest, at: &str, new: bool) -> bool {
-    match path(alloc, at) {
-        Ok(at) => contents.note(digest, &at) == Ok(new),
-        Err(_) => false,
-    }
-}
-
-// The item has this digest, and a path of this text.
-fn is_noted_at(item: Option<&Content>, digest: &Digest, at: &str) -> bool {
-    match item {
-        Some(content) => content.digest == *digest && is_path(&content.path, at),
-        None => false,
-    }
-}
-
-// The first path of this digest is this text.
-fn is_first_at(contents: &Contents, digest: &Digest, at: &str) -> bool {
-    match contents.first(digest) {
-        Some(path) => is_path(path, at),
-        None => false,
-    }
-}
-
-// Without contents, it notes these two.
-fn notes(contents: &mut Contents, alloc: Global, abc: &Digest, nothing: &Digest) -> bool {
-    contents.is_empty()
-        && contents.first(abc).is_none()
-        && is_noted(contents, alloc, abc, "a/x", true)
-        && is_noted(contents, alloc, abc, "a.txt", false)
-        && is_noted(contents, alloc, nothing, "c", true)
-}
-
-fn are_noted(contents: &Contents, abc: &Digest, nothing: &Digest) -> bool {
-    contents.len() == 2
-        && is_noted_at(contents.get(0), abc, "a/x")
-        && is_noted_at(contents.get(1), nothing, "c")
-        && contents.get(2).is_none()
-        && is_first_at(contents, abc, "a/x")
-}
-
-fn are_cleared(contents: &mut Contents) -> bool {
-    contents.clear();
-    contents.is_empty()
-}
-
-fn notes_once(contents: &mut Contents, alloc: Global) -> bool {
-    let abc = digest_of_blocks(Algorithm::Sha512, ABC);
-    let nothing = digest_of_blocks(Algorithm::Sha512, &[]);
-    notes(contents, alloc, &abc, &nothing)
-        && are_noted(contents, &abc, &nothing)
-        && are_cleared(contents)
-}
-
-#[test]
-fn notes_each_content_once(rt: HostRuntime) {
-    assert!(rt; notes_once(&mut Contents::new(rt.alloc()), rt.alloc()));
-}
-
-// The SHA-256 digests of the texts of one byte, from the byte 0 on.
-fn digests_of_bytes(alloc: Global) -> Result<Vec<Digest>, AllocError> {
-    let mut digests = Vec::new(alloc);
-    for byte in 0..=255u8 {
-        digests.push(digest_of_blocks(Algorithm::Sha256, &[[byte].as_slice()]))?;
-    }
-    Ok(digests)
-}
-
-// Notes all of these digests, each of which is new or none, and answers the first that isn't so.
-fn first_unlike(
-    contents: &mut Contents,
-    path: &NamePath,
-    digests: &[Digest],
-    new: bool,
-) -> Option<usize> {
-    for (i, digest) in digests.iter().enumerate() {
-        if contents.note(digest, path) != Ok(new) {
-            return Some(i);
-        }
-    }
-    None
-}
-
-// The first of these digests that isn't found at its place by 1 to 9 comparisons.
-fn first_not_found(contents: &Contents, path: &NamePath, digests: &[Digest]) -> Option<usize> {
-    for (i, digest) in digests.iter().enumerate() {
-        let (found, comparisons) = contents.first_counted(digest);
-        let is_near = 1 <= comparisons && comparisons <= 9;
-        if !is_item(contents.get(i), digest, path) || found != Some(path) || !is_near {
-            return Some(i);
-        }
-    }
-    None
-}
-
-// Notes each digest twice over: it is new the first time, and the order is kept. The first digest of which that isn't
-// so, and how.
-fn first_out_of_order(
-    contents: &mut Contents,
-    path: &NamePath,
-    digests: &[Digest],
-) -> Option<(usize, &'static str)> {
-    if let Some(i) = first_unlike(contents, path, digests, true) {
-        return Some((i, "isn't new"));
-    }
-    if let Some(i) = first_unlike(contents, path, digests, false) {
-        return Some((i, "is new"));
-    }
-    if let Some(i) = first_not_found(contents, path, digests) {
-        return Some((i, "isn't found"));
-    }
-    if contents.len() != 256 {
-        return Some((256, "isn't the last"));
-    }
-    None
-}
-
-// The same from the start, at a path.
-fn first_misnoted(alloc: Global, digests: &[Digest]) -> Option<(usize, &'static str)> {
-    match path(alloc, "f") {
-        Ok(path) => first_out_of_order(&mut Contents::new(alloc), &path, digests),
-        Err(_) => Some((0, "has no path")),
-    }
-}
-
-// The same of these digests as they are, sorted, and the other way round.
-fn first_in_any_order(alloc: Global, digests: &mut Vec<Digest>) -> Option<(usize, &'static str)> {
-    let given = first_misnoted(alloc, digests);
-    if digests.sort().is_err() {
-        return Some((0, "isn't sorted"));
-    }
-    let sorted = first_misnoted(alloc, digests);
-    digests.reverse();
-    given.or(sorted).or(first_misnoted(alloc, digests))
-}
-
-fn first_wrong(alloc: Global) -> Option<(usize, &'static str)> {
-    match digests_of_bytes(alloc) {
-        Ok(mut digests) => first_in_any_order(alloc, &mut digests),
-        Err(_) => Some((0, "isn't there")),
-    }
-}
-
-#[test]
-fn notes_in_any_order_of_digests(rt: HostRuntime) {
-    let wrong = first_wrong(rt.alloc());
-    assert!(rt; wrong.is_none(), "{wrong:?}");
-}
-
 const MOMENTS: &[Worked] = &[
     Worked::Moment("2024-05-01T12:00:00Z"),
     Worked::Moment("2024-02-29T23:59:59+05:30"),
@@ -358,6 +165,14 @@ const NO_MOMENTS: &[Worked] = &[
     Worked::NoMoment("2024-13-01T12:00:00Z"),
     Worked::NoMoment(""),
 ];
+
+// The moment is taken as it is written, with the name beside it.
+fn is_moment(alloc: Global, created: &str) -> bool {
+    match Meta::of(alloc, created, "Ada", None, "") {
+        Ok(meta) => (meta.created(), meta.name()) == (created, "Ada"),
+        Err(_) => false,
+    }
+}
 
 fn is_no_moment(alloc: Global, created: &str) -> bool {
     refuses(
@@ -432,7 +247,7 @@ fn are_declarations() -> bool {
 const NO_NAMES: &[Worked] = &[Worked::NoName("2024-05-01T12:00:00Z", "")];
 
 #[test]
-fn texts_of_objects(rt: HostRuntime) {
+fn digests_moments_sidecars_and_root_files_are_as_worked(rt: HostRuntime) {
     all_hold(&rt, rt.alloc(), "digests of blocks", BLOCKS);
     all_hold(&rt, rt.alloc(), "digests at the length of a block", LETTERS);
     all_hold(

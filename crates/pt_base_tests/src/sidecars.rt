@@ -1,5 +1,5 @@
-// Digests of bytes that are fed piece by piece, and sidecars made of them.
-use crate::answers::{Holds, all_hold, gives_text};
+//! Digests of bytes that are fed piece by piece, and sidecars made of them.
+use crate::tables::{Holds, all_hold, gives_text};
 use pt_object::{Algorithm, Hasher, sidecar_of};
 use pt_tree::Block;
 use std::alloc::Global;
@@ -28,12 +28,12 @@ impl Holds for (Algorithm, &str) {
 }
 
 #[test]
-fn sidecars_of_what_was_fed(rt: HostRuntime) {
+fn a_sidecar_has_the_digest_of_what_was_fed(rt: HostRuntime) {
     all_hold(&rt, rt.alloc(), "sidecars", SIDECARS);
 }
 
 // Three bytes in four pieces, one of them in a block.
-fn fed_beside_a_block() -> Hasher {
+fn feed_beside_a_block() -> Hasher {
     let mut block = Block::new();
     block.push(b'b');
     let mut hasher = Hasher::start(Algorithm::Sha256);
@@ -46,5 +46,5 @@ fn fed_beside_a_block() -> Hasher {
 
 #[test]
 fn bytes_are_fed_beside_blocks(rt: HostRuntime) {
-    assert!(rt; ends_as(rt.alloc(), fed_beside_a_block(), SHORT));
+    assert!(rt; ends_as(rt.alloc(), feed_beside_a_block(), SHORT));
 }

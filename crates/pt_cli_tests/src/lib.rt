@@ -1,14 +1,7 @@
-//! Tests of folders and of the command line by their public calls. No code of the program stands on this crate.
+//! Tests of the command by its public calls: how its words are read or refused, and what `names` writes. No code of the
+//! program stands on this crate.
 #![tactic(auto)]
 
-#[cfg(test)]
-mod folder_fakes;
-#[cfg(test)]
-mod folder_faults;
-#[cfg(test)]
-mod folder_steps;
-#[cfg(test)]
-mod folders;
 #[cfg(test)]
 mod names;
 #[cfg(test)]

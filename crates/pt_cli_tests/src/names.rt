@@ -1,4 +1,4 @@
-//! What `names` writes, also to outputs that fail.
+//! What `names` writes for an identifier, also to outputs that fail.
 use pt_cli::{NamesFault, names_to};
 use pt_name::Layout;
 use std::alloc::Global;
@@ -25,7 +25,7 @@ impl Drop for Limited {
     }
 }
 
-fn failed() -> io::Error {
+fn make_error() -> io::Error {
     io::Error::from(io::ErrorKind::Other)
 }
 
@@ -33,7 +33,7 @@ impl Write for Limited {
     fn write(&mut self, buf: &[u8]) -> io::Result<usize> {
         let taken = buf.len().min(self.at_a_time).min(self.room);
         if taken == 0 {
-            return Err(failed());
+            return Err(make_error());
         }
         self.bytes.extend_from_slice(&buf[..taken])?;
         self.room -= taken;
@@ -41,7 +41,11 @@ impl Write for Limited {
     }
 
     fn flush(&mut self) -> io::Result<()> {
-        if self.flushes { Ok(()) } else { Err(failed()) }
+        if self.flushes {
+            Ok(())
+        } else {
+            Err(make_error())
+        }
     }
 }
 
@@ -79,7 +83,7 @@ fn are_names(alloc: Global, id: &str, lines: &str) -> Result<bool, Fail> {
 }
 
 #[test]
-fn names_are_written(rt: HostRuntime) -> Result<(), Fail> {
+fn pairpath_and_place_are_written(rt: HostRuntime) -> Result<(), Fail> {
     for (id, lines) in NAMES {
         assert!(rt; are_names(rt.alloc(), id, lines)?, "{id}");
     }
@@ -120,7 +124,7 @@ fn answer_of(
 }
 
 #[test]
-fn outputs_that_fail(rt: HostRuntime) {
+fn an_output_that_fails_is_told(rt: HostRuntime) {
     for (at_a_time, room, flushes, answer, written) in OUTPUTS {
         let found = answer_of(rt.alloc(), *at_a_time, *room, *flushes, written);
         assert!(rt;
@@ -146,7 +150,7 @@ fn the_empty_identifier_is_refused(rt: HostRuntime) {
 }
 
 #[test]
-fn numbers_of_names_faults(rt: HostRuntime) {
+fn faults_of_names_have_numbers(rt: HostRuntime) {
     assert!(rt; NamesFault::Empty.number() == 1);
     assert!(rt; NamesFault::Write.number() == 2 && NamesFault::Memory.number() == 3);
 }

@@ -1,4 +1,4 @@
-//! Words of the command line, and what is read of them.
+//! Words of a command line: the commands that are read of them, the fault as which they are refused, and help.
 use pt_cli::{Audit, Command, Migrate, NamesArgs, WordsFault, read_words};
 use pt_name::Layout;
 use pt_object::{Algorithm, Meta};
@@ -14,7 +14,7 @@ enum Reading {
     Migration(&'static Row),
     // An audit of what was gathered, by SHA-256 and two tuples of three digits.
     Audit,
-    // The fault of this number; 0 where it is a command.
+    // The fault of this number; 0 where it is a migration.
     Fault(u8),
     // Help with this part.
     Help(&'static str),
@@ -32,7 +32,7 @@ fn is_command(command: &Command, reading: Reading) -> bool {
         (Command::Names(asked), Reading::Names) => are_of_abc(asked),
         (Command::Migrate(asked), Reading::Migration(row)) => is_migration(asked, row),
         (Command::Audit(asked), Reading::Audit) => is_gathering(asked),
-        (_, Reading::Fault(number)) => number == 0,
+        (Command::Migrate(_), Reading::Fault(number)) => number == 0,
         _ => false,
     }
 }
@@ -77,7 +77,7 @@ fn has_tuples(layout: &Layout, tuples: (u32, u32)) -> bool {
 }
 
 #[test]
-fn words_of_names(rt: HostRuntime) {
+fn the_words_of_names_are_read(rt: HostRuntime) {
     assert!(rt;
         are_read(
             rt.alloc(),
@@ -178,7 +178,7 @@ const MIGRATIONS: &[Row] = &[
 ];
 
 #[test]
-fn words_of_migrate(rt: HostRuntime) {
+fn the_words_of_migrate_are_read(rt: HostRuntime) {
     for row in MIGRATIONS {
         let what = row.what;
         assert!(rt;
@@ -199,11 +199,11 @@ const AUDIT: Words = &[
 ];
 
 #[test]
-fn words_of_audit(rt: HostRuntime) {
+fn the_words_of_audit_are_read(rt: HostRuntime) {
     assert!(rt; are_read(rt.alloc(), AUDIT, Reading::Audit));
 }
 
-// Words, each with the number of the fault that they are refused as; 0 of words that are read.
+// Words, each with the number of the fault that they are refused as; 0 of those of a migration.
 type Readings = &'static [(Words, u8)];
 
 type Words = &'static [&'static str];
@@ -214,6 +214,7 @@ const REFUSED: Readings = &[
     (&["pairtree2ocfl", "migrate", "--help"], 1),
     (&["pairtree2ocfl", "audit", "--help"], 1),
     (&["pairtree2ocfl", "help"], 1),
+    (&["pairtree2ocfl", "--version"], 8),
     (&["pairtree2ocfl"], 2),
     (&["pairtree2ocfl", "names"], 2),
     (&["pairtree2ocfl", "names", "a", "b"], 2),
@@ -274,23 +275,40 @@ const OPTIONS: Readings = &[
     (&[GOOD, "--name=", "--tuple-size=0"], 4),
 ];
 
+// The same of shares and of names that are left out.
+const PARTS: Readings = &[
+    (&[GOOD, "--name=Ada", "--share=2/3"], 0),
+    (&[GOOD, "--name=Ada", "--share=4096/4096"], 0),
+    (&[GOOD, "--name=Ada", "--share=4/3"], 9),
+    (&[GOOD, "--name=Ada", "--share=0/3"], 9),
+    (&[GOOD, "--name=Ada", "--share=1/4097"], 9),
+    (&[GOOD, "--name=Ada", "--share=1"], 9),
+    (&[GOOD, "--name=Ada", "--share="], 9),
+    (&[GOOD, "--tuples=33", "--share=4/3", "--name=Ada"], 7),
+    (&[GOOD, "--name=Ada", "--ignore=.DS_Store"], 0),
+    (&[GOOD, "--name=Ada", "--ignore=a/b"], 10),
+    (&[GOOD, "--name=Ada", "--ignore=.."], 10),
+    (&[GOOD, "--name=Ada", "--ignore="], 10),
+];
+
 // Words before and behind those of each row.
 const REFUSALS: &[(Words, Readings, Words)] = &[
     (&[], REFUSED, &[]),
     (MIGRATE, REFUSED_OF_MIGRATE, &[]),
     (MIGRATE, MOMENTS, &["--name=Ada", "S", "D"]),
     (MIGRATE, OPTIONS, &["S", "D"]),
+    (MIGRATE, PARTS, &["S", "D"]),
 ];
 
 // The first of these words that are read otherwise.
-fn misread(
+fn find_misread(
     alloc: Global,
     before: Words,
     readings: Readings,
     behind: Words,
 ) -> Result<Option<Words>, Fail> {
     for &(words, number) in readings {
-        let all = joined(alloc, before, words, behind)?;
+        let all = join_words(alloc, before, words, behind)?;
         if !are_read(alloc, &all, Reading::Fault(number)) {
             return Ok(Some(words));
         }
@@ -298,7 +316,7 @@ fn misread(
     Ok(None)
 }
 
-fn joined(
+fn join_words(
     alloc: Global,
     before: Words,
     words: Words,
@@ -312,9 +330,9 @@ fn joined(
 }
 
 #[test]
-fn words_refused(rt: HostRuntime) -> Result<(), Fail> {
+fn wrong_words_are_refused_by_their_number(rt: HostRuntime) -> Result<(), Fail> {
     for &(before, readings, behind) in REFUSALS {
-        let misread = misread(rt.alloc(), before, readings, behind)?;
+        let misread = find_misread(rt.alloc(), before, readings, behind)?;
         assert!(rt; misread.is_none(), "{misread:?}");
     }
     Ok(())
@@ -327,6 +345,11 @@ const TEXTS: &[(u8, &str)] = &[
     (5, "the identifier is empty"),
     (6, "out of memory"),
     (7, "the tuples are out of range"),
+    (
+        9,
+        "--share is not K/N with N from 1 to 4096 and K from 1 to N",
+    ),
+    (10, "--ignore is not the name of a file or folder"),
 ];
 
 fn fault_of(number: u8) -> WordsFault {
@@ -335,7 +358,9 @@ fn fault_of(number: u8) -> WordsFault {
         4 => WordsFault::EmptyName,
         5 => WordsFault::EmptyId,
         6 => WordsFault::Memory,
-        _ => WordsFault::Tuples,
+        7 => WordsFault::Tuples,
+        9 => WordsFault::Share,
+        _ => WordsFault::Ignored,
     }
 }
 
@@ -344,7 +369,7 @@ fn tells(alloc: Global, fault: &WordsFault, number: u8, text: &str) -> Result<bo
 }
 
 #[test]
-fn texts_of_words_faults(rt: HostRuntime) -> Result<(), Fail> {
+fn each_refusal_has_its_number_and_text(rt: HostRuntime) -> Result<(), Fail> {
     for &(number, text) in TEXTS {
         assert!(rt;
             tells(rt.alloc(), &fault_of(number), number, text)?,

@@ -12,9 +12,9 @@ use Rattle.pt_tree.specs.Forest.{Forest}
 use Rattle.pt_tree.specs.Tree.{Tree}
 
 -- it began at this start, over this source, with this job
-pub record GoesOn (start : Start) (source : Forest) (job : Job) (world : DeviceStates) (r : Running) : Type 0 where
-  pub begun : IsBegun start world r
-  pub tree : source_tree world.source ≡ Some source
+pub record GoesOn (start : Start) (source : Forest) (job : Job) (states : DeviceStates) (r : Running) : Type 0 where
+  pub begun : IsBegun start states r
+  pub tree : source_tree states.source ≡ Some source
   pub job_is : r.state.job ≡ job
 
 -- so many records are within the source's bound, and so many turns within the work, where the destination told at the start

@@ -19,11 +19,11 @@ abbrev pub TakesStaging : Option Writing → Option Writing → Type 0
 TakesStaging old new = dest_tree new ≡ option_map (λ t. without t staging) (dest_tree old)
 
 -- all three tell, a run may end well, and then it leaves what one undisturbed run leaves of this start
-pub record MayEndAs (job : Job) (source : Forest) (start : Tree) (world : DeviceStates) : Type 0 where
-  pub tells : source_tree world.source ≡ Some source
+pub record MayEndAs (job : Job) (source : Forest) (start : Tree) (states : DeviceStates) : Type 0 where
+  pub tells : source_tree states.source ≡ Some source
   pub now : Tree
-  pub stands : dest_tree world.dest ≡ Some now
+  pub stands : dest_tree states.dest ≡ Some now
   pub tree : IsTree now
   pub begins : IsStart job source (root_in now)
   pub same : undisturbed job source now ≡ undisturbed job source start
-  pub log : IsSome world.log
+  pub log : IsSome states.log

@@ -3,7 +3,7 @@ ghost use Rattle.std.specs.Prelude.{◌≡◌, true, IfSome, Some};
 ghost use Rattle.pt_clients.specs.Mending.{MayEndAs, TakesStaging, undisturbed};
 ghost use Rattle.pt_plan.specs.Job.{Job as Plan};
 ghost use Rattle.pt_plan.specs.DeviceStates.{dest_tree};
-ghost use Rattle.pt_state.specs.Outside.{world_of};
+ghost use Rattle.pt_state.specs.Outside.{states_of};
 ghost use Rattle.pt_state.specs.States.{job_of};
 ghost use Rattle.pt_tree.specs.Forest.{Forest};
 ghost use Rattle.pt_tree.specs.Tree.{Tree};
@@ -41,7 +41,7 @@ pub fn carry_through<S: Source, D: Mended, L: Log, J: Jobs>(
     tries: u32,
 ) -> bool
     ensures { (s : Forest) (start : Tree) → MayEndAs (J.job jobs.old) s start
-        (world_of S.Source D.Dest L.Log source.old dest.old log.old)
+        (states_of S.Source D.Dest L.Log source.old dest.old log.old)
         → result ≡ true
         → dest_tree (D.Dest.told dest.new) ≡ Some (undisturbed (J.job jobs.old) s start) }
 {

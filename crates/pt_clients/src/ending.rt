@@ -3,7 +3,7 @@ ghost use Rattle.std.specs.Prelude.{◌≡◌, ◌≤◌, true, IfOk};
 ghost use Rattle.pt_invariant.specs.RunInvariant.{start_of};
 ghost use Rattle.pt_move.specs.Outcome.{EndsWhole};
 ghost use Rattle.pt_plan.specs.DeviceStates.{source_tree};
-ghost use Rattle.pt_state.specs.Outside.{world_of};
+ghost use Rattle.pt_state.specs.Outside.{states_of};
 ghost use Rattle.pt_state.specs.declared.job.Report.{Report};
 
 use pt_move::{Fault, Job, migrate};
@@ -20,7 +20,7 @@ pub fn carries_all<S: Source, D: Dest, L: Log>(
     job: Job,
 ) -> bool
     ensures { result ≡ true → (report : Report) × EndsWhole job (source_tree (S.told source.old))
-        (start_of (world_of S.Source D.Dest L.Log source.old dest.old log.old))
+        (start_of (states_of S.Source D.Dest L.Log source.old dest.old log.old))
         (D.told dest.new) (L.told log.new) report }
 {
     match migrate(alloc, source, dest, log, job) {

@@ -4,7 +4,7 @@ ghost use Rattle.pt_invariant.specs.RunInvariant.{Start};
 ghost use Rattle.pt_clients.specs.Holding.{GoesOn, IsMost};
 ghost use Rattle.pt_move.specs.Promises.{TakesStep};
 ghost use Rattle.pt_move.specs.Running.{HasBegun, IsNew};
-ghost use Rattle.pt_state.specs.Outside.{world_of};
+ghost use Rattle.pt_state.specs.Outside.{states_of};
 ghost use Rattle.pt_tree.specs.Forest.{Forest};
 
 use pt_move::{Fault, Job, Mover, Turn};
@@ -36,7 +36,7 @@ impl<S: Source, D: Dest, L: Log> Run<S, D, L> {
         ensures source { result.source ≡ source }
         ensures dest { result.dest ≡ dest }
         ensures log { result.log ≡ log }
-        ensures begun { HasBegun (world_of S.Source D.Dest L.Log source dest log) result.mover }
+        ensures begun { HasBegun (states_of S.Source D.Dest L.Log source dest log) result.mover }
     {
         Run {
             mover: Mover::start(alloc, job),
@@ -50,11 +50,11 @@ impl<S: Source, D: Dest, L: Log> Run<S, D, L> {
     /// What it asks for holds of a new run, and after each step.
     pub fn step(&mut self) -> Result<Turn, Fault>
         requires { HasBegun
-            (world_of S.Source D.Dest L.Log self.old.source self.old.dest self.old.log)
+            (states_of S.Source D.Dest L.Log self.old.source self.old.dest self.old.log)
             self.old.mover }
         ensures step { TakesStep
-            (world_of S.Source D.Dest L.Log self.old.source self.old.dest self.old.log)
-            (world_of S.Source D.Dest L.Log self.new.source self.new.dest self.new.log)
+            (states_of S.Source D.Dest L.Log self.old.source self.old.dest self.old.log)
+            (states_of S.Source D.Dest L.Log self.new.source self.new.dest self.new.log)
             self.old.mover self.new.mover result }
     {
         self.mover
@@ -64,10 +64,10 @@ impl<S: Source, D: Dest, L: Log> Run<S, D, L> {
     /// Makes so many turns, unless the run ends before: whether there is more to do.
     pub fn steps(&mut self, most: u64) -> Result<bool, Fault>
         requires { HasBegun
-            (world_of S.Source D.Dest L.Log self.old.source self.old.dest self.old.log)
+            (states_of S.Source D.Dest L.Log self.old.source self.old.dest self.old.log)
             self.old.mover }
         ensures { HasBegun
-            (world_of S.Source D.Dest L.Log self.new.source self.new.dest self.new.log)
+            (states_of S.Source D.Dest L.Log self.new.source self.new.dest self.new.log)
             self.new.mover }
     {
         for _ in 0..most {
@@ -83,10 +83,10 @@ impl<S: Source, D: Dest, L: Log> Run<S, D, L> {
     /// within the work.
     pub fn most(&mut self, turns: u64) -> Most
         requires { HasBegun
-            (world_of S.Source D.Dest L.Log self.old.source self.old.dest self.old.log)
+            (states_of S.Source D.Dest L.Log self.old.source self.old.dest self.old.log)
             self.old.mover }
         ensures { (start : Start) (s : Forest) → GoesOn start s self.old.mover.state.job
-            (world_of S.Source D.Dest L.Log self.old.source self.old.dest self.old.log)
+            (states_of S.Source D.Dest L.Log self.old.source self.old.dest self.old.log)
             self.old.mover → IsMost self.old.mover.state.job start s result.records result.turns }
     {
         let mut most = Most {
@@ -111,12 +111,12 @@ impl<S: Source, D: Dest, L: Log> Run<S, D, L> {
     /// The run with another log, and the one that it had, where neither tells what it holds: it is in progress as before, however often the two
     /// failed.
     pub fn with_log<M: Log>(self, log: M) -> (Run<S, D, M>, L)
-        requires begun { HasBegun (world_of S.Source D.Dest L.Log self.source self.dest self.log)
+        requires begun { HasBegun (states_of S.Source D.Dest L.Log self.source self.dest self.log)
             self.mover }
         requires silent { L.told self.log ≡ None }
         requires other_silent { M.told log ≡ None }
         ensures { HasBegun
-            (world_of S.Source D.Dest M.Log result.0.source result.0.dest result.0.log)
+            (states_of S.Source D.Dest M.Log result.0.source result.0.dest result.0.log)
             result.0.mover }
     {
         let run = Run {

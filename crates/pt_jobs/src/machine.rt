@@ -78,13 +78,7 @@ impl Syncs for NoFile {
 impl<'a> Places for Machine<'a> {
     type Lock = u8;
 
-    ghost resolves = { λ _ _ _ _. ⊤ };
-
-    ghost identifies = { λ _ _ _ _. ⊤ };
-
-    ghost holds = { λ _ _ _ _ _. ⊤ };
-
-    ghost releases = { λ _ _ _. ⊤ };
+    ghost does = { λ _ _ _. ⊤ };
 
     fn resolve(&mut self, _: Global, _: &str) -> io::Result<PathBuf> {
         Err(io::Error::from(ErrorKind::NotFound))
@@ -110,11 +104,7 @@ impl<'a> Host for Machine<'a> {
 
     type File = NoFile;
 
-    ghost finds = { λ _ _ _. ⊤ };
-
-    ghost lends = { λ _ _ _. ⊤ };
-
-    ghost takes_back = { λ _ _ _. ⊤ };
+    ghost does = { λ _ _ _. ⊤ };
 
     fn output_file(&mut self) -> io::Result<Option<NoFile>> {
         Ok(None)

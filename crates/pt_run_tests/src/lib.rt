@@ -1,15 +1,26 @@
-//! Tests of what surrounds a run, and of the system in memory, by public calls. No code of the program stands on this crate.
+//! Tests of runs by the libraries' public calls: the definitions of a run over worked stores, and whole runs over trees
+//! in memory: their lines, what they leave, and how they end. No code of the program stands on this crate.
 #![tactic(auto)]
 
 #[cfg(test)]
-mod counting;
+mod broken_runs;
 #[cfg(test)]
-mod durable;
+mod expected_roots;
 #[cfg(test)]
-mod guarding;
+mod jobs;
 #[cfg(test)]
-mod rehearsing;
+mod limits;
+#[cfg(test)]
+mod lines;
+#[cfg(test)]
+mod standing_roots;
 #[cfg(test)]
 mod steps;
 #[cfg(test)]
-mod system;
+mod whole_runs;
+#[cfg(test)]
+mod worked_faults;
+#[cfg(test)]
+mod worked_objects;
+#[cfg(test)]
+mod worked_stores;

@@ -1,197 +1,187 @@
-//! Tests as data: steps of a destination over a system whose calls are counted.
-use crate::counting::{Counted, Counts};
-use pt_folder::{Failure, FailureReason, HostDest};
-use pt_memory::texts::path;
-use pt_rehearsal::Rehearsal;
-use pt_tree::{Block, Dest, Kind, NamePath, TreeFault};
-use std::alloc::Global;
+//! Tests as data: what is done with a store and a destination, and what comes of it.
+#![tactic(auto)]
 
-/// A call with what it answers, what is found then, or what changes in the system.
+use crate::expected_roots::{Base, Files, is_tree};
+use crate::jobs::{Settings, run};
+use pt_memory::texts::{add, path, plant, store};
+use pt_memory::{MemDest, MemLog, MemSource};
+use pt_move::{Fault, Report};
+use std::alloc::Global;
+use std::process::Abort;
+
+/// A step: what is done, or what is found then.
 #[derive(Clone, Copy)]
 pub enum Step {
-    Mkdir(&'static str, Result<(), TreeFault>),
-    Create(&'static str, Result<(), TreeFault>),
-    Append(&'static str, Result<(), TreeFault>),
-    Finish(Result<(), TreeFault>),
-    Rename(&'static str, &'static str, Result<(), TreeFault>),
-    Kind(&'static str, Result<Option<Kind>, TreeFault>),
-    Peek(&'static str, Result<(), TreeFault>),
-    /// The block that `Peek` gives has so many bytes.
-    Holds(usize),
-    /// So often has the system been asked to look, to change something, and to put something onto the disk.
-    Looks(u32),
-    Changes(u32),
-    Syncs(u32),
-    /// So often has the destination failed.
-    Failures(u64),
-    /// The last call failed at this path, because it is too long, or without a path.
-    FailedAt(&'static str),
-    TooLong(&'static str),
-    NoPath,
-    /// Whether the system fails from now on to put something onto the disk.
-    SyncsFail(bool),
+    /// The store is this one.
+    Store(&'static str),
+    /// An entry is planted in the store.
+    Plant(&'static str),
+    /// Files are added to the destination.
+    Add(Files),
+    /// What stands at a path of the destination is taken away.
+    Take(&'static str),
+    /// The source, or the destination, fails after so many calls.
+    SourceFails(u64),
+    DestFails(u64),
+    /// The destination fails no more.
+    DestIsWell,
+    /// A run ends so and writes these lines.
+    Run(Settings, Ends, &'static str),
+    /// A run ends well.
+    Carry(Settings),
+    /// The destination holds this, and nothing else.
+    Is(Base, Files),
+    /// It holds what a run into an empty one leaves.
+    IsUnbroken,
+    /// It holds a file at this path, or one that ends so, or one of so many letters `a`.
+    Has(&'static str),
+    EndsWith(&'static str, &'static str),
+    Letters(&'static str, usize),
 }
 
-impl Step {
-    // The path that a call is about, and the one that it moves to; empty where it has none.
-    fn paths(self) -> (&'static str, &'static str) {
-        match self {
-            Step::Mkdir(at, _) | Step::Create(at, _) => (at, ""),
-            Step::Kind(at, _) => (at, ""),
-            Step::Peek(at, _) => (at, ""),
-            Step::Rename(from, to, _) => (from, to),
-            _ => ("", ""),
-        }
-    }
+/// How a run ends: well, well with this report, or in a fault.
+#[derive(Clone, Copy)]
+pub enum Ends {
+    Well,
+    With(Report),
+    In(Fault),
 }
 
-/// The first of these steps over the folder `f` that goes otherwise, where files are put onto the disk, or aren't, and paths
-/// have so many bytes at most.
-pub fn wrong_in_folder(
+/// Each of these steps goes so, with an empty store and an empty destination before them.
+pub fn all_go(rt: &impl Abort, alloc: Global, what: &str, steps: &[Step]) {
+    let wrong = find_wrong_step(alloc, steps);
+    assert!(rt; wrong.is_none(), "{what}: step {wrong:?}");
+}
+
+// The first of these steps, counted from 0, that goes otherwise.
+fn find_wrong_step(alloc: Global, steps: &[Step]) -> Option<usize> {
+    let mut source = MemSource::new(alloc);
+    let mut dest = MemDest::new(alloc);
+    find_wrong_step_over(alloc, &mut source, &mut dest, steps)
+}
+
+fn find_wrong_step_over(
     alloc: Global,
-    sync: bool,
-    longest: usize,
+    source: &mut MemSource,
+    dest: &mut MemDest,
     steps: &[Step],
-) -> Result<Option<usize>, TreeFault> {
-    let counts = Counts::new();
-    let mut dest = HostDest::new(counts.system(), alloc, "f")
-        .with_sync(sync)
-        .with_longest(longest);
-    wrong_of_folder(&mut dest, &counts, alloc, steps)
-}
-
-fn wrong_of_folder(
-    dest: &mut HostDest<'_, Counted<'_>>,
-    counts: &Counts,
-    alloc: Global,
-    steps: &[Step],
-) -> Result<Option<usize>, TreeFault> {
+) -> Option<usize> {
     for (i, step) in steps.iter().enumerate() {
-        if !goes_in_folder(dest, counts, alloc, *step)? {
-            return Ok(Some(i));
+        if !goes(alloc, source, dest, step) {
+            return Some(i);
         }
     }
-    Ok(None)
+    None
 }
 
-fn goes_in_folder(
-    dest: &mut HostDest<'_, Counted<'_>>,
-    counts: &Counts,
-    alloc: Global,
-    step: Step,
-) -> Result<bool, TreeFault> {
-    let (from, to) = step.paths();
-    match answer_in_folder(dest, step, &path(alloc, from)?, &path(alloc, to)?) {
-        Some(is_answer) => Ok(is_answer),
-        None => Ok(is_found(counts, dest.failures(), dest.last_failure(), step)),
-    }
-}
-
-// Whether a call of the folder is answered so; none of a step that is no call of it.
-#[tactic(auto, using(pt_folder::specs::DestHeld::untold_may_make, pt_folder::specs::DestHeld::untold_can_write, pt_folder::specs::DestHeld::untold_may_move))]
-fn answer_in_folder(
-    dest: &mut HostDest<'_, Counted<'_>>,
-    step: Step,
-    at: &NamePath,
-    to: &NamePath,
-) -> Option<bool> {
-    let (found, answer) = match step {
-        Step::Mkdir(_, answer) => (dest.mkdir(at), answer),
-        Step::Create(_, answer) => (dest.create(at), answer),
-        Step::Append(bytes, answer) => (dest.append(bytes.as_bytes()), answer),
-        Step::Finish(answer) => (dest.finish(), answer),
-        Step::Rename(_, _, answer) => (dest.rename(at, to), answer),
-        Step::Kind(_, answer) => return Some(dest.kind(at) == answer),
-        _ => return None,
-    };
-    Some(found == answer)
-}
-
-/// The first of these steps of a rehearsal that goes otherwise.
-pub fn wrong_in_rehearsal(
-    counts: &Counts,
-    alloc: Global,
-    steps: &[Step],
-) -> Result<Option<usize>, TreeFault> {
-    let mut dest = Rehearsal::new(alloc, HostDest::new(counts.system(), alloc, "f"));
-    wrong_of_rehearsal(&mut dest, counts, alloc, steps)
-}
-
-fn wrong_of_rehearsal(
-    dest: &mut Rehearsal<'_, Counted<'_>>,
-    counts: &Counts,
-    alloc: Global,
-    steps: &[Step],
-) -> Result<Option<usize>, TreeFault> {
-    let mut block = Block::new();
-    for (i, step) in steps.iter().enumerate() {
-        if !goes_in_rehearsal(dest, &mut block, counts, alloc, *step)? {
-            return Ok(Some(i));
-        }
-    }
-    Ok(None)
-}
-
-fn goes_in_rehearsal(
-    dest: &mut Rehearsal<'_, Counted<'_>>,
-    block: &mut Block,
-    counts: &Counts,
-    alloc: Global,
-    step: Step,
-) -> Result<bool, TreeFault> {
-    let (from, to) = step.paths();
-    match answer_in_rehearsal(dest, block, step, &path(alloc, from)?, &path(alloc, to)?) {
-        Some(is_answer) => Ok(is_answer),
-        None => Ok(is_found(counts, dest.failures(), dest.dest().last_failure(), step)),
-    }
-}
-
-// Whether a call of the rehearsal is answered so; none of a step that is no call of it.
-#[tactic(auto, using(pt_rehearsal::specs::Untold::untold_may_make, pt_rehearsal::specs::Untold::untold_can_write, pt_rehearsal::specs::Untold::untold_may_move, pt_rehearsal::specs::Untold::untold_can_peek))]
-fn answer_in_rehearsal(
-    dest: &mut Rehearsal<'_, Counted<'_>>,
-    block: &mut Block,
-    step: Step,
-    at: &NamePath,
-    to: &NamePath,
-) -> Option<bool> {
-    let (found, answer) = match step {
-        Step::Mkdir(_, answer) => (dest.mkdir(at), answer),
-        Step::Create(_, answer) => (dest.create(at), answer),
-        Step::Append(bytes, answer) => (dest.append(bytes.as_bytes()), answer),
-        Step::Finish(answer) => (dest.finish(), answer),
-        Step::Rename(_, _, answer) => (dest.rename(at, to), answer),
-        Step::Peek(_, answer) => (dest.peek(at, block), answer),
-        Step::Kind(_, answer) => return Some(dest.kind(at) == answer),
-        Step::Holds(len) => return Some(block.len() == len),
-        _ => return None,
-    };
-    Some(found == answer)
-}
-
-// Whether this is found; what changes in the system is changed.
-fn is_found(counts: &Counts, failures: u64, last: Option<&Failure>, step: Step) -> bool {
+fn goes(alloc: Global, source: &mut MemSource, dest: &mut MemDest, step: &Step) -> bool {
     match step {
-        Step::Looks(number) => counts.looks.get() == number,
-        Step::Changes(number) => counts.changes.get() == number,
-        Step::Syncs(number) => counts.syncs.get() == number,
-        Step::Failures(number) => failures == number,
-        Step::FailedAt(at) => has_failed(last, at, false),
-        Step::TooLong(at) => has_failed(last, at, true),
-        Step::NoPath => last.is_none(),
-        Step::SyncsFail(fail) => {
-            counts.no_sync.set(fail);
+        Step::Store(entries) => stores(alloc, source, entries),
+        Step::Plant(entry) => plant(alloc, source, entry).is_ok(),
+        Step::SourceFails(calls) => {
+            source.fuse(Some(*calls));
             true
         }
+        Step::Run(settings, ends, lines) => is_run(alloc, source, dest, *settings, (*ends, lines)),
+        Step::Carry(settings) => carries(alloc, source, dest, *settings),
+        Step::IsUnbroken => is_unbroken(alloc, source, dest),
+        _ => goes_in_dest(alloc, dest, step),
+    }
+}
+
+fn goes_in_dest(alloc: Global, dest: &mut MemDest, step: &Step) -> bool {
+    match step {
+        Step::Add(files) => add(alloc, dest, files).is_ok(),
+        Step::Take(at) => takes(alloc, dest, at),
+        Step::DestFails(calls) => {
+            dest.fuse(Some(*calls));
+            true
+        }
+        Step::DestIsWell => {
+            dest.fuse(None);
+            true
+        }
+        Step::Is(base, files) => is_tree(alloc, dest, *base, files),
+        Step::Has(at) | Step::EndsWith(at, _) | Step::Letters(at, _) => has(alloc, dest, at, step),
         _ => false,
     }
 }
 
-// Whether the last failure was at this path, and, where that is asked, because it is too long.
-fn has_failed(last: Option<&Failure>, at: &str, long: bool) -> bool {
-    match last {
-        Some(failure) => failure.path() == at
-            && (!long || matches!(failure.cause(), FailureReason::Long)),
-        None => false,
+fn stores(alloc: Global, source: &mut MemSource, entries: &str) -> bool {
+    match store(alloc, entries) {
+        Ok(store) => {
+            *source = store;
+            true
+        }
+        Err(_) => false,
     }
+}
+
+fn takes(alloc: Global, dest: &mut MemDest, at: &str) -> bool {
+    match path(alloc, at) {
+        Ok(at) => dest.take_away(&at).is_ok(),
+        Err(_) => false,
+    }
+}
+
+// Whether a run ends so and writes these lines.
+fn is_run(
+    alloc: Global,
+    source: &mut MemSource,
+    dest: &mut MemDest,
+    settings: Settings,
+    wanted: (Ends, &str),
+) -> bool {
+    let mut log = MemLog::new(alloc);
+    let answer = run(alloc, source, dest, &mut log, settings);
+    let (ends, lines) = wanted;
+    is_end(answer, ends) && log.bytes() == lines.as_bytes()
+}
+
+// Whether a run ends well.
+fn carries(alloc: Global, source: &mut MemSource, dest: &mut MemDest, settings: Settings) -> bool {
+    is_end(
+        run(alloc, source, dest, &mut MemLog::new(alloc), settings),
+        Ends::Well,
+    )
+}
+
+fn is_end(answer: Option<Result<Report, Fault>>, ends: Ends) -> bool {
+    match (answer, ends) {
+        (Some(Ok(_)), Ends::Well) => true,
+        (Some(Ok(found)), Ends::With(report)) => found == report,
+        (Some(Err(found)), Ends::In(fault)) => found == fault,
+        _ => false,
+    }
+}
+
+fn is_unbroken(alloc: Global, source: &mut MemSource, dest: &MemDest) -> bool {
+    let mut whole = MemDest::new(alloc);
+    carries(alloc, source, &mut whole, Settings::Usual) && dest.same(&whole)
+}
+
+// Whether a file is at a path, and holds what the step says.
+fn has(alloc: Global, dest: &MemDest, at: &str, step: &Step) -> bool {
+    match path(alloc, at) {
+        Ok(at) => is_held(dest.file(&at), step),
+        Err(_) => false,
+    }
+}
+
+fn is_held(bytes: Option<&[u8]>, step: &Step) -> bool {
+    match (bytes, step) {
+        (Some(_), Step::Has(_)) => true,
+        (Some(bytes), Step::EndsWith(_, ending)) => bytes.ends_with(ending.as_bytes()),
+        (Some(bytes), Step::Letters(_, count)) => are_letters(bytes, *count),
+        _ => false,
+    }
+}
+
+fn are_letters(bytes: &[u8], count: usize) -> bool {
+    for byte in bytes {
+        if *byte != b'a' {
+            return false;
+        }
+    }
+    bytes.len() == count
 }

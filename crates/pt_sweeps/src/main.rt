@@ -2,11 +2,11 @@
 //! prints a line for each store and device: how often it failed, and that all was well or what wasn't.
 #![tactic(auto)]
 
-mod stores;
+mod cases;
 mod sweep;
 
-use stores::{CASES, Case};
-use sweep::{Device, Swept, sweep};
+use cases::{CASES, Case};
+use sweep::{Device, Found, sweep};
 
 // The devices, each with what its places are.
 const DEVICES: &[(Device, &str)] = &[
@@ -27,7 +27,7 @@ fn main(rt: HostRuntime) {
 fn tell(rt: &HostRuntime, case: &Case, device: Device, places: &str) {
     let name = case.name;
     let _ = match sweep(rt.alloc(), case, device) {
-        Swept::Well(count) => println!(rt; "{name}: {count} {places}: all well"),
-        Swept::Wrong(at, why) => println!(rt; "{name}: at {at} of the {places}: {why}"),
+        Found::Well(count) => println!(rt; "{name}: {count} {places}: all well"),
+        Found::Wrong(at, why) => println!(rt; "{name}: at {at} of the {places}: {why}"),
     };
 }

@@ -1,5 +1,5 @@
 //! One device fails at each of its calls, or the log at each of its bytes.
-use crate::stores::{Case, before, carry, run, whole};
+use crate::cases::{Case, carry, make_dest_before, make_whole_dest, run};
 use pt_memory::texts::{path, store};
 use pt_memory::{MemDest, MemLog, MemSource};
 use pt_move::Fault;
@@ -15,14 +15,14 @@ pub enum Device {
 }
 
 /// What a sweep finds: at how many places the device failed, or the first place where something isn't well.
-pub enum Swept {
+pub enum Found {
     Well(u64),
     Wrong(u64, &'static str),
 }
 
 /// A run of the case that this device stops at each place in turn, until it isn't stopped, each time followed by a run
 /// that nothing stops.
-pub fn sweep(alloc: Global, case: &Case, device: Device) -> Swept {
+pub fn sweep(alloc: Global, case: &Case, device: Device) -> Found {
     let mut setting = Setting {
         ends: Vec::new(alloc),
         source: MemSource::new(alloc),
@@ -31,7 +31,7 @@ pub fn sweep(alloc: Global, case: &Case, device: Device) -> Swept {
     };
     match add_ends(alloc, case, &mut setting.ends) {
         Some(()) => sweep_by(alloc, case, device, &mut setting),
-        None => Swept::Wrong(0, "the devices cannot be made"),
+        None => Found::Wrong(0, "the devices cannot be made"),
     }
 }
 
@@ -46,24 +46,24 @@ struct Setting {
     log: MemLog,
 }
 
-fn sweep_by(alloc: Global, case: &Case, device: Device, setting: &mut Setting) -> Swept {
+fn sweep_by(alloc: Global, case: &Case, device: Device, setting: &mut Setting) -> Found {
     for at in 0..10_000 {
-        match stopped(alloc, case, device, at, setting) {
-            None => return Swept::Wrong(at, "the devices cannot be made"),
-            Some(Stop::Wrong(why)) => return Swept::Wrong(at, why),
+        match stop_run(alloc, case, device, at, setting) {
+            None => return Found::Wrong(at, "the devices cannot be made"),
+            Some(Stop::Wrong(why)) => return Found::Wrong(at, why),
             Some(Stop::Well) => {}
-            Some(Stop::Past) => return Swept::Well(at),
+            Some(Stop::Past) => return Found::Well(at),
         }
     }
-    Swept::Wrong(10_000, "the run never ends")
+    Found::Wrong(10_000, "the run never ends")
 }
 
 fn add_ends(alloc: Global, case: &Case, ends: &mut Vec<MemDest>) -> Option<()> {
-    add(whole(alloc, case), ends)?;
-    add(before(alloc, case), ends)?;
+    add(make_whole_dest(alloc, case), ends)?;
+    add(make_dest_before(alloc, case), ends)?;
     for (done, next) in case.places.split(' ').enumerate() {
         for tuples in 0..4 {
-            add(whole(alloc, case), ends)?;
+            add(make_whole_dest(alloc, case), ends)?;
             cut_back(alloc, case, (done, next, tuples), ends.last_mut()?)?;
         }
     }
@@ -120,7 +120,7 @@ enum Stop {
 }
 
 // A run that this device stops at this place, and the one after it.
-fn stopped(
+fn stop_run(
     alloc: Global,
     case: &Case,
     device: Device,
@@ -128,7 +128,7 @@ fn stopped(
     setting: &mut Setting,
 ) -> Option<Stop> {
     setting.source = store(alloc, case.entries).ok()?;
-    setting.dest = before(alloc, case)?;
+    setting.dest = make_dest_before(alloc, case)?;
     setting.log = MemLog::new(alloc);
     match device {
         Device::Source => setting.source.fuse(Some(at)),
@@ -144,9 +144,26 @@ fn stopped(
     setting.dest.fuse(None);
     clear_staging(alloc, &mut setting.dest)?;
     match answer {
-        Ok(_) => Some(Stop::Past),
-        Err(fault) => after(alloc, case, fault == fault_of(device), setting),
+        Ok(_) => Some(check_whole(setting)),
+        Err(fault) => check_stop(alloc, case, fault == fault_of(device), setting),
     }
+}
+
+// How a run ended that nothing stopped: all has to be there.
+fn check_whole(setting: &Setting) -> Stop {
+    if is_whole(setting) {
+        Stop::Past
+    } else {
+        Stop::Wrong("nothing fails, and something else is left")
+    }
+}
+
+// Whether the destination holds what a run leaves that nothing stops.
+fn is_whole(setting: &Setting) -> bool {
+    setting
+        .ends
+        .first()
+        .is_some_and(|all| all.same(&setting.dest))
 }
 
 // Takes `staging` away, where it stands.
@@ -165,7 +182,7 @@ fn fault_of(device: Device) -> Fault {
 }
 
 // How a run ended that was stopped, whether by the fault that it should be, and the one after it.
-fn after(alloc: Global, case: &Case, is_fault: bool, setting: &mut Setting) -> Option<Stop> {
+fn check_stop(alloc: Global, case: &Case, is_fault: bool, setting: &mut Setting) -> Option<Stop> {
     if !is_fault {
         return Some(Stop::Wrong("the fault is another"));
     }
@@ -174,18 +191,14 @@ fn after(alloc: Global, case: &Case, is_fault: bool, setting: &mut Setting) -> O
     }
     let mut log = MemLog::new(alloc);
     let answer = carry(alloc, case.entries, &mut setting.dest, &mut log);
-    Some(ended(case, answer?.is_ok(), setting, &log))
+    Some(check_second_run(case, answer?.is_ok(), setting, &log))
 }
 
 // How the run after a stopped one ended, whether by no fault, and with this log.
-fn ended(case: &Case, is_done: bool, setting: &Setting, log: &MemLog) -> Stop {
+fn check_second_run(case: &Case, is_done: bool, setting: &Setting, log: &MemLog) -> Stop {
     if !is_done {
         Stop::Wrong("the second run ends in a fault")
-    } else if !setting
-        .ends
-        .first()
-        .is_some_and(|all| all.same(&setting.dest))
-    {
+    } else if !is_whole(setting) {
         Stop::Wrong("the second run leaves something else")
     } else if !are_told_once(case, &setting.log, log) {
         Stop::Wrong("an object isn't told once")

@@ -22,7 +22,7 @@ type Lent<'a> = HostIo<MemorySystem<'a>, MemorySystem<'a>, Vec<u8>>;
 #[derive(Drop)]
 struct Machine<'a> {
     alloc: Global,
-    ground: Lent<'a>,
+    devices: Lent<'a>,
 }
 
 // The file that no output goes to.
@@ -40,13 +40,7 @@ impl Syncs for NoFile {
 impl<'a> Places for Machine<'a> {
     type Lock = u8;
 
-    ghost resolves = { λ _ _ _ _. ⊤ };
-
-    ghost identifies = { λ _ _ _ _. ⊤ };
-
-    ghost holds = { λ _ _ _ _ _. ⊤ };
-
-    ghost releases = { λ _ _ _. ⊤ };
+    ghost does = { λ _ _ _. ⊤ };
 
     fn resolve(&mut self, _: Global, _: &str) -> io::Result<PathBuf> {
         Err(io::Error::from(ErrorKind::NotFound))
@@ -72,11 +66,7 @@ impl<'a> Host for Machine<'a> {
 
     type File = NoFile;
 
-    ghost finds = { λ _ _ _. ⊤ };
-
-    ghost lends = { λ _ _ _. ⊤ };
-
-    ghost takes_back = { λ _ _ _. ⊤ };
+    ghost does = { λ _ _ _. ⊤ };
 
     fn output_file(&mut self) -> io::Result<Option<NoFile>> {
         Ok(None)
@@ -84,32 +74,32 @@ impl<'a> Host for Machine<'a> {
 
     fn lend(&mut self) -> Lent<'a> {
         HostIo {
-            store: self.ground.store.take(),
-            folder: self.ground.folder.take(),
-            output: mem::replace(&mut self.ground.output, Vec::new(self.alloc)),
+            store: self.devices.store.take(),
+            folder: self.devices.folder.take(),
+            output: mem::replace(&mut self.devices.output, Vec::new(self.alloc)),
         }
     }
 
-    fn take_back(&mut self, ground: Lent<'a>)
+    fn take_back(&mut self, devices: Lent<'a>)
         ensures { ⊤ }
     {
-        self.ground = ground;
+        self.devices = devices;
     }
 }
 
 /// What runs leave.
 #[derive(Drop)]
-pub struct Ran {
+pub struct RunResult {
     pub status: u8,
     pub log: Vec<u8>,
     pub store: MemSource,
     pub root: MemDest,
 }
 
-impl Ran {
+impl RunResult {
     /// An empty store and an empty root, before any run.
-    pub fn new(alloc: Global) -> Ran {
-        Ran {
+    pub fn new(alloc: Global) -> RunResult {
+        RunResult {
             status: 0,
             log: Vec::new(alloc),
             store: MemSource::new(alloc),
@@ -119,7 +109,7 @@ impl Ran {
 }
 
 /// Carries the store into the root, or rehearses that. None where the machine can't be made.
-pub fn carry(rt: &HostRuntime, faults: &Faults, ran: &mut Ran, rehearse: bool) -> Option<()> {
+pub fn carry(rt: &HostRuntime, faults: &Faults, ran: &mut RunResult, rehearse: bool) -> Option<()> {
     let alloc = rt.alloc();
     let store = mem::replace(&mut ran.store, MemSource::new(alloc));
     let root = mem::replace(&mut ran.root, MemDest::new(alloc));
@@ -132,32 +122,32 @@ pub fn carry(rt: &HostRuntime, faults: &Faults, ran: &mut Ran, rehearse: bool) -
 
 // The status of a run on a machine.
 fn status_of(rt: &HostRuntime, machine: &mut Machine<'_>, rehearse: bool) -> Option<u8> {
-    let options = options(rt.alloc(), rehearse)?;
+    let options = make_options(rt.alloc(), rehearse)?;
     Some(run_guarded(rt, machine, options, "store", "root"))
 }
 
 // Gives what a run left on a machine.
-fn give_back(machine: Machine<'_>, ran: &mut Ran) {
+fn give_back(machine: Machine<'_>, ran: &mut RunResult) {
     let HostIo {
         store,
         folder,
         output,
-    } = machine.ground;
+    } = machine.devices;
     ran.store = store.into_folders().0;
     ran.root = folder.into_folders().1;
     ran.log = output;
 }
 
 fn set_up(alloc: Global, faults: &Faults, store: MemSource, root: MemDest) -> Option<Machine<'_>> {
-    let ground = HostIo {
-        store: system(alloc, faults, store, MemDest::new(alloc))?,
-        folder: system(alloc, faults, MemSource::new(alloc), root)?,
+    let devices = HostIo {
+        store: make_system(alloc, faults, store, MemDest::new(alloc))?,
+        folder: make_system(alloc, faults, MemSource::new(alloc), root)?,
         output: Vec::new(alloc),
     };
-    Some(Machine { alloc, ground })
+    Some(Machine { alloc, devices })
 }
 
-fn system(
+fn make_system(
     alloc: Global,
     faults: &Faults,
     store: MemSource,
@@ -167,7 +157,7 @@ fn system(
 }
 
 // A run with the greatest limits and three tuples of three digits.
-fn options(alloc: Global, rehearse: bool) -> Option<RunOptions> {
+fn make_options(alloc: Global, rehearse: bool) -> Option<RunOptions> {
     let meta = Meta::of(
         alloc,
         "2024-05-01T12:00:00Z",

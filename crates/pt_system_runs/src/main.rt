@@ -3,20 +3,20 @@
 
 mod cases;
 mod demo;
+mod expected;
 mod machine;
 mod one_object;
 mod rows;
 mod texts;
-mod told;
 
 use cases::Case;
-use rows::{Found, Row, tried};
+use rows::{Found, Row, try_row};
 
 const ROWS: &[(&str, Row)] = &[
-    ("carried", Row::Carried),
-    ("rehearsed before", Row::RehearsedBefore),
-    ("rehearsed after", Row::RehearsedAfter),
-    ("stopped and carried again", Row::Stopped),
+    ("carried", Row::Carry),
+    ("rehearsed before", Row::RehearseBefore),
+    ("rehearsed after", Row::RehearseAfter),
+    ("stopped and carried again", Row::Stop),
 ];
 
 fn main(rt: HostRuntime) {
@@ -28,7 +28,7 @@ fn main(rt: HostRuntime) {
 fn tell(rt: &HostRuntime, case: &Case) {
     let name = case.name;
     for (what, row) in ROWS {
-        let said = match tried(rt, case, *row) {
+        let said = match try_row(rt, case, *row) {
             Found::Well => "as it should be",
             Found::Otherwise(why) => why,
             Found::Unmade => "the devices can't be made",

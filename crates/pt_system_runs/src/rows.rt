@@ -1,7 +1,7 @@
 //! The rows: what runs over a case leave, held against what they should.
 use crate::cases::Case;
-use crate::machine::{Ran, carry};
-use crate::told::Told;
+use crate::expected::Expected;
+use crate::machine::{RunResult, carry};
 use pt_memory::MemDest;
 use pt_memory::texts::{add, path};
 use pt_memory_system::Faults;
@@ -21,55 +21,55 @@ pub enum Found {
 #[derive(Clone, Copy)]
 pub enum Row {
     /// The store is carried into an empty root.
-    Carried,
+    Carry,
     /// A rehearsal before the run.
-    RehearsedBefore,
+    RehearseBefore,
     /// A rehearsal over the root that holds the objects.
-    RehearsedAfter,
+    RehearseAfter,
     /// A run stopped at each call in turn, each time followed by one that nothing stops.
-    Stopped,
+    Stop,
 }
 
 /// Tries a row over a case.
-pub fn tried(rt: &HostRuntime, case: &Case, row: Row) -> Found {
-    let mut ran = Ran::new(rt.alloc());
-    tried_on(rt, case, row, &mut ran).unwrap_or(Found::Unmade)
+pub fn try_row(rt: &HostRuntime, case: &Case, row: Row) -> Found {
+    let mut ran = RunResult::new(rt.alloc());
+    try_row_on(rt, case, row, &mut ran).unwrap_or(Found::Unmade)
 }
 
-fn tried_on(rt: &HostRuntime, case: &Case, row: Row, ran: &mut Ran) -> Option<Found> {
+fn try_row_on(rt: &HostRuntime, case: &Case, row: Row, ran: &mut RunResult) -> Option<Found> {
     add(rt.alloc(), &mut ran.store, case.store).ok()?;
     match row {
-        Row::Carried => carrying(rt, case, ran),
-        Row::RehearsedBefore => rehearsing(rt, case, ran),
-        Row::RehearsedAfter => rehearsing_again(rt, case, ran),
-        Row::Stopped => stopping(rt, case, ran),
+        Row::Carry => check_carry(rt, case, ran),
+        Row::RehearseBefore => check_rehearsal_before(rt, case, ran),
+        Row::RehearseAfter => check_rehearsal_after(rt, case, ran),
+        Row::Stop => check_each_stop(rt, case, ran),
     }
 }
 
-fn carrying(rt: &HostRuntime, case: &Case, ran: &mut Ran) -> Option<Found> {
+fn check_carry(rt: &HostRuntime, case: &Case, ran: &mut RunResult) -> Option<Found> {
     let told = case.tells(rt.alloc(), &ran.root)?;
     carry(rt, &Faults::new(), ran, false)?;
-    Some(differs(ran, &told, &case.root(rt.alloc())?))
+    Some(find_difference(ran, &told, &case.root(rt.alloc())?))
 }
 
-fn rehearsing(rt: &HostRuntime, case: &Case, ran: &mut Ran) -> Option<Found> {
+fn check_rehearsal_before(rt: &HostRuntime, case: &Case, ran: &mut RunResult) -> Option<Found> {
     let told = case.tells(rt.alloc(), &ran.root)?;
     carry(rt, &Faults::new(), ran, true)?;
-    match differs(ran, &told, &MemDest::new(rt.alloc())) {
-        Found::Well => carrying(rt, case, ran),
+    match find_difference(ran, &told, &MemDest::new(rt.alloc())) {
+        Found::Well => check_carry(rt, case, ran),
         found => Some(found),
     }
 }
 
-fn rehearsing_again(rt: &HostRuntime, case: &Case, ran: &mut Ran) -> Option<Found> {
+fn check_rehearsal_after(rt: &HostRuntime, case: &Case, ran: &mut RunResult) -> Option<Found> {
     carry(rt, &Faults::new(), ran, false)?;
     let told = case.tells(rt.alloc(), &ran.root)?;
     carry(rt, &Faults::new(), ran, true)?;
-    Some(differs(ran, &told, &case.root(rt.alloc())?))
+    Some(find_difference(ran, &told, &case.root(rt.alloc())?))
 }
 
 // How a run differs from one that tells this and leaves this root.
-fn differs(ran: &Ran, told: &Told, root: &MemDest) -> Found {
+fn find_difference(ran: &RunResult, told: &Expected, root: &MemDest) -> Found {
     if ran.status != told.status {
         Found::Otherwise("the status is another")
     } else if ran.log.as_slice() != told.log.as_bytes() {
@@ -82,10 +82,10 @@ fn differs(ran: &Ran, told: &Told, root: &MemDest) -> Found {
 }
 
 // Runs that are stopped after no call, after one, after two and so on, until one isn't stopped.
-fn stopping(rt: &HostRuntime, case: &Case, ran: &mut Ran) -> Option<Found> {
+fn check_each_stop(rt: &HostRuntime, case: &Case, ran: &mut RunResult) -> Option<Found> {
     let whole = case.root(rt.alloc())?;
     for passing in 0..10_000u64 {
-        match stopped(rt, case, &whole, passing)? {
+        match stop_after(rt, case, &whole, passing)? {
             Stop::Well => {}
             Stop::Otherwise(why) => return Some(Found::Otherwise(why)),
             Stop::Past => return Some(Found::Well),
@@ -101,18 +101,18 @@ enum Stop {
     Past,
 }
 
-fn stopped(rt: &HostRuntime, case: &Case, whole: &MemDest, passing: u64) -> Option<Stop> {
-    let mut ran = Ran::new(rt.alloc());
-    stopping_once(rt, case, whole, passing, &mut ran)
+fn stop_after(rt: &HostRuntime, case: &Case, whole: &MemDest, passing: u64) -> Option<Stop> {
+    let mut ran = RunResult::new(rt.alloc());
+    stop_once(rt, case, whole, passing, &mut ran)
 }
 
 // A run of which so many calls pass, and the one after it.
-fn stopping_once(
+fn stop_once(
     rt: &HostRuntime,
     case: &Case,
     whole: &MemDest,
     passing: u64,
-    ran: &mut Ran,
+    ran: &mut RunResult,
 ) -> Option<Stop> {
     add(rt.alloc(), &mut ran.store, case.store).ok()?;
     let faults = Faults::new();
@@ -120,7 +120,7 @@ fn stopping_once(
     let told = case.tells(rt.alloc(), &ran.root)?;
     carry(rt, &faults, ran, false)?;
     if faults.made() <= passing {
-        return Some(match differs(ran, &told, whole) {
+        return Some(match find_difference(ran, &told, whole) {
             Found::Well => Stop::Past,
             _ => Stop::Otherwise("no call fails, and the run is another"),
         });
@@ -128,15 +128,20 @@ fn stopping_once(
     if ran.status != 3 {
         return Some(Stop::Otherwise("a call fails and the status is another"));
     }
-    after_a_stop(rt, case, whole, ran)
+    carry_again(rt, case, whole, ran)
 }
 
 // The run after a stopped one, of which `staging` is taken away.
-fn after_a_stop(rt: &HostRuntime, case: &Case, whole: &MemDest, ran: &mut Ran) -> Option<Stop> {
+fn carry_again(
+    rt: &HostRuntime,
+    case: &Case,
+    whole: &MemDest,
+    ran: &mut RunResult,
+) -> Option<Stop> {
     let _ = ran.root.take_away(&path(rt.alloc(), "staging").ok()?);
     let told = case.tells(rt.alloc(), &ran.root)?;
     carry(rt, &Faults::new(), ran, false)?;
-    Some(match differs(ran, &told, whole) {
+    Some(match find_difference(ran, &told, whole) {
         Found::Well => Stop::Well,
         Found::Otherwise(why) => Stop::Otherwise(why),
         Found::Unmade => Stop::Otherwise("the devices can't be made"),

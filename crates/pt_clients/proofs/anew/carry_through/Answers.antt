@@ -1,5 +1,5 @@
 use Rattle.std.proofs.Common.{rules, ◌∙◌, refl}
-use Rattle.pt_state.specs.Outside.{world_of}
+use Rattle.pt_state.specs.Outside.{states_of}
 use Rattle.pt_clients.proofs.Rerun.{again_as, ended_as, told_tree}
 use Rattle.pt_clients.proofs.anew.carry_through.Goals as goal
 
@@ -7,9 +7,9 @@ pub returns-in-Ok : goal.returns-in-Ok
 returns-in-Ok g c s start is _ =
     let at = c.loop in
     let after = c.migrate.new in
-    let old = world_of g.S.Source g.D.Dest g.L.Log at.source at.dest at.log in
+    let old = states_of g.S.Source g.D.Dest g.L.Log at.source at.dest at.log in
     let new =
-    world_of g.S.Source g.D.Dest g.L.Log after.source after.dest after.log in
+    states_of g.S.Source g.D.Dest g.L.Log after.source after.dest after.log in
     ended_as (g.J.Jobs.job c.args.jobs.now) c.in-Some.job s start old new c.in-Ok.field-0 (c.in-Some.ensures.made ∙ at.invariant.same) (at.invariant.ends s start is) c.in-Ok.ensures.promises
 
 pub loop-preserved : goal.loop-preserved
@@ -17,11 +17,11 @@ loop-preserved g c =
     let at = c.loop in
     let after = c.migrate.new in
     let taken = c.take_staging_away.new.self in
-    let old = world_of g.S.Source g.D.Dest g.L.Log at.source at.dest at.log in
+    let old = states_of g.S.Source g.D.Dest g.L.Log at.source at.dest at.log in
     let new =
-    world_of g.S.Source g.D.Dest g.L.Log after.source after.dest after.log in
+    states_of g.S.Source g.D.Dest g.L.Log after.source after.dest after.log in
     let later =
-    world_of g.S.Source g.D.Dest g.L.Log after.source taken after.log in record {
+    states_of g.S.Source g.D.Dest g.L.Log after.source taken after.log in record {
       same = c.next.ensures.same ∙ at.invariant.same;
       ends =
           λ s start is.

@@ -1,6 +1,6 @@
 use Rattle.std.specs.Prelude.{◌≡◌}
 use Rattle.pt_clients.specs.Mending.{MayEndAs}
-use Rattle.pt_state.specs.Outside.{world_of}
+use Rattle.pt_state.specs.Outside.{states_of}
 use Rattle.pt_tree.specs.Forest.{Forest}
 use Rattle.pt_tree.specs.Tree.{Tree}
 use Rattle.pt_clients.proofs.anew.carry_through.Given as goal
@@ -10,8 +10,8 @@ abbrev pub invariant-loop : goal.invariant-loop
 invariant-loop g l =
     let job = g.J.Jobs.job l.fn.jobs in
     let first =
-    world_of g.S.Source g.D.Dest g.L.Log l.fn.source l.fn.dest l.fn.log in
-    let now = world_of g.S.Source g.D.Dest g.L.Log l.source l.dest l.log in record {
+    states_of g.S.Source g.D.Dest g.L.Log l.fn.source l.fn.dest l.fn.log in
+    let now = states_of g.S.Source g.D.Dest g.L.Log l.source l.dest l.log in record {
       same : g.J.Jobs.job l.jobs ≡ job;
       ends : (s : Forest) (start : Tree) → MayEndAs job s start first → MayEndAs job s start now;
     }

@@ -1,6 +1,6 @@
 use Rattle.pt_invariant.specs.RunInvariant.{Start}
 use Rattle.pt_move.specs.Running.{HasBegun}
-use Rattle.pt_state.specs.Outside.{world_of}
+use Rattle.pt_state.specs.Outside.{states_of}
 use Rattle.pt_tree.specs.Forest.{Forest}
 use Rattle.pt_clients.specs.Holding.{GoesOn, IsMost}
 use Rattle.pt_clients.proofs.owning.Run.most.Given as goal
@@ -9,9 +9,9 @@ use Rattle.pt_clients.proofs.owning.Run.most.Given as goal
 abbrev pub invariant-loop : goal.invariant-loop
 invariant-loop g l =
     let now =
-    world_of g.S.Source g.D.Dest g.L.Log l.self.source l.self.dest l.self.log in
+    states_of g.S.Source g.D.Dest g.L.Log l.self.source l.self.dest l.self.log in
     let first =
-    world_of g.S.Source g.D.Dest g.L.Log l.fn.self.source l.fn.self.dest l.fn.self.log in
+    states_of g.S.Source g.D.Dest g.L.Log l.fn.self.source l.fn.self.dest l.fn.self.log in
     let job = l.fn.self.mover.state.job in record {
       begun : HasBegun now l.self.mover;
       held :

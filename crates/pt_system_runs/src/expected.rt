@@ -1,0 +1,73 @@
+//! What a run over a case must tell, by the root that it finds.
+use crate::cases::{Case, Met};
+use pt_memory::MemDest;
+use std::alloc::{AllocError, Global};
+
+/// The status and the log of a run.
+#[derive(Drop)]
+pub struct Expected {
+    pub status: u8,
+    pub log: String,
+}
+
+// How many objects of a log were carried, how many stood, and what was passed over.
+#[derive(Clone, Copy)]
+struct Counts {
+    done: u32,
+    present: u32,
+    skip: u32,
+}
+
+impl Case {
+    /// What a run must tell that finds this root: an object that stands there is present, and each other is carried.
+    pub fn tells(&self, alloc: Global, root: &MemDest) -> Option<Expected> {
+        let mut counts = Counts {
+            done: 0,
+            present: 0,
+            skip: 0,
+        };
+        let mut log = String::new(alloc);
+        for met in self.met {
+            log.push_str(counts.line_of(alloc, met, root)?).ok()?;
+        }
+        log.push_str(counts.last_line(alloc).ok()?.as_str()).ok()?;
+        let status = counts.status();
+        Some(Expected { status, log })
+    }
+}
+
+impl Counts {
+    // The line of what a run meets, which is counted.
+    fn line_of(&mut self, alloc: Global, met: &Met, root: &MemDest) -> Option<&'static str> {
+        let object = match met {
+            Met::Skip(line) => {
+                self.skip = self.skip.wrapping_add(1);
+                return Some(line);
+            }
+            Met::Object(object) => object,
+        };
+        if object.stands(alloc, root)? {
+            self.present = self.present.wrapping_add(1);
+            Some(object.present)
+        } else {
+            self.done = self.done.wrapping_add(1);
+            Some(object.done)
+        }
+    }
+
+    fn last_line(&self, alloc: Global) -> Result<String, AllocError> {
+        let Counts {
+            done,
+            present,
+            skip,
+        } = self;
+        format!(in alloc;
+            "{{\"as\":\"end\",\"done\":{done},\"present\":{present},\"skip\":{skip}}}\n"
+        )
+    }
+
+    // The status is 0 where all was carried.
+    fn status(&self) -> u8 {
+        u8::from(self.present > 0 || self.skip > 0)
+    }
+}
