@@ -32,6 +32,7 @@ WHYS = {
     "kind": "A file stands for a folder, a folder for a file, or something else.",
     "bytes": "The file has other bytes.",
     "extra": "The object of the store has nothing there.",
+    "twin": "The folders of the store have other names than the identifier's own, which stand too: compare the two by hand.",
 }
 
 HEAD = """<!DOCTYPE html>

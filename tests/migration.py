@@ -1,4 +1,4 @@
-"""The built program's tests over real folders. tests/cases has the cases: carrying, refusing and options those of `migrate`, auditing those of `audit`, watching of progress, sharing of shares,
+"""The built program's tests over real folders. tests/cases has the cases: carrying, refusing and options those of `migrate`, auditing and twins those of `audit`, watching of progress, sharing of shares,
 peers beside plain Rust, surroundings of what is around a run, packages of what is shipped, anywhere of its programs, guide of the guide's commands,
 joining of tools/roots.py, report of examples/report.py, documents of what the documents name, gate of the gate itself. tests/harness has how they
 are run, and what must stand.
@@ -30,10 +30,11 @@ import report
 import running
 import sharing
 import surroundings
+import twins
 import watching
 from tally import Tally
 
-FILES = (carrying, auditing, refusing, options, watching, surroundings, sharing, peers, guide, joining, report, packages, anywhere, documents, gate)
+FILES = (carrying, auditing, twins, refusing, options, watching, surroundings, sharing, peers, guide, joining, report, packages, anywhere, documents, gate)
 CASES = [case for file in FILES for case in file.CASES]
 
 

@@ -12,7 +12,11 @@ import re
 import sys
 
 TOP = os.path.dirname(os.path.dirname(os.path.abspath(__file__)))
-DEFINITION = re.compile(r"^(?:(?:abbrev|unfoldable|opaque) )*pub (?!mod\b|use\b)(?:(?:abbrev|unfoldable|opaque|data|record) )*(\S+)")
+DEFINITION = re.compile(
+    r"^(?:(?:abbrev|unfoldable|opaque) )*pub (?!mod\b|use\b)(?:(?:abbrev|unfoldable|opaque|data|record) )*(\S+)"
+    # In a module without a name; what stands there without such a word looks as a record's field does.
+    r"|^ +(?:abbrev pub|pub (?:data|record)) (\S+)"
+)
 
 
 def crates():
@@ -33,8 +37,8 @@ def comment_above(lines, number):
     while above >= 0 and re.match(r"(?:infix[lr]? |unfolding )", lines[above]):
         above -= 1
     found = []
-    while above >= 0 and lines[above].startswith("-- ") and not lines[above].startswith("-- --"):
-        found.insert(0, lines[above].removeprefix("-- "))
+    while above >= 0 and lines[above].lstrip().startswith("-- ") and not lines[above].startswith("-- --"):
+        found.insert(0, lines[above].lstrip().removeprefix("-- "))
         above -= 1
     return " ".join(found)
 
@@ -42,7 +46,7 @@ def comment_above(lines, number):
 def definitions(path):
     """The public definitions of a file of specs, each with the comment above it."""
     lines = lines_of(path)
-    return [(match[1], comment_above(lines, number)) for number, line in enumerate(lines) if (match := DEFINITION.match(line))]
+    return [(match[1] or match[2], comment_above(lines, number)) for number, line in enumerate(lines) if (match := DEFINITION.match(line))]
 
 
 def specs(crate):

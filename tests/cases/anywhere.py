@@ -14,6 +14,7 @@ import options
 import program as words_alone
 import refusing
 import surroundings
+import twins
 from alone import Alone, differs
 from running import MEANT, timeless
 from sharing import random_store
@@ -45,7 +46,7 @@ class Over:
 
 def over():
     """The cases of runs, audits and what is around them, of each program that is shipped; none where these aren't built, which CASES tell."""
-    cases = [case for file in (carrying, refusing, auditing, options, surroundings) for case in file.CASES]
+    cases = [case for file in (carrying, refusing, auditing, twins, options, surroundings) for case in file.CASES]
     return [Over(cpu, case) for cpu in CPUS for case in cases] if os.path.isdir(FOLDER) else []
 
 

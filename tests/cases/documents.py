@@ -6,7 +6,7 @@
 - A file of code is one of a crate that its paragraph, or its row of a table, names; of any crate where it names none.
 - A text that says `crate, file.rt and Module` names files of src/ and of specs/ of that crate.
 - Any other word of code, which has a `_`, a `::` or a capital inside small letters, stands somewhere in the code.
-- Each crate of crates.txt is on the map of docs/DESIGN.md, behind those that it stands on.
+- Each crate of crates.txt is on the map of docs/DESIGN.md, behind those that it stands on. CONTRIBUTING.md says what each crate of tests tests.
 - The words of code at the head of a crate's lib.rt are declared in that crate, or where `crate::word` or `word` of crate says.
 - Each public definition of crates/*/specs has a comment, and each edit of crates/*/must-fail one that says what the wrong body does: `make model` and
   `make wrong` print all of them. Each edit can be applied to the code as it stands. The lemmas that Migrates.antt names are there.
@@ -243,7 +243,7 @@ def heads(program, folder):
 
 
 def crates(program, folder):
-    """Each crate is on the map of docs/DESIGN.md, behind those that it stands on."""
+    """Each crate is on the map of docs/DESIGN.md, behind those that it stands on, and CONTRIBUTING.md says what each crate of tests tests."""
     map_of = text_of("docs/DESIGN.md").split("\n## The map\n", 1)[1].split("\n## ", 1)[0]
     rows = re.findall(r"^\| `(\w+)` \|", map_of, re.MULTILINE)
     stands = {name: below.split() for name, below in re.findall(r"^(\w+):(.*)$", text_of("crates.txt"), re.MULTILINE)}
@@ -251,6 +251,8 @@ def crates(program, folder):
     faults += [f"docs/DESIGN.md has {name} on its map, which is no crate" for name in rows if name not in stands]
     for place, name in enumerate(rows):
         faults += [f"docs/DESIGN.md has {name} before {below}, on which it stands" for below in stands.get(name, ()) if below in rows[place:]]
+    tests = text_of("CONTRIBUTING.md").split("\n## Tests\n", 1)[1].split("\n## ", 1)[0]
+    faults += [f"CONTRIBUTING.md doesn't say what is tested by {name}" for name in rows[rows.index("pt_clients") :] if f"`{name}`" not in tests]
     on = {below for belows in stands.values() for below in belows}
     return faults + [f"docs/DESIGN.md says that no code stands on {name}" for name in rows[rows.index("pt_clients") :] if name in on]
 

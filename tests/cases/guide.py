@@ -102,7 +102,7 @@ def after_power_cut(program, folder):
     faults += differs(kept=([inodes(folder, name) for name in ("ba", "bb", "a/")], kept))
     told = by_guide(program, folder, heading, "audit SOURCE DEST")
     bb, slash = stores.place("bb"), stores.place("a/")
-    lines = [f"{slash}\ta^/2f/obj\tv1/content/second\tmissing", f"{bb}\tbb/obj\tv1/content/a\tmissing", *sorted([bb, slash])]
+    lines = [f"{slash}\ta^/2f/obj\tv1/content/second\ttwin", f"{bb}\tbb/obj\tv1/content/a\tmissing", *sorted([bb, slash])]
     faults += differs(twins=(sorted(told), sorted(lines)))
     return faults + [f"after the mending: {fault}" for fault in stores.differences(read_tree(f"{folder}/d"), whole)]
 

@@ -150,15 +150,16 @@ def widths(found, tag):
 def one_audit(program, folder):
     """An audit's log: what is the same, what is absent and what differs, with its path and by its kinds."""
     entries = [sized("aa/obj", "aa", 5, kind="same"), absent("ab/obj", "ab"), unlike("ac/obj", "ac", "v1/content/a", "bytes")]
-    entries += [unlike("ad/obj", "ad", "", "kind"), unlike("ae/obj", "ae", "v1/x", "bytes"), skip("af", "empty")]
+    entries += [unlike("ad/obj", "ad", "", "kind"), unlike("ae/obj", "ae", "v1/x", "bytes"), skip("af", "empty"), unlike("a^67/obj", "ag", "v1/y", "twin")]
     found, said = page(folder, *logs(folder, audit=whole_audit(*entries)))
-    row = ["audit.log", "audit", "end line", "5", "1", "5", "0"]
+    row = ["audit.log", "audit", "end line", "6", "1", "5", "0"]
     rest = [["v1/content/a", "bytes"], ["", "kind"], ["v1/x", "bytes"]]
     wanted = [["ab", "ab/obj", stores.place("ab"), "", "absent"]]
     wanted += [[name, f"{name}/obj", stores.place(name), *it] for name, it in zip(("ac", "ad", "ae"), rest)]
+    wanted += [["ag", "a^67/obj", stores.place("ag"), "v1/y", "twin"]]
     whys = [row[:2] for row in found.table("whys")]
     faults = differs(said=(said, (0, "")), numbers=(found.table("numbers"), [row]), unlike=(found.table("unlike"), wanted))
-    return faults + differs(whys=(whys, [["kind", "1"], ["bytes", "2"]]))
+    return faults + differs(whys=(whys, [["kind", "1"], ["bytes", "2"], ["twin", "1"]]))
 
 
 def of_the_program(program, folder):
