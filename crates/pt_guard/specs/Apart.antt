@@ -7,7 +7,9 @@ use Rattle.std.specs.declared.io.ErrorKind.{ErrorKind}
 use Rattle.std.specs.declared.io.ErrorKind.TheVariants.{OutOfMemory}
 use Rattle.pt_guard.specs.Paths.{Place}
 use Rattle.pt_guard.specs.PlaceCall.{PlaceCall, Identify, Resolve}
+use Rattle.pt_guard.specs.declared.apart.Climb.{Climb}
 use Rattle.pt_guard.specs.declared.apart.Nesting.{Nesting}
+use Rattle.pt_guard.specs.declared.apart.RunPaths.{RunPaths}
 use Rattle.pt_guard.specs.Wanting.{IsWanting}
 use Rattle.pt_guard.specs.declared.apart.Nesting.TheVariants.{Apart, Inside, Unknown, Wanting}
 use Rattle.pt_guard.specs.declared.places.FileId.{FileId}
@@ -33,23 +35,55 @@ abbrev pub OrElse : {S : Type 0} → (S → S → Nesting → Type 0) → (S →
 OrElse {S} first second old new lie = (one : Nesting) × (mid : S) × first old mid one
     × GoesOn second one mid new lie
 
+-- the paths of a store and its `pairtree_root`, and of a destination and what it is to hold
+pub record Folders : Type 0 where
+  pub source : List ℕ
+  pub tree : List ℕ
+  pub dest : List ℕ
+  pub root : List ℕ
+  pub staging : List ℕ
+
+-- those that a run is asked for
+abbrev pub folders_in : RunPaths → Folders
+folders_in paths = record {
+  source = paths.source.now;
+  tree = paths.tree.now;
+  dest = paths.dest.now;
+  root = paths.root.now;
+  staging = paths.staging.now;
+}
+
+-- those of a store and a destination, which is to hold `ocfl` and `staging`
+abbrev pub folders_of : List ℕ → List ℕ → Folders
+folders_of source dest = record {
+  source = source;
+  tree = source ++ codes "/pairtree_root";
+  dest = dest;
+  root = dest ++ codes "/ocfl";
+  staging = dest ++ codes "/staging";
+}
+
 module _ {S L : Type 0} (does : S → PlaceCall L → S → Type 0) where
   -- what a path leads to and each folder above it is asked for, at most so many, until one is this folder; where one can't be told it is unknown
-  abbrev pub Climbs : FileId → ℕ → List ℕ → S → S → Nesting → Type 0
-  Climbs target zero path old new lie = Ends Unknown old new lie
-  Climbs target (suc left) path old new lie = (a : Result FileId Error) × (mid : S)
+  abbrev pub ClimbsTo : FileId → ℕ → List ℕ → S → S → Nesting → Type 0
+  ClimbsTo target zero path old new lie = Ends Unknown old new lie
+  ClimbsTo target (suc left) path old new lie = (a : Result FileId Error) × (mid : S)
       × does old (Identify path a) mid
       × MatchResult a (λ found. (same : Bool) × (IsTrue same ↔ (found ≡ target))
       × MatchBool same (Ends Inside mid new lie)
       ((more : Bool) × (IsTrue more ↔ IsSome (path_parent path))
-      × MatchBool more (Climbs target left (unwrap_or (path_parent path) path) mid new lie)
+      × MatchBool more (ClimbsTo target left (unwrap_or (path_parent path) path) mid new lie)
       (Ends Apart mid new lie)))
       (λ error. Ends (lie_of Unknown (error_kind error)) mid new lie)
+
+  -- the same of a folder that is looked for, with how many are asked for at most
+  abbrev pub Climbs : Climb → List ℕ → S → S → Nesting → Type 0
+  Climbs climb = ClimbsTo climb.target climb.left
 
   -- the folder at a path is asked for, and it and those above the resolved path are compared
   abbrev pub IsHeld : List ℕ → List ℕ → S → S → Nesting → Type 0
   IsHeld outer place old new lie = (a : Result FileId Error) × (mid : S) × does old (Identify outer a) mid
-      × MatchResult a (λ target. Climbs target (length place) place mid new lie)
+      × MatchResult a (λ target. ClimbsTo target (length place) place mid new lie)
       (λ error. Ends (lie_of Unknown (error_kind error)) mid new lie)
 
   -- of a path that leads nowhere: it is unknown where something stands at it, and apart where nothing does
@@ -72,20 +106,17 @@ module _ {S L : Type 0} (does : S → PlaceCall L → S → Type 0) where
       (λ error. IsUnresolved outer error next new lie))
       (λ error. IsUnresolved inner error mid new lie)
 
-  -- how a path lies to one folder, and else to another
-  abbrev pub InEither : List ℕ → List ℕ → List ℕ → S → S → Nesting → Type 0
-  InEither inner one other = OrElse (LiesIn inner one) (LiesIn inner other)
+  -- how a path lies to the first of two folders, and else to the second
+  abbrev pub InEither : List ℕ → List ℕ × List ℕ → S → S → Nesting → Type 0
+  InEither inner outers = OrElse (LiesIn inner outers.0) (LiesIn inner outers.1)
 
   -- asked one after another, until one isn't apart: the destination in the store or its `pairtree_root`; the store in one of what the
   -- destination is to hold; the store's `pairtree_root` in one of that
-  abbrev pub Finds : List ℕ → List ℕ → List ℕ → List ℕ → List ℕ → S → S → Nesting → Type 0
-  Finds source tree dest root staging =
-      OrElse (InEither dest source tree)
-      (OrElse (InEither source root staging)
-      (InEither tree root staging))
+  abbrev pub Finds : Folders → S → S → Nesting → Type 0
+  Finds at = OrElse (InEither at.dest (at.source, at.tree))
+      (OrElse (InEither at.source (at.root, at.staging))
+      (InEither at.tree (at.root, at.staging)))
 
-  -- the same of a store and a destination, which is to hold `ocfl` and `staging`
+  -- the same of a store and a destination
   abbrev pub Overlaps : List ℕ → List ℕ → S → S → Nesting → Type 0
-  Overlaps source dest =
-      Finds source (source ++ codes "/pairtree_root") dest (dest ++ codes "/ocfl")
-      (dest ++ codes "/staging")
+  Overlaps source dest = Finds (folders_of source dest)

@@ -2,7 +2,7 @@
 ghost use Rattle.std.specs.Prelude.{◌≡◌, ◌++◌, IfErr, IfOk, string_bytes};
 ghost use Rattle.std.specs.IoError.{error_kind};
 ghost use Rattle.std.specs.Path.{path_buf_bytes};
-ghost use Rattle.pt_guard.specs.Apart.{Climbs, Finds, InEither, IsHeld, IsUnresolved, LiesIn, Overlaps, lie_of};
+ghost use Rattle.pt_guard.specs.Apart.{Climbs, Finds, InEither, IsHeld, IsUnresolved, LiesIn, Overlaps, folders_in, lie_of};
 
 use crate::places::{FileId, Places, is_wanting};
 use std::alloc::{AllocError, Global};
@@ -39,21 +39,30 @@ fn nesting_of_error(error: &io::Error, otherwise: Nesting) -> Nesting
     }
 }
 
-// Whether a path leads to a folder, or to something that lies in it; asked of the path and of each folder above, at most `left` of them.
-fn has_ancestor<S: Places>(system: &mut S, path: PathBuf, target: FileId, left: usize) -> Nesting
-    ensures { Climbs S.does target left (path_buf_bytes path) system.old system.new result }
+// A folder that is looked for on the way up from a path, and how many paths are asked of at most.
+#[derive(Clone, Copy)]
+struct Climb {
+    target: FileId,
+    left: usize,
+}
+
+// Whether a path leads to a folder, or to something that lies in it; asked of the path and of each folder above.
+fn has_ancestor<S: Places>(system: &mut S, path: PathBuf, climb: Climb) -> Nesting
+    ensures { Climbs S.does climb (path_buf_bytes path) system.old system.new result }
 {
-    if left == 0 {
+    if climb.left == 0 {
         return Nesting::Unknown;
     }
     match system.identify(path.as_str()) {
         Ok(found) => {
-            if found == target {
+            if found == climb.target {
                 return Nesting::Inside;
             }
             let mut above = path;
             if above.pop() {
-                has_ancestor(system, above, target, left - 1)
+                let target = climb.target;
+                let left = climb.left - 1;
+                has_ancestor(system, above, Climb { target, left })
             } else {
                 Nesting::Apart
             }
@@ -69,7 +78,7 @@ fn held_against<S: Places>(system: &mut S, inner: PathBuf, outer: &str) -> Nesti
     match system.identify(outer) {
         Ok(target) => {
             let left = inner.as_str().len();
-            has_ancestor(system, inner, target, left)
+            has_ancestor(system, inner, Climb { target, left })
         }
         Err(error) => nesting_of_error(&error, Nesting::Unknown),
     }
@@ -122,56 +131,54 @@ pub(crate) fn overlap<S: Places>(
     let tree = below(alloc, source, TREE)?;
     let root = below(alloc, dest, ROOT)?;
     let staging = below(alloc, dest, STAGING)?;
-    Ok(first_found(
-        system,
-        alloc,
+    let paths = RunPaths {
         source,
-        tree.as_str(),
+        tree: tree.as_str(),
         dest,
-        root.as_str(),
-        staging.as_str(),
-    ))
+        root: root.as_str(),
+        staging: staging.as_str(),
+    };
+    Ok(paths.first_found(system, alloc))
 }
 
-// The same of the paths of a store and its `pairtree_root`, and of a destination and what it is to hold.
-fn first_found<S: Places>(
-    system: &mut S,
-    alloc: Global,
-    source: &str,
-    tree: &str,
-    dest: &str,
-    root: &str,
-    staging: &str,
-) -> Nesting
-    ensures { Finds S.does source.now tree.now dest.now root.now staging.now
-        system.old system.new result }
-{
-    match in_either(system, alloc, dest, source, tree) {
-        Nesting::Apart => match in_either(system, alloc, source, root, staging) {
-            Nesting::Apart => in_either(system, alloc, tree, root, staging),
+// The paths of a store and its `pairtree_root`, and of a destination and what it is to hold.
+#[derive(Drop)]
+struct RunPaths<'a> {
+    source: &'a str,
+    tree: &'a str,
+    dest: &'a str,
+    root: &'a str,
+    staging: &'a str,
+}
+
+impl<'a> RunPaths<'a> {
+    // How they lie to one another.
+    fn first_found<S: Places>(&self, system: &mut S, alloc: Global) -> Nesting
+        ensures { Finds S.does (folders_in self.now) system.old system.new result }
+    {
+        let store = (self.source, self.tree);
+        let held = (self.root, self.staging);
+        match in_either(system, alloc, self.dest, store) {
+            Nesting::Apart => match in_either(system, alloc, self.source, held) {
+                Nesting::Apart => in_either(system, alloc, self.tree, held),
+                Nesting::Inside => Nesting::Inside,
+                Nesting::Unknown => Nesting::Unknown,
+                Nesting::Wanting => Nesting::Wanting,
+            },
             Nesting::Inside => Nesting::Inside,
             Nesting::Unknown => Nesting::Unknown,
             Nesting::Wanting => Nesting::Wanting,
-        },
-        Nesting::Inside => Nesting::Inside,
-        Nesting::Unknown => Nesting::Unknown,
-        Nesting::Wanting => Nesting::Wanting,
+        }
     }
 }
 
-// How what a path leads to lies to one folder, and where it is apart from that, to another.
-fn in_either<S: Places>(
-    system: &mut S,
-    alloc: Global,
-    inner: &str,
-    one: &str,
-    other: &str,
-) -> Nesting
-    ensures { InEither S.does inner.now one.now other.now
+// How what a path leads to lies to the first of two folders, and where it is apart from that, to the second.
+fn in_either<S: Places>(system: &mut S, alloc: Global, inner: &str, outers: (&str, &str)) -> Nesting
+    ensures { InEither S.does inner.now (outers.entry.0.now, outers.entry.1.now)
         system.old system.new result }
 {
-    match lies_in(system, alloc, inner, one) {
-        Nesting::Apart => lies_in(system, alloc, inner, other),
+    match lies_in(system, alloc, inner, outers.0) {
+        Nesting::Apart => lies_in(system, alloc, inner, outers.1),
         Nesting::Inside => Nesting::Inside,
         Nesting::Unknown => Nesting::Unknown,
         Nesting::Wanting => Nesting::Wanting,

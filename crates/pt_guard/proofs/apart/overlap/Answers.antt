@@ -6,7 +6,8 @@ pub returns-clause-ok : goal.returns-clause-ok
 returns-clause-ok g c =
     let source = c.args.source.now in
     let dest = c.args.dest.now in
-    let finds = λ (tree : List ℕ) (root : List ℕ) (staging : List ℕ). Finds g.S.Places.does source tree dest root staging
+    let finds = λ (tree : List ℕ) (root : List ℕ) (staging : List ℕ). Finds g.S.Places.does
+    (record { source = source; tree = tree; dest = dest; root = root; staging = staging })
     c.args.system.now c.first_found.new.system c.first_found.result in
     let tree = c.as_str.ensures.value ∙ c.in_ok-tree.ensures in
     let root = c.as_str-2.ensures.value ∙ c.in_ok-root.ensures in
