@@ -9,7 +9,8 @@ use Rattle.pt_tree.specs.Path.{Path}
 use Rattle.pt_tree.specs.Tree.{Tree, Folder, kind_of_entry, put, CanMake, CanMove}
 use Rattle.pt_tree.specs.Dest.{Writing, IsKindAt, MayMake, MayMove, after_mkdir}
 use Rattle.pt_folder.specs.declared.writing.Writing.{Writing as Open}
-use Rattle.pt_folder.specs.Calls.{AsksOnce, IsAnswer, LeadsToKind, MakesOnce}
+use Rattle.pt_folder.specs.Calls.{AsksOnce, IsAnswer, LeadsToKind, MakesOnce, change_of}
+use Rattle.pt_folder.specs.Folder.{entry_in}
 use Rattle.pt_folder.specs.DestLaws.{Becomes, DirLaw, Kept, KindLaw, MakesDir}
 use Rattle.pt_folder.proofs.Shown.{right_kind_here}
 use Rattle.pt_folder.specs.DestHeld.{told_of, IsPlaced}
@@ -46,12 +47,12 @@ kind_is w (Some t) p k h = λ s is. let same : told_at w t ≡ s = cc in subst (
 module _ {S F : Type 0} (kept : S → List ℕ → Kept F) (folder : List ℕ) where
   -- a look at an entry
   pub kind_keeps : {T : Type 0} (looks : S → List ℕ → Result Kind Error → S → Type 0) → KindLaw kept looks → (leads : Result Kind Error → Result T TreeFault → Type 0) (old new : S) (p : Path) (result : Result T TreeFault)
-      → AsksOnce looks leads folder p old new result → kept new folder ≡ kept old folder
+      → AsksOnce looks leads (entry_in folder p) (change_of old new) result → kept new folder ≡ kept old folder
   kind_keeps looks law leads old new p result (inl none) = ap (λ s. kept s folder) none.0
   kind_keeps looks law leads old new p result (inr asked) = (law old new folder p asked.reply asked.named asked.made).same
 
   pub kind_tells : (looks : S → List ℕ → Result Kind Error → S → Type 0) → KindLaw kept looks → (old new : S) (p : Path) (result : Result (Option Kind) TreeFault) (w : Option (Open F))
-      → AsksOnce looks LeadsToKind folder p old new result → IfOk result (λ k. IsKindAt (told_of (kept old folder) w) p k)
+      → AsksOnce looks LeadsToKind (entry_in folder p) (change_of old new) result → IfOk result (λ k. IsKindAt (told_of (kept old folder) w) p k)
   kind_tells looks law old new p (Err e) w asked = tt
   kind_tells looks law old new p (Ok k) w (inl none) = absurd none.1
   kind_tells looks law old new p (Ok k) w (inr asked) =
@@ -59,7 +60,7 @@ module _ {S F : Type 0} (kept : S → List ℕ → Kept F) (folder : List ℕ) w
 
   -- a directory is made, or nothing is changed
   pub mkdir_gives : (makes : S → List ℕ → Result (Unit {0}) Error → S → Type 0) → DirLaw kept makes → (old new : S) (p : Path) (longest : ℕ) (result : Result (Unit {0}) TreeFault)
-      → ForSome (kept old folder).tree (λ t. CanMake t p) → MakesOnce longest makes IsAnswer folder p old new result
+      → ForSome (kept old folder).tree (λ t. CanMake t p) → MakesOnce longest makes IsAnswer (entry_in folder p) (change_of old new) result
       → MatchResult result (λ _. Becomes (λ t. put t p Folder) (kept old folder) (kept new folder)) (λ _. kept new folder ≡ kept old folder)
   mkdir_gives makes law old new p longest (Ok x) can (inl none) = absurd none.1
   mkdir_gives makes law old new p longest (Err e) can (inl none) = ap (λ s. kept s folder) none.0

@@ -1,6 +1,6 @@
 -- What is asked of a system to list a directory, in one piece, and why it is not listed.
 use Rattle.std.proofs.Common.{◌≡◌, List, map, sym, subst, inl, inr}
-use Rattle.std.specs.Prelude.{ℕ, Option, IsPermutation, Result, Ok, Err, IfOk, IfErr, IfSome, MatchResult}
+use Rattle.std.specs.Prelude.{ℕ, IsPermutation, Result, Ok, Err, IfOk, IfErr, IfSome, MatchResult}
 use Rattle.std.specs.Cmp.Lexicographic.{slice_cmp}
 use Rattle.std.specs.Ordering.{nat_cmp}
 use Rattle.std.specs.List.{FoldsTo}
@@ -8,27 +8,27 @@ use Rattle.std.specs.List.Sorted.{IsSorted}
 use Rattle.std.specs.declared.io.Error.{Error}
 use Rattle.pt_tree.specs.declared.faults.TreeFault.{TreeFault}
 use Rattle.pt_tree.specs.declared.faults.TreeFault.TheVariants.{Device, Memory}
-use Rattle.pt_tree.specs.declared.kind.Kind.{Kind}
 use Rattle.pt_tree.specs.Listing.{Item}
 use Rattle.pt_tree.specs.Path.{Path}
-use Rattle.pt_folder.specs.Calls.{IsDueTo, fault_of}
-use Rattle.pt_folder.specs.Folder.{entry_text}
+use Rattle.pt_folder.specs.Calls.{IsDueTo, change_of, fault_of}
+use Rattle.pt_folder.specs.Folder.{entry_in, entry_text}
+use Rattle.pt_folder.specs.declared.system.Input.{Ghosts as OfInput}
+use Rattle.pt_folder.specs.declared.system.System.{Ghosts as OfSystem}
 use Rattle.pt_folder.specs.Listing.{FailsToGet, FailsToList, FailsToLook, GetsNames, IsListedBy, LooksAt, dir_front, most_entries}
 use Rattle.pt_folder.specs.Names.{GivesNames}
 
-module _ {S D : Type 0} (opens : S → List ℕ → Result D Error → S → Type 0) (looks : S → List ℕ → Result Kind Error → S → Type 0) (reads : D → List ℕ → Result ℕ Error → D → Type 0)
-    (left : D → Option (List ℕ)) (folder : List ℕ) (p : Path) (old mid : S) (text : List ℕ) (is : text ≡ entry_text folder p) where
+module _ {S F D : Type 0} (sys : OfSystem S F D) (input : OfInput D) (folder : List ℕ) (p : Path) (old mid : S) (text : List ℕ) (is : text ≡ entry_text folder p) where
   -- the directory was opened, and its names had, or they weren't
   abbrev AsksNames : {T : Type 0} → (T → List (List ℕ)) → Result T TreeFault → Type 0
   AsksNames items result =
-      (reply : Result D Error) × opens old text reply mid × MatchResult reply (λ dir. (after : D) × MatchResult result (λ names. GetsNames reads dir (items names) after × IfSome (left dir) (λ bytes. GivesNames bytes (items names)))
-      (λ fault. IsDueTo fault (FailsToGet reads most_entries dir after))) (λ e. result ≡ Err (fault_of e))
+      (reply : Result D Error) × sys.opens_dir old text reply mid × MatchResult reply (λ dir. (after : D) × MatchResult result (λ names. GetsNames input.reads dir (items names) after × IfSome (input.left dir) (λ bytes. GivesNames bytes (items names)))
+      (λ fault. IsDueTo fault (FailsToGet input.reads most_entries dir after))) (λ e. result ≡ Err (fault_of e))
 
-  opened : (reply : Result D Error) → opens old text reply mid → opens old (entry_text folder p) reply mid
-  opened reply asked = subst (λ t. opens old t reply mid) is asked
+  opened : (reply : Result D Error) → sys.opens_dir old text reply mid → sys.opens_dir old (entry_text folder p) reply mid
+  opened reply asked = subst (λ t. sys.opens_dir old t reply mid) is asked
 
   -- its names aren't had
-  pub names_fail : {T : Type 0} (items : T → List (List ℕ)) (fault : TreeFault) → AsksNames items (Err fault) → IsDueTo fault (FailsToList opens looks reads folder p old mid)
+  pub names_fail : {T : Type 0} (items : T → List (List ℕ)) (fault : TreeFault) → AsksNames items (Err fault) → IsDueTo fault (FailsToList sys input (entry_in folder p) (change_of old mid))
   names_fail items Memory asked = tt
   names_fail items Device (Ok dir, asked, gives) = inr (inr (inl (dir, gives.0, opened (Ok dir) asked, gives.1)))
   names_fail items Device (Err e, asked, gives) = let device : fault_of e ≡ Device = cc in inr (inl (e, opened (Err e) asked, device))
@@ -36,8 +36,8 @@ module _ {S D : Type 0} (opens : S → List ℕ → Result D Error → S → Typ
   module _ {T : Type 0} (items : T → List (List ℕ)) (names : T) (order : List (List ℕ)) (ordered : IsPermutation (items names) order) (front : List ℕ) (begins : front ≡ dir_front folder p) (new : S) where
     -- it is listed
     pub listed_by : (result : Result (List Item) TreeFault) → AsksNames items (Ok names) → IfOk result (λ listing. map (λ (item : Item). item.0) listing ≡ order)
-        → IfOk result (λ listing. FoldsTo (LooksAt looks front) mid listing new)
-        → IfOk result (λ listing. IsListedBy opens looks reads left (entry_text folder p) (dir_front folder p) old new listing)
+        → IfOk result (λ listing. FoldsTo (LooksAt sys.looks front) mid listing new)
+        → IfOk result (λ listing. IsListedBy sys input (entry_in folder p) (change_of old new) listing)
     listed_by (Err f) asked named looked = tt
     listed_by (Ok listing) (Err e, asked, gives) named looked = absurd (cc)
     listed_by (Ok listing) (Ok dir, asked, gives) named looked = record {
@@ -49,12 +49,12 @@ module _ {S D : Type 0} (opens : S → List ℕ → Result D Error → S → Typ
       read = gives.1.0;
       given = gives.1.1;
       ordered = subst (IsPermutation (items names)) (sym named) ordered;
-      looked = subst (λ front. FoldsTo (LooksAt looks front) mid listing new) begins looked;
+      looked = subst (λ front. FoldsTo (LooksAt sys.looks front) mid listing new) begins looked;
     }
 
     -- one of its entries isn't had
-    pub entry_fails : {U : Type 0} (result : Result U TreeFault) → AsksNames items (Ok names) → IsSorted (slice_cmp nat_cmp) order → IfErr result (λ fault. IsDueTo fault (FailsToLook looks front order mid new))
-        → IfErr result (λ fault. IsDueTo fault (FailsToList opens looks reads folder p old new))
+    pub entry_fails : {U : Type 0} (result : Result U TreeFault) → AsksNames items (Ok names) → IsSorted (slice_cmp nat_cmp) order → IfErr result (λ fault. IsDueTo fault (FailsToLook sys.looks front order mid new))
+        → IfErr result (λ fault. IsDueTo fault (FailsToList sys input (entry_in folder p) (change_of old new)))
     entry_fails (Ok x) asked sorted failed = tt
     entry_fails (Err Memory) asked sorted failed = tt
     entry_fails (Err Device) (Err e, asked, gives) sorted failed = absurd (cc)
@@ -68,5 +68,5 @@ module _ {S D : Type 0} (opens : S → List ℕ → Result D Error → S → Typ
       read = gives.1.0;
       ordered = ordered;
       sorted = sorted;
-      looked = subst (λ front. FailsToLook looks front order mid new) begins failed;
+      looked = subst (λ front. FailsToLook sys.looks front order mid new) begins failed;
     })))

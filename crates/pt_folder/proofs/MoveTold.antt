@@ -9,12 +9,13 @@ use Rattle.pt_tree.specs.Path.{Path, rest_below}
 use Rattle.pt_tree.specs.Tree.{Tree, moved, CanMove, IsTree}
 use Rattle.pt_tree.specs.Dest.{after_rename, open_unless_below}
 use Rattle.pt_folder.specs.declared.writing.Writing.{Writing as Open}
-use Rattle.pt_folder.specs.Calls.{IsSyncAnswer, fault_of}
+use Rattle.pt_folder.specs.Calls.{IsSyncAnswer, change_of, fault_of}
 use Rattle.pt_folder.specs.DestLaws.{Kept, Moves, StaysApart, MoveLaw, StillLaw}
 use Rattle.pt_folder.specs.DestHeld.{IsBack, IsPlaced, told_of, told_with}
 use Rattle.pt_folder.specs.Moving.{AfterMove, MovesOnce}
 use Rattle.pt_folder.specs.Folder.{entry_text}
 use Rattle.pt_folder.specs.UnsyncedChange.{stuck_after}
+use Rattle.pt_folder.specs.declared.system.System.{Ghosts as OfSystem}
 use Rattle.pt_folder.specs.declared.unsynced_change.UnsyncedChange.{UnsyncedChange}
 use Rattle.pt_folder.specs.declared.unsynced_change.UnsyncedChange.TheVariants as stuck
 use Rattle.pt_folder.specs.Writing.{open_unless_within}
@@ -58,15 +59,15 @@ HasMoved old new from to left (Ok x) = IsMoved old new from to × (left ≡ None
 HasMoved old new from to left (Err e) = ((new ≡ old) × (left ≡ None)) ⊎ (IsMoved old new from to × (left ≡ Some (stuck.Moved from to)))
 
 module _ {S F : Type 0} (kept : S → List ℕ → Kept F) (folder : List ℕ) (old new : S) (from to : Path) where
-  pub rename_gives : (synced : Bool) (renames : S → List ℕ → List ℕ → Result (Unit {0}) Error → S → Type 0) (opens : S → List ℕ → Result F Error → S → Type 0) (syncs : F → Result (Unit {0}) Error → F → Type 0) → MoveLaw kept renames → StillLaw kept opens
-      → (left : Option UnsyncedChange) (result : Result (Unit {0}) TreeFault) → ForSome (kept old folder).tree (λ t. CanMove t from to) → MovesOnce renames opens syncs synced folder from to old new left result
+  pub rename_gives : (synced : Bool) {D : Type 0} (sys : OfSystem S F D) (syncs : F → Result (Unit {0}) Error → F → Type 0) → MoveLaw kept sys.renames → StillLaw kept sys.opens
+      → (left : Option UnsyncedChange) (result : Result (Unit {0}) TreeFault) → ForSome (kept old folder).tree (λ t. CanMove t from to) → MovesOnce sys syncs (record { folder = folder; from = from; to = to; synced = synced }) (change_of old new) left result
       → HasMoved (kept old folder) (kept new folder) from to left result
-  rename_gives synced renames opens syncs law still left (Ok x) can (inl none) = absurd none.2
-  rename_gives synced renames opens syncs law still left (Err e) can (inl none) = inl (ap (λ s. kept s folder) none.0, none.1)
-  rename_gives synced renames opens syncs law still left result can (inr asked) = by asked.reply result asked.gives asked.left_stuck (law old asked.mid folder from to asked.reply asked.named.0 asked.named.1 can asked.made)
+  rename_gives synced sys syncs law still left (Ok x) can (inl none) = absurd none.2
+  rename_gives synced sys syncs law still left (Err e) can (inl none) = inl (ap (λ s. kept s folder) none.0, none.1)
+  rename_gives synced sys syncs law still left result can (inr asked) = by asked.reply result asked.gives asked.left_stuck (law old asked.mid folder from to asked.reply asked.named.0 asked.named.1 can asked.made)
     where
       -- syncing the directory changes nothing
-      after : (synced : Bool) (result : Result (Unit {0}) TreeFault) → AfterMove opens syncs synced (entry_text folder to) asked.mid new result → kept new folder ≡ kept asked.mid folder
+      after : (synced : Bool) (result : Result (Unit {0}) TreeFault) → AfterMove sys.opens syncs synced (entry_text folder to) asked.mid new result → kept new folder ≡ kept asked.mid folder
       after false result is = ap (λ s. kept s folder) is.0
       after true result is = still asked.mid new folder _ is.0 is.1
 
@@ -74,7 +75,7 @@ module _ {S F : Type 0} (kept : S → List ℕ → Kept F) (folder : List ℕ) (
       moved_on same is = subst (λ k. IsMoved (kept old folder) k from to) (sym same) is
 
       by : (reply : Result (Unit {0}) Error) (result : Result (Unit {0}) TreeFault)
-          → MatchResult reply (λ _. AfterMove opens syncs synced (entry_text folder to) asked.mid new result) (λ e. (new ≡ asked.mid) × (result ≡ Err (fault_of e)))
+          → MatchResult reply (λ _. AfterMove sys.opens syncs synced (entry_text folder to) asked.mid new result) (λ e. (new ≡ asked.mid) × (result ≡ Err (fault_of e)))
           → left ≡ stuck_after reply (stuck.Moved from to) result
           → Moves (kept old folder) (kept asked.mid folder) from to reply → HasMoved (kept old folder) (kept new folder) from to left result
       by (Ok x) (Ok y) gives stays is = (moved_on (after synced (Ok y) gives) is, stays)
@@ -83,11 +84,11 @@ module _ {S F : Type 0} (kept : S → List ℕ → Kept F) (folder : List ℕ) (
       by (Err e) (Err f) gives stays is = inl (ap (λ s. kept s folder) gives.0 ∙ is, stays)
 
   -- where nothing is to be put onto the disk, nothing is stuck
-  pub rename_wanted : (renames : S → List ℕ → List ℕ → Result (Unit {0}) Error → S → Type 0) (opens : S → List ℕ → Result F Error → S → Type 0) (syncs : F → Result (Unit {0}) Error → F → Type 0) → (synced : Bool)
-      → (left : Option UnsyncedChange) (result : Result (Unit {0}) TreeFault) → MovesOnce renames opens syncs synced folder from to old new left result → ForSome left (λ _. synced ≡ true)
-  rename_wanted renames opens syncs true left result asked = λ s at. refl
-  rename_wanted renames opens syncs false left result (inl none) = λ s at. let free = none.1 in absurd (cc)
-  rename_wanted renames opens syncs false left result (inr asked) = by asked.reply result asked.gives asked.left_stuck
+  pub rename_wanted : {D : Type 0} (sys : OfSystem S F D) (syncs : F → Result (Unit {0}) Error → F → Type 0) → (synced : Bool)
+      → (left : Option UnsyncedChange) (result : Result (Unit {0}) TreeFault) → MovesOnce sys syncs (record { folder = folder; from = from; to = to; synced = synced }) (change_of old new) left result → ForSome left (λ _. synced ≡ true)
+  rename_wanted sys syncs true left result asked = λ s at. refl
+  rename_wanted sys syncs false left result (inl none) = λ s at. let free = none.1 in absurd (cc)
+  rename_wanted sys syncs false left result (inr asked) = by asked.reply result asked.gives asked.left_stuck
     where
       by : (reply : Result (Unit {0}) Error) (result : Result (Unit {0}) TreeFault)
           → MatchResult reply (λ _. (new ≡ asked.mid) × (result ≡ Ok tt)) (λ e. (new ≡ asked.mid) × (result ≡ Err (fault_of e)))
@@ -97,10 +98,10 @@ module _ {S F : Type 0} (kept : S → List ℕ → Kept F) (folder : List ℕ) (
       by (Err e) result gives free = λ s at. absurd (cc)
 
   -- something is stuck only where the device failed
-  pub rename_device : (renames : S → List ℕ → List ℕ → Result (Unit {0}) Error → S → Type 0) (opens : S → List ℕ → Result F Error → S → Type 0) (syncs : F → Result (Unit {0}) Error → F → Type 0) → (synced : Bool)
-      → (left : Option UnsyncedChange) (result : Result (Unit {0}) TreeFault) → MovesOnce renames opens syncs synced folder from to old new left result → ForSome left (λ _. result ≡ Err Device)
-  rename_device renames opens syncs synced left result (inl none) = λ s at. let free = none.1 in absurd (cc)
-  rename_device renames opens syncs synced left result (inr asked) = by synced asked.reply result asked.gives asked.left_stuck
+  pub rename_device : {D : Type 0} (sys : OfSystem S F D) (syncs : F → Result (Unit {0}) Error → F → Type 0) → (synced : Bool)
+      → (left : Option UnsyncedChange) (result : Result (Unit {0}) TreeFault) → MovesOnce sys syncs (record { folder = folder; from = from; to = to; synced = synced }) (change_of old new) left result → ForSome left (λ _. result ≡ Err Device)
+  rename_device sys syncs synced left result (inl none) = λ s at. let free = none.1 in absurd (cc)
+  rename_device sys syncs synced left result (inr asked) = by synced asked.reply result asked.gives asked.left_stuck
     where
       answered : (answer : Result (Unit {0}) Error) (result : Result (Unit {0}) TreeFault) (f : TreeFault) → result ≡ Err f → IsSyncAnswer answer result → result ≡ Err Device
       answered (Ok x) result f failed is = absurd (cc)
@@ -111,7 +112,7 @@ module _ {S F : Type 0} (kept : S → List ℕ → Kept F) (folder : List ℕ) (
       at_sync (Err e) result f failed is = is
 
       by : (synced : Bool) (reply : Result (Unit {0}) Error) (result : Result (Unit {0}) TreeFault)
-          → MatchResult reply (λ _. AfterMove opens syncs synced (entry_text folder to) asked.mid new result) (λ e. (new ≡ asked.mid) × (result ≡ Err (fault_of e)))
+          → MatchResult reply (λ _. AfterMove sys.opens syncs synced (entry_text folder to) asked.mid new result) (λ e. (new ≡ asked.mid) × (result ≡ Err (fault_of e)))
           → left ≡ stuck_after reply (stuck.Moved from to) result → ForSome left (λ _. result ≡ Err Device)
       by synced (Ok x) (Ok y) gives free = λ s at. absurd (cc)
       by false (Ok x) (Err f) gives free = let other = gives.1 in absurd (cc)

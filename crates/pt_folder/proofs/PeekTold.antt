@@ -9,7 +9,8 @@ use Rattle.pt_tree.specs.Tree.{Tree, bytes_of}
 use Rattle.pt_tree.specs.Dest.{Writing, CanPeek, IsPeeked}
 use Rattle.pt_folder.specs.declared.writing.Writing.{Writing as Open}
 use Rattle.pt_folder.specs.Bytes.{TakesBlock}
-use Rattle.pt_folder.specs.Calls.{AsksOnce}
+use Rattle.pt_folder.specs.Calls.{AsksOnce, change_of}
+use Rattle.pt_folder.specs.Folder.{entry_in}
 use Rattle.pt_folder.specs.DestLaws.{Kept, PeekLaw}
 use Rattle.pt_folder.specs.DestHeld.{told_of}
 use Rattle.pt_folder.specs.Runs.{PeeksAt}
@@ -27,11 +28,11 @@ peeked w (Some t) p block can h = λ s is. let same : told_at w t ≡ s = cc in 
 
 module _ {S F R : Type 0} (kept : S → List ℕ → Kept F) (folder : List ℕ) (left : R → Option (List ℕ)) (reads : R → List ℕ → Result ℕ Error → R → Type 0) (opens : S → List ℕ → Result R Error → S → Type 0) (law : PeekLaw kept left opens)
     (old new : S) (p : Path) (block : List ℕ) where
-  pub peek_keeps : (result : Result (Unit {0}) TreeFault) → AsksOnce opens (PeeksAt left reads block) folder p old new result → kept new folder ≡ kept old folder
+  pub peek_keeps : (result : Result (Unit {0}) TreeFault) → AsksOnce opens (PeeksAt left reads block) (entry_in folder p) (change_of old new) result → kept new folder ≡ kept old folder
   peek_keeps result (inl none) = ap (λ s. kept s folder) none.0
   peek_keeps result (inr asked) = (law old new folder p asked.reply asked.named asked.made).same
 
-  pub peek_tells : (w : Option (Open F)) → CanPeek (told_of (kept old folder) w) p → (result : Result (Unit {0}) TreeFault) → AsksOnce opens (PeeksAt left reads block) folder p old new result → OnOk result (IsPeeked (told_of (kept old folder) w) p block)
+  pub peek_tells : (w : Option (Open F)) → CanPeek (told_of (kept old folder) w) p → (result : Result (Unit {0}) TreeFault) → AsksOnce opens (PeeksAt left reads block) (entry_in folder p) (change_of old new) result → OnOk result (IsPeeked (told_of (kept old folder) w) p block)
   peek_tells w can (Err e) asked = tt
   peek_tells w can (Ok x) (inl none) = absurd none.1
   peek_tells w can (Ok x) (inr asked) = by asked.reply asked.gives (law old new folder p asked.reply asked.named asked.made).bytes

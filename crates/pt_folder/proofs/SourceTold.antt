@@ -8,17 +8,18 @@ use Rattle.pt_tree.specs.Forest.{Forest, file_at, dir_at}
 use Rattle.pt_tree.specs.Path.{Path, parent}
 use Rattle.pt_tree.specs.Tree.{Entry, bytes_of, tree_of}
 use Rattle.pt_tree.proofs.AtPaths.{bytes_at, stands_in}
-use Rattle.pt_folder.specs.Folder.{entry_text}
+use Rattle.pt_folder.specs.Calls.{change_of}
+use Rattle.pt_folder.specs.Folder.{entry_in, entry_text}
 use Rattle.pt_tree.specs.Source.{CanList, CanOpen, CanRead, IsListed, IsRead, after_open}
 use Rattle.pt_tree.specs.Source.{Reading as Told}
 use Rattle.pt_tree.specs.Listing.{Item}
 use Rattle.pt_tree.specs.Forest.{listing_at}
 use Rattle.pt_folder.specs.declared.reading.Reading.{Reading}
+use Rattle.pt_folder.specs.declared.system.System.{Ghosts as OfSystem}
 use Rattle.pt_folder.specs.Opening.{OpensOnce}
 use Rattle.pt_folder.specs.SourceHeld.{told_of}
 use Rattle.pt_folder.specs.SourceLaws.{LookLaw, OpenLaw, Opened}
 use Rattle.pt_folder.specs.Reading.{IsNext, OpensAt, Stands, StandsOpen, unread_open}
-use Rattle.pt_tree.specs.declared.kind.Kind.{Kind}
 
 abbrev pub told_at : Option (List ℕ) → Forest → Told
 told_at unread f = record { tree = f; unread = unread }
@@ -54,15 +55,15 @@ above f (n ∷ p) h = let d = stands_in f n p (stands (tree_of f (n ∷ p)) (sub
     stands None h = absurd (cc)
     stands (Some e) h = refl
 
-module _ {S F : Type 0} (kept : S → List ℕ → Option Forest) (bytes left : F → Option (List ℕ)) (looks : S → List ℕ → Result Kind Error → S → Type 0) (look_law : LookLaw kept looks)
-    (opens : S → List ℕ → Result F Error → S → Type 0) (law : OpenLaw kept bytes left opens)
+module _ {S F D : Type 0} (kept : S → List ℕ → Option Forest) (bytes left : F → Option (List ℕ)) (sys : OfSystem S F D) (look_law : LookLaw kept sys.looks)
+    (law : OpenLaw kept bytes left sys.opens)
     (folder : List ℕ) (old new : S) (p : Path) (w v : Option (Reading F)) where
   -- a file is open at its start, or nothing is changed
   abbrev HasOpened : Result (Unit {0}) TreeFault → Type 0
   HasOpened (Ok x) = (file : F) × (v ≡ Some (record { file = file; place = 0; ended = false; lost = false })) × (kept new folder ≡ kept old folder) × (left file ≡ bytes file) × ForSome (kept old folder) (λ f. bytes file ≡ file_at f p)
   HasOpened (Err e) = (kept new folder ≡ kept old folder) × (v ≡ w)
 
-  gives : (result : Result (Unit {0}) TreeFault) → ForSome (kept old folder) (λ f. IsSome (file_at f p)) → OpensOnce looks opens folder p w v old new result → OnErr result (v ≡ w) → HasOpened result
+  gives : (result : Result (Unit {0}) TreeFault) → ForSome (kept old folder) (λ f. IsSome (file_at f p)) → OpensOnce sys (entry_in folder p) (change_of w v) (change_of old new) result → OnErr result (v ≡ w) → HasOpened result
   gives (Ok x) can (inl none) same = absurd none.1
   gives (Err e) can (inl none) same = (ap (λ s. kept s folder) none.0, same)
   gives result can (inr asked) same = found asked.found asked.gives
@@ -70,7 +71,7 @@ module _ {S F : Type 0} (kept : S → List ℕ → Option Forest) (bytes left : 
       looked : kept asked.mid folder ≡ kept old folder
       looked = (look_law old asked.mid folder p asked.reply asked.named (λ f is. above f p (can f is)) asked.looked).same
 
-      found : (r : Result (Unit {0}) TreeFault) → MatchResult r (λ _. (answer : Result F Error) × opens asked.mid (entry_text folder p) answer new × OpensAt w v answer result) (λ fault. (new ≡ asked.mid) × (v ≡ w) × (result ≡ Err fault)) → HasOpened result
+      found : (r : Result (Unit {0}) TreeFault) → MatchResult r (λ _. (answer : Result F Error) × sys.opens asked.mid (entry_text folder p) answer new × OpensAt w v answer result) (λ fault. (new ≡ asked.mid) × (v ≡ w) × (result ≡ Err fault)) → HasOpened result
       found (Err fault) none = subst HasOpened (sym none.2) (ap (λ s. kept s folder) none.0 ∙ looked, none.1)
       found (Ok x) (answer, opened, leads) = by answer result leads (law asked.mid new folder p answer asked.named (λ f is. can f (sym looked ∙ is)) opened)
         where
@@ -80,7 +81,7 @@ module _ {S F : Type 0} (kept : S → List ℕ → Option Forest) (bytes left : 
           by (Err e) (Ok y) leads is = let other = leads.0 in absurd (cc)
           by (Err e) (Err f) leads is = (is.same ∙ looked, leads.1)
 
-  module _ (result : Result (Unit {0}) TreeFault) (can : ForSome (kept old folder) (λ f. IsSome (file_at f p))) (asked : OpensOnce looks opens folder p w v old new result) (same : OnErr result (v ≡ w)) where
+  module _ (result : Result (Unit {0}) TreeFault) (can : ForSome (kept old folder) (λ f. IsSome (file_at f p))) (asked : OpensOnce sys (entry_in folder p) (change_of w v) (change_of old new) result) (same : OnErr result (v ≡ w)) where
     pub open_told : OnOk result (told_of (kept new folder) (unread_open bytes v) ≡ option_map (after_open p) (told_of (kept old folder) (unread_open bytes w)))
     open_told = by result (gives result can asked same)
       where

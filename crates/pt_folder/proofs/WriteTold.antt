@@ -13,7 +13,8 @@ use Rattle.pt_tree.specs.Path.{Path}
 use Rattle.pt_tree.specs.Tree.{Tree, Bytes, put, added, CanMake}
 use Rattle.pt_tree.specs.Dest.{LeavesPart, after_create, after_append}
 use Rattle.pt_folder.specs.declared.writing.Writing.{Writing as Open}
-use Rattle.pt_folder.specs.Calls.{MakesOnce}
+use Rattle.pt_folder.specs.Calls.{MakesOnce, change_of}
+use Rattle.pt_folder.specs.Folder.{entry_in}
 use Rattle.pt_folder.specs.DestLaws.{Kept, MakesFile, AddsPart, FileLaw, WriteLaw}
 use Rattle.pt_folder.specs.DestHeld.{told_of, IsPlaced}
 use Rattle.pt_folder.specs.Runs.{FailsToWrite, WritesAll, WritesMore, on_pairs}
@@ -34,7 +35,7 @@ told_created w v (Some t) p is = ap (λ x. Some (record { tree = put t p (Bytes 
 
 module _ {S F : Type 0} (kept : S → List ℕ → Kept F) (folder : List ℕ) (old new : S) (p : Path) (w v : Option (Open F)) where
   pub create_gives : (makes : S → List ℕ → Result F Error → S → Type 0) → FileLaw kept makes → (longest : ℕ) (result : Result (Unit {0}) TreeFault)
-      → ForSome (kept old folder).tree (λ t. CanMake t p) → MakesOnce longest makes (MakesAt p w v) folder p old new result → OnErr result (v ≡ w) → HasCreated (kept old folder) (kept new folder) p w v result
+      → ForSome (kept old folder).tree (λ t. CanMake t p) → MakesOnce longest makes (MakesAt p w v) (entry_in folder p) (change_of old new) result → OnErr result (v ≡ w) → HasCreated (kept old folder) (kept new folder) p w v result
   create_gives makes law longest (Ok x) can (inl none) same = absurd none.1
   create_gives makes law longest (Err e) can (inl none) same = (ap (λ s. kept s folder) none.0, same)
   create_gives makes law longest result can (inr asked) same = by asked.reply result asked.gives (law old new folder p asked.reply asked.named can asked.made)
@@ -134,7 +135,7 @@ module _ {S F : Type 0} (kept : S → List ℕ → Kept F) (folder : List ℕ) (
       let here : v ≡ o = cc in
       subst (λ (o : Open F). (kept new folder).place o.file ≡ Some o.path) here (part.place before.0 before.1 ∙ ap Some (sym same))
 
-  pub append_tells : (w v : Option (Open F)) (result : Result (Unit {0}) TreeFault) → WritesTo writes old w new v piece result → IsPlaced (kept old folder) w
+  pub append_tells : (w v : Option (Open F)) (result : Result (Unit {0}) TreeFault) → WritesTo writes (change_of old new) w v piece result → IsPlaced (kept old folder) w
       → MatchResult result (λ _. told_of (kept new folder) v ≡ option_map (after_append piece) (told_of (kept old folder) w)) (λ _. LeavesPart (told_of (kept old folder) w) (told_of (kept new folder) v) piece)
   append_tells None v (Ok x) is at = let other = is.0 in absurd (cc)
   append_tells None v (Err e) is at = record { count = 0; left = (λ i. told_of (kept (is.2 i) folder) (is.1 i)) ∙ none_open F (kept old folder).tree (take 0 piece) }
@@ -146,7 +147,7 @@ module _ {S F : Type 0} (kept : S → List ℕ → Kept F) (folder : List ℕ) (
       let part = part_added kept folder writes law w.path (old, w.file) (new, v.file) piece is.1.0 is.1.1 (λ t told. at t told w refl) in
       record { count = part.0; left = part_told w v part.0 part.1 is.0 }
 
-  pub append_placed : (w v : Option (Open F)) (result : Result (Unit {0}) TreeFault) → WritesTo writes old w new v piece result → IsPlaced (kept old folder) w → IsPlaced (kept new folder) v
+  pub append_placed : (w v : Option (Open F)) (result : Result (Unit {0}) TreeFault) → WritesTo writes (change_of old new) w v piece result → IsPlaced (kept old folder) w → IsPlaced (kept new folder) v
   append_placed None v result is at = λ t told o here. let gone : v ≡ None = is.1 in absurd (cc)
   append_placed (Some w) None result is at = absurd is
   append_placed (Some w) (Some v) (Ok x) is at =

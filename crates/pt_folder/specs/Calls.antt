@@ -8,7 +8,7 @@ use Rattle.pt_tree.specs.declared.faults.TreeFault.{TreeFault}
 use Rattle.pt_tree.specs.declared.faults.TreeFault.TheVariants.{Device, Memory}
 use Rattle.pt_tree.specs.declared.kind.Kind.{Kind}
 use Rattle.pt_tree.specs.Path.{Path}
-use Rattle.pt_folder.specs.Folder.{entry_text, IsAbsent, fault_of_kind}
+use Rattle.pt_folder.specs.Folder.{FolderEntry, entry_text, IsAbsent, fault_of_kind}
 use Rattle.pt_folder.specs.Laws.{IsPath}
 
 -- how a file is opened for reading
@@ -44,21 +44,30 @@ IsRefused folder (Ok x) = ⊥
 IsRefused folder (Err Device) = length folder ≡ 0
 IsRefused folder (Err Memory) = ⊤
 
+-- something before a call, and after it
+pub record Change (A : Type 0) : Type 0 where
+  pub old : A
+  pub new : A
+
+-- from this to that
+abbrev pub change_of : {A : Type 0} → A → A → Change A
+change_of old new = record { old = old; new = new }
+
 -- one call is made, for an entry's path, and its reply leads to this result
 pub record IsAsked {S A T : Type 0} (call : S → List ℕ → A → S → Type 0)
-    (leads : A → Result T TreeFault → Type 0) (folder : List ℕ) (p : Path) (old new : S)
+    (leads : A → Result T TreeFault → Type 0) (at : FolderEntry) (system : Change S)
     (result : Result T TreeFault) : Type 0 where
   pub reply : A
-  pub filled : length folder ≢ 0
-  pub named : IsPath p
-  pub made : call old (entry_text folder p) reply new
+  pub filled : length at.folder ≢ 0
+  pub named : IsPath at.path
+  pub made : call system.old (entry_text at.folder at.path) reply system.new
   pub gives : leads reply result
 
 -- nothing is asked of the system, and the path was refused; or the one call is made
 abbrev pub AsksOnce : {S A T : Type 0} → (S → List ℕ → A → S → Type 0)
-    → (A → Result T TreeFault → Type 0) → List ℕ → Path → S → S → Result T TreeFault → Type 0
-AsksOnce call leads folder p old new result = ((new ≡ old) × IsRefused folder result)
-    ⊎ IsAsked call leads folder p old new result
+    → (A → Result T TreeFault → Type 0) → FolderEntry → Change S → Result T TreeFault → Type 0
+AsksOnce call leads at system result = ((system.new ≡ system.old) × IsRefused at.folder result)
+    ⊎ IsAsked call leads at system result
 
 -- what is at a path, by the system's reply: its kind, nothing, or a fault
 abbrev pub LeadsToKind : Result Kind Error → Result (Option Kind) TreeFault → Type 0
@@ -79,21 +88,21 @@ IsNotMade longest folder p (Err Memory) = ⊤
 
 -- one call is made, for the path of an entry that isn't too long, and its reply leads to this result
 pub record IsAskedToMake {S A T : Type 0} (longest : ℕ) (call : S → List ℕ → A → S → Type 0)
-    (leads : A → Result T TreeFault → Type 0) (folder : List ℕ) (p : Path) (old new : S)
+    (leads : A → Result T TreeFault → Type 0) (at : FolderEntry) (system : Change S)
     (result : Result T TreeFault) : Type 0 where
   pub reply : A
-  pub filled : length folder ≢ 0
-  pub named : IsPath p
-  pub fits : length (entry_text folder p) ≤ longest
-  pub made : call old (entry_text folder p) reply new
+  pub filled : length at.folder ≢ 0
+  pub named : IsPath at.path
+  pub fits : length (entry_text at.folder at.path) ≤ longest
+  pub made : call system.old (entry_text at.folder at.path) reply system.new
   pub gives : leads reply result
 
 -- nothing is asked of the system, and the entry can't be made; or the one call is made
 abbrev pub MakesOnce : {S A T : Type 0} → ℕ → (S → List ℕ → A → S → Type 0)
-    → (A → Result T TreeFault → Type 0) → List ℕ → Path → S → S → Result T TreeFault → Type 0
-MakesOnce longest call leads folder p old new result =
-    ((new ≡ old) × IsNotMade longest folder p result)
-    ⊎ IsAskedToMake longest call leads folder p old new result
+    → (A → Result T TreeFault → Type 0) → FolderEntry → Change S → Result T TreeFault → Type 0
+MakesOnce longest call leads at system result =
+    ((system.new ≡ system.old) × IsNotMade longest at.folder at.path result)
+    ⊎ IsAskedToMake longest call leads at system result
 
 -- something is at a path, by the system's reply, or that failed
 abbrev pub IsThere : Result Kind Error → Result (Unit {0}) TreeFault → Type 0

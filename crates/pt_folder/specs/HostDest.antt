@@ -7,12 +7,12 @@ use Rattle.pt_tree.specs.Failures.{IsCounted}
 use Rattle.pt_tree.specs.Path.{Path}
 use Rattle.pt_tree.specs.declared.faults.TreeFault.{TreeFault}
 use Rattle.pt_tree.specs.declared.faults.TreeFault.TheVariants.{Device}
-use Rattle.pt_folder.specs.Calls.{AsksOnce, IsAnswer, MakesOnce}
+use Rattle.pt_folder.specs.Calls.{AsksOnce, IsAnswer, MakesOnce, change_of}
 use Rattle.pt_folder.specs.DestHeld.{told_with}
 use Rattle.pt_folder.specs.DestLaws.{Kept}
 use Rattle.pt_folder.specs.Failure.{FailsToPeek, KeepsCall, KeepsMaking}
-use Rattle.pt_folder.specs.Folder.{entry_text}
-use Rattle.pt_folder.specs.Moving.{IsOfMove, MovesOnce}
+use Rattle.pt_folder.specs.Folder.{entry_in, entry_text}
+use Rattle.pt_folder.specs.Moving.{FolderMove, IsOfMove, MovesOnce}
 use Rattle.pt_folder.specs.Runs.{PeeksAt}
 use Rattle.pt_folder.specs.Settings.{IsSetAs}
 use Rattle.pt_folder.specs.Writing.{FailsToAdd, ClosesBy, IsOfWriting, MakesAt, WritesTo}
@@ -107,7 +107,8 @@ module _ {S F D : Type 0} {sys : OfSystem S F D} {handle : OfHandle F} {file : O
       → (old new : HostDest S F D sys handle file dir) → Path → Result T TreeFault → Type 0
   Looks leads old new p result =
       UnlessStuck old new result
-      (AsksOnce sys.looks leads old.folder.path.now p old.desk.system new.desk.system result)
+      (AsksOnce sys.looks leads (entry_in old.folder.path.now p)
+      (change_of old.desk.system new.desk.system) result)
 
   -- what is kept of a failed look
   abbrev pub KeepsLook : (old new : HostDest S F D sys handle file dir) → Path → Type 0
@@ -123,7 +124,7 @@ module _ {S F D : Type 0} {sys : OfSystem S F D} {handle : OfHandle F} {file : O
   Peeks old new p block result =
       UnlessStuck old new result
       (AsksOnce sys.opens (PeeksAt file.left file.reads block)
-      old.folder.path.now p old.desk.system new.desk.system result)
+      (entry_in old.folder.path.now p) (change_of old.desk.system new.desk.system) result)
 
   -- what is kept of first bytes that aren't had
   abbrev pub KeepsPeek : (old new : HostDest S F D sys handle file dir) → Path → Type 0
@@ -140,7 +141,7 @@ module _ {S F D : Type 0} {sys : OfSystem S F D} {handle : OfHandle F} {file : O
   MakesDir old new p result =
       UnlessStuck old new result
       (MakesOnce old.longest sys.makes_dir IsAnswer
-      old.folder.path.now p old.desk.system new.desk.system result)
+      (entry_in old.folder.path.now p) (change_of old.desk.system new.desk.system) result)
 
   -- what is kept of a directory that isn't made
   abbrev pub KeepsDir : (old new : HostDest S F D sys handle file dir) → Path → Type 0
@@ -156,7 +157,7 @@ module _ {S F D : Type 0} {sys : OfSystem S F D} {handle : OfHandle F} {file : O
   MakesFile old new p result =
       UnlessStuck old new result
       (MakesOnce old.longest sys.makes_file (MakesAt p old.writing new.writing)
-      old.folder.path.now p old.desk.system new.desk.system result)
+      (entry_in old.folder.path.now p) (change_of old.desk.system new.desk.system) result)
 
   -- what is kept of a file that isn't made
   abbrev pub KeepsFile : (old new : HostDest S F D sys handle file dir) → Path → Type 0
@@ -171,7 +172,7 @@ module _ {S F D : Type 0} {sys : OfSystem S F D} {handle : OfHandle F} {file : O
       → Result (Unit {0}) TreeFault → Type 0
   Writes old new piece result =
       UnlessStuck old new result
-      (WritesTo sys.writes old.desk.system old.writing new.desk.system new.writing piece result)
+      (WritesTo sys.writes (change_of old.desk.system new.desk.system) old.writing new.writing piece result)
 
   -- what is kept of a failed write, where memory allowed it
   abbrev pub KeepsWrite : (old new : HostDest S F D sys handle file dir) → List ℕ → Type 0
@@ -194,18 +195,21 @@ module _ {S F D : Type 0} {sys : OfSystem S F D} {handle : OfHandle F} {file : O
       (IsOfWriting old.folder.path.now (λ w e. (after : F)
       × handle.syncs w (Err e) after) old.writing))
 
+  -- a move in its folder, as it is set
+  abbrev pub move_of : HostDest S F D sys handle file dir → Path → Path → FolderMove
+  move_of d from to = record { folder = d.folder.path.now; from = from; to = to; synced = d.synced }
+
   -- the system is asked once to move an entry, and what comes after that
   abbrev pub Moves : (old new : HostDest S F D sys handle file dir) → Path → Path
       → Result (Unit {0}) TreeFault → Type 0
   Moves old new from to result =
       UnlessStuck old new result
-      (MovesOnce sys.renames sys.opens handle.syncs old.synced old.folder.path.now from to old.desk.system
-      new.desk.system new.stuck result)
+      (MovesOnce sys handle.syncs (move_of old from to) (change_of old.desk.system new.desk.system)
+      new.stuck result)
 
   -- what is kept of a failed move
   abbrev pub KeepsMove : (old new : HostDest S F D sys handle file dir) → Path → Path → Type 0
   KeepsMove old new from to =
       KeptUnlessStuck old new
       (IsSomeAnd new.desk.last.failure
-      (IsOfMove sys.renames sys.opens handle.syncs old.folder.path.now from to old.desk.system
-      new.desk.system))
+      (IsOfMove sys handle.syncs (move_of old from to) (change_of old.desk.system new.desk.system)))

@@ -15,11 +15,11 @@ use Rattle.pt_folder.specs.declared.source.HostSource.{HostSource}
 use Rattle.pt_folder.specs.declared.system.Handle.{Ghosts as OfHandle}
 use Rattle.pt_folder.specs.declared.system.Input.{Ghosts as OfInput}
 use Rattle.pt_folder.specs.declared.system.System.{Ghosts as OfSystem}
-use Rattle.pt_folder.specs.Calls.{AsksOnce, IsDueTo, LeadsToKind}
+use Rattle.pt_folder.specs.Calls.{AsksOnce, Change, IsDueTo, LeadsToKind, change_of}
 use Rattle.pt_folder.specs.Devices.{was_called}
 use Rattle.pt_folder.specs.Failure.{KeepsCall, KeepsListing}
-use Rattle.pt_folder.specs.Folder.{entry_text}
-use Rattle.pt_folder.specs.Listing.{FailsToList, IsListedBy, dir_front, most_entries}
+use Rattle.pt_folder.specs.Folder.{FolderEntry, entry_in, entry_text}
+use Rattle.pt_folder.specs.Listing.{FailsToList, IsListedBy, most_entries}
 use Rattle.pt_folder.specs.Opening.{KeepsOpening, OpensOnce}
 use Rattle.pt_folder.specs.Reading.{IsOfReading, ReadsBy, unread_open}
 use Rattle.pt_folder.specs.SourceHeld.{told_of}
@@ -46,11 +46,19 @@ module _ {S F D : Type 0} {sys : OfSystem S F D} {handle : OfHandle F} {file : O
   abbrev pub told : HostSource S F D sys handle file dir → Option Reading
   told s = told_of (kept_by s) (unread_open file.bytes s.reading)
 
+  -- an entry of its folder
+  abbrev pub entry_of : HostSource S F D sys handle file dir → Path → FolderEntry
+  entry_of s p = entry_in (folder_path s) p
+
+  -- the system before a call, and after it
+  abbrev pub systems_of : (old new : HostSource S F D sys handle file dir) → Change S
+  systems_of old new = change_of (system_of old) (system_of new)
+
   -- the system is asked once to look at an entry, and its answer is the kind
   abbrev pub Looks : (old new : HostSource S F D sys handle file dir) → Path
       → Result (Option Kind) TreeFault → Type 0
   Looks old new p result =
-      AsksOnce sys.looks LeadsToKind (folder_path old) p (system_of old) (system_of new) result
+      AsksOnce sys.looks LeadsToKind (entry_of old p) (systems_of old new) result
 
   -- the path that was looked at last is this one where that was answered, else the one before
   pub record IsLookedAt {T : Type 0} (old new : HostSource S F D sys handle file dir) (p : Path)
@@ -69,15 +77,13 @@ module _ {S F D : Type 0} {sys : OfSystem S F D} {handle : OfHandle F} {file : O
   abbrev pub Lists : (old new : HostSource S F D sys handle file dir) → Path → List Item → Type 0
   Lists old new p listing =
       (length listing ≤ most_entries)
-      × IsListedBy sys.opens_dir sys.looks dir.reads dir.left
-      (entry_text old.folder.path.now p) (dir_front old.folder.path.now p)
-      old.desk.system new.desk.system listing
+      × IsListedBy sys dir (entry_of old p) (systems_of old new) listing
 
   -- why it wasn't
   abbrev pub CannotList : (old new : HostSource S F D sys handle file dir) → Path → TreeFault → Type 0
   CannotList old new p fault =
       IsDueTo fault
-      (FailsToList sys.opens_dir sys.looks dir.reads old.folder.path.now p old.desk.system new.desk.system)
+      (FailsToList sys dir (entry_of old p) (systems_of old new))
 
   -- what is kept, where memory allowed it, of a failed listing
   abbrev pub KeepsList : (old new : HostSource S F D sys handle file dir) → Path → Type 0
@@ -87,14 +93,12 @@ module _ {S F D : Type 0} {sys : OfSystem S F D} {handle : OfHandle F} {file : O
   abbrev pub Opens : (old new : HostSource S F D sys handle file dir) → Path
       → Result (Unit {0}) TreeFault → Type 0
   Opens old new p result =
-      OpensOnce sys.looks sys.opens old.folder.path.now p
-      old.reading new.reading old.desk.system new.desk.system result
+      OpensOnce sys (entry_of old p) (change_of old.reading new.reading) (systems_of old new) result
 
   -- what is kept of a failed opening
   abbrev pub KeepsOpen : (old new : HostSource S F D sys handle file dir) → Path → Type 0
   KeepsOpen old new p =
-      KeepsOpening sys.looks sys.opens old.folder.path.now p
-      old.desk.system new.desk.system new.desk.last.failure
+      KeepsOpening sys (entry_of old p) (systems_of old new) new.desk.last.failure
 
   -- the open file is read on, into this block, and so it was answered; where none is open, that is a failure
   abbrev pub Reads : (old new : HostSource S F D sys handle file dir) → List ℕ

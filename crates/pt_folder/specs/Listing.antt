@@ -1,5 +1,5 @@
 -- How a directory is listed.
-use Rattle.std.specs.Prelude.{◌≡◌, ◌⊎◌, ◌-◌, ◌^◌, ℕ, false, length, List, [], ◌∷◌, ◌++◌, map, Option, IfSome, IsPermutation, Result, Ok, Err}
+use Rattle.std.specs.Prelude.{◌≡◌, ◌⊎◌, ◌-◌, ◌^◌, ℕ, false, length, List, [], ◌∷◌, ◌++◌, map, IfSome, IsPermutation, Result, Ok, Err}
 use Rattle.std.specs.List.{FoldsTo}
 use Rattle.std.specs.List.Sorted.{IsSorted}
 use Rattle.std.specs.Cmp.Lexicographic.{slice_cmp}
@@ -10,8 +10,10 @@ use Rattle.pt_tree.specs.declared.faults.TreeFault.TheVariants.{Device, Memory}
 use Rattle.pt_tree.specs.declared.kind.Kind.{Kind}
 use Rattle.pt_tree.specs.Listing.{Item, can_follow}
 use Rattle.pt_tree.specs.Path.{Path}
-use Rattle.pt_folder.specs.Folder.{entry_text}
-use Rattle.pt_folder.specs.Calls.{fault_of}
+use Rattle.pt_folder.specs.Folder.{FolderEntry, entry_text}
+use Rattle.pt_folder.specs.Calls.{Change, fault_of}
+use Rattle.pt_folder.specs.declared.system.Input.{Ghosts as OfInput}
+use Rattle.pt_folder.specs.declared.system.System.{Ghosts as OfSystem}
 use Rattle.pt_folder.specs.Names.{AddsNames, GivesNames, RefusesBytes}
 use Rattle.pt_folder.specs.Runs.{GivesPiece, Reads}
 
@@ -87,19 +89,17 @@ pub record FailsToLook {S : Type 0} (looks : S → List ℕ → Result Kind Erro
 
 -- The directory is opened once, and gives these names, where it says which, by its reads; then each entry of them is
 -- looked at, in the listing's order.
-pub record IsListedBy {S D : Type 0} (opens : S → List ℕ → Result D Error → S → Type 0)
-    (looks : S → List ℕ → Result Kind Error → S → Type 0)
-    (reads : D → List ℕ → Result ℕ Error → D → Type 0) (left : D → Option (List ℕ))
-    (text front : List ℕ) (old new : S) (listing : List Item) : Type 0 where
+pub record IsListedBy {S F D : Type 0} (sys : OfSystem S F D) (input : OfInput D) (at : FolderEntry)
+    (system : Change S) (listing : List Item) : Type 0 where
   pub dir : D
   pub after : D
   pub mid : S
   pub names : List (List ℕ)
-  pub opened : opens old text (Ok dir) mid
-  pub read : GetsNames reads dir names after
-  pub given : IfSome (left dir) (λ bytes. GivesNames bytes names)
+  pub opened : sys.opens_dir system.old (entry_text at.folder at.path) (Ok dir) mid
+  pub read : GetsNames input.reads dir names after
+  pub given : IfSome (input.left dir) (λ bytes. GivesNames bytes names)
   pub ordered : IsPermutation names (map (λ item. item.0) listing)
-  pub looked : FoldsTo (LooksAt looks front) mid listing new
+  pub looked : FoldsTo (LooksAt sys.looks (dir_front at.folder at.path)) mid listing system.new
 
 -- the directory can't be opened
 abbrev pub FailsToOpen : {S D : Type 0} → (S → List ℕ → Result D Error → S → Type 0) → List ℕ → S → S → Type 0
@@ -112,26 +112,22 @@ FailsAtNames {S} {D} opens reads text old new = (dir : D) × (after : D)
     × opens old text (Ok dir) new × FailsToGet reads most_entries dir after
 
 -- the directory gave names; looking at them in their order failed, or one comes twice
-pub record FailsAtEntry {S D : Type 0} (opens : S → List ℕ → Result D Error → S → Type 0)
-    (looks : S → List ℕ → Result Kind Error → S → Type 0)
-    (reads : D → List ℕ → Result ℕ Error → D → Type 0) (text front : List ℕ)
-    (old new : S) : Type 0 where
+pub record FailsAtEntry {S F D : Type 0} (sys : OfSystem S F D) (input : OfInput D)
+    (at : FolderEntry) (system : Change S) : Type 0 where
   pub dir : D
   pub after : D
   pub mid : S
   pub names : List (List ℕ)
   pub order : List (List ℕ)
-  pub opened : opens old text (Ok dir) mid
-  pub read : GetsNames reads dir names after
+  pub opened : sys.opens_dir system.old (entry_text at.folder at.path) (Ok dir) mid
+  pub read : GetsNames input.reads dir names after
   pub ordered : IsPermutation names order
   pub sorted : IsSorted (slice_cmp nat_cmp) order
-  pub looked : FailsToLook looks front order mid new
+  pub looked : FailsToLook sys.looks (dir_front at.folder at.path) order mid system.new
 
 -- why a directory isn't listed
-abbrev pub FailsToList : {S D : Type 0} → (S → List ℕ → Result D Error → S → Type 0)
-    → (S → List ℕ → Result Kind Error → S → Type 0) → (D → List ℕ → Result ℕ Error → D → Type 0)
-    → List ℕ → Path → S → S → Type 0
-FailsToList opens looks reads folder p old new = ((length folder ≡ 0) × (new ≡ old))
-    ⊎ (FailsToOpen opens (entry_text folder p) old new
-    ⊎ (FailsAtNames opens reads (entry_text folder p) old new
-    ⊎ FailsAtEntry opens looks reads (entry_text folder p) (dir_front folder p) old new))
+abbrev pub FailsToList : {S F D : Type 0} → OfSystem S F D → OfInput D → FolderEntry → Change S → Type 0
+FailsToList sys input at system = ((length at.folder ≡ 0) × (system.new ≡ system.old))
+    ⊎ (FailsToOpen sys.opens_dir (entry_text at.folder at.path) system.old system.new
+    ⊎ (FailsAtNames sys.opens_dir input.reads (entry_text at.folder at.path) system.old system.new
+    ⊎ FailsAtEntry sys input at system))

@@ -4,19 +4,32 @@ use Rattle.std.specs.declared.io.Error.{Error}
 use Rattle.pt_tree.specs.declared.faults.TreeFault.{TreeFault}
 use Rattle.pt_tree.specs.declared.faults.TreeFault.TheVariants.{Device}
 use Rattle.pt_tree.specs.Path.{Path}
-use Rattle.pt_folder.specs.Calls.{IsRefused, IsSyncAnswer, fault_of}
+use Rattle.pt_folder.specs.Calls.{Change, IsRefused, IsSyncAnswer, fault_of}
 use Rattle.pt_folder.specs.Failure.{IsOfCall, IsUnasked}
 use Rattle.pt_folder.specs.Folder.{entry_text}
 use Rattle.pt_folder.specs.Laws.{IsPath}
 use Rattle.pt_folder.specs.UnsyncedChange.{move_to_sync, stuck_after, unless_done}
 use Rattle.pt_folder.specs.declared.failure.Failure.{Failure}
+use Rattle.pt_folder.specs.declared.moving.Move.{Move}
 use Rattle.pt_folder.specs.declared.moving.Ready.{Ready}
+use Rattle.pt_folder.specs.declared.system.System.{Ghosts as OfSystem}
 use Rattle.pt_folder.specs.declared.unsynced_change.UnsyncedChange.{UnsyncedChange}
 use Rattle.pt_folder.specs.declared.unsynced_change.UnsyncedChange.TheVariants as stuck
 
 -- the path of the directory that holds a directory
 abbrev pub holder_text : List ℕ → List ℕ
 holder_text path = path ++ 47 ∷ 46 ∷ 46 ∷ []
+
+-- a move within a folder: the folder's path, from where and to where in it, and whether its directory is put onto the disk
+pub record FolderMove : Type 0 where
+  pub folder : List ℕ
+  pub from : Path
+  pub to : Path
+  pub synced : Bool
+
+-- the move in this folder
+abbrev pub move_in : List ℕ → Move → FolderMove
+move_in folder m = record { folder = folder; from = m.from.now; to = m.to.now; synced = m.synced }
 
 -- a move of what is at a path of a folder is ready
 pub record IsReady (synced : Bool) (folder : List ℕ) (p q : Path) (ready : Ready) : Type 0 where
@@ -51,63 +64,55 @@ AfterMove opens syncs false to old new result = (new ≡ old) × (result ≡ Ok 
 AfterMove opens syncs true to old new result = IsSynced opens syncs (holder_text to) old new result
 
 -- a move that is ready was asked for, and by its reply this came after it
-pub record IsGone {S F : Type 0}
-    (renames : S → List ℕ → List ℕ → Result (Unit {0}) Error → S → Type 0)
-    (opens : S → List ℕ → Result F Error → S → Type 0)
-    (syncs : F → Result (Unit {0}) Error → F → Type 0) (ready : Ready) (old new : S)
-    (before after : Option UnsyncedChange) (result : Result (Unit {0}) TreeFault) : Type 0 where
+pub record IsGone {S F D : Type 0} (sys : OfSystem S F D)
+    (syncs : F → Result (Unit {0}) Error → F → Type 0) (ready : Ready) (system : Change S)
+    (left : Change (Option UnsyncedChange)) (result : Result (Unit {0}) TreeFault) : Type 0 where
   pub reply : Result (Unit {0}) Error
   pub mid : S
-  pub made : renames old (string_bytes ready.from) (string_bytes ready.to) reply mid
+  pub made : sys.renames system.old (string_bytes ready.from) (string_bytes ready.to) reply mid
   pub gives : MatchResult reply
-      (λ _. MatchOption ready.left ((new ≡ mid) × (result ≡ Ok tt) × (after ≡ None))
-      (λ s. IsSynced opens syncs (string_bytes ready.holder) mid new result
-      × (after ≡ unless_done s result)))
-      (λ e. (new ≡ mid) × (result ≡ Err (fault_of e)) × (after ≡ before))
+      (λ _. MatchOption ready.left ((system.new ≡ mid) × (result ≡ Ok tt) × (left.new ≡ None))
+      (λ s. IsSynced sys.opens syncs (string_bytes ready.holder) mid system.new result
+      × (left.new ≡ unless_done s result)))
+      (λ e. (system.new ≡ mid) × (result ≡ Err (fault_of e)) × (left.new ≡ left.old))
 
 -- what a failure that is kept of it was of: the move, or putting the directory onto the disk
-abbrev pub IsOfGoing : {S F : Type 0} → (S → List ℕ → List ℕ → Result (Unit {0}) Error → S → Type 0)
-    → (S → List ℕ → Result F Error → S → Type 0)
-    → (F → Result (Unit {0}) Error → F → Type 0) → Ready → S → S → Failure → Type 0
-IsOfGoing {S} renames opens syncs ready old new f =
+abbrev pub IsOfGoing : {S F D : Type 0} → OfSystem S F D → (F → Result (Unit {0}) Error → F → Type 0)
+    → Ready → Change S → Failure → Type 0
+IsOfGoing {S} sys syncs ready system f =
     IsOfCall (string_bytes ready.to)
-    (λ e. renames old (string_bytes ready.from) (string_bytes ready.to) (Err e) new) f
+    (λ e. sys.renames system.old (string_bytes ready.from) (string_bytes ready.to) (Err e) system.new) f
     ⊎ ((mid : S) × IsOfCall (string_bytes ready.holder)
-    (FailsToSync opens syncs (string_bytes ready.holder) mid new) f)
+    (FailsToSync sys.opens syncs (string_bytes ready.holder) mid system.new) f)
 
 -- the move was asked for, and by its reply this came after it; where it stands and its directory couldn't be put onto
 -- the disk, it is stuck
-pub record IsMovedBy {S F : Type 0}
-    (renames : S → List ℕ → List ℕ → Result (Unit {0}) Error → S → Type 0)
-    (opens : S → List ℕ → Result F Error → S → Type 0)
-    (syncs : F → Result (Unit {0}) Error → F → Type 0) (synced : Bool) (folder : List ℕ)
-    (from to : Path) (old new : S) (left : Option UnsyncedChange) (result : Result (Unit {0}) TreeFault)
-    : Type 0 where
+pub record IsMovedBy {S F D : Type 0} (sys : OfSystem S F D)
+    (syncs : F → Result (Unit {0}) Error → F → Type 0) (m : FolderMove) (system : Change S)
+    (left : Option UnsyncedChange) (result : Result (Unit {0}) TreeFault) : Type 0 where
   pub reply : Result (Unit {0}) Error
   pub mid : S
-  pub filled : length folder ≢ 0
-  pub named : IsPath from × IsPath to
-  pub made : renames old (entry_text folder from) (entry_text folder to) reply mid
+  pub filled : length m.folder ≢ 0
+  pub named : IsPath m.from × IsPath m.to
+  pub made : sys.renames system.old (entry_text m.folder m.from) (entry_text m.folder m.to) reply mid
   pub gives : MatchResult reply
-      (λ _. AfterMove opens syncs synced (entry_text folder to) mid new result)
-      (λ e. (new ≡ mid) × (result ≡ Err (fault_of e)))
-  pub left_stuck : left ≡ stuck_after reply (stuck.Moved from to) result
+      (λ _. AfterMove sys.opens syncs m.synced (entry_text m.folder m.to) mid system.new result)
+      (λ e. (system.new ≡ mid) × (result ≡ Err (fault_of e)))
+  pub left_stuck : left ≡ stuck_after reply (stuck.Moved m.from m.to) result
 
 -- nothing is asked, and the path was refused; or the move is asked for once
-abbrev pub MovesOnce : {S F : Type 0} → (S → List ℕ → List ℕ → Result (Unit {0}) Error → S → Type 0)
-    → (S → List ℕ → Result F Error → S → Type 0)
-    → (F → Result (Unit {0}) Error → F → Type 0) → Bool → List ℕ → Path → Path → S → S
-    → Option UnsyncedChange → Result (Unit {0}) TreeFault → Type 0
-MovesOnce renames opens syncs synced folder from to old new left result =
-    ((new ≡ old) × (left ≡ None) × IsRefused folder result)
-    ⊎ IsMovedBy renames opens syncs synced folder from to old new left result
+abbrev pub MovesOnce : {S F D : Type 0} → OfSystem S F D → (F → Result (Unit {0}) Error → F → Type 0)
+    → FolderMove → Change S → Option UnsyncedChange → Result (Unit {0}) TreeFault → Type 0
+MovesOnce sys syncs m system left result =
+    ((system.new ≡ system.old) × (left ≡ None) × IsRefused m.folder result)
+    ⊎ IsMovedBy sys syncs m system left result
 
 -- what a failure that is kept was of: no call, the move, or putting the directory onto the disk
-abbrev pub IsOfMove : {S F : Type 0} → (S → List ℕ → List ℕ → Result (Unit {0}) Error → S → Type 0)
-    → (S → List ℕ → Result F Error → S → Type 0)
-    → (F → Result (Unit {0}) Error → F → Type 0) → List ℕ → Path → Path → S → S → Failure → Type 0
-IsOfMove {S} renames opens syncs folder from to old new f =
-    (IsUnasked folder f ⊎ IsOfCall (entry_text folder to)
-    (λ e. renames old (entry_text folder from) (entry_text folder to) (Err e) new) f)
-    ⊎ ((mid : S) × IsOfCall (holder_text (entry_text folder to))
-    (FailsToSync opens syncs (holder_text (entry_text folder to)) mid new) f)
+abbrev pub IsOfMove : {S F D : Type 0} → OfSystem S F D → (F → Result (Unit {0}) Error → F → Type 0)
+    → FolderMove → Change S → Failure → Type 0
+IsOfMove {S} sys syncs m system f =
+    (IsUnasked m.folder f ⊎ IsOfCall (entry_text m.folder m.to)
+    (λ e. sys.renames system.old (entry_text m.folder m.from) (entry_text m.folder m.to) (Err e)
+    system.new) f)
+    ⊎ ((mid : S) × IsOfCall (holder_text (entry_text m.folder m.to))
+    (FailsToSync sys.opens syncs (holder_text (entry_text m.folder m.to)) mid system.new) f)

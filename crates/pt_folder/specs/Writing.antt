@@ -5,7 +5,7 @@ use Rattle.pt_tree.specs.Path.{Path, rest_below}
 use Rattle.pt_tree.specs.declared.faults.TreeFault.{TreeFault}
 use Rattle.pt_tree.specs.declared.faults.TreeFault.TheVariants.{Device}
 use Rattle.pt_folder.specs.declared.writing.Writing.{Writing}
-use Rattle.pt_folder.specs.Calls.{IsSyncAnswer, fault_of}
+use Rattle.pt_folder.specs.Calls.{Change, IsSyncAnswer, fault_of}
 use Rattle.pt_folder.specs.Failure.{IsAt, IsOfCall}
 use Rattle.pt_folder.specs.Folder.{entry_text}
 use Rattle.pt_folder.specs.declared.failure.Failure.{Failure}
@@ -29,13 +29,16 @@ open_unless_within p None = None
 open_unless_within p (Some w) = cond (is_some (rest_below p w.path)) None (Some w)
 
 -- which writes the open file is asked for, and why adding to it fails: one of them did, or no file is open
-abbrev pub WritesTo : {S F : Type 0} → (S → F → List ℕ → Result ℕ Error → S → F → Type 0) → S
-    → Option (Writing F) → S → Option (Writing F) → List ℕ → Result (Unit {0}) TreeFault → Type 0
-WritesTo writes s None new_s new piece result = (result ≡ Err Device) × (new ≡ None) × (new_s ≡ s)
-WritesTo writes s (Some old) new_s None piece result = ⊥
-WritesTo writes s (Some old) new_s (Some new) piece result = (new.path ≡ old.path)
-    × MatchResult result (λ _. WritesAll (on_pairs writes) piece (s, old.file) (new_s, new.file))
-    (λ fault. (e : Error) × FailsToWrite (on_pairs writes) piece (s, old.file) e (new_s, new.file)
+abbrev pub WritesTo : {S F : Type 0} → (S → F → List ℕ → Result ℕ Error → S → F → Type 0) → Change S
+    → Option (Writing F) → Option (Writing F) → List ℕ → Result (Unit {0}) TreeFault → Type 0
+WritesTo writes system None new piece result =
+    (result ≡ Err Device) × (new ≡ None) × (system.new ≡ system.old)
+WritesTo writes system (Some old) None piece result = ⊥
+WritesTo writes system (Some old) (Some new) piece result = (new.path ≡ old.path)
+    × MatchResult result
+    (λ _. WritesAll (on_pairs writes) piece (system.old, old.file) (system.new, new.file))
+    (λ fault. (e : Error)
+    × FailsToWrite (on_pairs writes) piece (system.old, old.file) e (system.new, new.file)
     × (fault ≡ fault_of e))
 
 -- writes of a piece to a file ended with this error

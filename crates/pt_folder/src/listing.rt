@@ -7,10 +7,10 @@ ghost use Rattle.pt_tree.specs.Name.{is_name};
 ghost use Rattle.pt_folder.specs.Seeing.{SeesAt};
 ghost use Rattle.std.specs.List.{FoldsTo};
 ghost use Rattle.pt_folder.specs.Failure.{IsAt, IsOfEntry, IsOfName, IsOfNames, KeepsListing, OnDevice};
-ghost use Rattle.pt_folder.specs.Folder.{entry_text};
+ghost use Rattle.pt_folder.specs.Folder.{entry_in};
 ghost use Rattle.pt_tree.specs.Listing.{can_follow};
-ghost use Rattle.pt_folder.specs.Calls.{IsDueTo, fault_of as fault_for};
-ghost use Rattle.pt_folder.specs.Listing.{FailsToGet, FailsToList, FailsToLook, GetsNames, IsListedBy, LooksAt, LooksIn, dir_front, most_entries};
+ghost use Rattle.pt_folder.specs.Calls.{IsDueTo, change_of, fault_of as fault_for};
+ghost use Rattle.pt_folder.specs.Listing.{FailsToGet, FailsToList, FailsToLook, GetsNames, IsListedBy, LooksAt, LooksIn, most_entries};
 ghost use Rattle.pt_folder.specs.Names.{AddsNames, GivesNames, IsRefusedName, RefusesBytes, is_entry};
 
 use crate::bytes::ReadBuffer;
@@ -43,12 +43,12 @@ pub fn list<S: System>(
     ensures told { IfOk result (λ listing. ForSome (S.forest desk.old.system folder.now.path.now)
         (λ f. listing_at f path.now ≡ Some listing)) }
     ensures most { IfOk result (λ listing. length listing ≤ most_entries) }
-    ensures listed { IfOk result (IsListedBy S.opens_dir S.looks S.Dir.Input.reads S.Dir.Input.left
-        (entry_text folder.now.path.now path.now) (dir_front folder.now.path.now path.now)
-        desk.old.system desk.new.system) }
+    ensures listed { IfOk result (IsListedBy S.System S.Dir.Input
+        (entry_in folder.now.path.now path.now)
+        (change_of desk.old.system desk.new.system)) }
     ensures fault { IfErr result (λ fault. IsDueTo fault
-        (FailsToList S.opens_dir S.looks S.Dir.Input.reads folder.now.path.now path.now
-        desk.old.system desk.new.system)) }
+        (FailsToList S.System S.Dir.Input (entry_in folder.now.path.now path.now)
+        (change_of desk.old.system desk.new.system))) }
     ensures kept { OnDevice result
         (KeepsListing S.looks folder.now.path.now path.now desk.new.last.failure) }
 {

@@ -1,8 +1,8 @@
 // How something is moved in a folder: what is made ready before anything is asked, the move, and what comes after it.
 ghost use Rattle.std.specs.Prelude.{◌≡◌, None, IfErr, IfOk, IsSomeAnd, length, string_bytes};
-ghost use Rattle.pt_folder.specs.Calls.{IsDueTo};
+ghost use Rattle.pt_folder.specs.Calls.{IsDueTo, change_of};
 ghost use Rattle.pt_folder.specs.Failure.{IsUnasked, OnDevice};
-ghost use Rattle.pt_folder.specs.Moving.{IsGone, IsOfGoing, IsOfMove, IsReady, MovesOnce, holder_text};
+ghost use Rattle.pt_folder.specs.Moving.{IsGone, IsOfGoing, IsOfMove, IsReady, MovesOnce, holder_text, move_in};
 ghost use Rattle.pt_folder.specs.UnsyncedChange.{move_to_sync};
 
 use crate::failure::Last;
@@ -71,11 +71,12 @@ impl Ready {
         desk: &mut Syscalls<S>,
         stuck: &mut Option<UnsyncedChange>,
     ) -> Result<(), TreeFault>
-        ensures gone { IsGone S.renames S.opens S.File.Handle.syncs self
-            desk.old.system desk.new.system stuck.old stuck.new result }
+        ensures gone { IsGone S.System S.File.Handle.syncs self
+            (change_of desk.old.system desk.new.system)
+            (change_of stuck.old stuck.new) result }
         ensures kept { OnDevice result (IsSomeAnd desk.new.last.failure
-            (IsOfGoing S.renames S.opens S.File.Handle.syncs self
-            desk.old.system desk.new.system)) }
+            (IsOfGoing S.System S.File.Handle.syncs self
+            (change_of desk.old.system desk.new.system))) }
     {
         if let Err(error) = desk.system.move_to(self.from.as_str(), self.to.as_str()) {
             return Err(desk.last.record_error(self.to, error));
@@ -98,12 +99,12 @@ pub(crate) fn move_entry<S: System>(
     stuck: &mut Option<UnsyncedChange>,
 ) -> Result<(), TreeFault>
     requires free { stuck.old ≡ None }
-    ensures asked { MovesOnce S.renames S.opens S.File.Handle.syncs asked.now.synced
-        folder.now.path.now asked.now.from.now asked.now.to.now
-        desk.old.system desk.new.system stuck.new result }
+    ensures asked { MovesOnce S.System S.File.Handle.syncs
+        (move_in folder.now.path.now asked.now)
+        (change_of desk.old.system desk.new.system) stuck.new result }
     ensures kept { OnDevice result (IsSomeAnd desk.new.last.failure
-        (IsOfMove S.renames S.opens S.File.Handle.syncs folder.now.path.now
-        asked.now.from.now asked.now.to.now desk.old.system desk.new.system)) }
+        (IsOfMove S.System S.File.Handle.syncs (move_in folder.now.path.now asked.now)
+        (change_of desk.old.system desk.new.system))) }
 {
     let ready = asked.ready(folder, &mut desk.last)?;
     ready.go(desk, stuck)

@@ -7,8 +7,9 @@ ghost use Rattle.pt_tree.specs.Failures.{IsCounted};
 ghost use Rattle.pt_tree.specs.Forest.{Dir, dir_at, kind_of, node_at};
 ghost use Rattle.pt_tree.specs.Path.{parent};
 ghost use Rattle.pt_folder.specs.Syscalls.{new_desk};
+ghost use Rattle.pt_folder.specs.Calls.{change_of};
 ghost use Rattle.pt_folder.specs.Failure.{OnDevice};
-ghost use Rattle.pt_folder.specs.Folder.{entry_text};
+ghost use Rattle.pt_folder.specs.Folder.{entry_in, entry_text};
 ghost use Rattle.pt_folder.specs.Opening.{KeepsOpening, OpensOnce};
 ghost use Rattle.pt_folder.specs.Reading.{IsNext, IsOfReading, ReadsBy, StandsOpen, unread_open};
 
@@ -207,11 +208,13 @@ fn open<S: System>(
 ) -> Result<(), TreeFault>
     ensures same { OnErr result (opened.new ≡ opened.old) }
     ensures still { OnErr result (at.new ≡ at.old) }
-    ensures asked { OpensOnce S.looks S.opens folder.now.path.now path.now
-        opened.old opened.new desk.old.system desk.new.system result }
+    ensures asked { OpensOnce S.System (entry_in folder.now.path.now path.now)
+        (change_of opened.old opened.new)
+        (change_of desk.old.system desk.new.system) result }
     ensures at { OnOk result (string_bytes at.new ≡ entry_text folder.now.path.now path.now) }
-    ensures kept { OnDevice result (KeepsOpening S.looks S.opens
-        folder.now.path.now path.now desk.old.system desk.new.system desk.new.last.failure) }
+    ensures kept { OnDevice result (KeepsOpening S.System
+        (entry_in folder.now.path.now path.now)
+        (change_of desk.old.system desk.new.system) desk.new.last.failure) }
 {
     let text = folder.text(path, &mut desk.last)?;
     let text = desk.look_at_file(text)?;

@@ -1,9 +1,9 @@
 //! How a folder calls the system: what it asks, and what is kept of an answer that is a failure.
 ghost use Rattle.std.specs.Prelude.{◌≡◌, [], Err, IfOk, IfSome, IsSomeAnd, OnErr, OnOk, string_bytes};
 ghost use Rattle.pt_folder.specs.Syscalls.{new_desk};
-ghost use Rattle.pt_folder.specs.Calls.{AsksOnce, IsAnswer, IsThere, LeadsToKind, MakesOnce};
+ghost use Rattle.pt_folder.specs.Calls.{AsksOnce, IsAnswer, IsThere, LeadsToKind, MakesOnce, change_of};
 ghost use Rattle.pt_folder.specs.Failure.{FailsLook, FailsToPeek, IsOfCall, KeepsCall, KeepsMaking, OnDevice};
-ghost use Rattle.pt_folder.specs.Folder.{entry_text};
+ghost use Rattle.pt_folder.specs.Folder.{entry_in, entry_text};
 ghost use Rattle.pt_folder.specs.Listing.{LeadsToOwnKind};
 ghost use Rattle.pt_folder.specs.Moving.{FailsToSync, IsSynced};
 ghost use Rattle.pt_folder.specs.Opening.{IsOfFile, LeadsToFile};
@@ -47,8 +47,9 @@ impl<S: System> Syscalls<S> {
     ) -> Result<Option<Kind>, TreeFault>
         ensures at { OnOk result (string_bytes at.new ≡ entry_text folder.now.path.now path.now) }
         ensures still { OnErr result (at.new ≡ at.old) }
-        ensures asked { AsksOnce S.looks LeadsToKind folder.now.path.now path.now
-            self.old.system self.new.system result }
+        ensures asked { AsksOnce S.looks LeadsToKind
+            (entry_in folder.now.path.now path.now)
+            (change_of self.old.system self.new.system) result }
         ensures kept { OnDevice result (KeepsCall folder.now.path.now path.now
             (λ e. S.looks self.old.system (entry_text folder.now.path.now path.now) (Err e)
             self.new.system) self.new.last.failure) }
@@ -69,8 +70,9 @@ impl<S: System> Syscalls<S> {
 
     /// Looks at an entry that must be there: that it isn't is a failure.
     pub fn is_there(&mut self, folder: &Folder<'_>, path: &NamePath) -> Result<(), TreeFault>
-        ensures asked { AsksOnce S.looks IsThere folder.now.path.now path.now
-            self.old.system self.new.system result }
+        ensures asked { AsksOnce S.looks IsThere
+            (entry_in folder.now.path.now path.now)
+            (change_of self.old.system self.new.system) result }
         ensures kept { OnDevice result (KeepsCall folder.now.path.now path.now
             (λ e. S.looks self.old.system (entry_text folder.now.path.now path.now) (Err e)
             self.new.system) self.new.last.failure) }
@@ -89,8 +91,9 @@ impl<S: System> Syscalls<S> {
         path: &NamePath,
         longest: usize,
     ) -> Result<(), TreeFault>
-        ensures asked { MakesOnce longest S.makes_dir IsAnswer folder.now.path.now path.now
-            self.old.system self.new.system result }
+        ensures asked { MakesOnce longest S.makes_dir IsAnswer
+            (entry_in folder.now.path.now path.now)
+            (change_of self.old.system self.new.system) result }
         ensures kept { OnDevice result (KeepsMaking longest folder.now.path.now path.now
             (λ e. S.makes_dir self.old.system (entry_text folder.now.path.now path.now) (Err e)
             self.new.system) self.new.last.failure) }
@@ -112,7 +115,8 @@ impl<S: System> Syscalls<S> {
         ensures empty { OnErr result (block.new.items ≡ []) }
         ensures asked { AsksOnce S.opens
             (PeeksAt S.File.Input.left S.File.Input.reads block.new.items)
-            folder.now.path.now path.now self.old.system self.new.system result }
+            (entry_in folder.now.path.now path.now)
+            (change_of self.old.system self.new.system) result }
         ensures kept { OnDevice result (KeepsCall folder.now.path.now path.now
             (FailsToPeek S.opens S.File.Input.reads (entry_text folder.now.path.now path.now)
             self.old.system self.new.system) self.new.last.failure) }

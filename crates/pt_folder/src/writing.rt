@@ -1,8 +1,8 @@
 // The open file of a folder that is written: how it is made, added to and closed.
 ghost use Rattle.std.specs.Prelude.{◌≡◌, None, Err, IfNone, IfSome, OnOk, OnErr};
 ghost use Rattle.pt_tree.specs.declared.faults.TreeFault.TheVariants.{Device};
-ghost use Rattle.pt_folder.specs.Folder.{entry_text};
-ghost use Rattle.pt_folder.specs.Calls.{MakesOnce};
+ghost use Rattle.pt_folder.specs.Folder.{entry_in, entry_text};
+ghost use Rattle.pt_folder.specs.Calls.{MakesOnce, change_of};
 ghost use Rattle.pt_folder.specs.Failure.{KeepsMaking, OnDevice};
 ghost use Rattle.pt_folder.specs.UnsyncedChange.{stuck_by_close};
 ghost use Rattle.pt_folder.specs.Writing.{ClosesBy, FailsToAdd, IsMadeAt, IsOfWriting, MakesAt, WritesTo, open_unless_within};
@@ -33,8 +33,9 @@ pub(crate) fn create<S: System>(
     ensures opened { OnOk result (IsMadeAt path.now writing.new) }
     ensures same { OnErr result (writing.new ≡ writing.old) }
     ensures asked { MakesOnce longest S.makes_file
-        (MakesAt path.now writing.old writing.new) folder.now.path.now path.now
-        desk.old.system desk.new.system result }
+        (MakesAt path.now writing.old writing.new)
+        (entry_in folder.now.path.now path.now)
+        (change_of desk.old.system desk.new.system) result }
     ensures kept { OnDevice result (KeepsMaking longest folder.now.path.now path.now
         (λ e. S.makes_file desk.old.system (entry_text folder.now.path.now path.now) (Err e)
         desk.new.system) desk.new.last.failure) }
@@ -58,8 +59,8 @@ pub(crate) fn add<S: System>(
     piece: &[u8],
 ) -> Result<(), TreeFault>
     ensures closed { IfNone writing.old (result ≡ Err Device) }
-    ensures writes { WritesTo S.writes desk.old.system writing.old desk.new.system writing.new
-        piece.now result }
+    ensures writes { WritesTo S.writes (change_of desk.old.system desk.new.system)
+        writing.old writing.new piece.now result }
     ensures kept { OnDevice result (IfSome desk.new.last.failure
         (IsOfWriting folder.now.path.now (FailsToAdd S.writes piece.now desk.old.system)
         writing.old)) }

@@ -45,7 +45,7 @@ returns-clause-listed g c =
     let folder = c.args.folder.now.path.now in
     let p = c.args.path.now in
     let text : c.as_str.result.now ≡ entry_text folder p = c.as_str.ensures.value ∙ c.in_ok-text.ensures.text in
-    listed_by g.S.System.opens_dir g.S.System.looks g.S.Dir.Input.reads g.S.Dir.Input.left folder p c.args.desk.now.system c.names_in.new.desk.system c.as_str.result.now text (λ names. names.items) c.in_ok-names.names c.sort_unstable.new.self.items c.sort_unstable.ensures.permutation (string_bytes c.if-not-is_empty.text) (begins g c)
+    listed_by g.S.System g.S.Dir.Input folder p c.args.desk.now.system c.names_in.new.desk.system c.as_str.result.now text (λ names. names.items) c.in_ok-names.names c.sort_unstable.new.self.items c.sort_unstable.ensures.permutation (string_bytes c.if-not-is_empty.text) (begins g c)
     c.with_kinds.new.desk.system c.with_kinds.result c.in_ok-names.ensures.asked c.with_kinds.ensures.names c.with_kinds.ensures.looked
 
 pub returns-clause-fault : goal.returns-clause-fault
@@ -53,7 +53,7 @@ returns-clause-fault g c =
     let folder = c.args.folder.now.path.now in
     let p = c.args.path.now in
     let text : c.as_str.result.now ≡ entry_text folder p = c.as_str.ensures.value ∙ c.in_ok-text.ensures.text in
-    entry_fails g.S.System.opens_dir g.S.System.looks g.S.Dir.Input.reads g.S.Dir.Input.left folder p c.args.desk.now.system c.names_in.new.desk.system c.as_str.result.now text (λ names. names.items) c.in_ok-names.names c.sort_unstable.new.self.items c.sort_unstable.ensures.permutation (string_bytes c.if-not-is_empty.text) (begins g c)
+    entry_fails g.S.System g.S.Dir.Input folder p c.args.desk.now.system c.names_in.new.desk.system c.as_str.result.now text (λ names. names.items) c.in_ok-names.names c.sort_unstable.new.self.items c.sort_unstable.ensures.permutation (string_bytes c.if-not-is_empty.text) (begins g c)
     c.with_kinds.new.desk.system c.with_kinds.result c.in_ok-names.ensures.asked c.sort_unstable.ensures.sorted c.with_kinds.ensures.fault
 
 pub returns-in_err-names-clause-fault : goal.returns-in_err-names-clause-fault
@@ -61,7 +61,7 @@ returns-in_err-names-clause-fault g c =
     let folder = c.args.folder.now.path.now in
     let p = c.args.path.now in
     let text : c.as_str.result.now ≡ entry_text folder p = c.as_str.ensures.value ∙ c.in_ok-text.ensures.text in
-    err_due c.from_residual-in_err-names.result c.in_err-names.field-0.0 _ c.from_residual-in_err-names.ensures.1 (names_fail g.S.System.opens_dir g.S.System.looks g.S.Dir.Input.reads g.S.Dir.Input.left folder p c.args.desk.now.system c.names_in.new.desk.system c.as_str.result.now text (λ names. names.items) c.in_err-names.field-0.0 c.in_err-names.ensures.asked)
+    err_due c.from_residual-in_err-names.result c.in_err-names.field-0.0 _ c.from_residual-in_err-names.ensures.1 (names_fail g.S.System g.S.Dir.Input folder p c.args.desk.now.system c.names_in.new.desk.system c.as_str.result.now text (λ names. names.items) c.in_err-names.field-0.0 c.in_err-names.ensures.asked)
 
 pub returns-in_err-names-clause-same : goal.returns-in_err-names-clause-same
 returns-in_err-names-clause-same g c =

@@ -1,9 +1,9 @@
 use Rattle.std.proofs.Common.{◌∙◌, inr, subst, sym}
 use Rattle.std.specs.Prelude.{Err}
-use Rattle.pt_folder.specs.Calls.{AsksOnce, IsThere}
+use Rattle.pt_folder.specs.Calls.{AsksOnce, IsThere, change_of}
 use Rattle.pt_folder.specs.DestHeld.{IsPlaced}
 use Rattle.pt_folder.specs.Failure.{KeepsCall, OnDevice}
-use Rattle.pt_folder.specs.Folder.{entry_text}
+use Rattle.pt_folder.specs.Folder.{entry_in, entry_text}
 use Rattle.pt_folder.proofs.DestTold.{kind_keeps}
 use Rattle.pt_folder.proofs.StuckTold.{kept_free, none_back, none_risen, none_stuck}
 use Rattle.pt_folder.proofs.dest.HostDest.look_at_folder.Goals as goal
@@ -28,7 +28,7 @@ returns-clause-asked g c =
     let self = c.args.self.now in
     let there = c.is_there-there in
     let none = none_stuck self.stuck (sym c.is_some.ensures ∙ c.if-is_some.false) in
-    rw c.count_failure.ensures.same (inr (none, subst (λ p. AsksOnce g.S.System.looks IsThere self.folder.path.now p self.desk.system there.new.self.system there.result) c.new-top.ensures there.ensures.asked))
+    rw c.count_failure.ensures.same (inr (none, subst (λ p. AsksOnce g.S.System.looks IsThere (entry_in self.folder.path.now p) (change_of self.desk.system there.new.self.system) there.result) c.new-top.ensures there.ensures.asked))
 
 pub returns-clause-kept : goal.returns-clause-kept
 returns-clause-kept g c =

@@ -13,12 +13,12 @@ invariant_of-self g c =
     let closed = c.close_moved in
     let can = may_move_free (kept self.desk.system folder) self.stuck self.writing none c.args.from.now c.args.to.now c.requires in
     let law = g.met.S.System.tree_law self.desk.system folder in
-    let gives = rename_gives kept folder self.desk.system moved.new.desk.system c.args.from.now c.args.to.now self.synced g.S.System.renames g.S.System.opens g.S.File.Handle.syncs g.met.S.System.move_law g.met.S.System.still_law moved.new.stuck moved.result can moved.ensures.asked in
+    let gives = rename_gives kept folder self.desk.system moved.new.desk.system c.args.from.now c.args.to.now self.synced g.S.System g.S.File.Handle.syncs g.met.S.System.move_law g.met.S.System.still_law moved.new.stuck moved.result can moved.ensures.asked in
     record {
       placed = rename_placed kept folder self.desk.system moved.new.desk.system c.args.from.now c.args.to.now self.writing closed.new.writing moved.new.stuck moved.result gives closed.ensures.left closed.ensures.same (self.placed none);
-      wanted = rename_wanted kept folder self.desk.system moved.new.desk.system c.args.from.now c.args.to.now g.S.System.renames g.S.System.opens g.S.File.Handle.syncs self.synced moved.new.stuck moved.result moved.ensures.asked;
+      wanted = rename_wanted kept folder self.desk.system moved.new.desk.system c.args.from.now c.args.to.now g.S.System g.S.File.Handle.syncs self.synced moved.new.stuck moved.result moved.ensures.asked;
       back = ∣ rename_back kept folder self.desk.system moved.new.desk.system c.args.from.now c.args.to.now self.writing closed.new.writing moved.new.stuck law can moved.result gives ∣₁;
-      risen = device_risen self.failures c.count_failure.new.failures moved.new.stuck moved.result c.count_failure.ensures.counted (rename_device kept folder self.desk.system moved.new.desk.system c.args.from.now c.args.to.now g.S.System.renames g.S.System.opens g.S.File.Handle.syncs self.synced moved.new.stuck moved.result moved.ensures.asked);
+      risen = device_risen self.failures c.count_failure.new.failures moved.new.stuck moved.result c.count_failure.ensures.counted (rename_device kept folder self.desk.system moved.new.desk.system c.args.from.now c.args.to.now g.S.System g.S.File.Handle.syncs self.synced moved.new.stuck moved.result moved.ensures.asked);
     }
 
 pub returns-clause-moved : goal.returns-clause-moved
@@ -31,7 +31,7 @@ returns-clause-moved g c =
     let closed = c.close_moved in
     let can = may_move_free (kept self.desk.system folder) self.stuck self.writing none c.args.from.now c.args.to.now c.requires in
     let law = g.met.S.System.tree_law self.desk.system folder in
-    let gives = rename_gives kept folder self.desk.system moved.new.desk.system c.args.from.now c.args.to.now self.synced g.S.System.renames g.S.System.opens g.S.File.Handle.syncs g.met.S.System.move_law g.met.S.System.still_law moved.new.stuck moved.result can moved.ensures.asked in
+    let gives = rename_gives kept folder self.desk.system moved.new.desk.system c.args.from.now c.args.to.now self.synced g.S.System g.S.File.Handle.syncs g.met.S.System.move_law g.met.S.System.still_law moved.new.stuck moved.result can moved.ensures.asked in
     rw (c.count_failure.ensures.same, none) (rename_moved kept folder self.desk.system moved.new.desk.system c.args.from.now c.args.to.now self.writing closed.new.writing moved.new.stuck moved.result gives closed.ensures.left)
 
 pub returns-clause-same : goal.returns-clause-same
@@ -44,7 +44,7 @@ returns-clause-same g c =
     let closed = c.close_moved in
     let can = may_move_free (kept self.desk.system folder) self.stuck self.writing none c.args.from.now c.args.to.now c.requires in
     let law = g.met.S.System.tree_law self.desk.system folder in
-    let gives = rename_gives kept folder self.desk.system moved.new.desk.system c.args.from.now c.args.to.now self.synced g.S.System.renames g.S.System.opens g.S.File.Handle.syncs g.met.S.System.move_law g.met.S.System.still_law moved.new.stuck moved.result can moved.ensures.asked in
+    let gives = rename_gives kept folder self.desk.system moved.new.desk.system c.args.from.now c.args.to.now self.synced g.S.System g.S.File.Handle.syncs g.met.S.System.move_law g.met.S.System.still_law moved.new.stuck moved.result can moved.ensures.asked in
     rw (c.count_failure.ensures.same, none) (rename_same kept folder self.desk.system moved.new.desk.system c.args.from.now c.args.to.now self.writing closed.new.writing moved.new.stuck law can moved.result gives closed.ensures.same)
 
 pub returns-clause-asked : goal.returns-clause-asked
