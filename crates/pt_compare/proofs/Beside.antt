@@ -5,6 +5,7 @@ use Rattle.std.specs.Prelude.{All, Option, Some, Result, Ok, Err, slice_get}
 use Rattle.pt_compare.specs.Beside.{AreAlike, StandsAlike, TakesFile}
 use Rattle.pt_compare.specs.Marks.{Marks, inside}
 use Rattle.pt_compare.specs.Meeting.{MeetsFrom, MeetsIn}
+use Rattle.pt_folder.specs.Calls.{change_of}
 use Rattle.pt_object.specs.Object.{in_content}
 use Rattle.pt_compare.specs.declared.scanned.Scanned.{Scanned}
 use Rattle.pt_compare.specs.declared.stop.Stop.{Stop}
@@ -17,7 +18,7 @@ use Rattle.pt_tree.specs.Path.{Path}
 use Rattle.pt_walk.specs.Left.{bytes_at}
 
 -- a content that is known to be alike was met
-pub alike_taken : (source tree : Option Forest) (place p from : Path) (old new : Marks) (answer : Result (Unit {0}) Stop) → StandsAlike source tree place p from → TakesFile p old new answer → MeetsFrom source tree place (λ s. MakeFile p (bytes_at s from) ∷ []) old new answer
+pub alike_taken : (source tree : Option Forest) (place p from : Path) (old new : Marks) (answer : Result (Unit {0}) Stop) → StandsAlike source tree place p from → TakesFile p old new answer → MeetsFrom source tree place (λ s. MakeFile p (bytes_at s from) ∷ []) (change_of old new) answer
 unfolding StandsAlike MeetsFrom MeetsIn
 alike_taken source tree place p from old new (Ok x) alike took = λ s read f told. (one_stands (inside f place) (MakeFile p (bytes_at s from)) (alike s read f told), took)
 alike_taken source tree place p from old new (Err (stop.Differs d)) alike took = λ s read f told. one_stops (inside f place) old (MakeFile p (bytes_at s from)) d.path d.why took.0 (as_item (inside f place) old p (bytes_at s from) d.why took.1)

@@ -22,6 +22,7 @@ use Rattle.pt_compare.proofs.Findings.{are_items, first_between, first_early, fi
 use Rattle.pt_compare.proofs.Going.{Answer, all_both, all_met-append, err_of, stops_first, stops_later}
 use Rattle.pt_compare.proofs.Made.{kind_none}
 use Rattle.pt_compare.proofs.Steps.{all_met_noted}
+use Rattle.pt_folder.specs.Calls.{change_of}
 use Rattle.pt_object.proofs.ObjectScripts.{in_order_apart}
 use Rattle.pt_object.proofs.Ways.{is_same}
 use Rattle.pt_object.specs.Distinct.{content_of_row, distinct, distinct_after, row_has_digest}
@@ -158,14 +159,14 @@ module _ (src tree : Option Forest) (place : Path) (sought : Forest → Sought) 
       stops_object (sought s) (inside f place) old mid new e answer (err_of answer e is) (meets_first_stop (inside f place) first_items (content_items None (sought s).stored) old mid e (met f told))
 
   module _ (next : Option Forest) (files : Forest → List File) (are : (s : Forest) → files s ≡ (sought s).stored) (mid now : Marks) (u : Unit {0}) (same : next ≡ tree) (first : MeetsIn tree place first_items old mid (Ok u)) where
-    pub contents_stop : (new : Marks) (e : Stop) (answer : Answer) → IsErrAnd answer (λ f. f ≡ e) → MeetsFrom {T = Unit {0}} src next place (λ s. content_items None (files s)) mid now (Err e) → MeetsAll new answer
+    pub contents_stop : (new : Marks) (e : Stop) (answer : Answer) → IsErrAnd answer (λ f. f ≡ e) → MeetsFrom {T = Unit {0}} src next place (λ s. content_items None (files s)) (change_of mid now) (Err e) → MeetsAll new answer
     unfolding MeetsIn MeetsFrom
     contents_stop new e answer is met = λ s read f told.
         let here = first f told in
         let later = subst (λ (l : List File). Meets {T = Unit {0}} (inside f place) (content_items None l) mid now (Err e)) (are s) (met s read f (same ∙ told)) in
         stops_object (sought s) (inside f place) old now new e answer (err_of answer e is) (meets_later_stop (inside f place) first_items (content_items None (sought s).stored) old mid now e here.0 here.1 later)
 
-    pub inventories_last : (last : Option Forest) (v : Unit {0}) (new : Marks) (r : Answer) → last ≡ next → MeetsFrom src next place (λ s. content_items None (files s)) mid now (Ok v)
+    pub inventories_last : (last : Option Forest) (v : Unit {0}) (new : Marks) (r : Answer) → last ≡ next → MeetsFrom src next place (λ s. content_items None (files s)) (change_of mid now) (Ok v)
         → ((s : Forest) → ForSome last (λ f. MeetsInventories (sought s).algorithm (sought s).text_with (inside f place) now new r)) → MeetsAll new r
     unfolding MeetsIn MeetsFrom
     inventories_last last v new r follows contents inventories = λ s read f told.
@@ -200,7 +201,7 @@ module _ (sought : Sought) (order : part_in_order (paths_of sought.stored) ≡ t
 file_first : (t : Tree) (p : Path) (bytes : List ℕ) → t p ≡ Some (Bytes bytes) → All (StandsSo t) (MakeFile p bytes ∷ [])
 file_first t p bytes is = All-cons (StandsSo t) (MakeFile p bytes) [] is (All-nil (StandsSo t))
 
-pub inventory_stops : (tree : Option Forest) (place p : Path) (algorithm : Algorithm) (text_with : MetaParts → List ℕ) (old mid new : Marks) (e : Stop) (answer : Answer) → IsErrAnd answer (λ f. f ≡ e) → p ≡ version_inventory → MeetsTextIn tree place p text_with old mid (Err e) → ForSome tree (λ f. MeetsInventories algorithm text_with (inside f place) old new answer)
+pub inventory_stops : (tree : Option Forest) (place p : Path) (algorithm : Algorithm) (text_with : MetaParts → List ℕ) (old mid new : Marks) (e : Stop) (answer : Answer) → IsErrAnd answer (λ f. f ≡ e) → p ≡ version_inventory → MeetsTextIn tree place p text_with (change_of old mid) (Err e) → ForSome tree (λ f. MeetsInventories algorithm text_with (inside f place) old new answer)
 unfolding MeetsTextIn
 inventory_stops tree place p algorithm text_with old mid new e answer is at met = λ f told.
     let here = subst (λ (q : Path). MeetsText (inside f place) q text_with old mid (Err e)) at (met f told) in
@@ -210,13 +211,13 @@ inventory_stops tree place p algorithm text_with old mid new e answer is at met 
     by f (stop.Differs d) here = inl here
     by f (stop.Fault why) here = tt
 
-pub inventory_noted : (tree next : Option Forest) (place p : Path) (text_with : MetaParts → List ℕ) (old new : Marks) (text : String Global) → next ≡ tree → NotedStand tree place old → MeetsTextIn tree place p text_with old new (Ok text) → NotedStand next place new
+pub inventory_noted : (tree next : Option Forest) (place p : Path) (text_with : MetaParts → List ℕ) (old new : Marks) (text : String Global) → next ≡ tree → NotedStand tree place old → MeetsTextIn tree place p text_with (change_of old new) (Ok text) → NotedStand next place new
 unfolding NotedStand MeetsTextIn
 inventory_noted tree next place p text_with old new text is noted met = λ f told q k some.
     let there = sym is ∙ told in
     all_met_noted (inside f place) (MakeFile p (string_bytes text) ∷ []) old (noted f there) q k (ap (λ (m : Marks). m q) (sym (met f there).2) ∙ some)
 
-pub inventory_then : (tree next : Option Forest) (place p : Path) (algorithm : Algorithm) (text_with : MetaParts → List ℕ) (now : List ℕ) (old mid new : Marks) (stands : String Global) (r : Answer) → next ≡ tree → p ≡ version_inventory → now ≡ string_bytes stands → MeetsTextIn tree place p text_with old mid (Ok stands)
+pub inventory_then : (tree next : Option Forest) (place p : Path) (algorithm : Algorithm) (text_with : MetaParts → List ℕ) (now : List ℕ) (old mid new : Marks) (stands : String Global) (r : Answer) → next ≡ tree → p ≡ version_inventory → now ≡ string_bytes stands → MeetsTextIn tree place p text_with (change_of old mid) (Ok stands)
     → MeetsIn next place (last_items algorithm now) mid new r → ForSome tree (λ f. MeetsInventories algorithm text_with (inside f place) old new r)
 unfolding MeetsTextIn MeetsIn
 inventory_then tree next place p algorithm text_with now old mid new stands r same at is_now met copies = λ f told.

@@ -7,6 +7,7 @@ use Rattle.pt_compare.specs.Meeting.{IsHalt, IsWrongItem, Meets, MeetsFrom, Meet
 use Rattle.pt_compare.specs.declared.difference.Why.{Why}
 use Rattle.pt_compare.specs.declared.stop.Stop.{Stop}
 use Rattle.pt_compare.specs.declared.stop.Stop.TheVariants as stop
+use Rattle.pt_folder.specs.Calls.{change_of}
 use Rattle.pt_object.specs.Script.{Item}
 use Rattle.pt_tree.specs.Forest.{Forest}
 use Rattle.pt_tree.specs.Path.{Path}
@@ -107,34 +108,34 @@ goes_last tree place rest whole old now new r goes met = goes r new met
 -- ---- and over what a source tells beside
 
 unfoldable pub GoesFrom : Option Forest → Option Forest → Path → (Forest → List Item) → Marks → (Forest → List Item) → Marks → Type 0
-GoesFrom source tree place rest now whole old = (r : Answer) (new : Marks) → MeetsFrom source tree place rest now new r → MeetsFrom source tree place whole old new r
+GoesFrom source tree place rest now whole old = (r : Answer) (new : Marks) → MeetsFrom source tree place rest (change_of now new) r → MeetsFrom source tree place whole (change_of old new) r
 
 pub from_start : (source tree : Option Forest) (place : Path) (items : Forest → List Item) (marks : Marks) → GoesFrom source tree place items marks items marks
 unfolding GoesFrom
 from_start source tree place items marks = λ r new met. met
 
-pub from_met : (source tree : Option Forest) (place : Path) (a rest whole : Forest → List Item) (old now next : Marks) (r : Answer) (x : Unit {0}) → r ≡ Ok x → GoesFrom source tree place (λ s. a s ++ rest s) now whole old → MeetsFrom source tree place a now next r → GoesFrom source tree place rest next whole old
+pub from_met : (source tree : Option Forest) (place : Path) (a rest whole : Forest → List Item) (old now next : Marks) (r : Answer) (x : Unit {0}) → r ≡ Ok x → GoesFrom source tree place (λ s. a s ++ rest s) now whole old → MeetsFrom source tree place a (change_of now next) r → GoesFrom source tree place rest next whole old
 unfolding GoesFrom MeetsFrom MeetsIn
 from_met source tree place a rest whole old now next r x is goes met = λ s new then.
     goes s new (λ g read f told.
     let first = subst (Meets {T = Unit {0}} (inside f place) (a g) now next) is (met g read f told) in
     meets_then (Unit {0}) (inside f place) (a g) (rest g) now next new s first.0 first.1 (then g read f told))
 
-pub from_stop : (source tree : Option Forest) (place : Path) (a rest whole : Forest → List Item) (old now next new : Marks) (r : Answer) (e : Stop) (answer : Answer) → r ≡ Err e → IsErrAnd answer (λ f. f ≡ e) → GoesFrom source tree place (λ s. a s ++ rest s) now whole old → MeetsFrom source tree place a now next r → MeetsFrom source tree place whole old new answer
+pub from_stop : (source tree : Option Forest) (place : Path) (a rest whole : Forest → List Item) (old now next new : Marks) (r : Answer) (e : Stop) (answer : Answer) → r ≡ Err e → IsErrAnd answer (λ f. f ≡ e) → GoesFrom source tree place (λ s. a s ++ rest s) now whole old → MeetsFrom source tree place a (change_of now next) r → MeetsFrom source tree place whole (change_of old new) answer
 unfolding GoesFrom MeetsFrom MeetsIn
 from_stop source tree place a rest whole old now next new r e answer is same goes met =
     goes answer new (λ g read f told. meets_stop (Unit {0}) (Unit {0}) (inside f place) (a g) (rest g) now next new e r answer is (err_of answer e same) (met g read f told))
 
-pub from_end : (source tree : Option Forest) (place : Path) (whole : Forest → List Item) (old now : Marks) (r : Answer) → r ≡ Ok tt → GoesFrom source tree place (λ s. []) now whole old → MeetsFrom source tree place whole old now r
+pub from_end : (source tree : Option Forest) (place : Path) (whole : Forest → List Item) (old now : Marks) (r : Answer) → r ≡ Ok tt → GoesFrom source tree place (λ s. []) now whole old → MeetsFrom source tree place whole (change_of old now) r
 unfolding GoesFrom MeetsFrom MeetsIn
 from_end source tree place whole old now r is goes = goes r now (λ g read f told. subst (Meets {T = Unit {0}} (inside f place) [] now now) (sym is) (All-nil (StandsSo (inside f place)), refl))
 
 -- items that no source has a part in
-pub met_anyhow : (source tree : Option Forest) (place : Path) (a : List Item) (old new : Marks) (r : Answer) → MeetsIn tree place a old new r → MeetsFrom source tree place (λ s. a) old new r
+pub met_anyhow : (source tree : Option Forest) (place : Path) (a : List Item) (old new : Marks) (r : Answer) → MeetsIn tree place a old new r → MeetsFrom source tree place (λ s. a) (change_of old new) r
 unfolding MeetsFrom
 met_anyhow source tree place a old new r met = λ g read. met
 
-pub halts_from : (source tree : Option Forest) (place : Path) (items : Forest → List Item) (old new : Marks) (r : Answer) (why : Fault) → IsErrAnd r (λ e. e ≡ stop.Fault why) → MeetsFrom source tree place items old new r
+pub halts_from : (source tree : Option Forest) (place : Path) (items : Forest → List Item) (old new : Marks) (r : Answer) (why : Fault) → IsErrAnd r (λ e. e ≡ stop.Fault why) → MeetsFrom source tree place items (change_of old new) r
 unfolding MeetsFrom
 halts_from source tree place items old new r why is = λ g read. halts_in tree place (items g) old new r why is
 
@@ -150,5 +151,5 @@ why_of (stop.Fault why) h = (why, refl)
 pub halted : (tree : Option Forest) (place : Path) (items : List Item) (old new : Marks) (r : Answer) (e : Stop) → IsErrAnd r (λ f. f ≡ e) → IsHalt e → MeetsIn tree place items old new r
 halted tree place items old new r e is h = let w = why_of e h in halts_in tree place items old new r w.0 (subst (λ (e : Stop). IsErrAnd r (λ f. f ≡ e)) w.1 is)
 
-pub halted_from : (source tree : Option Forest) (place : Path) (items : Forest → List Item) (old new : Marks) (r : Answer) (e : Stop) → IsErrAnd r (λ f. f ≡ e) → IsHalt e → MeetsFrom source tree place items old new r
+pub halted_from : (source tree : Option Forest) (place : Path) (items : Forest → List Item) (old new : Marks) (r : Answer) (e : Stop) → IsErrAnd r (λ f. f ≡ e) → IsHalt e → MeetsFrom source tree place items (change_of old new) r
 halted_from source tree place items old new r e is h = let w = why_of e h in halts_from source tree place items old new r w.0 (subst (λ (e : Stop). IsErrAnd r (λ f. f ≡ e)) w.1 is)

@@ -5,6 +5,7 @@ use Rattle.std.proofs.lemmas.List.{drop_all}
 use Rattle.std.proofs.lemmas.List.Elements.{All-head, All-tail}
 use Rattle.pt_compare.specs.Marks.{Marks}
 use Rattle.pt_compare.specs.Meeting.{MeetsFrom, MeetsIn}
+use Rattle.pt_folder.specs.Calls.{change_of}
 use Rattle.pt_object.specs.Object.{in_content}
 use Rattle.pt_compare.specs.Parts.{content_items, files_of, fronts, leads_to_last, way_items}
 use Rattle.pt_compare.specs.Root.{tree_in}
@@ -122,7 +123,7 @@ module _ (src tree : Option Forest) (place from : Path) (all : List Content) (i 
   goes_here = subst (λ (l : List Content). GoesFrom src tree place (items_from from last l) now (items_from from None all) old) (contents_next i all content is) goes
 
   -- something on the way to a content stops it
-  pub content_way_stops : (next : Option Forest) (after new : Marks) (e : Stop) (answer : Answer) → next ≡ tree → IsErrAnd answer (λ f. f ≡ e) → MeetsIn {T = Unit {0}} next place (way_items last (fronts content.path)) now after (Err e) → MeetsFrom src tree place (items_from from None all) old new answer
+  pub content_way_stops : (next : Option Forest) (after new : Marks) (e : Stop) (answer : Answer) → next ≡ tree → IsErrAnd answer (λ f. f ≡ e) → MeetsIn {T = Unit {0}} next place (way_items last (fronts content.path)) now after (Err e) → MeetsFrom src tree place (items_from from None all) (change_of old new) answer
   content_way_stops next after new e answer same at met =
       from_stop src tree place (λ s. way_items last (fronts content.path)) (λ s. MakeFile (in_content content.path) (bytes_at s (from ++ content.path)) ∷ items_from from (Some (in_content content.path)) (drop (i + 1) all) s) (items_from from None all) old now after new (Err e) e answer refl at goes_here
       (met_anyhow src tree place (way_items last (fronts content.path)) now after (Err e) (subst (λ (t : Option Forest). MeetsIn {T = Unit {0}} t place (way_items last (fronts content.path)) now after (Err e)) same met))
@@ -134,25 +135,25 @@ module _ (src tree : Option Forest) (place from : Path) (all : List Content) (i 
         (met_anyhow src tree place (way_items last (fronts content.path)) now mid (Ok u) (subst (λ (t : Option Forest). MeetsIn {T = Unit {0}} t place (way_items last (fronts content.path)) now mid (Ok u)) same way_is))
 
     module _ (src_next tree_next : Option Forest) (path file : Path) (src_same : src_next ≡ src) (tree_same : tree_next ≡ tree) (path_is : path ≡ in_content content.path) (file_is : file ≡ from ++ content.path) (after : Marks) where
-      moved : (r : Answer) → MeetsFrom src_next tree_next place (λ s. MakeFile path (bytes_at s file) ∷ []) mid after r → MeetsFrom src tree place (λ s. MakeFile (in_content content.path) (bytes_at s (from ++ content.path)) ∷ []) mid after r
+      moved : (r : Answer) → MeetsFrom src_next tree_next place (λ s. MakeFile path (bytes_at s file) ∷ []) (change_of mid after) r → MeetsFrom src tree place (λ s. MakeFile (in_content content.path) (bytes_at s (from ++ content.path)) ∷ []) (change_of mid after) r
       moved r met =
-          subst (λ (t : Option Forest). MeetsFrom {T = Unit {0}} t tree place (λ s. MakeFile (in_content content.path) (bytes_at s (from ++ content.path)) ∷ []) mid after r) src_same
-          (subst (λ (t : Option Forest). MeetsFrom {T = Unit {0}} src_next t place (λ s. MakeFile (in_content content.path) (bytes_at s (from ++ content.path)) ∷ []) mid after r) tree_same
-          (subst (λ (q : Path). MeetsFrom {T = Unit {0}} src_next tree_next place (λ s. MakeFile q (bytes_at s (from ++ content.path)) ∷ []) mid after r) path_is
-          (subst (λ (q : Path). MeetsFrom {T = Unit {0}} src_next tree_next place (λ s. MakeFile path (bytes_at s q) ∷ []) mid after r) file_is met)))
+          subst (λ (t : Option Forest). MeetsFrom {T = Unit {0}} t tree place (λ s. MakeFile (in_content content.path) (bytes_at s (from ++ content.path)) ∷ []) (change_of mid after) r) src_same
+          (subst (λ (t : Option Forest). MeetsFrom {T = Unit {0}} src_next t place (λ s. MakeFile (in_content content.path) (bytes_at s (from ++ content.path)) ∷ []) (change_of mid after) r) tree_same
+          (subst (λ (q : Path). MeetsFrom {T = Unit {0}} src_next tree_next place (λ s. MakeFile q (bytes_at s (from ++ content.path)) ∷ []) (change_of mid after) r) path_is
+          (subst (λ (q : Path). MeetsFrom {T = Unit {0}} src_next tree_next place (λ s. MakeFile path (bytes_at s q) ∷ []) (change_of mid after) r) file_is met)))
 
       -- the content is met
-      pub content_met : (v : Unit {0}) → MeetsFrom src_next tree_next place (λ s. MakeFile path (bytes_at s file) ∷ []) mid after (Ok v) → GoesFrom src tree place (items_from from (Some path) (drop (i + 1) all)) after (items_from from None all) old
+      pub content_met : (v : Unit {0}) → MeetsFrom src_next tree_next place (λ s. MakeFile path (bytes_at s file) ∷ []) (change_of mid after) (Ok v) → GoesFrom src tree place (items_from from (Some path) (drop (i + 1) all)) after (items_from from None all) old
       content_met v met =
           subst (λ (q : Path). GoesFrom src tree place (items_from from (Some q) (drop (i + 1) all)) after (items_from from None all) old) (sym path_is)
           (from_met src tree place (λ s. MakeFile (in_content content.path) (bytes_at s (from ++ content.path)) ∷ []) (items_from from (Some (in_content content.path)) (drop (i + 1) all)) (items_from from None all) old mid after (Ok v) v refl goes_file (moved (Ok v) met))
 
       -- or stops it
-      pub content_stops : (new : Marks) (e : Stop) (answer : Answer) → IsErrAnd answer (λ f. f ≡ e) → MeetsFrom {T = Unit {0}} src_next tree_next place (λ s. MakeFile path (bytes_at s file) ∷ []) mid after (Err e) → MeetsFrom src tree place (items_from from None all) old new answer
+      pub content_stops : (new : Marks) (e : Stop) (answer : Answer) → IsErrAnd answer (λ f. f ≡ e) → MeetsFrom {T = Unit {0}} src_next tree_next place (λ s. MakeFile path (bytes_at s file) ∷ []) (change_of mid after) (Err e) → MeetsFrom src tree place (items_from from None all) (change_of old new) answer
       content_stops new e answer at met =
           from_stop src tree place (λ s. MakeFile (in_content content.path) (bytes_at s (from ++ content.path)) ∷ []) (items_from from (Some (in_content content.path)) (drop (i + 1) all)) (items_from from None all) old mid after new (Err e) e answer refl at goes_file (moved (Err e) met)
 
-pub contents_ended : (src tree : Option Forest) (place from : Path) (all : List Content) (i : ℕ) (last : Option Path) (old now : Marks) (r : Answer) → r ≡ Ok tt → drop i all ≡ [] → GoesFrom src tree place (items_from from last (drop i all)) now (items_from from None all) old → MeetsFrom src tree place (items_from from None all) old now r
+pub contents_ended : (src tree : Option Forest) (place from : Path) (all : List Content) (i : ℕ) (last : Option Path) (old now : Marks) (r : Answer) → r ≡ Ok tt → drop i all ≡ [] → GoesFrom src tree place (items_from from last (drop i all)) now (items_from from None all) old → MeetsFrom src tree place (items_from from None all) (change_of old now) r
 contents_ended src tree place from all i last old now r is none goes =
     from_end src tree place (items_from from None all) old now r is (subst (λ (l : List Content). GoesFrom src tree place (items_from from last l) now (items_from from None all) old) none goes)
 

@@ -21,6 +21,7 @@ use Rattle.pt_compare.proofs.Going.{Answer, err_of}
 use Rattle.pt_compare.proofs.Listed.{itself}
 use Rattle.pt_compare.proofs.Made.{kind_some}
 use Rattle.pt_compare.proofs.Reading.{opens_reads}
+use Rattle.pt_folder.specs.Calls.{change_of}
 use Rattle.pt_object.specs.MetaParts.{MetaParts}
 use Rattle.pt_object.specs.Script.{Item, MakeFolder, MakeFile, item_entry, item_path}
 use Rattle.pt_tree.specs.Forest.{Forest, Node, File, Dir, Other, as_file, file_at, kind_of, node_at}
@@ -109,7 +110,7 @@ file_there f place p is = by (node_at (Dir f) (place ++ p)) (sym (kind_same (nod
     by (Some Other) is = absurd (cc)
 
 pub opens : (before after : Option Reading) (place p whole : Path) (old new : Marks) (here : Option Kind) → NotedStand (tree_in before) place old → here ≡ old p → is_kind_of kind.File here ≡ true → new ≡ without_mark p old
-    → after ≡ option_map (after_open whole) before → whole ≡ place ++ p → OpensIn before after place p old new (Ok tt)
+    → after ≡ option_map (after_open whole) before → whole ≡ place ++ p → OpensIn before after place p (change_of old new) (Ok tt)
 unfolding NotedStand
 opens before after place p whole old new here noted was file taken opened at = (
   opens_reads before after (place ++ p) (noted_kind (tree_in before) place p old kind.File noted (sym was ∙ kind_is kind.File here file)) (opened ∙ ap (λ (q : Path). option_map (after_open q) before) at),
@@ -124,8 +125,8 @@ opens before after place p whole old new here noted was file taken opened at = (
         let same : r.tree ≡ f = cc in
         (there.0, there.1, ap left_in is ∙ ap (λ (g : Forest). file_at g (place ++ p)) same ∙ there.2)
 
-pub wrong_file : (before after : Option Reading) (place p q : Path) (old new : Marks) (here : Option Kind) (e : Stop) → e ≡ stop.Differs (record { path = q; why = why_for here }) → q ≡ p → here ≡ old p → is_kind_of kind.File here ≡ false → OpensIn before after place p old new (Err e)
-wrong_file before after place p q old new here e is at was other = subst (λ (e : Stop). OpensIn before after place p old new (Err e)) (sym is) (at, by here was other)
+pub wrong_file : (before after : Option Reading) (place p q : Path) (old new : Marks) (here : Option Kind) (e : Stop) → e ≡ stop.Differs (record { path = q; why = why_for here }) → q ≡ p → here ≡ old p → is_kind_of kind.File here ≡ false → OpensIn before after place p (change_of old new) (Err e)
+wrong_file before after place p q old new here e is at was other = subst (λ (e : Stop). OpensIn before after place p (change_of old new) (Err e)) (sym is) (at, by here was other)
   where
     by : (here : Option Kind) → here ≡ old p → is_kind_of kind.File here ≡ false → IsWrongFile old p (why_for here)
     by None was other = sym was
@@ -137,11 +138,11 @@ as_item t marks p bytes why.Kind wrong = wrong
 as_item t marks p bytes why.Bytes wrong = absurd wrong
 as_item t marks p bytes why.Extra wrong = absurd wrong
 
-open_failed : (t : Tree) (before after : Option Reading) (place p : Path) (bytes : List ℕ) (old new other : Marks) (e : Stop) → OpensIn before after place p old new (Err e) → Meets {T = Unit {0}} t (MakeFile p bytes ∷ []) old other (Err e)
+open_failed : (t : Tree) (before after : Option Reading) (place p : Path) (bytes : List ℕ) (old new other : Marks) (e : Stop) → OpensIn before after place p (change_of old new) (Err e) → Meets {T = Unit {0}} t (MakeFile p bytes ∷ []) old other (Err e)
 open_failed t before after place p bytes old new other (stop.Differs d) wrong = one_stops t old (MakeFile p bytes) d.path d.why wrong.0 (as_item t old p bytes d.why wrong.1)
 open_failed t before after place p bytes old new other (stop.Fault w) wrong = tt
 
-pub unopened : (before after : Option Reading) (place p : Path) (bytes : List ℕ) (old new other : Marks) (e : Stop) (answer : Answer) → IsErrAnd answer (λ f. f ≡ e) → OpensIn before after place p old new (Err e) → MeetsIn (tree_in before) place (MakeFile p bytes ∷ []) old other answer
+pub unopened : (before after : Option Reading) (place p : Path) (bytes : List ℕ) (old new other : Marks) (e : Stop) (answer : Answer) → IsErrAnd answer (λ f. f ≡ e) → OpensIn before after place p (change_of old new) (Err e) → MeetsIn (tree_in before) place (MakeFile p bytes ∷ []) old other answer
 unfolding MeetsIn
 unopened before after place p bytes old new other e answer is wrong = λ f told. subst (Meets {T = Unit {0}} (inside f place) (MakeFile p bytes ∷ []) old other) (sym (err_of answer e is)) (open_failed (inside f place) before after place p bytes old new other e wrong)
 
@@ -153,14 +154,14 @@ same_left a b is = same_text a b is
 other_left : (a b : List ℕ) → false ≡ bytes_eq a b → a ≢ b
 other_left a b is = other_text a b is
 
-pub bytes_met : (before mid : Option Reading) (place p : Path) (bytes : List ℕ) (old new : Marks) (same : Bool) (answer : Answer) → answer ≡ Ok tt → OpensIn before mid place p old new (Ok tt) → TellsRest bytes mid same → true ≡ same → MeetsIn (tree_in before) place (MakeFile p bytes ∷ []) old new answer
+pub bytes_met : (before mid : Option Reading) (place p : Path) (bytes : List ℕ) (old new : Marks) (same : Bool) (answer : Answer) → answer ≡ Ok tt → OpensIn before mid place p (change_of old new) (Ok tt) → TellsRest bytes mid same → true ≡ same → MeetsIn (tree_in before) place (MakeFile p bytes ∷ []) old new answer
 unfolding MeetsIn TellsRest
 bytes_met before mid place p bytes old new same answer is opened rest taken_so = λ f told.
     let there = opened.2 f told in
     subst (Meets {T = Unit {0}} (inside f place) (MakeFile p bytes ∷ []) old new) (sym is)
     (one_stands (inside f place) (MakeFile p bytes) (there.1 ∙ ap (λ (b : List ℕ). Some (Bytes b)) (same_left there.0 bytes (taken_so ∙ rest there.0 there.2))), opened.1)
 
-pub bytes_other : (before mid : Option Reading) (place p : Path) (bytes : List ℕ) (old new : Marks) (same : Bool) (e : Stop) (answer : Answer) → answer ≡ Err e → e ≡ stop.Differs (record { path = p; why = why.Bytes }) → OpensIn before mid place p old new (Ok tt) → TellsRest bytes mid same → false ≡ same
+pub bytes_other : (before mid : Option Reading) (place p : Path) (bytes : List ℕ) (old new : Marks) (same : Bool) (e : Stop) (answer : Answer) → answer ≡ Err e → e ≡ stop.Differs (record { path = p; why = why.Bytes }) → OpensIn before mid place p (change_of old new) (Ok tt) → TellsRest bytes mid same → false ≡ same
     → MeetsIn (tree_in before) place (MakeFile p bytes ∷ []) old new answer
 unfolding MeetsIn TellsRest
 bytes_other before mid place p bytes old new same e answer is differs opened rest other_so = λ f told.
@@ -182,8 +183,8 @@ source_left (Some r) mid from s told can opened =
     there None h = absurd (let e = h in cc)
     there (Some b) h = refl
 
-pub alike_met : (src src_mid before mid : Option Reading) (place p from : Path) (old new : Marks) (same : Bool) (answer : Answer) → answer ≡ Ok tt → OpensIn before mid place p old new (Ok tt) → CanOpen src from → src_mid ≡ option_map (after_open from) src → TellsAlike src_mid mid same → true ≡ same
-    → MeetsFrom (tree_in src) (tree_in before) place (λ s. MakeFile p (bytes_at s from) ∷ []) old new answer
+pub alike_met : (src src_mid before mid : Option Reading) (place p from : Path) (old new : Marks) (same : Bool) (answer : Answer) → answer ≡ Ok tt → OpensIn before mid place p (change_of old new) (Ok tt) → CanOpen src from → src_mid ≡ option_map (after_open from) src → TellsAlike src_mid mid same → true ≡ same
+    → MeetsFrom (tree_in src) (tree_in before) place (λ s. MakeFile p (bytes_at s from) ∷ []) (change_of old new) answer
 unfolding MeetsFrom MeetsIn TellsAlike
 alike_met src src_mid before mid place p from old new same answer is opened can open_src alike taken_so = λ s read f told.
     let there = opened.2 f told in
@@ -191,8 +192,8 @@ alike_met src src_mid before mid place p from old new same answer is opened can 
     subst (Meets {T = Unit {0}} (inside f place) (MakeFile p (bytes_at s from) ∷ []) old new) (sym is)
     (one_stands (inside f place) (MakeFile p (bytes_at s from)) (there.1 ∙ ap (λ (b : List ℕ). Some (Bytes b)) (same_left there.0 (bytes_at s from) (taken_so ∙ alike (bytes_at s from) left there.0 there.2))), opened.1)
 
-pub alike_other : (src src_mid before mid : Option Reading) (place p from q : Path) (old new : Marks) (same : Bool) (e : Stop) (answer : Answer) → answer ≡ Err e → e ≡ stop.Differs (record { path = q; why = why.Bytes }) → q ≡ p → OpensIn before mid place p old new (Ok tt) → CanOpen src from
-    → src_mid ≡ option_map (after_open from) src → TellsAlike src_mid mid same → false ≡ same → MeetsFrom (tree_in src) (tree_in before) place (λ s. MakeFile p (bytes_at s from) ∷ []) old new answer
+pub alike_other : (src src_mid before mid : Option Reading) (place p from q : Path) (old new : Marks) (same : Bool) (e : Stop) (answer : Answer) → answer ≡ Err e → e ≡ stop.Differs (record { path = q; why = why.Bytes }) → q ≡ p → OpensIn before mid place p (change_of old new) (Ok tt) → CanOpen src from
+    → src_mid ≡ option_map (after_open from) src → TellsAlike src_mid mid same → false ≡ same → MeetsFrom (tree_in src) (tree_in before) place (λ s. MakeFile p (bytes_at s from) ∷ []) (change_of old new) answer
 unfolding MeetsFrom MeetsIn TellsAlike
 alike_other src src_mid before mid place p from q old new same e answer is differs at opened can open_src alike other_so = λ s read f told.
     let there = opened.2 f told in
@@ -205,7 +206,7 @@ alike_other src src_mid before mid place p from q old new same e answer is diffe
 abbrev pub TextAnswer : Type 0
 TextAnswer = Result (String Global) Stop
 
-open_failed_text : (t : Tree) (before after : Option Reading) (place p : Path) (text_with : MetaParts → List ℕ) (old new other : Marks) (e : Stop) → OpensIn before after place p old new (Err e) → MeetsText t p text_with old other (Err e)
+open_failed_text : (t : Tree) (before after : Option Reading) (place p : Path) (text_with : MetaParts → List ℕ) (old new other : Marks) (e : Stop) → OpensIn before after place p (change_of old new) (Err e) → MeetsText t p text_with old other (Err e)
 open_failed_text t before after place p text_with old new other (stop.Differs d) wrong = (wrong.0, by d.why wrong.1)
   where
     by : (w : Why) → IsWrongFile old p w → IsWrongInventory t old p text_with w
@@ -224,23 +225,23 @@ pub was_ok : {T E D : Type 0} (first : Result T E) (last : Result T D) (x : T) (
 was_ok {T} {E} {D} (Ok y) last x Q same variant is = let one = sym same ∙ is in cc
 was_ok {T} {E} {D} (Err e) last x Q same variant is = let no : true ≡ false = sym (ap is_ok is) ∙ variant in absurd (cc)
 
-pub unopened_text : (before after : Option Reading) (place p : Path) (text_with : MetaParts → List ℕ) (old new other : Marks) (e : Stop) (answer : TextAnswer) → IsErrAnd answer (λ f. f ≡ e) → OpensIn before after place p old new (Err e) → MeetsTextIn (tree_in before) place p text_with old other answer
+pub unopened_text : (before after : Option Reading) (place p : Path) (text_with : MetaParts → List ℕ) (old new other : Marks) (e : Stop) (answer : TextAnswer) → IsErrAnd answer (λ f. f ≡ e) → OpensIn before after place p (change_of old new) (Err e) → MeetsTextIn (tree_in before) place p text_with (change_of old other) answer
 unfolding MeetsTextIn
 unopened_text before after place p text_with old new other e answer is wrong = λ f told. subst (MeetsText (inside f place) p text_with old other) (sym (err_of_text answer e is)) (open_failed_text (inside f place) before after place p text_with old new other e wrong)
 
-module _ (before mid : Option Reading) (place p : Path) (text_with : MetaParts → List ℕ) (old new : Marks) (rest : Vec ℕ) (stands : List ℕ) (answer : TextAnswer) (opened : OpensIn before mid place p old new (Ok tt)) (all : IsAllLeft mid rest) (same : stands ≡ rest.items) where
+module _ (before mid : Option Reading) (place p : Path) (text_with : MetaParts → List ℕ) (old new : Marks) (rest : Vec ℕ) (stands : List ℕ) (answer : TextAnswer) (opened : OpensIn before mid place p (change_of old new) (Ok tt)) (all : IsAllLeft mid rest) (same : stands ≡ rest.items) where
   whole : (f : Forest) (told : tree_in before ≡ Some f) → stands ≡ (opened.2 f told).0
   unfolding IsAllLeft
   whole f told = same ∙ all (opened.2 f told).0 (opened.2 f told).2
 
-  pub text_met : (text : String Global) → answer ≡ Ok text → (string_bytes text ≡ stands) × IsMade text_with stands → MeetsTextIn (tree_in before) place p text_with old new answer
+  pub text_met : (text : String Global) → answer ≡ Ok text → (string_bytes text ≡ stands) × IsMade text_with stands → MeetsTextIn (tree_in before) place p text_with (change_of old new) answer
   unfolding MeetsTextIn
   text_met text is text_is = λ f told.
       let there = opened.2 f told in
       subst (MeetsText (inside f place) p text_with old new) (sym is)
       (there.1 ∙ ap (λ (b : List ℕ). Some (Bytes b)) (sym (text_is.0 ∙ whole f told)), subst (IsMade text_with) (sym text_is.0) text_is.1, opened.1)
 
-  pub text_other : (e : Stop) → answer ≡ Err e → e ≡ stop.Differs (record { path = p; why = why.Bytes }) → (IsMade text_with stands → ⊥) → MeetsTextIn (tree_in before) place p text_with old new answer
+  pub text_other : (e : Stop) → answer ≡ Err e → e ≡ stop.Differs (record { path = p; why = why.Bytes }) → (IsMade text_with stands → ⊥) → MeetsTextIn (tree_in before) place p text_with (change_of old new) answer
   unfolding MeetsTextIn
   text_other e is differs other = λ f told.
       let there = opened.2 f told in
@@ -249,7 +250,7 @@ module _ (before mid : Option Reading) (place p : Path) (text_with : MetaParts �
 
 -- ---- calls that end it
 
-pub unopened_from : (src before after : Option Reading) (place p from : Path) (old new other : Marks) (e : Stop) (answer : Answer) → IsErrAnd answer (λ f. f ≡ e) → OpensIn before after place p old new (Err e) → MeetsFrom (tree_in src) (tree_in before) place (λ s. MakeFile p (bytes_at s from) ∷ []) old other answer
+pub unopened_from : (src before after : Option Reading) (place p from : Path) (old new other : Marks) (e : Stop) (answer : Answer) → IsErrAnd answer (λ f. f ≡ e) → OpensIn before after place p (change_of old new) (Err e) → MeetsFrom (tree_in src) (tree_in before) place (λ s. MakeFile p (bytes_at s from) ∷ []) (change_of old other) answer
 unfolding MeetsFrom
 unopened_from src before after place p from old new other e answer is wrong = λ s read. unopened before after place p (bytes_at s from) old new other e answer is wrong
 
@@ -262,7 +263,7 @@ source_reads (Some r) mid from can opened = ap is_reading opened ∙ there (file
     there None h = absurd (let e = h in cc)
     there (Some b) h = refl
 
-pub halted_text : (tree : Option Forest) (place p : Path) (text_with : MetaParts → List ℕ) (old new : Marks) (answer : TextAnswer) (e : Stop) → IsErrAnd answer (λ f. f ≡ e) → IsHalt e → MeetsTextIn tree place p text_with old new answer
+pub halted_text : (tree : Option Forest) (place p : Path) (text_with : MetaParts → List ℕ) (old new : Marks) (answer : TextAnswer) (e : Stop) → IsErrAnd answer (λ f. f ≡ e) → IsHalt e → MeetsTextIn tree place p text_with (change_of old new) answer
 unfolding MeetsTextIn
 halted_text tree place p text_with old new answer e is h = λ f told. subst (MeetsText (inside f place) p text_with old new) (sym (err_of_text answer e is)) (by f e h)
   where

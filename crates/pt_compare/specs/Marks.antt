@@ -3,6 +3,7 @@ use Rattle.std.specs.Prelude.{ℕ, Bool, false, cond, List, [], ◌∷◌, ◌++
 use Rattle.std.specs.Option.{option_map, option_map_or, option_or}
 use Rattle.pt_compare.specs.Entries.{Noted, kind_noted}
 use Rattle.pt_compare.specs.Root.{same_kind}
+use Rattle.pt_folder.specs.Calls.{Change, change_of}
 use Rattle.pt_object.specs.Script.{Item, MakeFolder, MakeFile}
 use Rattle.pt_tree.specs.Forest.{Forest}
 use Rattle.pt_tree.specs.Listing as listing
@@ -17,6 +18,10 @@ Marks = Path → Option Kind
 -- the kind that is noted at each path
 abbrev pub marks_of : Noted → Marks
 marks_of entries = λ q. kind_noted q entries
+
+-- the same before a call, and after it
+abbrev pub marks_over : Noted → Noted → Change Marks
+marks_over old new = change_of (marks_of old) (marks_of new)
 
 -- nothing is noted
 abbrev pub no_marks : Marks

@@ -12,6 +12,7 @@ use Rattle.pt_compare.specs.declared.difference.Why.{Why}
 use Rattle.pt_compare.specs.declared.difference.Why.TheVariants as why
 use Rattle.pt_compare.specs.declared.stop.Stop.{Stop}
 use Rattle.pt_compare.specs.declared.stop.Stop.TheVariants as stop
+use Rattle.pt_folder.specs.Calls.{Change}
 use Rattle.pt_object.specs.MetaParts.{MetaParts}
 use Rattle.pt_object.specs.Script.{Item, MakeFolder, MakeFile, item_entry, item_path}
 use Rattle.pt_plan.specs.Turn.{HasFailed}
@@ -68,9 +69,9 @@ unfoldable pub MeetsIn : {T : Type 0} → Option Forest → Path → List Item �
 MeetsIn tree place items old new result = ForSome tree (λ f. Meets (inside f place) items old new result)
 
 -- and where the source tells its own, whose files the items have
-unfoldable pub MeetsFrom : {T : Type 0} → Option Forest → Option Forest → Path → (Forest → List Item) → Marks → Marks → Result T Stop → Type 0
-MeetsFrom source tree place items old new result =
-    ForSome source (λ s. MeetsIn tree place (items s) old new result)
+unfoldable pub MeetsFrom : {T : Type 0} → Option Forest → Option Forest → Path → (Forest → List Item) → Change Marks → Result T Stop → Type 0
+MeetsFrom source tree place items marks result =
+    ForSome source (λ s. MeetsIn tree place (items s) marks.old marks.new result)
 
 -- what is wrong with the inventory of the version
 abbrev pub IsWrongInventory : Tree → Marks → Path → (MetaParts → List ℕ) → Why → Type 0
@@ -89,9 +90,9 @@ MeetsText t p text_with old new (Err (stop.Differs d)) =
 MeetsText t p text_with old new (Err (stop.Fault why)) = ⊤
 
 -- the same in the tree of a root that tells
-unfoldable pub MeetsTextIn : Option Forest → Path → Path → (MetaParts → List ℕ) → Marks → Marks → Result (String Global) Stop → Type 0
-MeetsTextIn tree place p text_with old new result =
-    ForSome tree (λ f. MeetsText (inside f place) p text_with old new result)
+unfoldable pub MeetsTextIn : Option Forest → Path → Path → (MetaParts → List ℕ) → Change Marks → Result (String Global) Stop → Type 0
+MeetsTextIn tree place p text_with marks result =
+    ForSome tree (λ f. MeetsText (inside f place) p text_with marks.old marks.new result)
 
 -- what is noted stands, where the root tells
 unfoldable pub NotedStand : Option Forest → Path → Marks → Type 0
@@ -128,13 +129,13 @@ IsWrongFile marks p why.Bytes = ⊥
 IsWrongFile marks p why.Extra = ⊥
 
 -- a file is opened: it isn't noted any more, and where the root tells its bytes are left to read
-abbrev pub OpensIn : Option Reading → Option Reading → Path → Path → Marks → Marks → Result (Unit {0}) Stop → Type 0
-OpensIn before after place p old new (Ok x) =
-    Reads after × (new ≡ without_mark p old) × ForSome (tree_in before)
+abbrev pub OpensIn : Option Reading → Option Reading → Path → Path → Change Marks → Result (Unit {0}) Stop → Type 0
+OpensIn before after place p marks (Ok x) =
+    Reads after × (marks.new ≡ without_mark p marks.old) × ForSome (tree_in before)
     (λ f. (bytes : List ℕ) × (inside f place p ≡ Some (Bytes bytes)) × (left_in after ≡ Some bytes))
-OpensIn before after place p old new (Err (stop.Differs d)) =
-    (d.path ≡ p) × IsWrongFile old p d.why
-OpensIn before after place p old new (Err (stop.Fault why)) = ⊤
+OpensIn before after place p marks (Err (stop.Differs d)) =
+    (d.path ≡ p) × IsWrongFile marks.old p d.why
+OpensIn before after place p marks (Err (stop.Fault why)) = ⊤
 
 -- both open files tell whether they have the same bytes left
 unfoldable pub TellsAlike : Option Reading → Option Reading → Bool → Type 0

@@ -3,7 +3,7 @@ ghost use Rattle.std.specs.Prelude.{◌≡◌, ◌++◌, IfOk, map, true, All, I
 ghost use Rattle.std.specs.Option.{ForSome};
 ghost use Rattle.pt_compare.specs.Beside.{AreAlike, IsKnown, IsKnownToStand};
 ghost use Rattle.pt_compare.specs.Found.{HaltsAs, IsFound, LeavesExtra, MeetsInventories, MeetsObject, sought_of, texts_of_object};
-ghost use Rattle.pt_compare.specs.Marks.{inside, marks_of};
+ghost use Rattle.pt_compare.specs.Marks.{inside, marks_of, marks_over};
 ghost use Rattle.pt_compare.specs.Meeting.{FailsAs, FailsInRoot, MeetsFrom, MeetsIn, NotedStand, both};
 ghost use Rattle.pt_compare.specs.Parts.{content_items, files_of, first_items, fronts, last_items, way_items};
 ghost use Rattle.pt_compare.specs.Ways.{AreMet};
@@ -15,7 +15,7 @@ ghost use Rattle.pt_object.specs.FilePaths.{part_in_order, row_paths};
 ghost use Rattle.pt_tree.specs.Source.{CanOpen};
 
 use crate::entries::Entries;
-use crate::meeting::{meet_bytes, meet_folder, meet_inventory, meet_stored};
+use crate::meeting::{Stored, meet_bytes, meet_folder, meet_inventory, meet_stored};
 use crate::names::alike_names;
 use crate::paths::{content_path, join};
 use crate::stop::Stop;
@@ -167,7 +167,7 @@ fn meet_contents<S: Source, R: Root>(
     ensures met { MeetsFrom (tree_in (S.told source.old)) (tree_in (R.told root.old))
         object.now.to.now
         (λ s. content_items None (files_of s object.now.from.now object.now.contents.now))
-        (marks_of entries.old) (marks_of entries.new) result }
+        (marks_over entries.old entries.new) result }
     ensures stands { OnOk result (NotedStand (tree_in (R.told root.new)) object.now.to.now
         (marks_of entries.new)) }
 {
@@ -176,14 +176,40 @@ fn meet_contents<S: Source, R: Root>(
         let Some(content) = object.contents.get(i) else {
             return Ok(());
         };
-        meet_way(alloc, root, object.to, entries, &last, &content.path)?;
+        meet_way(
+            alloc,
+            root,
+            object.to,
+            entries,
+            &Way {
+                last: &last,
+                path: &content.path,
+            },
+        )?;
         let path = content_path(alloc, &content.path, content.path.len())?;
         let is_alike = i < object.alike;
         let from = join(object.from, &content.path)?;
-        meet_stored(source, root, object.to, entries, &path, &from, is_alike)?;
+        meet_stored(
+            source,
+            root,
+            object.to,
+            entries,
+            &Stored {
+                path: &path,
+                from: &from,
+                is_alike,
+            },
+        )?;
         last = Some(path);
     }
     Ok(())
+}
+
+// The way to a content, by its logical path, from where the content that was met last is stored, if there was one.
+#[derive(Drop)]
+struct Way<'a> {
+    last: &'a Option<NamePath>,
+    path: &'a NamePath,
 }
 
 // Meets the folders on the way to a content that the last content didn't need.
@@ -192,18 +218,18 @@ fn meet_way<R: Root>(
     root: &mut R,
     place: &NamePath,
     entries: &mut Entries,
-    last: &Option<NamePath>,
-    path: &NamePath,
+    way: &Way<'_>,
 ) -> Result<(), Stop>
     requires { NotedStand (tree_in (R.told root.old)) place.now (marks_of entries.old) }
     ensures root { KeepsRoot R.told R.keeps root.old root.new }
     ensures failures { FailsInRoot result (R.failed root.old) (R.failed root.new) }
     ensures met { MeetsIn (tree_in (R.told root.old)) place.now
-        (way_items last.now (fronts path.now))
+        (way_items way.now.last.now (fronts way.now.path.now))
         (marks_of entries.old) (marks_of entries.new) result }
 {
+    let path = way.path;
     let whole = content_path(alloc, path, path.len())?;
-    let met = folders_met(last, &whole);
+    let met = folders_met(way.last, &whole);
     for names in 0..path.len() {
         let is_met = names < met;
         if is_met {

@@ -2,7 +2,7 @@
 ghost use Rattle.std.specs.Prelude.{◌≡◌, ◌∷◌, [], true, OnOk, map};
 ghost use Rattle.pt_compare.specs.Beside.{StandsAlike, TakesFile};
 ghost use Rattle.pt_compare.specs.Found.{texts_of_object};
-ghost use Rattle.pt_compare.specs.Marks.{is_kind_of, marks_of, without_mark};
+ghost use Rattle.pt_compare.specs.Marks.{is_kind_of, marks_of, marks_over, without_mark};
 ghost use Rattle.pt_compare.specs.Meeting.{FailsAs, FailsInRoot, MeetsFrom, MeetsIn, MeetsTextIn, NotedStand, OpensIn, both, why_for};
 ghost use Rattle.pt_compare.specs.declared.difference.Why.TheVariants as why;
 ghost use Rattle.pt_compare.specs.declared.stop.Stop.TheVariants as stop;
@@ -68,34 +68,40 @@ pub(crate) fn meet_bytes<R: Root>(
     }
 }
 
-/// Meets a content, which has the bytes of a file of the source; what is known to be alike isn't read again.
+/// A content that has to stand in an object: its path there, the source's file whose bytes it has, and whether it is known to have them.
+#[derive(Drop)]
+pub(crate) struct Stored<'a> {
+    pub path: &'a NamePath,
+    pub from: &'a NamePath,
+    pub is_alike: bool,
+}
+
+/// Meets a content; what is known to be alike isn't read again.
 pub(crate) fn meet_stored<S: Source, R: Root>(
     source: &mut S,
     root: &mut R,
     place: &NamePath,
     entries: &mut Entries,
-    path: &NamePath,
-    from: &NamePath,
-    is_alike: bool,
+    stored: &Stored<'_>,
 ) -> Result<(), Stop>
     requires noted { NotedStand (tree_in (R.told root.old)) place.now (marks_of entries.old) }
-    requires file { CanOpen (S.told source.old) from.now }
-    requires alike { is_alike ≡ true → StandsAlike (tree_in (S.told source.old))
-        (tree_in (R.told root.old)) place.now path.now from.now }
+    requires file { CanOpen (S.told source.old) stored.now.from.now }
+    requires alike { stored.now.is_alike ≡ true → StandsAlike (tree_in (S.told source.old))
+        (tree_in (R.told root.old)) place.now stored.now.path.now stored.now.from.now }
     ensures source { KeepsRoot S.told S.keeps source.old source.new }
     ensures root { KeepsRoot R.told R.keeps root.old root.new }
     ensures failures { FailsAs result (both (S.failed source.old) (R.failed root.old))
         (both (S.failed source.new) (R.failed root.new)) }
     ensures met { MeetsFrom (tree_in (S.told source.old)) (tree_in (R.told root.old)) place.now
-        (λ s. MakeFile path.now (bytes_at s from.now) ∷ [])
-        (marks_of entries.old) (marks_of entries.new) result }
+        (λ s. MakeFile stored.now.path.now (bytes_at s stored.now.from.now) ∷ [])
+        (marks_over entries.old entries.new) result }
     ensures noted { OnOk result (marks_of entries.new
-        ≡ without_mark path.now (marks_of entries.old)) }
+        ≡ without_mark stored.now.path.now (marks_of entries.old)) }
 {
-    if is_alike {
-        take_file(entries, path)
+    if stored.is_alike {
+        take_file(entries, stored.path)
     } else {
-        meet_content(source, root, place, entries, path, from)
+        meet_content(source, root, place, entries, stored)
     }
 }
 
@@ -111,33 +117,32 @@ fn take_file(entries: &mut Entries, path: &NamePath) -> Result<(), Stop>
     }
 }
 
-// Meets a content, which has the bytes of a file of the source.
+// Meets a content by its bytes and those of its file.
 fn meet_content<S: Source, R: Root>(
     source: &mut S,
     root: &mut R,
     place: &NamePath,
     entries: &mut Entries,
-    path: &NamePath,
-    from: &NamePath,
+    stored: &Stored<'_>,
 ) -> Result<(), Stop>
     requires noted { NotedStand (tree_in (R.told root.old)) place.now (marks_of entries.old) }
-    requires file { CanOpen (S.told source.old) from.now }
+    requires file { CanOpen (S.told source.old) stored.now.from.now }
     ensures source { KeepsRoot S.told S.keeps source.old source.new }
     ensures root { KeepsRoot R.told R.keeps root.old root.new }
     ensures failures { FailsAs result (both (S.failed source.old) (R.failed root.old))
         (both (S.failed source.new) (R.failed root.new)) }
     ensures met { MeetsFrom (tree_in (S.told source.old)) (tree_in (R.told root.old)) place.now
-        (λ s. MakeFile path.now (bytes_at s from.now) ∷ [])
-        (marks_of entries.old) (marks_of entries.new) result }
+        (λ s. MakeFile stored.now.path.now (bytes_at s stored.now.from.now) ∷ [])
+        (marks_over entries.old entries.new) result }
     ensures noted { OnOk result (marks_of entries.new
-        ≡ without_mark path.now (marks_of entries.old)) }
+        ≡ without_mark stored.now.path.now (marks_of entries.old)) }
 {
-    open_file(root, place, entries, path)?;
-    source.open(from).map_err(of_source)?;
+    open_file(root, place, entries, stored.path)?;
+    source.open(stored.from).map_err(of_source)?;
     if are_alike(source, root)? {
         Ok(())
     } else {
-        Err(other_bytes(path.copy()?))
+        Err(other_bytes(stored.path.copy()?))
     }
 }
 
@@ -157,7 +162,7 @@ pub(crate) fn meet_inventory<R: Root>(
     ensures root { KeepsRoot R.told R.keeps root.old root.new }
     ensures failures { FailsInRoot result (R.failed root.old) (R.failed root.new) }
     ensures met { MeetsTextIn (tree_in (R.told root.old)) object.now.to.now path
-        (texts_of_object object.now) (marks_of entries.old) (marks_of entries.new) result }
+        (texts_of_object object.now) (marks_over entries.old entries.new) result }
 {
     open_file(root, object.to, entries, &path)?;
     let mut block = Block::new();
@@ -179,7 +184,7 @@ fn open_file<R: Root>(
     ensures root { KeepsRoot R.told R.keeps root.old root.new }
     ensures failures { FailsInRoot result (R.failed root.old) (R.failed root.new) }
     ensures opened { OpensIn (R.told root.old) (R.told root.new) place.now path.now
-        (marks_of entries.old) (marks_of entries.new) result }
+        (marks_over entries.old entries.new) result }
 {
     let here = entries.take(path)?;
     if !is_of_kind(here, Kind::File) {
