@@ -1,5 +1,5 @@
 -- Texts that lie packed in buckets, and in which of them a text lies.
-use Rattle.std.specs.Prelude.{◌≡◌, ℕ, Bool, true, false, ◌*◌, ◌-◌, ◌/◌, ◌%◌, ◌^◌, ◌==◌, cond, nat_lt, not, List, [], ◌∷◌, drop, length, bit_xor, Option, None, Some}
+use Rattle.std.specs.Prelude.{◌≡◌, ℕ, Bool, true, false, ◌*◌, ◌-◌, ◌%◌, ◌^◌, ◌==◌, cond, nat_lt, not, List, [], ◌∷◌, drop, length, bit_xor, Option, None, Some}
 use Rattle.std.specs.Global.{Vec}
 use Rattle.std.specs.List.{All, filter, fold, list_any, slice_get, slice_split}
 use Rattle.std.specs.Str.{bytes_eq}
@@ -24,9 +24,9 @@ holds text bytes = list_any (bytes_eq text) (texts_in bytes)
 abbrev pub hash_step : ℕ → ℕ → ℕ
 hash_step hash byte = (bit_xor hash byte * 1099511628211) % 2 ^ 64
 
--- the upper half of a text's hash
+-- the lower half of a text's hash
 unfoldable pub hash_of : List ℕ → ℕ
-hash_of text = fold hash_step 14695981039346656037 text / 2 ^ 32
+hash_of text = fold hash_step 14695981039346656037 text % 2 ^ 32
 
 -- Which of so many buckets is a hash's: the one of this number by twice the base, or, where there is none yet, the one that
 -- is still to be divided for it.

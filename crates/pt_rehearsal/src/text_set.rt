@@ -136,7 +136,8 @@ impl TextSet {
     }
 }
 
-// The hash of a text: the upper half of that by FNV-1a.
+// The hash of a text: the lower half of that by FNV-1a. The last three bytes hardly reach the least bits of the upper half, so that by it
+// directories that differ in their last tuple alone would lie in few buckets.
 fn hash(text: &[u8]) -> usize
     ensures { result ≡ hash_of text.now }
 {
@@ -144,7 +145,7 @@ fn hash(text: &[u8]) -> usize
     for byte in text {
         hash = (hash ^ u64::from(*byte)).wrapping_mul(0x100_0000_01b3);
     }
-    (hash >> 32) as usize
+    (hash % (1 << 32)) as usize
 }
 
 // Whether a bucket has a text.
