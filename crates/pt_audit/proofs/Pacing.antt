@@ -326,6 +326,13 @@ alike_at_hand source root b r hand alike is at it so = by r.phase is at it.paced
     by (phase.Carrying object (stage.Read (suc bytes))) is at paced = absurd (cc)
     by _ is at paced = absurd (cc)
 
+-- so they are from where the two sides are read
+pub alike_there : (source root : Option Forest) (hand : AtHand) (alike : ℕ) (from to : Path) → from ≡ in_pairtree hand.told.at → to ≡ in_root hand.told.to.now → AreAlikeAtHand source root hand alike
+    → All (λ (content : Content). StandsAlike source root to (in_content content.path) (from ++ content.path)) (take alike hand.contents.now)
+alike_there source root hand alike from to from_is to_is it =
+    subst (λ (f : Path). All (λ (content : Content). StandsAlike source root to (in_content content.path) (f ++ content.path)) (take alike hand.contents.now)) (sym from_is)
+    (subst (λ (t : Path). All (λ (content : Content). StandsAlike source root t (in_content content.path) (in_pairtree hand.told.at ++ content.path)) (take alike hand.contents.now)) (sym to_is) it)
+
 -- a folder that is known to stand has those above it
 pub folder_stands : (tree : Option Forest) (path folder : Path) (known : Bool) → Stands tree (folder, kind.Dir) → known ≡ is_some (rest_below path folder) → known ≡ true → Stands tree (path, kind.Dir)
 folder_stands tree path folder known stands is so = by (rest_below path folder) refl (sym is ∙ so)

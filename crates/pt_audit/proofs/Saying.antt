@@ -3,6 +3,7 @@ use Rattle.std.proofs.Common.{◌≡◌, ◌≢◌, ◌⊎◌, ℕ, zero, suc, B
 use Rattle.std.specs.Prelude.{IfErr, Option, Some, Result, Ok, Err}
 use Rattle.std.specs.String.{string_bytes}
 use Rattle.std.specs.Option.{ForSome}
+use Rattle.pt_audit.specs.declared.auditing.StepTold.{StepTold}
 use Rattle.pt_audit.specs.Auditing.{IsAt}
 use Rattle.pt_audit.specs.Failing.{AuditSays, BlamesRightly, FailsAs, ReadFailsAs, RootFailsAs, TellFails, failures}
 use Rattle.pt_audit.specs.Layout.{IsOfAnother, TellsLayout}
@@ -42,8 +43,8 @@ says_failed job source root fault.Memory old new it = record { rightly = (λ s e
 says_failed job source root _ old new it = absurd it
 
 -- so an answer with it says
-pub says_err : (answer : Result Bool Fault) (why : Fault) (job : own.Job) (source root : Option Forest) → answer ≡ Err why → AuditSays job source root why → IfErr answer (λ w. AuditSays job source root w)
-says_err answer why job source root is says = subst (λ (r : Result Bool Fault). IfErr r (λ w. AuditSays job source root w)) (sym is) says
+pub says_err : {T : Type 0} (answer : Result T Fault) (why : Fault) (job : own.Job) (source root : Option Forest) → answer ≡ Err why → AuditSays job source root why → IfErr answer (λ w. AuditSays job source root w)
+says_err {T} answer why job source root is says = subst (λ (r : Result T Fault). IfErr r (λ w. AuditSays job source root w)) (sym is) says
 
 pub says_fault : {T : Type 0} (answer : Result T Fault) (f : Fault) (job : own.Job) (source root : Option Forest) → answer ≡ Err f → AuditSays job source root f → IfErr answer (AuditSays job source root)
 says_fault {T} answer f job source root is says = subst (λ (r : Result T Fault). IfErr r (AuditSays job source root)) (sym is) says
@@ -113,7 +114,7 @@ says_layout told root r fault.Target old new job same at layout it = record {
         subst (λ (t : Forest). (is_store t ≡ true) × (has_prefix t ≡ true)) had.2 (part.at.2.store, part.at.2.good)
 says_layout told root r _ old new job same at layout it = absurd it
 
-pub layout_fails : (why : Fault) (a b c old new : ℕ) → RootFailsAs {T = Unit {0}} (Err why) old new → TellFails {T = Bool} (Err why) (failures a old c) (failures a new c)
+pub layout_fails : (why : Fault) (a b c old new : ℕ) → RootFailsAs {T = Unit {0}} (Err why) old new → TellFails {T = StepTold} (Err why) (failures a old c) (failures a new c)
 layout_fails fault.Dest a b c old new it = inl (refl, it, refl)
 layout_fails fault.Memory a b c old new it = inl (ap (λ (n : ℕ). failures a n c) it)
 layout_fails fault.Target a b c old new it = inr (refl, ap (λ (n : ℕ). failures a n c) it)
@@ -150,7 +151,7 @@ pub same_failures : {a b c a' b' c' : ℕ} {x : Bool} → BlamesRightly {T = Boo
 same_failures it = λ i. failures (it.source i) (it.root i) (it.log i)
 
 -- whom both blame
-pub blames_told : (why : Fault) (a b c a' b' c' a'' b'' c'' : ℕ) → a' ≡ a → b' ≡ b → c' ≡ c → TellFails {T = Bool} (Err why) (failures a' b' c') (failures a'' b'' c'') → BlamesRightly {T = Bool} (failures a b c) (failures a'' b'' c'') (Err why)
+pub blames_told : (why : Fault) (a b c a' b' c' a'' b'' c'' : ℕ) → a' ≡ a → b' ≡ b → c' ≡ c → TellFails {T = StepTold} (Err why) (failures a' b' c') (failures a'' b'' c'') → BlamesRightly {T = Bool} (failures a b c) (failures a'' b'' c'') (Err why)
 blames_told why a b c a' b' c' a'' b'' c'' sa sb sc it =
     subst (λ (n : ℕ). BlamesRightly {T = Bool} (failures n b c) (failures a'' b'' c'') (Err why)) sa
     (subst (λ (n : ℕ). BlamesRightly {T = Bool} (failures a' n c) (failures a'' b'' c'') (Err why)) sb

@@ -4,7 +4,7 @@ use Rattle.std.specs.Bool.{OnTrue}
 use Rattle.std.specs.Global.{Global}
 use Rattle.std.specs.Option.{ForSome}
 use Rattle.pt_audit.specs.Auditing.{IsUnderWay}
-use Rattle.pt_audit.specs.Counting.{no_counts}
+use Rattle.pt_audit.specs.declared.counts.Counts.{Counts}
 use Rattle.pt_audit.specs.declared.root_reader.RootReader.{RootReader}
 use Rattle.pt_compare.specs.Beside.{StandsAlike}
 use Rattle.pt_compare.specs.Marks.{inside}
@@ -190,9 +190,10 @@ pub record FollowsOn (source root : Option Reading) (b : RootReader) (r : Runnin
   pub follows : Follows source root b r
   pub more : r.phase ≢ phase.End
 
--- nothing was seen yet, and nothing is counted
-pub record Begins (source root : Option Reading) (log : Option (List ℕ)) (b : RootReader) (r : Running) : Type 0 where
-  pub under_way : IsUnderWay source (tree_in source) (tree_in root) log log no_counts r
+-- nothing was told yet, with these counts
+pub record Begins (source root : Option Reading) (log : Option (List ℕ)) (counts : Counts)
+    (b : RootReader) (r : Running) : Type 0 where
+  pub under_way : IsUnderWay source (tree_in source) (tree_in root) log log counts r
   pub follows : FollowsOn source root b r
 
 -- so it is where a step was made that came to this

@@ -1,10 +1,10 @@
 //! A whole audit.
 ghost use Rattle.std.specs.Prelude.{◌≡◌, ◌≢◌, ℕ, IfErr, IfOk, List, OnOk, Option, Some, drop, length};
-ghost use Rattle.pt_audit.specs.Auditing.{CanCompare, EndsAs, GoesOn, IsFoundAtHand, IsSeen, IsTwinAtHand, IsUnderWay, last_text};
+ghost use Rattle.pt_audit.specs.Auditing.{EndsAs, GoesOn, IsFoundAtHand, IsSeen, IsTwinAtHand, IsUnderWay, counted, last_text};
 ghost use Rattle.std.specs.Bool.{OnFalse, OnTrue};
 ghost use Rattle.std.specs.Option.{ForSome};
 ghost use Rattle.std.specs.Io.KnownBytes.{Appends};
-ghost use Rattle.pt_audit.specs.RootReader.{AreAlikeAtHand, Begins, CanFollow, Follows, FollowsOn, Saw};
+ghost use Rattle.pt_audit.specs.RootReader.{Begins, Follows, FollowsOn, Saw};
 ghost use Rattle.pt_audit.specs.Bounds.{IsMade, IsMadeFrom};
 ghost use Rattle.pt_audit.specs.Failing.{AuditSays, BlamesRightly, FailsAs, TellFails, failures};
 ghost use Rattle.pt_audit.specs.Layout.{IsOfLayout};
@@ -64,78 +64,264 @@ pub fn audit<S: Source, R: Root, L: Log, O: Observer<Counts>>(
         (tree_in (R.told root.old))) }
     ensures made { IsMade job (source_tree (S.told source.old)) result }
 {
-    let mut survey = Survey::start(alloc, job);
-    let mut beside = RootReader::new(alloc);
-    go_through(alloc, &mut survey, &mut beside, source, root, log, observer)
+    let mut auditor = Auditor {
+        alloc,
+        survey: Survey::start(alloc, job),
+        beside: RootReader::new(alloc),
+        counts: Counts::none(),
+    };
+    auditor.go_through(source, root, log, observer)
 }
 
-// Makes the steps of a survey that has just begun, to its end. After each it is told how many lines there are.
-fn go_through<S: Source, R: Root, L: Log, O: Observer<Counts>>(
+// An audit between two steps.
+#[derive(Drop)]
+struct Auditor {
     alloc: Global,
-    survey: &mut Survey,
-    beside: &mut RootReader,
-    source: &mut S,
-    root: &mut R,
-    log: &mut L,
-    observer: &O,
-) -> Result<Counts, Fault>
-    requires { Begins (S.told source.old) (R.told root.old) (L.told log.old) beside.old survey.old }
-    ensures ends { IfOk result (λ counts. EndsAs (job_of survey.old.state.job)
-        (tree_in (S.told source.old)) (tree_in (R.told root.old))
-        (L.told log.old) (L.told log.new) counts
-        × ForSome (tree_in (R.told root.old)) (IsOfLayout (job_of survey.old.state.job))) }
-    ensures made { IsMadeFrom (source_tree (S.told source.old)) survey.old result }
-    ensures source { KeepsRoot S.told S.keeps source.old source.new }
-    ensures root { KeepsRoot R.told R.keeps root.old root.new }
-    ensures log { KeepsLog L.told L.keeps log.old log.new }
-    ensures blames { BlamesRightly
-        (failures (S.failed source.old) (R.failed root.old) (L.failed log.old))
-        (failures (S.failed source.new) (R.failed root.new) (L.failed log.new)) result }
-    ensures says { IfErr result (AuditSays survey.old.state.job
-        (source_tree (S.told source.old)) (tree_in (R.told root.old))) }
-{
-    let mut counts = Counts::none();
-    loop {
-        let more = go_on(alloc, survey, &mut counts, beside, source, root, log)?;
-        let so_far = counts.with_skipped(survey.report().skipped);
-        observer.observe(so_far);
-        if !more {
-            return Ok(so_far);
+    // The store, as far as it was seen, and what is read of the root beside it.
+    survey: Survey,
+    beside: RootReader,
+    // How many lines were told, but for those of what was passed over: these the survey counts.
+    counts: Counts,
+}
+
+// What was told of a step.
+#[derive(Drop)]
+struct StepTold {
+    // The counts with it.
+    counts: Counts,
+    // Whether there is more to see.
+    more: bool,
+}
+
+// What is found of an object, and whether it is told as the difference of a twin.
+#[derive(Drop)]
+struct AuditFinding {
+    comparison: Comparison,
+    is_twin: bool,
+}
+
+impl Auditor {
+    // Makes the steps of a survey that has just begun, to its end. After each it is told how many lines there are.
+    fn go_through<S: Source, R: Root, L: Log, O: Observer<Counts>>(
+        &mut self,
+        source: &mut S,
+        root: &mut R,
+        log: &mut L,
+        observer: &O,
+    ) -> Result<Counts, Fault>
+        requires { Begins (S.told source.old) (R.told root.old) (L.told log.old)
+            self.old.counts self.old.beside self.old.survey }
+        ensures ends { IfOk result (λ counts. EndsAs (job_of self.old.survey.state.job)
+            (tree_in (S.told source.old)) (tree_in (R.told root.old))
+            (L.told log.old) (L.told log.new) counts
+            × ForSome (tree_in (R.told root.old)) (IsOfLayout (job_of self.old.survey.state.job))) }
+        ensures made { IsMadeFrom (source_tree (S.told source.old)) self.old.survey result }
+        ensures source { KeepsRoot S.told S.keeps source.old source.new }
+        ensures root { KeepsRoot R.told R.keeps root.old root.new }
+        ensures log { KeepsLog L.told L.keeps log.old log.new }
+        ensures blames { BlamesRightly
+            (failures (S.failed source.old) (R.failed root.old) (L.failed log.old))
+            (failures (S.failed source.new) (R.failed root.new) (L.failed log.new)) result }
+        ensures says { IfErr result (AuditSays self.old.survey.state.job
+            (source_tree (S.told source.old)) (tree_in (R.told root.old))) }
+    {
+        loop {
+            let more = self.go_on(source, root, log)?;
+            let so_far = self.so_far();
+            observer.observe(so_far);
+            if !more {
+                return Ok(so_far);
+            }
         }
     }
-}
 
-// Makes one step of the survey, and tells of what was seen. Whether there is more to see.
-fn go_on<S: Source, R: Root, L: Log>(
-    alloc: Global,
-    survey: &mut Survey,
-    counts: &mut Counts,
-    beside: &mut RootReader,
-    source: &mut S,
-    root: &mut R,
-    log: &mut L,
-) -> Result<bool, Fault>
-    requires { FollowsOn (S.told source.old) (R.told root.old) beside.old survey.old }
-    ensures on { (first : Option (List ℕ)) → IsUnderWay (S.told source.old)
-        (tree_in (S.told source.old)) (tree_in (R.told root.old)) first (L.told log.old)
-        counts.old survey.old
-        → IfOk result (λ more. GoesOn more (S.told source.new) (tree_in (S.told source.old))
-        (tree_in (R.told root.old)) first (L.told log.new) counts.new survey.new) }
-    ensures still { IfOk result (λ more. Steps (source_tree (S.told source.old))
-        survey.old survey.new × Follows (S.told source.new) (R.told root.new) beside.new survey.new
-        × OnFalse more (survey.new.phase ≡ phase.End)
-        × OnTrue more (survey.new.phase ≢ phase.End)) }
-    ensures source { KeepsRoot S.told S.keeps source.old source.new }
-    ensures root { KeepsRoot R.told R.keeps root.old root.new }
-    ensures log { KeepsLog L.told L.keeps log.old log.new }
-    ensures blames { BlamesRightly
-        (failures (S.failed source.old) (R.failed root.old) (L.failed log.old))
-        (failures (S.failed source.new) (R.failed root.new) (L.failed log.new)) result }
-    ensures says { IfErr result (AuditSays survey.old.state.job
-        (source_tree (S.told source.old)) (tree_in (R.told root.old))) }
-{
-    let sight = see(survey, beside, source, root, log)?;
-    Ok(tell(alloc, survey, sight, counts, beside, source, root, log)?)
+    // How many lines of each kind were told.
+    fn so_far(&self) -> Counts
+        ensures { result ≡ counted self.now.counts self.now.survey }
+    {
+        self.counts.with_skipped(self.survey.report().skipped)
+    }
+
+    // Makes one step of the survey, and tells of what was seen. Whether there is more to see.
+    fn go_on<S: Source, R: Root, L: Log>(
+        &mut self,
+        source: &mut S,
+        root: &mut R,
+        log: &mut L,
+    ) -> Result<bool, Fault>
+        requires { FollowsOn (S.told source.old) (R.told root.old)
+            self.old.beside self.old.survey }
+        ensures on { (first : Option (List ℕ)) → IsUnderWay (S.told source.old)
+            (tree_in (S.told source.old)) (tree_in (R.told root.old)) first (L.told log.old)
+            self.old.counts self.old.survey
+            → IfOk result (λ more. GoesOn more (S.told source.new) (tree_in (S.told source.old))
+            (tree_in (R.told root.old)) first (L.told log.new) self.new.counts self.new.survey) }
+        ensures still { IfOk result (λ more. Steps (source_tree (S.told source.old))
+            self.old.survey self.new.survey
+            × Follows (S.told source.new) (R.told root.new) self.new.beside self.new.survey
+            × OnFalse more (self.new.survey.phase ≡ phase.End)
+            × OnTrue more (self.new.survey.phase ≢ phase.End)) }
+        ensures source { KeepsRoot S.told S.keeps source.old source.new }
+        ensures root { KeepsRoot R.told R.keeps root.old root.new }
+        ensures log { KeepsLog L.told L.keeps log.old log.new }
+        ensures blames { BlamesRightly
+            (failures (S.failed source.old) (R.failed root.old) (L.failed log.old))
+            (failures (S.failed source.new) (R.failed root.new) (L.failed log.new)) result }
+        ensures says { IfErr result (AuditSays self.old.survey.state.job
+            (source_tree (S.told source.old)) (tree_in (R.told root.old))) }
+    {
+        let sight = see(&mut self.survey, &mut self.beside, source, root, log)?;
+        let told = self.tell(sight, source, root, log)?;
+        self.counts = told.counts;
+        Ok(told.more)
+    }
+
+    // Tells of what was seen by a step.
+    fn tell<S: Source, R: Root, L: Log>(
+        &self,
+        sight: SurveyEvent,
+        source: &mut S,
+        root: &mut R,
+        log: &mut L,
+    ) -> Result<StepTold, Fault>
+        requires { Saw (S.told source.old) (R.told root.old) self.now.beside sight self.now.survey }
+        ensures on { (first : Option (List ℕ)) → IsSeen (S.told source.old)
+            (tree_in (S.told source.old)) (tree_in (R.told root.old)) first (L.told log.old)
+            self.now.counts self.now.survey
+            → IfOk result (λ it. GoesOn it.more (S.told source.new) (tree_in (S.told source.old))
+            (tree_in (R.told root.old)) first (L.told log.new) it.counts self.now.survey) }
+        ensures still { IfOk result (λ it. Follows (S.told source.new) (R.told root.new)
+            self.now.beside self.now.survey × OnFalse it.more (self.now.survey.phase ≡ phase.End)
+            × OnTrue it.more (self.now.survey.phase ≢ phase.End)) }
+        ensures source { KeepsRoot S.told S.keeps source.old source.new }
+        ensures root { KeepsRoot R.told R.keeps root.old root.new }
+        ensures log { KeepsLog L.told L.keeps log.old log.new }
+        ensures fails { TellFails result
+            (failures (S.failed source.old) (R.failed root.old) (L.failed log.old))
+            (failures (S.failed source.new) (R.failed root.new) (L.failed log.new)) }
+        ensures says { IfErr result (λ why. AuditSays self.now.survey.state.job
+            (source_tree (S.told source.old)) (tree_in (R.told root.old)) why) }
+    {
+        match sight {
+            SurveyEvent::More | SurveyEvent::Scan | SurveyEvent::Opened | SurveyEvent::Block => {
+                Ok(StepTold {
+                    counts: self.counts,
+                    more: true,
+                })
+            }
+            SurveyEvent::Store => {
+                check_layout(self.alloc, root, self.survey.job())?;
+                Ok(StepTold {
+                    counts: self.counts,
+                    more: true,
+                })
+            }
+            SurveyEvent::Object => {
+                let counts = self.tell_object(source, root, log)?;
+                Ok(StepTold { counts, more: true })
+            }
+            SurveyEvent::End => {
+                tell_end(self.alloc, self.so_far(), log)?;
+                Ok(StepTold {
+                    counts: self.counts,
+                    more: false,
+                })
+            }
+        }
+    }
+
+    // Compares the object at hand, and tells what was found. The counts with it.
+    fn tell_object<S: Source, R: Root, L: Log>(
+        &self,
+        source: &mut S,
+        root: &mut R,
+        log: &mut L,
+    ) -> Result<Counts, Fault>
+        requires paced { Follows (S.told source.old) (R.told root.old)
+            self.now.beside self.now.survey }
+        requires at_hand { sight_at self.now.survey.phase ≡ sight.Object }
+        ensures on { (first : Option (List ℕ)) → IsSeen (S.told source.old)
+            (tree_in (S.told source.old)) (tree_in (R.told root.old)) first (L.told log.old)
+            self.now.counts self.now.survey
+            → IfOk result (λ counts. IsUnderWay (S.told source.new) (tree_in (S.told source.old))
+            (tree_in (R.told root.old)) first (L.told log.new) counts self.now.survey) }
+        ensures still { OnOk result (Surveys (S.told source.new) self.now.survey) }
+        ensures source { KeepsRoot S.told S.keeps source.old source.new }
+        ensures root { KeepsRoot R.told R.keeps root.old root.new }
+        ensures log { KeepsLog L.told L.keeps log.old log.new }
+        ensures fails { FailsAs result
+            (failures (S.failed source.old) (R.failed root.old) (L.failed log.old))
+            (failures (S.failed source.new) (R.failed root.new) (L.failed log.new)) }
+    {
+        let Some(hand) = self.survey.at_hand()? else {
+            unreachable!()
+        };
+        let finding = self.judge(&hand, source, root)?;
+        let line = object_line(self.alloc, &hand.told, finding.is_twin, &finding.comparison)?;
+        log.put(line.as_bytes()).map_err(Fault::of_log)?;
+        Ok(self.counts.with(&finding.comparison))
+    }
+
+    // What is found of the object at hand, and whether it is a twin.
+    fn judge<S: Source, R: Root>(
+        &self,
+        hand: &AtHand<'_>,
+        source: &mut S,
+        root: &mut R,
+    ) -> Result<AuditFinding, Fault>
+        requires paced { Follows (S.told source.old) (R.told root.old)
+            self.now.beside self.now.survey }
+        requires at_hand { sight_at self.now.survey.phase ≡ sight.Object }
+        requires hand { IsHand self.now.survey (Some hand.now) }
+        ensures found { IfOk result (λ it. IsFoundAtHand self.now.survey.state.job hand.now
+            (tree_in (S.told source.old)) (tree_in (R.told root.old)) it.comparison) }
+        ensures twin { IfOk result (λ it. IsTwinAtHand (tree_in (S.told source.old))
+            self.now.survey hand.now.told.id.now it.comparison it.is_twin) }
+        ensures source { KeepsRoot S.told S.keeps source.old source.new }
+        ensures root { KeepsRoot R.told R.keeps root.old root.new }
+        ensures fails { FailsAs result (failures (S.failed source.old) (R.failed root.old) 0)
+            (failures (S.failed source.new) (R.failed root.new) 0) }
+    {
+        let comparison = self.compare(hand, source, root)?;
+        let is_twin = finds_twin(source, &self.survey, hand.told.id.as_str(), &comparison)?;
+        Ok(AuditFinding {
+            comparison,
+            is_twin,
+        })
+    }
+
+    // What is found of the object at hand.
+    fn compare<S: Source, R: Root>(
+        &self,
+        hand: &AtHand<'_>,
+        source: &mut S,
+        root: &mut R,
+    ) -> Result<Comparison, Fault>
+        requires paced { Follows (S.told source.old) (R.told root.old)
+            self.now.beside self.now.survey }
+        requires at_hand { sight_at self.now.survey.phase ≡ sight.Object }
+        requires hand { IsHand self.now.survey (Some hand.now) }
+        ensures found { IfOk result (IsFoundAtHand self.now.survey.state.job hand.now
+            (tree_in (S.told source.old)) (tree_in (R.told root.old))) }
+        ensures source { KeepsRoot S.told S.keeps source.old source.new }
+        ensures root { KeepsRoot R.told R.keeps root.old root.new }
+        ensures fails { FailsAs result (failures (S.failed source.old) (R.failed root.old) 0)
+            (failures (S.failed source.new) (R.failed root.new) 0) }
+    {
+        let from = in_pairtree(hand.told.at.copy()?)?;
+        let to = in_storage_root(self.alloc, hand.told.to)?;
+        let object = Scanned {
+            id: hand.told.id.as_str(),
+            rows: hand.rows,
+            contents: hand.contents,
+            alike: self.beside.alike_at(&hand.told.at, hand.told.to),
+            stands: self.beside.has_folder(&to),
+            algorithm: self.survey.job().algorithm,
+            from: &from,
+            to: &to,
+        };
+        compare(self.alloc, source, root, &object)
+    }
 }
 
 // Makes one step of the survey, and reads the root as far.
@@ -164,166 +350,6 @@ fn see<S: Source, R: Root, L: Log>(
     let sight = survey.step(source, log)?;
     beside.follow(root, survey, sight)?;
     Ok(sight)
-}
-
-// Tells of what was seen by a step. Whether there is more to see.
-fn tell<S: Source, R: Root, L: Log>(
-    alloc: Global,
-    survey: &Survey,
-    sight: SurveyEvent,
-    counts: &mut Counts,
-    beside: &RootReader,
-    source: &mut S,
-    root: &mut R,
-    log: &mut L,
-) -> Result<bool, Fault>
-    requires { Saw (S.told source.old) (R.told root.old) beside.now sight survey.now }
-    ensures on { (first : Option (List ℕ)) → IsSeen (S.told source.old)
-        (tree_in (S.told source.old)) (tree_in (R.told root.old)) first (L.told log.old)
-        counts.old survey.now
-        → IfOk result (λ more. GoesOn more (S.told source.new) (tree_in (S.told source.old))
-        (tree_in (R.told root.old)) first (L.told log.new) counts.new survey.now) }
-    ensures still { IfOk result (λ more. Follows (S.told source.new) (R.told root.new)
-        beside.now survey.now × OnFalse more (survey.now.phase ≡ phase.End)
-        × OnTrue more (survey.now.phase ≢ phase.End)) }
-    ensures source { KeepsRoot S.told S.keeps source.old source.new }
-    ensures root { KeepsRoot R.told R.keeps root.old root.new }
-    ensures log { KeepsLog L.told L.keeps log.old log.new }
-    ensures fails { TellFails result
-        (failures (S.failed source.old) (R.failed root.old) (L.failed log.old))
-        (failures (S.failed source.new) (R.failed root.new) (L.failed log.new)) }
-    ensures says { IfErr result (λ why. AuditSays survey.now.state.job
-        (source_tree (S.told source.old)) (tree_in (R.told root.old)) why) }
-{
-    match sight {
-        SurveyEvent::More | SurveyEvent::Scan | SurveyEvent::Opened | SurveyEvent::Block => Ok(
-            true,
-        ),
-        SurveyEvent::Store => {
-            check_layout(alloc, root, survey.job())?;
-            Ok(true)
-        }
-        SurveyEvent::Object => {
-            tell_object(alloc, survey, counts, beside, source, root, log)?;
-            Ok(true)
-        }
-        SurveyEvent::End => {
-            tell_end(alloc, counts.with_skipped(survey.report().skipped), log)?;
-            Ok(false)
-        }
-    }
-}
-
-// Compares the object at hand, tells what was found, and counts it.
-fn tell_object<S: Source, R: Root, L: Log>(
-    alloc: Global,
-    survey: &Survey,
-    counts: &mut Counts,
-    beside: &RootReader,
-    source: &mut S,
-    root: &mut R,
-    log: &mut L,
-) -> Result<(), Fault>
-    requires paced { Follows (S.told source.old) (R.told root.old) beside.now survey.now }
-    requires at_hand { sight_at survey.now.phase ≡ sight.Object }
-    ensures on { (first : Option (List ℕ)) → IsSeen (S.told source.old)
-        (tree_in (S.told source.old)) (tree_in (R.told root.old)) first (L.told log.old)
-        counts.old survey.now
-        → OnOk result (IsUnderWay (S.told source.new) (tree_in (S.told source.old))
-        (tree_in (R.told root.old)) first (L.told log.new) counts.new survey.now) }
-    ensures still { OnOk result (Surveys (S.told source.new) survey.now) }
-    ensures source { KeepsRoot S.told S.keeps source.old source.new }
-    ensures root { KeepsRoot R.told R.keeps root.old root.new }
-    ensures log { KeepsLog L.told L.keeps log.old log.new }
-    ensures fails { FailsAs result
-        (failures (S.failed source.old) (R.failed root.old) (L.failed log.old))
-        (failures (S.failed source.new) (R.failed root.new) (L.failed log.new)) }
-{
-    let Some(hand) = survey.at_hand()? else {
-        unreachable!()
-    };
-    let alike = beside.alike_at(&hand.told.at, hand.told.to);
-    let finding = judge(alloc, source, root, survey, &hand, beside, alike)?;
-    let line = object_line(alloc, &hand.told, finding.is_twin, &finding.comparison)?;
-    log.put(line.as_bytes()).map_err(Fault::of_log)?;
-    *counts = counts.with(&finding.comparison);
-    Ok(())
-}
-
-// What is found of an object, and whether it is told as the difference of a twin.
-#[derive(Drop)]
-struct AuditFinding {
-    comparison: Comparison,
-    is_twin: bool,
-}
-
-// What is found of the object at hand.
-fn judge<S: Source, R: Root>(
-    alloc: Global,
-    source: &mut S,
-    root: &mut R,
-    survey: &Survey,
-    hand: &AtHand<'_>,
-    beside: &RootReader,
-    alike: usize,
-) -> Result<AuditFinding, Fault>
-    requires under_way { Surveys (S.told source.old) survey.now }
-    requires at_hand { sight_at survey.now.phase ≡ sight.Object }
-    requires hand { IsHand survey.now (Some hand.now) }
-    requires folder { CanFollow (R.told root.old) beside.now }
-    requires alike { AreAlikeAtHand (tree_in (S.told source.old)) (tree_in (R.told root.old))
-        hand.now alike }
-    ensures found { IfOk result (λ it. IsFoundAtHand survey.now.state.job hand.now
-        (tree_in (S.told source.old)) (tree_in (R.told root.old)) it.comparison) }
-    ensures twin { IfOk result (λ it. IsTwinAtHand (tree_in (S.told source.old)) survey.now
-        hand.now.told.id.now it.comparison it.is_twin) }
-    ensures source { KeepsRoot S.told S.keeps source.old source.new }
-    ensures root { KeepsRoot R.told R.keeps root.old root.new }
-    ensures fails { FailsAs result (failures (S.failed source.old) (R.failed root.old) 0)
-        (failures (S.failed source.new) (R.failed root.new) 0) }
-{
-    let comparison = found(alloc, source, root, survey.job(), hand, beside, alike)?;
-    let is_twin = finds_twin(source, survey, hand.told.id.as_str(), &comparison)?;
-    Ok(AuditFinding {
-        comparison,
-        is_twin,
-    })
-}
-
-// What is found of the object at hand.
-fn found<S: Source, R: Root>(
-    alloc: Global,
-    source: &mut S,
-    root: &mut R,
-    job: &Job,
-    hand: &AtHand<'_>,
-    beside: &RootReader,
-    alike: usize,
-) -> Result<Comparison, Fault>
-    requires compared { CanCompare (S.told source.old) hand.now }
-    requires folder { CanFollow (R.told root.old) beside.now }
-    requires alike { AreAlikeAtHand (tree_in (S.told source.old)) (tree_in (R.told root.old))
-        hand.now alike }
-    ensures found { IfOk result (IsFoundAtHand job.now hand.now (tree_in (S.told source.old))
-        (tree_in (R.told root.old))) }
-    ensures source { KeepsRoot S.told S.keeps source.old source.new }
-    ensures root { KeepsRoot R.told R.keeps root.old root.new }
-    ensures fails { FailsAs result (failures (S.failed source.old) (R.failed root.old) 0)
-        (failures (S.failed source.new) (R.failed root.new) 0) }
-{
-    let from = in_pairtree(hand.told.at.copy()?)?;
-    let to = in_storage_root(alloc, hand.told.to)?;
-    let object = Scanned {
-        id: hand.told.id.as_str(),
-        rows: hand.rows,
-        contents: hand.contents,
-        alike,
-        stands: beside.has_folder(&to),
-        algorithm: job.algorithm,
-        from: &from,
-        to: &to,
-    };
-    compare(alloc, source, root, &object)
 }
 
 // Whether what was found of the object at hand, which has this identifier, is told as the difference of a twin. Where it doesn't

@@ -14,23 +14,23 @@ use Rattle.pt_audit.proofs.auditing.audit.Goals as goal
 
 pub go_through-requires : goal.go_through-requires
 go_through-requires g c =
-    let it = c.start-survey.ensures.begun (g.S.Source.told c.args.source.now) (g.met.S.Source.proper c.args.source.now) in record {
-      under_way = first_step c.args.job _ _ _ _ _ _ c.start-survey.ensures.new it refl;
+    let it = c.start.ensures.begun (g.S.Source.told c.args.source.now) (g.met.S.Source.proper c.args.source.now) in record {
+      under_way = first_step c.args.job _ _ _ _ _ _ c.start.ensures.new it c.none.ensures;
       follows = record {
-        follows = follows_first _ _ _ c.start-survey.result c.new-beside.ensures c.start-survey.ensures.new.phase (surveys_first _ 0 _ it);
-        more = begun_is_not_over c.start-survey.ensures.new;
+        follows = follows_first _ _ _ c.start.result c.new.ensures c.start.ensures.new.phase (surveys_first _ 0 _ it);
+        more = begun_is_not_over c.start.ensures.new;
       };
     }
 
 pub returns-clause-ends : goal.returns-clause-ends
 returns-clause-ends g c =
     subst (λ (job : Job). IfOk c.go_through.result (EndsAs (job_of job) (tree_in (g.S.Source.told c.args.source.now)) (tree_in (g.R.Source.told c.args.root.now)) (g.L.Log.told c.args.log.now) (g.L.Log.told c.go_through.new.log)))
-    c.start-survey.ensures.new.job_is (first_of _ _ _ c.go_through.ensures.ends)
+    c.start.ensures.new.job_is (first_of _ _ _ c.go_through.ensures.ends)
 
 pub returns-clause-layout : goal.returns-clause-layout
 returns-clause-layout g c =
     subst (λ (job : Job). OnOk c.go_through.result (ForSome (tree_in (g.R.Source.told c.args.root.now)) (IsOfLayout (job_of job))))
-    c.start-survey.ensures.new.job_is (second_of _ _ _ c.go_through.ensures.ends)
+    c.start.ensures.new.job_is (second_of _ _ _ c.go_through.ensures.ends)
 
 pub returns-clause-made : goal.returns-clause-made
-returns-clause-made g c = made_within c.start-survey.ensures.new c.go_through.ensures.made
+returns-clause-made g c = made_within c.start.ensures.new c.go_through.ensures.made

@@ -6,18 +6,18 @@ use Rattle.pt_audit.specs.Failing.{failures}
 use Rattle.pt_compare.specs.Root.{KeepsRoot, tree_in}
 use Rattle.pt_plan.specs.DeviceStates.{source_tree}
 use Rattle.pt_audit.specs.Growing.{KeepsLog}
-use Rattle.pt_audit.proofs.auditing.go_through.Given as goal
+use Rattle.pt_audit.proofs.auditing.Auditor.go_through.Given as goal
 
 abbrev pub invariant-loop-more : goal.invariant-loop-more
 invariant-loop-more g l =
-    IsUnderWay (g.S.Source.told l.source) (tree_in (g.S.Source.told l.source)) (tree_in (g.R.Source.told l.root)) (g.L.Log.told l.fn.log) (g.L.Log.told l.log) l.counts l.survey
-    × FollowsOn (g.S.Source.told l.source) (g.R.Source.told l.root) l.beside l.survey
-    × (l.survey.state.job ≡ l.fn.survey.state.job)
+    IsUnderWay (g.S.Source.told l.source) (tree_in (g.S.Source.told l.source)) (tree_in (g.R.Source.told l.root)) (g.L.Log.told l.fn.log) (g.L.Log.told l.log) l.self.counts l.self.survey
+    × FollowsOn (g.S.Source.told l.source) (g.R.Source.told l.root) l.self.beside l.self.survey
+    × (l.self.survey.state.job ≡ l.fn.self.survey.state.job)
     × KeepsRoot g.S.Source.told g.S.Source.keeps l.fn.source l.source
     × KeepsRoot g.R.Source.told g.R.Source.keeps l.fn.root l.root
     × KeepsLog g.L.Log.told g.L.Log.keeps l.fn.log l.log
     × (failures (g.S.Source.failed l.source) (g.R.Source.failed l.root) (g.L.Log.failed l.log) ≡ failures (g.S.Source.failed l.fn.source) (g.R.Source.failed l.fn.root) (g.L.Log.failed l.fn.log))
-    × ((n : ℕ) × Surveyed (source_tree (g.S.Source.told l.fn.source)) l.fn.survey n l.survey)
+    × ((n : ℕ) × Surveyed (source_tree (g.S.Source.told l.fn.source)) l.fn.self.survey n l.self.survey)
 
 abbrev pub decreases-loop-more : goal.decreases-loop-more
-decreases-loop-more g l = l.survey.state.job.limits.turns - l.survey.state.counts.turns
+decreases-loop-more g l = l.self.survey.state.job.limits.turns - l.self.survey.state.counts.turns
