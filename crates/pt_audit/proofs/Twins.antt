@@ -50,7 +50,6 @@ use Rattle.pt_compare.proofs.Listed.{node_in}
 use Rattle.pt_compare.proofs.Opening.{dir_above, take_alike}
 use Rattle.pt_compare.proofs.Reading.{calls}
 use Rattle.pt_compare.proofs.Roots.{below}
-use Rattle.pt_scan.proofs.StoreTurns.{finding_kind}
 use Rattle.pt_move.specs.Running.{Running}
 use Rattle.pt_state.specs.States.{held_of, job_of}
 use Rattle.pt_state.specs.declared.job.Job as own
@@ -367,4 +366,4 @@ behind n m xs rest least is = is ∙ by xs n m least
     by (x ∷ xs) (suc n) zero least = absurd (omega (arith, least))
     by (x ∷ xs) (suc n) (suc m) least = by xs n m (omega (arith, least))
 
-pub ruleset twins = (at_top, at_below, calls, finding_kind)
+pub ruleset twins = (at_top, at_below, calls)

@@ -1,12 +1,11 @@
 //! Whether an object is a twin: its site isn't where its identifier belongs, and an object stands there.
 #![tactic(auto, using(crate::proofs::Twins::twins))]
 
-ghost use Rattle.std.specs.Prelude.{◌≡◌, IfOk, slice_get};
+ghost use Rattle.std.specs.Prelude.{◌≡◌, IfOk};
 ghost use Rattle.std.specs.Option.{ForSome};
 ghost use Rattle.pt_audit.specs.Twin.{has_object as has_object_finding, is_second as is_second_site, proper_site as proper_site_of};
 ghost use Rattle.pt_compare.specs.Root.{Stands, kind_at as kind_there, tree_in};
-ghost use Rattle.pt_plan.specs.TurnStart.{is_dir_kind, kind_in as kind_listed};
-ghost use Rattle.pt_scan.specs.Store.{kind_if_named};
+ghost use Rattle.pt_plan.specs.TurnStart.{is_dir_kind};
 ghost use Rattle.pt_plan.specs.TurnWalk.{in_pairtree as in_pairtree_of};
 ghost use Rattle.pt_state.specs.States.{job_of};
 ghost use Rattle.pt_tree.specs.Failures.{IsCounted};
@@ -16,10 +15,10 @@ ghost use Rattle.pt_walk.specs.Sites.{at_of as at_of_path};
 use pt_compare::alike_names;
 use pt_move::Job;
 use pt_name::pairpath;
-use pt_plan::kinds::is_dir;
+use pt_plan::kinds::{is_dir, kind_in};
 use pt_scan::judging::form_of;
 use pt_state::paths::in_pairtree;
-use pt_tree::{Kind, Listing, MemoryFault, Name, NameFault, NamePath, Source, TreeFault};
+use pt_tree::{MemoryFault, NameFault, NamePath, Source, TreeFault};
 use pt_walk::{At, Finding, judge};
 use std::alloc::Global;
 
@@ -89,40 +88,12 @@ fn leads_to<S: Source>(
     let mut way = in_pairtree(front)?;
     for name in rest {
         let listing = source.list(&way)?;
-        if !is_dir(kind_in(&listing, name)) {
+        if !is_dir(kind_in(&listing, name.bytes())) {
             return Ok(false);
         }
         way.push(name.copy()?)?;
     }
     Ok(true)
-}
-
-// The kind of the entry of this name.
-fn kind_in(listing: &Listing, name: &Name) -> Option<Kind>
-    ensures { result ≡ kind_listed listing.now name.now }
-{
-    for i in 0..listing.len() {
-        if let Some(kind) = kind_at(listing, i, name) {
-            return Some(kind);
-        }
-    }
-    None
-}
-
-// The kind of the entry of this index, if it has this name.
-fn kind_at(listing: &Listing, i: usize, name: &Name) -> Option<Kind>
-    ensures { result ≡ kind_if_named (slice_get listing.now i) name.now }
-{
-    match listing.get(i) {
-        Some((entry, kind)) => {
-            if entry.bytes() == name.bytes() {
-                Some(kind)
-            } else {
-                None
-            }
-        }
-        None => None,
-    }
 }
 
 // Where a path stands as a site, by its last name.

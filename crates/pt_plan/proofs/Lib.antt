@@ -9,6 +9,7 @@ pub mod LaterRoots
 pub mod LaterTrees
 pub mod Levels
 mod LineTexts
+mod ListedKinds
 pub mod MovedIn
 pub mod NextObject
 pub mod OtherTurns

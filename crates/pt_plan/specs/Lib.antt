@@ -13,6 +13,7 @@ pub mod ItemLaws
 pub mod Items
 pub mod Job
 pub mod Lines
+pub mod ListedKinds
 pub mod Object
 pub mod PlaceLaws
 pub mod RerunLaws

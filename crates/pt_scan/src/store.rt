@@ -1,20 +1,20 @@
 //! The source has to be a Pairtree store with a good prefix.
-#![tactic(auto, using(crate::proofs::StoreTurns::store_rules))]
+#![tactic(auto, using(crate::proofs::StoreTurns::starting))]
 
-ghost use Rattle.std.specs.Prelude.{◌≡◌, [], None, IfOk, IfErr, slice_get};
+ghost use Rattle.std.specs.Prelude.{◌≡◌, [], None, IfOk, IfErr};
 ghost use Rattle.std.specs.String.{string_bytes};
 ghost use Rattle.pt_name.specs.Prefix.{prefix_refusal, without_line_ends};
 ghost use Rattle.pt_plan.specs.Enabled.{MayOpenPrefix};
-ghost use Rattle.pt_plan.specs.TurnStart.{kind_in as kind_in_of, lists_store};
+ghost use Rattle.pt_plan.specs.TurnStart.{lists_store};
 ghost use Rattle.pt_plan.specs.declared.phase.Opening.TheVariants as opening;
 ghost use Rattle.pt_plan.specs.declared.phase.Phase.TheVariants as phase;
 ghost use Rattle.pt_tree.specs.Source.{CanList};
 ghost use Rattle.pt_state.specs.Turns.{TakesTurn};
-ghost use Rattle.pt_scan.specs.Store.{PrefixFails, kind_if_named};
+ghost use Rattle.pt_scan.specs.Store.{PrefixFails};
 
 use pt_name::{PrefixFault, read_prefix};
 use pt_object::WellKnownName;
-use pt_plan::kinds::{is_dir, is_file};
+use pt_plan::kinds::{is_dir, is_file, kind_in};
 use pt_plan::{Fault, Opening, Phase};
 use pt_state::files::read_first;
 use pt_state::{Io, State};
@@ -32,43 +32,16 @@ pub fn begin<O: Io>(state: &State, out: &mut O) -> Result<Phase, Fault>
     if !is_store(&listing) {
         return Err(Fault::NotPairtree);
     }
-    Ok(Phase::Opening(Opening::Prefix(kind_in(&listing, WellKnownName::PrefixFile.text()))))
+    let here = kind_in(&listing, WellKnownName::PrefixFile.text().as_bytes());
+    Ok(Phase::Opening(Opening::Prefix(here)))
 }
 
 // Whether a top lists what a store has.
 fn is_store(listing: &Listing) -> bool
     ensures { result ≡ lists_store listing.now }
 {
-    is_file(kind_in(listing, WellKnownName::VersionFile.text()))
-        && is_dir(kind_in(listing, WellKnownName::PairtreeRoot.text()))
-}
-
-// The kind of the entry of this name.
-fn kind_in(listing: &Listing, name: &str) -> Option<Kind>
-    ensures { result ≡ kind_in_of listing.now name.now }
-{
-    for i in 0..listing.len() {
-        if let Some(kind) = kind_at(listing, i, name) {
-            return Some(kind);
-        }
-    }
-    None
-}
-
-// The kind of the entry of this index, if it has this name.
-fn kind_at(listing: &Listing, i: usize, name: &str) -> Option<Kind>
-    ensures { result ≡ kind_if_named (slice_get listing.now i) name.now }
-{
-    match listing.get(i) {
-        Some((entry, kind)) => {
-            if entry.bytes() == name.as_bytes() {
-                Some(kind)
-            } else {
-                None
-            }
-        }
-        None => None,
-    }
+    is_file(kind_in(listing, WellKnownName::VersionFile.text().as_bytes()))
+        && is_dir(kind_in(listing, WellKnownName::PairtreeRoot.text().as_bytes()))
 }
 
 /// Reads the prefix file, if it is there.
