@@ -4,8 +4,8 @@ use Rattle.pt_compare.specs.Difference.{why_word}
 use Rattle.pt_compare.specs.declared.difference.Comparison.{Comparison}
 use Rattle.pt_compare.specs.declared.difference.Comparison.TheVariants as finding
 use Rattle.pt_compare.specs.declared.difference.Why.{Why}
-use Rattle.pt_move.specs.declared.carried.Carried.{Carried}
 use Rattle.pt_plan.specs.Lines.{number_member, text_member}
+use Rattle.pt_plan.specs.declared.lines.ToldObject.{ToldObject}
 use Rattle.pt_tree.specs.Path.{Path, joined}
 use Rattle.serde_json.specs.Data.{Data, no_members}
 use Rattle.serde_json.specs.Data as json
@@ -71,7 +71,7 @@ abbrev pub line_text : Line → List ℕ
 line_text line = compact_text (line_tree line) ++ 10 ∷ []
 
 -- what the line of an object tells, as a survey has it
-abbrev pub told_of : Carried → Told
+abbrev pub told_of : ToldObject → Told
 told_of object = record {
   at = object.at;
   bytes = object.bytes;

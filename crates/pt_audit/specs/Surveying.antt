@@ -31,7 +31,7 @@ use Rattle.pt_state.specs.Outside.{states}
 use Rattle.pt_state.specs.States.{held_of, job_of}
 use Rattle.pt_state.specs.declared.job.Job as own
 use Rattle.pt_state.specs.declared.state.State.{State}
-use Rattle.pt_move.specs.Carried.{IsCarried}
+use Rattle.pt_state.specs.Telling.{IsCarried}
 use Rattle.pt_plan.specs.declared.fault.Fault.{Fault}
 use Rattle.pt_plan.specs.declared.fault.Fault.TheVariants as fault
 use Rattle.pt_audit.specs.EmptyDest.{bare}

@@ -1,16 +1,14 @@
 //! The lines of an audit's log: each one compact JSON object with its keys in byte order, and LF.
-ghost use Rattle.std.specs.Prelude.{◌≡◌, ◌++◌, ◌∷◌, [], false, IfOk};
+ghost use Rattle.std.specs.Prelude.{◌≡◌, IfOk};
 ghost use Rattle.std.specs.String.{string_bytes};
 ghost use Rattle.serde_json.specs.View.{view};
-ghost use Rattle.serde_json.specs.Written.{compact_text, has_float};
 ghost use Rattle.pt_audit.specs.Lines.{line_by, line_text, line_tree};
 ghost use Rattle.pt_audit.specs.Lines as line;
 ghost use Rattle.pt_audit.specs.Lines.{told_of};
 
 use crate::{Comparison, Counts};
-use pt_move::Carried;
 use pt_object::members::{put_number, put_text};
-use pt_plan::lines::text_of;
+use pt_plan::lines::{ToldObject, line_of, text_of};
 use pt_tree::{MemoryFault, NamePath};
 use serde_json::{Map, Value};
 use std::alloc::Global;
@@ -21,7 +19,7 @@ const TWIN: &str = "twin";
 /// The line of an object, by whether it is a twin, and what was found at its place.
 pub(crate) fn object_line(
     alloc: Global,
-    object: &Carried<'_>,
+    object: &ToldObject<'_>,
     is_twin: bool,
     finding: &Comparison,
 ) -> Result<String, MemoryFault>
@@ -29,16 +27,16 @@ pub(crate) fn object_line(
         ≡ line_text (line_by (told_of object.now) is_twin finding.now)) }
 {
     match finding {
-        Comparison::Same => text(alloc, &same_line(alloc, object)?),
-        Comparison::Absent => text(alloc, &absent_line(alloc, object)?),
+        Comparison::Same => line_of(alloc, &same_line(alloc, object)?),
+        Comparison::Absent => line_of(alloc, &absent_line(alloc, object)?),
         Comparison::Differs(difference) => {
             let why = if is_twin { TWIN } else { difference.why.word() };
-            text(alloc, &differs_line(alloc, object, &difference.path, why)?)
+            line_of(alloc, &differs_line(alloc, object, &difference.path, why)?)
         }
     }
 }
 
-fn same_line(alloc: Global, object: &Carried<'_>) -> Result<Value, MemoryFault>
+fn same_line(alloc: Global, object: &ToldObject<'_>) -> Result<Value, MemoryFault>
     ensures { IfOk result (λ value. view value ≡ line_tree (line.Same (told_of object.now))) }
 {
     let at = text_of(&object.at)?;
@@ -54,7 +52,7 @@ fn same_line(alloc: Global, object: &Carried<'_>) -> Result<Value, MemoryFault>
     Ok(Value::from(members))
 }
 
-fn absent_line(alloc: Global, object: &Carried<'_>) -> Result<Value, MemoryFault>
+fn absent_line(alloc: Global, object: &ToldObject<'_>) -> Result<Value, MemoryFault>
     ensures { IfOk result (λ value. view value ≡ line_tree (line.Absent (told_of object.now))) }
 {
     let at = text_of(&object.at)?;
@@ -69,7 +67,7 @@ fn absent_line(alloc: Global, object: &Carried<'_>) -> Result<Value, MemoryFault
 
 fn differs_line(
     alloc: Global,
-    object: &Carried<'_>,
+    object: &ToldObject<'_>,
     path: &NamePath,
     why: &str,
 ) -> Result<Value, MemoryFault>
@@ -100,15 +98,5 @@ pub(crate) fn end_line(alloc: Global, counts: &Counts) -> Result<String, MemoryF
     put_number(&mut members, alloc, "differs", counts.differs)?;
     put_number(&mut members, alloc, "same", counts.same)?;
     put_number(&mut members, alloc, "skip", counts.skipped)?;
-    text(alloc, &Value::from(members))
-}
-
-// The text of a line that this is the JSON of.
-fn text(alloc: Global, value: &Value) -> Result<String, MemoryFault>
-    requires { has_float (view value.now) ≡ false }
-    ensures { IfOk result (λ text. string_bytes text ≡ compact_text (view value.now) ++ 10 ∷ []) }
-{
-    let mut text = value.to_string(alloc)?;
-    text.push_str("\n")?;
-    Ok(text)
+    line_of(alloc, &Value::from(members))
 }

@@ -22,11 +22,12 @@ ghost use Rattle.pt_walk.specs.Trail.{trail_path};
 
 use crate::empty_dest::{EmptyDest, NullLog};
 use pt_move::turning::{new_state, turn};
-use pt_move::{Carried, Job, Report, as_told};
+use pt_move::{Job, Report};
 use pt_object::{Contents, Rows};
+use pt_plan::lines::ToldObject;
 use pt_plan::{Fault, Opening, Part, Phase, Stage};
 use pt_state::paths::entry_path;
-use pt_state::{Devices, State};
+use pt_state::{Devices, State, as_told};
 use pt_tree::{Block, Log, MemoryFault, NamePath, Source};
 use std::alloc::Global;
 use std::marker::Model;
@@ -55,7 +56,7 @@ pub enum SurveyEvent {
 #[derive(Drop)]
 pub struct AtHand<'s> {
     /// The object, as a run's line would tell of it.
-    pub told: Carried<'s>,
+    pub told: ToldObject<'s>,
     /// Its files, in the order of their logical paths.
     pub rows: &'s Rows,
     /// Which of them are stored.

@@ -1,5 +1,4 @@
 pub mod Bounds
-pub mod Carried
 pub mod Counting
 pub mod Held
 pub mod Leaving

@@ -21,13 +21,11 @@
 //!   one too, and they never overflow.
 #![tactic(auto, using(crate::proofs::MoveRules::move_rules))]
 
-mod carried;
 mod migration;
 mod mover;
 mod observer;
 pub mod turning;
 
-pub use carried::{Carried, as_told};
 pub use migration::{migrate, migrate_observed};
 pub use mover::{Mover, Turn};
 pub use observer::{Observer, Unobserved};

@@ -22,6 +22,7 @@ pub mod Run
 pub mod RunFaults
 pub mod ShareLaws
 pub mod Store
+pub mod ToldLines
 pub mod Turn
 pub mod TurnMake
 pub mod TurnPlace

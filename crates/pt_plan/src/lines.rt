@@ -5,7 +5,8 @@ ghost use Rattle.std.specs.Prelude.{◌≡◌, ◌++◌, ◌∷◌, [], false, I
 ghost use Rattle.std.specs.String.{string_bytes};
 ghost use Rattle.serde_json.specs.View.{view};
 ghost use Rattle.serde_json.specs.Written.{compact_text, has_float};
-ghost use Rattle.pt_plan.specs.Lines.{line_text, Done as DoneLine, Present as PresentLine, Skipped as SkippedLine, End as EndLine};
+ghost use Rattle.pt_plan.specs.Lines.{line_text, Present as PresentLine, Skipped as SkippedLine, End as EndLine};
+ghost use Rattle.pt_plan.specs.ToldLines.{done_of};
 ghost use Rattle.pt_tree.specs.Path.{joined};
 
 use pt_name::Identifier;
@@ -15,11 +16,11 @@ use pt_walk::Cause;
 use serde_json::{Map, Value};
 use std::alloc::Global;
 
-/// An object that was carried.
+/// An object whose files were all read, as a line tells of it.
 #[derive(Drop)]
-pub struct Done<'a> {
+pub struct ToldObject<'m> {
     /// Where it lies in the source, from below `pairtree_root` on.
-    pub at: &'a NamePath,
+    pub at: NamePath,
     /// The lengths of its files together.
     pub bytes: u64,
     /// How many directories without entries it has.
@@ -27,17 +28,16 @@ pub struct Done<'a> {
     /// How many files it has.
     pub files: u64,
     /// Its identifier.
-    pub id: &'a Identifier,
+    pub id: &'m Identifier,
     /// Its place, from the storage root on.
-    pub to: &'a NamePath,
+    pub to: &'m NamePath,
 }
 
 /// The line of an object that was carried; `Memory` where a growth was refused.
-pub fn done_line(alloc: Global, object: &Done<'_>) -> Result<String, MemoryFault>
-    ensures { IfOk result (λ text. string_bytes text ≡ line_text (DoneLine object.now.at.now
-        object.now.bytes object.now.empty object.now.files object.now.id.now object.now.to.now)) }
+pub fn done_line(alloc: Global, object: &ToldObject<'_>) -> Result<String, MemoryFault>
+    ensures { IfOk result (λ text. string_bytes text ≡ line_text (done_of object.now)) }
 {
-    let at = text_of(object.at)?;
+    let at = text_of(&object.at)?;
     let to = text_of(object.to)?;
     let mut members = Map::new(alloc);
     put_text(&mut members, alloc, "as", "done")?;
@@ -47,7 +47,7 @@ pub fn done_line(alloc: Global, object: &Done<'_>) -> Result<String, MemoryFault
     put_number(&mut members, alloc, "files", object.files)?;
     put_text(&mut members, alloc, "id", object.id.as_str())?;
     put_text(&mut members, alloc, "to", to.as_str())?;
-    line(alloc, &Value::from(members))
+    line_of(alloc, &Value::from(members))
 }
 
 /// The line of an object whose place is taken already; `Memory` where a growth was refused.
@@ -67,7 +67,7 @@ pub fn present_line(
     put_text(&mut members, alloc, "at", at.as_str())?;
     put_text(&mut members, alloc, "id", id.as_str())?;
     put_text(&mut members, alloc, "to", to.as_str())?;
-    line(alloc, &Value::from(members))
+    line_of(alloc, &Value::from(members))
 }
 
 /// The line of a site, or of a shorty that isn't walked, that is passed over; `Memory` where a growth was refused.
@@ -79,7 +79,7 @@ pub fn skip_line(alloc: Global, at: &NamePath, cause: Cause) -> Result<String, M
     put_text(&mut members, alloc, "as", "skip")?;
     put_text(&mut members, alloc, "at", at.as_str())?;
     put_text(&mut members, alloc, "cause", cause.word())?;
-    line(alloc, &Value::from(members))
+    line_of(alloc, &Value::from(members))
 }
 
 /// The end line of a run that told so many lines of each kind; `Memory` where a growth was refused.
@@ -91,7 +91,7 @@ pub fn end_line(alloc: Global, done: u64, present: u64, skipped: u64) -> Result<
     put_number(&mut members, alloc, "done", done)?;
     put_number(&mut members, alloc, "present", present)?;
     put_number(&mut members, alloc, "skip", skipped)?;
-    line(alloc, &Value::from(members))
+    line_of(alloc, &Value::from(members))
 }
 
 /// The names of a path with `/` between, as a line tells of it; `Memory` where a growth was refused.
@@ -101,8 +101,8 @@ pub fn text_of(path: &NamePath) -> Result<String, MemoryFault>
     Ok(String::from_utf8(path.join()?).unwrap())
 }
 
-// The line that this is the JSON of.
-fn line(alloc: Global, value: &Value) -> Result<String, MemoryFault>
+/// The line that this is the JSON of; `Memory` where a growth was refused.
+pub fn line_of(alloc: Global, value: &Value) -> Result<String, MemoryFault>
     requires { has_float (view value.now) ≡ false }
     ensures { IfOk result (λ text. string_bytes text ≡ compact_text (view value.now) ++ 10 ∷ []) }
 {

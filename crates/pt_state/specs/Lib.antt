@@ -3,4 +3,5 @@ pub mod Fields
 pub mod Lines
 pub mod States
 pub mod Outside
+pub mod Telling
 pub mod Turns

@@ -11,7 +11,9 @@ pub mod outside;
 pub mod paths;
 pub mod site;
 mod state;
+mod telling;
 
 pub use job::{Job, Report};
 pub use outside::{Devices, Io};
 pub use state::State;
+pub use telling::as_told;

@@ -1,13 +1,14 @@
 //! Puts the lines of a run's log. A line is counted where it was put whole.
 ghost use Rattle.std.specs.Prelude.{◌<◌, ◌^◌};
-ghost use Rattle.pt_plan.specs.Lines.{Done as DoneLine, Present as PresentLine, Skipped as SkippedLine, End as EndLine};
+ghost use Rattle.pt_plan.specs.Lines.{Present as PresentLine, Skipped as SkippedLine, End as EndLine};
 ghost use Rattle.pt_plan.specs.DeviceStates.{tells};
+ghost use Rattle.pt_plan.specs.ToldLines.{done_of};
 ghost use Rattle.pt_state.specs.Turns.{Told, WroteBy};
 
 use crate::{Io, Report};
 use pt_name::Identifier;
 use pt_plan::Fault;
-use pt_plan::lines::{Done, done_line, end_line, present_line, skip_line};
+use pt_plan::lines::{ToldObject, done_line, end_line, present_line, skip_line};
 use pt_tree::NamePath;
 use pt_walk::Cause;
 use std::alloc::Global;
@@ -16,12 +17,11 @@ use std::alloc::Global;
 pub fn put_done<O: Io>(
     alloc: Global,
     out: &mut O,
-    object: &Done<'_>,
+    object: &ToldObject<'_>,
     counts: &mut Report,
 ) -> Result<(), Fault>
     requires { counts.old.done < 2 ^ 40 }
-    ensures { Told O.Io (DoneLine object.now.at.now object.now.bytes
-        object.now.empty object.now.files object.now.id.now object.now.to.now)
+    ensures { Told O.Io (done_of object.now)
         (counts.old, out.old) (counts.new, out.new) result }
 {
     let done = done_line(alloc, object)?;
