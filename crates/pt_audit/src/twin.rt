@@ -12,10 +12,10 @@ ghost use Rattle.pt_tree.specs.Failures.{IsCounted};
 ghost use Rattle.pt_tree.specs.declared.kind.Kind.TheVariants as kind;
 ghost use Rattle.pt_walk.specs.Sites.{at_of as at_of_path};
 
-use pt_compare::alike_names;
 use pt_move::Job;
 use pt_name::pairpath;
 use pt_plan::kinds::{is_dir, kind_in};
+use pt_plan::names::alike_names;
 use pt_scan::judging::form_of;
 use pt_state::paths::in_pairtree;
 use pt_tree::{MemoryFault, NameFault, NamePath, Source, TreeFault};

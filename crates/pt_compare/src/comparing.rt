@@ -16,11 +16,11 @@ ghost use Rattle.pt_tree.specs.Source.{CanOpen};
 
 use crate::entries::Entries;
 use crate::meeting::{Stored, meet_bytes, meet_folder, meet_inventory, meet_stored};
-use crate::names::alike_names;
 use crate::paths::{content_path, join};
 use crate::stop::Stop;
 use crate::{Comparison, Difference, Root, Scanned, Why, standing};
 use pt_object::{WellKnownName, object_declaration, sidecar};
+use pt_plan::names::alike_names;
 use pt_plan::Fault;
 use pt_tree::{Kind, NamePath, Source, TreeFault};
 use std::alloc::Global;

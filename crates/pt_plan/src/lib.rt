@@ -38,6 +38,7 @@ mod fault;
 pub mod kinds;
 pub mod laws;
 pub mod lines;
+pub mod names;
 mod object;
 mod phase;
 
