@@ -12,9 +12,9 @@ ghost use Rattle.pt_tree.specs.Path.{rest_below};
 ghost use Rattle.pt_tree.specs.Source.{Reading};
 
 use crate::survey::{Survey, SurveyEvent};
-use pt_compare::{Root, come_next, has_ended, open_standing};
-use pt_object::WellKnownName;
+use pt_compare::{Root, come_next, content_path, has_ended, open_standing};
 use pt_plan::Fault;
+use pt_state::paths::in_storage_root;
 use pt_tree::{Block, MemoryFault, Name, NamePath};
 use std::alloc::Global;
 
@@ -183,8 +183,6 @@ impl RootReader {
 fn stored_at(alloc: Global, place: &NamePath, path: &[Name]) -> Result<NamePath, MemoryFault>
     ensures { IfOk result (λ whole. whole ≡ in_root place.now ++ in_content path.now) }
 {
-    let root = NamePath::of_known(alloc, &[WellKnownName::StorageRoot])?;
-    let place = root.followed_by(place.names())?;
-    let content = NamePath::of_known(alloc, &[WellKnownName::Version, WellKnownName::Content])?;
-    place.followed_by(content.names())?.followed_by(path)
+    let content = content_path(alloc, path)?;
+    in_storage_root(alloc, place)?.followed_by(content.names())
 }

@@ -3,7 +3,6 @@ use Rattle.std.proofs.Common.{◌≡◌, ◌∙◌, ◌-◌, ◌<◌, ◌≤◌,
 use Rattle.std.specs.Prelude.{Option, None, Some, is_some, nat_lt}
 use Rattle.std.specs.Str.{bytes_eq}
 use Rattle.std.proofs.lemmas.Bool.{le-ltb, lt-ltb}
-use Rattle.std.proofs.lemmas.List.{take_all}
 use Rattle.pt_object.specs.Object.{in_content}
 use Rattle.pt_compare.specs.Parts.{leads_to_last}
 use Rattle.pt_compare.specs.Ways.{AreMet}
@@ -36,5 +35,5 @@ pub are_met : (last stored : Path) (count met : ℕ) → count ≡ common_names 
 are_met last stored count met is less k there = alike (suc k) stored last there ∙ one_less k (common_names stored last) ∙ sym (ap (nat_lt k) (less ∙ ap (λ (n : ℕ). n - 1) is))
 
 -- the folder with so many names of the path
-pub on_way : (last : Option Path) (whole p : Path) (n met k : ℕ) → whole ≡ in_content (take n p) → length p ≤ n → AreMet last whole met → k < length p → leads_to_last last (in_content (take k p)) ≡ nat_lt k met
-on_way last whole p n met k is all are less = (rw (is ∙ ap in_content (take_all n p all)) at are) k (omega (arith, less))
+pub on_way : (last : Option Path) (whole names p : Path) (met k : ℕ) → whole ≡ in_content names → names ≡ p → AreMet last whole met → k < length p → leads_to_last last (in_content (take k p)) ≡ nat_lt k met
+on_way last whole names p met k is all are less = (rw (is ∙ ap in_content all) at are) k (omega (arith, less))

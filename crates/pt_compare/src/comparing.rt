@@ -20,8 +20,8 @@ use crate::paths::{content_path, join};
 use crate::stop::Stop;
 use crate::{Comparison, Difference, Root, Scanned, Why, standing};
 use pt_object::{WellKnownName, object_declaration, sidecar};
-use pt_plan::names::alike_names;
 use pt_plan::Fault;
+use pt_plan::names::alike_names;
 use pt_tree::{Kind, NamePath, Source, TreeFault};
 use std::alloc::Global;
 
@@ -186,7 +186,7 @@ fn meet_contents<S: Source, R: Root>(
                 path: &content.path,
             },
         )?;
-        let path = content_path(alloc, &content.path, content.path.len())?;
+        let path = content_path(alloc, content.path.names())?;
         let is_alike = i < object.alike;
         let from = join(object.from, &content.path)?;
         meet_stored(
@@ -228,14 +228,14 @@ fn meet_way<R: Root>(
         (marks_of entries.old) (marks_of entries.new) result }
 {
     let path = way.path;
-    let whole = content_path(alloc, path, path.len())?;
+    let whole = content_path(alloc, path.names())?;
     let met = folders_met(way.last, &whole);
     for names in 0..path.len() {
         let is_met = names < met;
         if is_met {
             continue;
         }
-        let folder = content_path(alloc, path, names)?;
+        let folder = content_path(alloc, &path.names()[..names])?;
         meet_folder(root, place, entries, folder)?;
     }
     Ok(())

@@ -30,5 +30,6 @@ mod stop;
 pub use bytes::{come_next, has_ended};
 pub use comparing::compare;
 pub use difference::{Comparison, Difference, Why};
+pub use paths::content_path;
 pub use root::{Root, open_standing, standing};
 pub use scanned::Scanned;

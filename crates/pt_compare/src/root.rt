@@ -5,8 +5,8 @@ ghost use Rattle.pt_tree.specs.declared.kind.Kind.TheVariants as kind;
 ghost use Rattle.pt_tree.specs.Failures.{IsCounted};
 ghost use Rattle.pt_compare.specs.Root.{CanLook, IsSeen, Stands, tree_in};
 
-use pt_plan::names::alike_names;
 use pt_plan::kinds::{is_dir, is_file};
+use pt_plan::names::alike_names;
 use pt_tree::{Kind, Name, NamePath, Source, TreeFault};
 use std::alloc::Global;
 

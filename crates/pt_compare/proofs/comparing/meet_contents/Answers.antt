@@ -1,6 +1,5 @@
 use Rattle.std.proofs.Common.{arith, rules, refl, ap, sym, subst, ◌≡◌, ◌∙◌, ◌++◌}
 use Rattle.std.specs.Prelude.{None, slice_get}
-use Rattle.std.proofs.lemmas.List.{take_all}
 use Rattle.pt_compare.specs.Marks.{marks_of}
 use Rattle.pt_object.specs.Object.{in_content}
 use Rattle.pt_compare.specs.Parts.{fronts, way_items}
@@ -57,14 +56,14 @@ meet_stored-requires-clause-file g c =
 
 pub meet_stored-requires-clause-alike : goal.meet_stored-requires-clause-alike
 meet_stored-requires-clause-alike g c = λ is.
-    alike_still c.args.object.now.to.now c.in_ok-path.path c.in_ok-from.from (sym c.loop-i.invariant.source_tree) (sym (c.in_ok-meet_way.ensures.root.1 ∙ c.loop-i.invariant.root_tree)) (c.in_ok-path.ensures ∙ ap in_content (take_all c.len.result c.in-Some.content.now.path (omega (arith, c.len.ensures)))) c.in_ok-from.ensures
+    alike_still c.args.object.now.to.now c.in_ok-path.path c.in_ok-from.from (sym c.loop-i.invariant.source_tree) (sym (c.in_ok-meet_way.ensures.root.1 ∙ c.loop-i.invariant.root_tree)) (c.in_ok-path.ensures ∙ ap in_content c.names.ensures) c.in_ok-from.ensures
     (alike_at (tree_in (g.S.Source.told c.args.source.now)) (tree_in (g.R.Source.told c.args.root.now)) c.args.object.now c.loop-i.i c.in-Some.content.now (ltb-true _ _ is) (sym c.in-Some.ensures) c.requires.alike)
 
 pub returns-in_err-meet_stored-clause-met : goal.returns-in_err-meet_stored-clause-met
 returns-in_err-meet_stored-clause-met g c =
     content_stops (tree_in (g.S.Source.told c.args.source.now)) (tree_in (g.R.Source.told c.args.root.now)) c.args.object.now.to.now c.args.object.now.from.now c.args.object.now.contents.now c.loop-i.i c.in-Some.content.now (sym c.in-Some.ensures) c.loop-i.last (marks_of c.args.entries.now) (marks_of c.loop-i.entries) c.loop-i.invariant.goes
     (tree_in (g.R.Source.told c.loop-i.root)) (marks_of c.meet_way.new.entries) c.in_ok-meet_way.field-0 c.loop-i.invariant.root_tree c.in_ok-meet_way.ensures.met
-    (tree_in (g.S.Source.told c.loop-i.source)) (tree_in (g.R.Source.told c.meet_way.new.root)) c.in_ok-path.path c.in_ok-from.from c.loop-i.invariant.source_tree (c.in_ok-meet_way.ensures.root.1 ∙ c.loop-i.invariant.root_tree) (c.in_ok-path.ensures ∙ ap in_content (take_all c.len.result c.in-Some.content.now.path (omega (arith, c.len.ensures)))) c.in_ok-from.ensures (marks_of c.meet_stored.new.entries) (marks_of c.meet_stored.new.entries) c.in_err-meet_stored.field-0.0 c.from_residual-in_err-meet_stored.result c.from_residual-in_err-meet_stored.ensures.1 c.in_err-meet_stored.ensures.met
+    (tree_in (g.S.Source.told c.loop-i.source)) (tree_in (g.R.Source.told c.meet_way.new.root)) c.in_ok-path.path c.in_ok-from.from c.loop-i.invariant.source_tree (c.in_ok-meet_way.ensures.root.1 ∙ c.loop-i.invariant.root_tree) (c.in_ok-path.ensures ∙ ap in_content c.names.ensures) c.in_ok-from.ensures (marks_of c.meet_stored.new.entries) (marks_of c.meet_stored.new.entries) c.in_err-meet_stored.field-0.0 c.from_residual-in_err-meet_stored.result c.from_residual-in_err-meet_stored.ensures.1 c.in_err-meet_stored.ensures.met
 
 pub loop-i-preserved : goal.loop-i-preserved
 loop-i-preserved g c = record {
@@ -79,7 +78,7 @@ loop-i-preserved g c = record {
       c.in_ok-meet_stored.ensures.noted;
   goes = content_met (tree_in (g.S.Source.told c.args.source.now)) (tree_in (g.R.Source.told c.args.root.now)) c.args.object.now.to.now c.args.object.now.from.now c.args.object.now.contents.now c.loop-i.i c.in-Some.content.now (sym c.in-Some.ensures) c.loop-i.last (marks_of c.args.entries.now) (marks_of c.loop-i.entries) c.loop-i.invariant.goes
       (tree_in (g.R.Source.told c.loop-i.root)) (marks_of c.meet_way.new.entries) c.in_ok-meet_way.field-0 c.loop-i.invariant.root_tree c.in_ok-meet_way.ensures.met
-      (tree_in (g.S.Source.told c.loop-i.source)) (tree_in (g.R.Source.told c.meet_way.new.root)) c.in_ok-path.path c.in_ok-from.from c.loop-i.invariant.source_tree (c.in_ok-meet_way.ensures.root.1 ∙ c.loop-i.invariant.root_tree) (c.in_ok-path.ensures ∙ ap in_content (take_all c.len.result c.in-Some.content.now.path (omega (arith, c.len.ensures)))) c.in_ok-from.ensures (marks_of c.meet_stored.new.entries) c.in_ok-meet_stored.field-0 c.in_ok-meet_stored.ensures.met;
+      (tree_in (g.S.Source.told c.loop-i.source)) (tree_in (g.R.Source.told c.meet_way.new.root)) c.in_ok-path.path c.in_ok-from.from c.loop-i.invariant.source_tree (c.in_ok-meet_way.ensures.root.1 ∙ c.loop-i.invariant.root_tree) (c.in_ok-path.ensures ∙ ap in_content c.names.ensures) c.in_ok-from.ensures (marks_of c.meet_stored.new.entries) c.in_ok-meet_stored.field-0 c.in_ok-meet_stored.ensures.met;
 }
 
 pub returns-clause-met : goal.returns-clause-met
