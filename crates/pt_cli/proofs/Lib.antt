@@ -1,8 +1,10 @@
 pub mod Building
 pub mod Complete
+pub mod NameLists
 pub mod Naming
 mod Parsed
 pub mod Passing
 pub mod Present
 pub mod Reading
+pub mod SoFar
 pub mod Stopping

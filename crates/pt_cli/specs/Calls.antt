@@ -1,13 +1,18 @@
 -- What is written to the output of a machine, and with which status.
-use Rattle.std.specs.Prelude.{◌≡◌, ◌≢◌, ◌⊎◌, ◌↔◌, ℕ, List, [], Option, Result, Ok, Err, IfErr, IsErrOf, OnErr, OnOk}
+use Rattle.std.specs.Prelude.{◌≡◌, ◌≢◌, ◌⊎◌, ◌↔◌, ℕ, Bool, true, false, codes, List, [], Option, Result, Ok, Err, IfErr, IsErrOf, OnErr, OnOk}
 use Rattle.std.specs.Io.KnownBytes.{Appends}
+use Rattle.std.specs.Str.{bytes_eq}
 use Rattle.std.specs.IoError.{error_kind}
 use Rattle.std.specs.declared.io.Error.{Error}
 use Rattle.std.specs.declared.io.ErrorKind.TheVariants.{BrokenPipe}
 use Rattle.pt_tree.specs.Log.{AppendsFront}
 use Rattle.pt_name.specs.Tuples.{Tuples}
+use Rattle.pt_cli.specs.Inputs.{InputWords}
+use Rattle.pt_cli.specs.NameList.{ListsNames}
 use Rattle.pt_cli.specs.Names.{LeavesWritten, names_text}
 use Rattle.pt_cli.specs.declared.command.NamesArgs.{NamesArgs}
+use Rattle.pt_cli.specs.declared.list_fault.ListFault.{ListFault}
+use Rattle.pt_cli.specs.declared.list_fault.ListFault.TheVariants as list
 use Rattle.pt_cli.specs.declared.names.NamesFault.{NamesFault}
 use Rattle.pt_cli.specs.declared.names.NamesFault.TheVariants as names
 use Rattle.pt_host.specs.HostCall.{Lend, TakeBack}
@@ -36,6 +41,36 @@ TellsNames {H} words asked old new status =
     (words.written.output output) written
     × words.host lent (TakeBack (record ground { output = output })) new
     × (status ≡ names_status written)
+
+-- of writing the names of an input's lines: 0 where they were written, 2 for a line that is no identifier, else 3
+abbrev pub list_status : Result (Unit {0}) ListFault → ℕ
+list_status (Ok done) = 0
+list_status (Err (list.Line bad)) = 2
+list_status (Err list.Read) = 3
+list_status (Err list.Write) = 3
+list_status (Err list.Memory) = 3
+
+-- a machine's input is asked for, and the names of the identifiers in its lines are written to the output that the machine lends, which is given back with all
+-- else as it was; and the status is by that
+abbrev pub TellsAll : {H : Type 0} → MachineWords H → InputWords H → NamesArgs → H → H → ℕ → Type 0
+TellsAll {H} words beside asked old new status =
+    (input : beside.Input) × (begun : H) × beside.gives old input begun
+    × (ground : HostIoOf words) × (lent : H) × words.host begun (Lend ground) lent
+    × (rest : beside.Input) × (output : words.Output) × (listed : Result (Unit {0}) ListFault)
+    × ListsNames asked (beside.remaining input) (beside.remaining rest) (words.written.output ground.output)
+    (words.written.output output) listed
+    × words.host lent (TakeBack (record ground { output = output })) new
+    × (status ≡ list_status listed)
+
+-- the names of the identifiers on the input are asked for, or those of an identifier
+abbrev pub TellsBy : {H : Type 0} → Bool → MachineWords H → InputWords H → NamesArgs
+    → H → H → ℕ → Type 0
+TellsBy true words input asked = TellsAll words input asked
+TellsBy false words input asked = TellsNames words asked
+
+-- what `names` does: with `-` in the place of the identifier it reads the input
+abbrev pub TellsAsked : {H : Type 0} → MachineWords H → InputWords H → NamesArgs → H → H → ℕ → Type 0
+TellsAsked words input asked = TellsBy (bytes_eq asked.id (codes "-")) words input asked
 
 -- of writing a text that was asked for: 0 where it was written, or nobody may read it any more, else 3
 abbrev pub IsToldAs : Result (Unit {0}) Error → ℕ → Type 0

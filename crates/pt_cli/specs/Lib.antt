@@ -1,8 +1,11 @@
 pub mod ArgSpec
 pub mod Arguments
 pub mod Calls
+pub mod Feeding
 pub mod Grammar
 pub mod Ignore
+pub mod Inputs
+pub mod NameList
 pub mod Names
 pub mod Options
 pub mod Share

@@ -7,7 +7,8 @@ use Rattle.clap.specs.Words.{Text}
 use Rattle.pt_host.specs.Audits.{Audits, audit_call}
 use Rattle.pt_host.specs.Machine.{MachineWords}
 use Rattle.pt_host.specs.Made.{Runs, run_call}
-use Rattle.pt_cli.specs.Calls.{TellsNames, TellsText}
+use Rattle.pt_cli.specs.Calls.{TellsAsked, TellsText}
+use Rattle.pt_cli.specs.Inputs.{Beside}
 use Rattle.pt_cli.specs.Words.{ReadsWords}
 use Rattle.pt_cli.specs.declared.command.Command.{Command}
 use Rattle.pt_cli.specs.declared.command.Command.TheVariants.{Audit, Names, Migrate}
@@ -31,25 +32,25 @@ Declines machine words.Tuples = Refuses 2
 Declines machine words.Share = Refuses 2
 Declines machine words.Ignored = Refuses 2
 
--- what is done at a command: its call is made, with what its words ask for, and its status is the program's
-abbrev pub Obeys : {H : Type 0} → MachineWords H → (Option Text → Type 0) → Command
+-- what is done at a command: its call is made, with what its words ask for, and its status is the program's; `names` alone may ask for the input
+abbrev pub Obeys : {H : Type 0} → MachineWords H → Beside H → Command
     → H → H → ℕ → Type 0
-Obeys machine asks (Names asked) = TellsNames machine asked
-Obeys machine asks (Migrate asked) = Runs machine asks (run_call asked.options asked.source asked.dest)
-Obeys machine asks (Audit asked) = Audits machine asks (audit_call asked.options asked.source asked.dest)
+Obeys machine beside (Names asked) = TellsAsked machine beside.input asked
+Obeys machine beside (Migrate asked) = Runs machine beside.asks (run_call asked.options asked.source asked.dest)
+Obeys machine beside (Audit asked) = Audits machine beside.asks (audit_call asked.options asked.source asked.dest)
 
 -- what is done where the words were answered so
-abbrev pub Does : {H : Type 0} → MachineWords H → (Option Text → Type 0)
+abbrev pub Does : {H : Type 0} → MachineWords H → Beside H
     → Result Command WordsFault → H → H → ℕ → Type 0
-Does machine asks (Ok command) = Obeys machine asks command
-Does machine asks (Err fault) = Declines machine fault
+Does machine beside (Ok command) = Obeys machine beside command
+Does machine beside (Err fault) = Declines machine fault
 
--- these words, the program's name first, are answered, and that is done, with what is asked of a log that is expected
-abbrev pub EndsWith : {H : Type 0} → MachineWords H → (Option Text → Type 0)
+-- these words, the program's name first, are answered, and that is done, with what is asked for beside the machine
+abbrev pub EndsWith : {H : Type 0} → MachineWords H → Beside H
     → List Text → H → H → ℕ → Type 0
-EndsWith machine asks words old new status =
+EndsWith machine beside words old new status =
     (answer : Result Command WordsFault) × ReadsWords words answer
-    × Does machine asks answer old new status
+    × Does machine beside answer old new status
 
 -- the status where no words can be had: 3 for want of memory, else 2
 abbrev pub IsWordless : Error → ℕ → Type 0

@@ -5,7 +5,7 @@ use pt_name::Layout;
 /// What the words ask the program to do.
 #[derive(Debug, Drop)]
 pub enum Command {
-    /// Write the two names of an identifier.
+    /// Write the two names of an identifier, or of those on the input.
     Names(NamesArgs),
     /// Carry a Pairtree store into a storage root.
     Migrate(Migrate),
@@ -16,7 +16,7 @@ pub enum Command {
 /// An identifier whose names are asked for.
 #[derive(Debug, Drop)]
 pub struct NamesArgs {
-    /// The identifier, which isn't empty.
+    /// The identifier, which isn't empty; `-` stands for those on the input.
     pub id: Text,
     /// What is put before it for its place.
     pub prefix: Text,

@@ -151,7 +151,7 @@ const NAMES_TAKES: &[ArgSpec] = &[
     ArgSpec {
         id: ID,
         form: Form::Place,
-        help: "The identifier",
+        help: "The identifier, or - for those on standard input, one a line",
     },
 ];
 

@@ -4,7 +4,8 @@
 //!
 //! - `answer` says what words lead to, of which the first is the program's name (`EndsWith`). They are answered as `read_words` has it, and
 //!   that is done (`Obeys`, `Declines`). `names` writes the two names, by `names_to`, to the output that the machine lends, and the status
-//!   is by the answer (`TellsNames`). `migrate` makes the run of pt_host from SOURCE to DEST, with all that its options say, and the status
+//!   is by the answer (`TellsNames`). `names -` asks for the machine's input, which no other command does, and writes the names of the identifiers
+//!   in its lines, by `list_names` (`TellsAll`). `migrate` makes the run of pt_host from SOURCE to DEST, with all that its options say, and the status
 //!   is its status; `audit` makes the audit likewise. Help and the version are written to the machine's output: 0 where they were, or
 //!   nobody may read them any more, and else 3 (`TellsText`). Refused words (2) and want of memory (3) ask nothing of the machine.
 //! - The options that have a part in what is said of a run or an audit: those of the job, `--ignore`, `--sync`, `--dry-run`,
@@ -14,6 +15,9 @@
 //!   aren't text that is refused (2), and want of memory is 3.
 //! - `names_to`, for every layout and prefix, over every output that tells what it holds: where it answers Ok, exactly the two lines were
 //!   added; after `Write` a front of them was; after the other refusals nothing was. `Empty` is answered exactly for the empty identifier.
+//! - `list_names`, over every input and output: exactly the names of the lines before the first that is no identifier were added, in order;
+//!   `Line` tells that one and why, and Ok that there is none and the input is at its end. After `Read` just the names of the whole lines
+//!   were added, after `Write` a front of the names, and after `Memory` the names of the whole lines in a front of the input (`ListsNames`).
 //! - `read_words`: the words are read exactly as `clap` reads them, for the grammar that the contract spells out (`ReadsWords`). What the
 //!   parser accepts always has an answer: `names` gives its identifier, prefix and layout, or `EmptyId` for the empty one, or `Tuples`.
 //!   `migrate` gives the values of its options with their defaults and its two paths, or, in this order, `Created`, `EmptyName`, `Tuples`,
@@ -27,9 +31,13 @@ mod faults;
 mod feedback_words;
 mod grammar;
 mod ignore_words;
+mod input;
 mod job_words;
+mod list_fault;
 mod migrate_words;
+mod name_list;
 mod names;
+mod names_of_input;
 mod names_words;
 mod program;
 mod share_words;
@@ -38,6 +46,9 @@ mod words;
 
 pub use command::{Audit, Command, Migrate, NamesArgs};
 pub use faults::WordsFault;
+pub use input::{HasInput, InputMachine};
+pub use list_fault::{BadLine, LineFault, ListFault};
+pub use name_list::list_names;
 pub use names::{NamesFault, names_to};
 pub use program::{answer, run};
 pub use pt_host::Text;

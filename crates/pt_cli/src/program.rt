@@ -1,11 +1,14 @@
 ghost use Rattle.std.specs.Prelude.{◌≡◌, map, string_bytes};
 ghost use Rattle.std.specs.Process.{exit_status};
 ghost use Rattle.pt_messages.specs.Expected.{AsksEnd};
-ghost use Rattle.pt_cli.specs.Calls.{IsToldAs, TellsNames, TellsText, names_status};
+ghost use Rattle.pt_cli.specs.Calls.{IsToldAs, TellsAsked, TellsNames, TellsText, names_status};
+ghost use Rattle.pt_cli.specs.Inputs.{beside};
 ghost use Rattle.pt_cli.specs.Statuses.{Declines, Ends, EndsWith, IsWordless, Obeys};
 ghost use Rattle.pt_host.specs.Audits.{Audits, audit_call};
 ghost use Rattle.pt_host.specs.Made.{Runs, run_call};
 
+use crate::input::{HasInput, InputMachine};
+use crate::names_of_input::{is_of_input, write_names_of_input};
 use crate::started::Started;
 use crate::{
     Audit, Command, Migrate, NamesArgs, NamesFault, Text, WordsFault, names_to, read_words,
@@ -20,26 +23,26 @@ use std::process::ExitCode;
 use std::rt::Clock;
 
 /// Runs the program on the words that it was started with, on a machine, and gives its exit status: 0 the names were written, all was
-/// carried, each object stands, or help or the version was asked for; 1 a run or an audit ended whose log has other lines; 2 the words were
-/// refused, or the folders lie in one another, or the destination is a storage root itself; 3 a fault of the run, a destination that
+/// carried, each object stands, or help or the version was asked for; 1 a run or an audit ended whose log has other lines; 2 the words or a
+/// line of the input were refused, or the folders lie in one another, or the destination is a storage root itself; 3 a fault of the run, a destination that
 /// another run has, an output that failed, or want of memory.
 ///
 /// What the words lead to is said at `answer`.
-pub fn run<R, H: Host>(rt: &R, host: &mut H) -> ExitCode
+pub fn run<R, H: Host + HasInput>(rt: &R, host: &mut H) -> ExitCode
 where
     R: Started + Reads + Clock + Eprint + AllocGlobal + Terminals,
-    ensures { Ends (R.starts rt.now) (EndsWith ⟦<H as Machine>⟧.words (AsksEnd R.ends rt.now))
-        host.old host.new (exit_status result) }
+    ensures { Ends (R.starts rt.now) (EndsWith ⟦<H as Machine>⟧.words
+        (beside (AsksEnd R.ends rt.now) ⟦<H as InputMachine>⟧.input_words)) host.old host.new (exit_status result) }
 {
     ExitCode::from(status_of(rt, host))
 }
 
 // Runs the program on the words that it was started with, and gives its status.
-fn status_of<R, H: Host>(rt: &R, host: &mut H) -> u8
+fn status_of<R, H: Host + HasInput>(rt: &R, host: &mut H) -> u8
 where
     R: Started + Reads + Clock + Eprint + AllocGlobal + Terminals,
-    ensures { Ends (R.starts rt.now) (EndsWith ⟦<H as Machine>⟧.words (AsksEnd R.ends rt.now))
-        host.old host.new result }
+    ensures { Ends (R.starts rt.now) (EndsWith ⟦<H as Machine>⟧.words
+        (beside (AsksEnd R.ends rt.now) ⟦<H as InputMachine>⟧.input_words)) host.old host.new result }
 {
     match rt.words(rt.alloc()) {
         Ok(words) => answer(rt, host, words.as_slice()),
@@ -59,13 +62,15 @@ fn wordless(rt: &impl Eprint, error: &io::Error) -> u8
 
 /// Does on a machine what words ask for, of which the first is the program's name, and gives the status.
 ///
-/// The words of `names` lead to the call that writes the two names to the machine's output; those of `migrate` to the run that they
+/// The words of `names` lead to the call that writes the two names to the machine's output, or, with `-` for the identifier, to the one that
+/// writes the names of the identifiers on the machine's input; those of `migrate` to the run that they
 /// ask for; those of `audit` to the audit; those that ask for help or the version to the writing of that; and all others ask nothing of
 /// the machine.
-pub fn answer<R, H: Host>(rt: &R, host: &mut H, words: &[String]) -> u8
+pub fn answer<R, H: Host + HasInput>(rt: &R, host: &mut H, words: &[String]) -> u8
 where
     R: Reads + Clock + Eprint + AllocGlobal + Terminals,
-    ensures { EndsWith ⟦<H as Machine>⟧.words (AsksEnd R.ends rt.now)
+    ensures { EndsWith ⟦<H as Machine>⟧.words
+        (beside (AsksEnd R.ends rt.now) ⟦<H as InputMachine>⟧.input_words)
         (map string_bytes words.now) host.old host.new result }
 {
     match read_words(rt.alloc(), words) {
@@ -75,14 +80,15 @@ where
 }
 
 // Does what a command asks for.
-fn obey<R, H: Host>(rt: &R, host: &mut H, command: Command) -> u8
+fn obey<R, H: Host + HasInput>(rt: &R, host: &mut H, command: Command) -> u8
 where
     R: Reads + Clock + Eprint + AllocGlobal + Terminals,
-    ensures { Obeys ⟦<H as Machine>⟧.words (AsksEnd R.ends rt.now)
+    ensures { Obeys ⟦<H as Machine>⟧.words
+        (beside (AsksEnd R.ends rt.now) ⟦<H as InputMachine>⟧.input_words)
         command host.old host.new result }
 {
     match command {
-        Command::Names(asked) => write_names(rt, host, &asked),
+        Command::Names(asked) => write_asked(rt, host, &asked),
         Command::Migrate(asked) => make_run(rt, host, asked),
         Command::Audit(asked) => make_audit(rt, host, asked),
     }
@@ -158,7 +164,21 @@ where
     audit_guarded(rt, host, options, source.as_str(), dest.as_str())
 }
 
-// Writes the names that are asked for to the machine's output, and gives the status of that.
+// Writes the names that are asked for, of an identifier or of those on the input.
+fn write_asked<R, H>(rt: &R, host: &mut H, asked: &NamesArgs) -> u8
+where
+    R: Eprint + AllocGlobal,
+    H: Host + HasInput,
+    ensures { TellsAsked ⟦<H as Machine>⟧.words ⟦<H as InputMachine>⟧.input_words
+        asked.now host.old host.new result }
+{
+    if is_of_input(asked) {
+        return write_names_of_input(rt, host, asked);
+    }
+    write_names(rt, host, asked)
+}
+
+// Writes the names of an identifier to the machine's output, and gives the status of that.
 fn write_names<R: Eprint + AllocGlobal, H: Host>(rt: &R, host: &mut H, asked: &NamesArgs) -> u8
     ensures { TellsNames ⟦<H as Machine>⟧.words asked.now host.old host.new result }
 {

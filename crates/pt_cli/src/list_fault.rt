@@ -1,0 +1,108 @@
+//! Why the names of the lines of an input weren't all written.
+ghost use Rattle.std.specs.Prelude.{◌≡◌};
+ghost use Rattle.pt_cli.specs.NameList.{line_fault_number, list_number};
+
+use pt_tree::MemoryFault;
+use std::alloc::{AllocError, AllocFailed};
+use thiserror::Error;
+
+/// Why a line is no identifier. They are asked in this order.
+#[derive(Clone, Copy, Debug, PartialEq, Eq, Error)]
+pub enum LineFault {
+    /// It has more than 65,536 bytes.
+    #[error("the identifier has more than 65536 bytes")]
+    TooLong,
+    /// It is empty.
+    #[error("the identifier is empty")]
+    Empty,
+    /// It isn't UTF-8.
+    #[error("the identifier is not UTF-8")]
+    NotUtf8,
+}
+
+impl LineFault {
+    /// The fault's number: 1 `TooLong`, 2 `Empty`, 3 `NotUtf8`.
+    pub fn number(&self) -> u8
+        ensures { result ≡ line_fault_number self.now }
+    {
+        match self {
+            LineFault::TooLong => 1,
+            LineFault::Empty => 2,
+            LineFault::NotUtf8 => 3,
+        }
+    }
+}
+
+/// A line that is no identifier.
+#[derive(Clone, Copy, Debug, PartialEq, Eq, Error)]
+#[error("line {number}: {fault}")]
+pub struct BadLine {
+    /// Which line it is; the first is 1.
+    pub number: u64,
+    /// Why it is none.
+    pub fault: LineFault,
+}
+
+/// Why the names of the lines of an input weren't all written.
+#[derive(Clone, Copy, Debug, PartialEq, Eq, Error)]
+pub enum ListFault {
+    /// A line is no identifier. The names of those before it were written.
+    #[error("{0}")]
+    Line(BadLine),
+    /// The input failed. The names of the whole lines before were written.
+    #[error("cannot read standard input")]
+    Read,
+    /// The output failed. A front of the names was written.
+    #[error("cannot write the output")]
+    Write,
+    /// A growth was refused. The names of some lines were written.
+    #[error("out of memory")]
+    Memory,
+}
+
+impl ListFault {
+    /// The fault's number: 1 `Line`, 2 `Read`, 3 `Write`, 4 `Memory`.
+    pub fn number(&self) -> u8
+        ensures { result ≡ list_number self.now }
+    {
+        match self {
+            ListFault::Line(_) => 1,
+            ListFault::Read => 2,
+            ListFault::Write => 3,
+            ListFault::Memory => 4,
+        }
+    }
+}
+
+impl From<MemoryFault> for ListFault {
+    ghost use Rattle.std.specs.Prelude.{◌≡◌};
+    ghost use Rattle.pt_cli.specs.declared.list_fault.ListFault.TheVariants.{Memory};
+
+    ghost from_gives = { λ _ e. e ≡ Memory };
+
+    fn from(_: MemoryFault) -> Self {
+        ListFault::Memory
+    }
+}
+
+impl From<AllocError> for ListFault {
+    ghost use Rattle.std.specs.Prelude.{◌≡◌};
+    ghost use Rattle.pt_cli.specs.declared.list_fault.ListFault.TheVariants.{Memory};
+
+    ghost from_gives = { λ _ e. e ≡ Memory };
+
+    fn from(_: AllocError) -> Self {
+        ListFault::Memory
+    }
+}
+
+impl<T: Drop> From<AllocFailed<T>> for ListFault {
+    ghost use Rattle.std.specs.Prelude.{◌≡◌};
+    ghost use Rattle.pt_cli.specs.declared.list_fault.ListFault.TheVariants.{Memory};
+
+    ghost from_gives = { λ _ e. e ≡ Memory };
+
+    fn from(_: AllocFailed<T>) -> Self {
+        ListFault::Memory
+    }
+}

@@ -1,0 +1,229 @@
+//! The names of the identifiers in the lines of an input, piece by piece.
+ghost use Rattle.std.specs.Prelude.{◌≡◌, ◌<◌, ◌++◌, [], Ok, length, OnOk};
+ghost use Rattle.std.specs.Io.BufRead.{strip_last};
+ghost use Rattle.pt_cli.specs.Feeding.{IsFed, IsPut, Puts, ended, fed, fed_byte, finished};
+ghost use Rattle.pt_cli.specs.NameList.{ListsNames, line_fault, names_line};
+ghost use Rattle.pt_cli.specs.declared.list_fault.ListFault.TheVariants.{Line};
+
+use crate::{BadLine, LineFault, ListFault, NamesArgs};
+use pt_name::pairpath;
+use pt_tree::{MemoryFault, write_out};
+use std::alloc::Global;
+use std::io::{Read, Write};
+use std::marker::Model;
+
+// The most bytes of an identifier.
+const LONGEST: usize = 65_536;
+
+// How many bytes are read at a time.
+const PIECE: usize = 65_536;
+
+// Where the naming of an input's lines stands: the number of the line at hand, what was read of it, and what isn't written yet.
+#[derive(Drop)]
+struct NameLister {
+    alloc: Global,
+    number: u64,
+    line: Vec<u8>,
+    text: Vec<u8>,
+}
+
+impl Model for NameLister {
+    ghost use Rattle.pt_cli.specs.Feeding.{Fed};
+
+    ghost Value = { Fed };
+
+    ghost view = { λ l. record { number = l.number; line = l.line.items; text = l.text.items } };
+}
+
+/// Writes for each line of an input the pairpath of the identifier in it, a tab, and its place, that of the prefix with it
+/// behind, LF. A line ends with LF or CR LF; what stands behind the last LF is a line too, where it isn't empty.
+///
+/// `Line` at the first line that is no identifier, with its number: as `TooLong` where it has more than 65,536 bytes, else as `Empty`,
+/// else as `NotUtf8`. The names of all lines before it were written. `Read` where the input answers an error: the names of all whole
+/// lines before it were. `Write` where the output answers an error, or takes nothing of a piece that isn't empty: a front of the names
+/// was. `Memory` where a growth was refused: the names of the whole lines in a front of the input were.
+///
+/// What is held doesn't grow with the input: it is read in pieces of at most 65,536 bytes, and the names of the lines that end in one
+/// are written before the next is read. Line numbers stop at 2^64 - 1.
+pub fn list_names<I: Read, W: Write>(
+    alloc: Global,
+    asked: &NamesArgs,
+    input: &mut I,
+    out: &mut W,
+) -> Result<(), ListFault>
+    ensures { ListsNames asked.now (I.remaining input.old) (I.remaining input.new)
+        (W.contents out.old) (W.contents out.new) result }
+{
+    let mut listing = NameLister::new(alloc);
+    let mut space = Vec::new(alloc);
+    space.resize(PIECE, 0)?;
+    let room = space.as_mut_slice();
+    for _ in 0..u64::MAX {
+        let Ok(count) = input.read(room) else {
+            return Err(ListFault::Read);
+        };
+        if count == 0 {
+            return listing.finish(asked, out);
+        }
+        listing.list(asked, &room[..count], out)?;
+    }
+    Err(ListFault::Read)
+}
+
+impl NameLister {
+    // The beginning of an input.
+    fn new(alloc: Global) -> NameLister
+        ensures { result ≡ record { number = 1; line = []; text = [] } }
+    {
+        NameLister {
+            alloc,
+            number: 1,
+            line: Vec::new(alloc),
+            text: Vec::new(alloc),
+        }
+    }
+
+    // Takes a piece of the input, and writes the names of the lines that end in it.
+    fn list<W: Write>(
+        &mut self,
+        asked: &NamesArgs,
+        piece: &[u8],
+        out: &mut W,
+    ) -> Result<(), ListFault>
+        ensures { IsPut (fed asked.now (Ok self.old) piece.now) self.new
+            (W.contents out.old) (W.contents out.new) result }
+    {
+        let taken = self.take_piece(asked, piece);
+        if let Err(ListFault::Memory) = taken {
+            return taken;
+        }
+        self.put(out)?;
+        taken
+    }
+
+    // Takes the end of the input: what stands behind its last LF is a line too, if there is something.
+    fn finish<W: Write>(&mut self, asked: &NamesArgs, out: &mut W) -> Result<(), ListFault>
+        ensures { IsPut (finished asked.now self.old) self.new
+            (W.contents out.old) (W.contents out.new) result }
+    {
+        let ended = self.end(asked);
+        if let Err(ListFault::Memory) = ended {
+            return ended;
+        }
+        self.put(out)?;
+        ended
+    }
+
+    // Ends the line at hand at the end of the input, if something was read of it.
+    fn end(&mut self, asked: &NamesArgs) -> Result<(), ListFault>
+        ensures { IsFed (finished asked.now self.old) self.new result }
+    {
+        if self.line.is_empty() {
+            return Ok(());
+        }
+        self.end_line(asked)
+    }
+
+    // Writes what isn't written yet.
+    fn put<W: Write>(&mut self, out: &mut W) -> Result<(), ListFault>
+        ensures { Puts self.old self.new (W.contents out.old) (W.contents out.new) result }
+    {
+        write_out(out, &self.text).map_err(|_| ListFault::Write)?;
+        self.text.clear();
+        Ok(())
+    }
+
+    // Takes the bytes of a piece.
+    fn take_piece(&mut self, asked: &NamesArgs, piece: &[u8]) -> Result<(), ListFault>
+        ensures { IsFed (fed asked.now (Ok self.old) piece.now) self.new result }
+    {
+        for byte in piece {
+            self.take_byte(asked, *byte)?;
+        }
+        Ok(())
+    }
+
+    // Takes a byte. A line that is too long whatever comes is refused before its end is read.
+    fn take_byte(&mut self, asked: &NamesArgs, byte: u8) -> Result<(), ListFault>
+        ensures { IsFed (fed_byte asked.now self.old byte) self.new result }
+    {
+        if byte == b'\n' {
+            return self.take_line_end(asked);
+        }
+        if self.line.len() > LONGEST {
+            return Err(self.refused(LineFault::TooLong));
+        }
+        self.line.push(byte)?;
+        Ok(())
+    }
+
+    // Takes a LF: a CR right before it belongs to the end of the line.
+    fn take_line_end(&mut self, asked: &NamesArgs) -> Result<(), ListFault>
+        ensures { IsFed (ended asked.now self.old (strip_last 13 self.old.line)) self.new result }
+    {
+        if self.line.last() == Some(&b'\r') {
+            self.line.truncate(self.line.len() - 1);
+        }
+        self.end_line(asked)
+    }
+
+    // Adds the names of the line at hand, and goes on to the next line.
+    fn end_line(&mut self, asked: &NamesArgs) -> Result<(), ListFault>
+        ensures { IsFed (ended asked.now self.old self.old.line) self.new result }
+    {
+        if let Some(fault) = fault_in(&self.line) {
+            return Err(self.refused(fault));
+        }
+        add_names(self.alloc, &mut self.text, asked, &self.line)?;
+        self.line.clear();
+        self.number = self.number.saturating_add(1);
+        Ok(())
+    }
+
+    // The refusal of the line at hand.
+    fn refused(&self, fault: LineFault) -> ListFault
+        ensures { result ≡ Line (record { number = self.now.number; fault = fault }) }
+    {
+        ListFault::Line(BadLine {
+            number: self.number,
+            fault,
+        })
+    }
+}
+
+// Why a line is no identifier, if it is none.
+fn fault_in(line: &[u8]) -> Option<LineFault>
+    ensures { result ≡ line_fault line.now }
+{
+    if line.len() > LONGEST {
+        return Some(LineFault::TooLong);
+    }
+    if line.is_empty() {
+        return Some(LineFault::Empty);
+    }
+    match str::from_utf8(line) {
+        Ok(_) => None,
+        Err(_) => Some(LineFault::NotUtf8),
+    }
+}
+
+// Adds the names of an identifier that isn't empty: its pairpath, a tab, its place, LF.
+fn add_names(
+    alloc: Global,
+    text: &mut Vec<u8>,
+    asked: &NamesArgs,
+    id: &[u8],
+) -> Result<(), MemoryFault>
+    requires { 0 < length id.now }
+    ensures { OnOk result (text.new.items ≡ text.old.items ++ names_line asked.now id.now) }
+{
+    let mut whole = Vec::new(alloc);
+    whole.extend_from_slice(asked.prefix.as_str().as_bytes())?;
+    whole.extend_from_slice(id)?;
+    let place = asked.layout.place_text(alloc, &whole)?;
+    text.extend_from_slice(&pairpath(alloc, id)?)?;
+    text.push(b'\t')?;
+    text.extend_from_slice(&place)?;
+    text.push(b'\n')?;
+    Ok(())
+}
