@@ -59,11 +59,11 @@ class Program:
     def __init__(self, path, shim):
         self.path, self.shim = path, shim
 
-    def run(self, folder, words, number=None):
+    def run(self, folder, words, number=None, stdin=b""):
         """Its status and both streams, and how many requests were told: all with 0, the refused one with its number."""
         with tempfile.TemporaryFile(dir=folder) as told:
             env = {} if number is None else {"LD_PRELOAD": self.shim, "REFUSE": str(number), "TOLD": str(told.fileno())}
-            how = {"cwd": folder, "stdin": subprocess.DEVNULL, "capture_output": True, "timeout": 300, "env": env}
+            how = {"cwd": folder, "input": stdin, "capture_output": True, "timeout": 300, "env": env}
             done = subprocess.run([self.path, *words], pass_fds=(told.fileno(),), **how)
             return (done.returncode, done.stdout, timeless(done.stderr)), os.fstat(told.fileno()).st_size
 
@@ -71,12 +71,12 @@ class Program:
 class Case:
     """Words of the program by which no folder is touched. By some of them, `notices`, standard error is told more than a fault."""
 
-    def __init__(self, name, words, notices=()):
-        self.name, self.words, self.notices = name, words, notices
+    def __init__(self, name, words, notices=(), stdin=b""):
+        self.name, self.words, self.notices, self.stdin = name, words, notices, stdin
 
     def prepare(self, program, folder):
         """Keeps what the program answers where nothing is refused, and how many requests it makes, also without notices."""
-        self.quiet = program.run(folder, [word for word in self.words if word not in self.notices], 0)[1]
+        self.quiet = program.run(folder, [word for word in self.words if word not in self.notices], 0, self.stdin)[1]
         self.whole, self.requests = self.run_anew(program, folder, 0)
 
     def reset(self, folder):
@@ -85,7 +85,7 @@ class Case:
     def run_anew(self, program, folder, number):
         """Runs the command where none was, with the request of a number refused."""
         self.reset(folder)
-        return program.run(folder, self.words, number)
+        return program.run(folder, self.words, number, self.stdin)
 
     def try_one(self, program, folder, number):
         """Refuses the request of a number. Whether it was passed over, and what is wrong."""
@@ -230,6 +230,7 @@ def cases_over(stands):
 
 CASES = [
     Case("names", ["names", "abc"]),
+    Case("names of the lines on standard input", ["names", "--prefix", "uc1.", "-"], stdin=f"abc\n{IDENTIFIER * 9}\r\n{LONGER}".encode()),
     Case("names of a long identifier", ["names", "--prefix", "uc1.", "--tuple-size", "2", IDENTIFIER * 9]),
     Case("help", ["migrate", "--help"]),
     Case("the version", ["--version"]),

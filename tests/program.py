@@ -11,22 +11,24 @@ import sys
 
 
 class Case:
-    """Arguments, and what the program must answer. A stream is given whole, or as a function that judges it."""
+    """Arguments, and what the program must answer. A stream is given whole, or as a function that judges it. Standard input is
+    nothing unless it is given: as bytes, or by what `subprocess.run` is told."""
 
-    def __init__(self, name, args, status, out=b"", err=b"", stdout_file=None):
+    def __init__(self, name, args, status, out=b"", err=b"", stdout_file=None, stdin=None):
         self.name = name
         self.args = args
         self.status = status
         self.out = out
         self.err = err
         self.stdout_file = stdout_file
+        self.stdin = {"input": stdin} if isinstance(stdin, bytes) else stdin or {"stdin": subprocess.DEVNULL}
 
     def faults(self, *program):
         """What the program does that it should not, which these words run."""
         with open(self.stdout_file or os.devnull, "wb") as stdout_file:
             done = subprocess.run(
                 [*program, *self.args],
-                stdin=subprocess.DEVNULL,
+                **self.stdin,
                 stdout=stdout_file if self.stdout_file else subprocess.PIPE,
                 stderr=subprocess.PIPE,
                 timeout=60,
@@ -120,6 +122,59 @@ def layouts():
     yield Case("a number that is none", ["names", "--tuples", "x", "a"], 2, b"", lambda err: err.startswith(b"error: "))
 
 
+def cleaned(identifier):
+    """An identifier as Pairtree 0.1 cleans it, byte by byte."""
+    for byte in identifier:
+        if byte in b"/:.":
+            yield "=+,"["/:.".index(chr(byte))]
+        else:
+            yield chr(byte) if 0x21 <= byte <= 0x7E and byte not in b'"*+,<=>?\\^|' else f"^{byte:02x}"
+
+
+def line_of(identifier, prefix=b""):
+    """What `names -` writes for an identifier: its pairpath, a tab, and its place in the default layout."""
+    whole = prefix + identifier
+    plain = b"ABCDEFGHIJKLMNOPQRSTUVWXYZabcdefghijklmnopqrstuvwxyz0123456789-_"
+    last = "".join(chr(byte) if byte in plain else f"%{byte:02x}" for byte in whole)
+    if len(last) > 100:
+        last = f"{last[:100]}-{hashlib.sha256(whole).hexdigest()}"
+    return f"{in_pairs(''.join(cleaned(identifier)))}\t{tuples(whole)}/{last}\n".encode()
+
+
+def lines(name, stdin, *identifiers, bad=None, words=(), prefix=b""):
+    """The case of `names -` over these bytes, in which these identifiers are, and then, if so, a line with this against it."""
+    err = f"pairtree2ocfl: line {len(identifiers) + 1}: the identifier {bad}\n".encode() if bad else b""
+    out = b"".join(line_of(identifier, prefix) for identifier in identifiers)
+    return Case(f"names -: {name}", ["names", *words, "-"], 2 if bad else 0, out, err, stdin=stdin)
+
+
+def of_input():
+    """The identifiers on standard input: what is a line, what is one too many, and what ends it."""
+    long, many = b"x" * 65536, [b"ark:/13030/xt%d" % number for number in range(20000)]
+    short = [b"a" * 20, b"b" * 21, b"c" * 22, "\u00e9.\u65e5".encode()]
+    yield lines("several lines", b"abc\nark:/13030/xt12t3\n\\ \n", b"abc", b"ark:/13030/xt12t3", b"\\ ")
+    yield lines("CR LF", b"abc\r\nd\re\r\r\nf\n", b"abc", b"d\re\r", b"f")
+    yield lines("a last line without LF", b"abc\nde", b"abc", b"de")
+    yield lines("a last line that ends with CR alone", b"abc\nde\r", b"abc", b"de\r")
+    yield lines("nothing", b"")
+    yield lines("names of 20, 21 and 22 bytes", b"\n".join(short), *short)
+    yield lines("a prefix", b"abc\n-\n", b"abc", b"-", words=["--prefix", "uc1."], prefix=b"uc1.")
+    yield lines("many lines", b"".join(one + b"\n" for one in many), *many)
+    yield lines("a line of 65536 bytes", b"a\n" + long + b"\n" + long + b"\r\nb\n" + long, b"a", long, long, b"b", long)
+    for end in (b"\n", b"\r\n", b"", b"\r", b"y\nb\n"):
+        bad = "has more than 65536 bytes"
+        yield lines(f"a line of more, with {end!r} behind", b"a\n" + long + b"x" + end, b"a", bad=bad)
+    yield lines("a line that does not end", b"a\n" + long * 40, b"a", bad="has more than 65536 bytes")
+    yield lines("an empty line", b"a\n\nb\n", b"a", bad="is empty")
+    yield lines("an empty line that ends with CR LF", b"a\r\n\r\nb\n", b"a", bad="is empty")
+    yield lines("a line that is not UTF-8", b"a\nb\n\xff\nd\n", b"a", b"b", bad="is not UTF-8")
+    unread = b"pairtree2ocfl: cannot read standard input\n"
+    yield Case("names -: a closed input", ["names", "-"], 3, b"", unread, stdin={"preexec_fn": lambda: os.close(0)})
+    yield Case("names -: a directory", ["names", "-"], 3, b"", unread, stdin={"stdin": os.open("/", os.O_RDONLY)})
+    yield Case("names -: an output that is full", ["names", "-"], 3, b"", FULL, "/dev/full", stdin=b"abc\n")
+    yield Case("names -: no line, to an output that is full", ["names", "-"], 0, b"", b"", "/dev/full", stdin=b"")
+
+
 EMPTY = b"pairtree2ocfl: the identifier is empty\n"
 CASES = [
     names("abc", "ab/c", "ba7/816/bf8/abc"),
@@ -141,6 +196,7 @@ CASES = [
     names("a\\ b", "a^/5c/^2/0b", tuples(b"a\\ b") + "/a%5c%20b"),
     *long_cases(),
     *layouts(),
+    *of_input(),
     Case("help on standard output", ["--help"], 0, is_help),
     Case("help on one command", ["names", "--help"], 0, is_help),
     Case("help on audit", ["audit", "--help"], 0, is_help_on_audit),

@@ -242,6 +242,7 @@ WALK = [
     ("! -readable", None, []),
     ("created=", None, []),
     ("--dry-run", None, ['{"as":"skip","at":"","cause":"root"}']),
+    ("names - ", None, []),
     ("uniq -d", None, [TWIN]),
     ("sort -rn", None, ["11 ab/ce/obj/f", "11 sp/li/obj/f", "15 sp/li/.DS_Store"]),
     ("run-1.log\n    echo", None, ["1"]),
