@@ -1,6 +1,6 @@
 -- What buckets have once a text was added, once one of them was divided, and once all of them were.
-use Rattle.std.proofs.Common.{◌≡◌, ◌∙◌, ℕ, zero, suc, ◌+◌, ◌*◌, ◌-◌, ◌/◌, ◌%◌, ◌<◌, ◌≤◌, ◌⊎◌, inl, inr, Bool, true, false, List, [], ◌∷◌, ◌++◌, cond, length, set, arith, refl, ap, subst, sym, mod-lt, length-append, length-set}
-use Rattle.std.specs.Prelude.{◌||◌, ◌==◌, nat_lt, Option, None, Some}
+use Rattle.std.proofs.Common.{◌≡◌, ◌∙◌, ℕ, zero, suc, ◌+◌, ◌*◌, ◌-◌, ◌/◌, ◌%◌, ◌<◌, ◌≤◌, inl, inr, Bool, true, false, List, [], ◌∷◌, ◌++◌, cond, length, set, arith, refl, ap, subst, sym, mod-lt, length-append, length-set}
+use Rattle.std.specs.Prelude.{◌||◌, nat_lt, Option, Some}
 use Rattle.std.specs.Global.{Vec}
 use Rattle.std.specs.List.{slice_get}
 use Rattle.std.specs.Str.{bytes_eq}
@@ -8,7 +8,7 @@ use Rattle.std.proofs.lemmas.Bool.{cases_eq, cases_lt, cond-false, cond-true, eq
 use Rattle.std.proofs.lemmas.Nat.{div-add-mod', mod-mul-add}
 use Rattle.std.proofs.Math.Nat.{mul_assoc}
 use Rattle.pt_object.proofs.Ways.{same_name}
-use Rattle.pt_rehearsal.specs.Buckets.{IsHalved, bucket_of, goes_on, hash_of, held_in, holds, is_held, texts_in}
+use Rattle.pt_rehearsal.specs.Buckets.{IsHalved, bucket_of, hash_of, held_in, holds, is_held, texts_in}
 use Rattle.pt_rehearsal.specs.Texts.{with_text}
 use Rattle.pt_rehearsal.proofs.Packed.{holds_gone, holds_more, holds_stayed}
 

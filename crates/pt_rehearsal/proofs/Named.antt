@@ -1,5 +1,5 @@
 -- A name has no NUL, and so the text of a path of names has none.
-use Rattle.std.proofs.Common.{◌≡◌, ℕ, Bool, true, false, List, [], ◌∷◌, ◌++◌, cond, length, refl}
+use Rattle.std.proofs.Common.{◌≡◌, ℕ, Bool, true, false, List, [], ◌∷◌, cond, length, refl}
 use Rattle.std.specs.Prelude.{◌==◌, ◌||◌, nat_lt, None, Some, is_none}
 use Rattle.std.specs.List.{list_any}
 use Rattle.std.specs.Str.{bytes_eq, is_utf8}

@@ -1,5 +1,5 @@
 -- Texts that lie packed in buckets, and in which of them a text lies.
-use Rattle.std.specs.Prelude.{◌≡◌, ℕ, Bool, true, false, ◌*◌, ◌-◌, ◌%◌, ◌^◌, ◌==◌, cond, nat_lt, not, List, [], ◌∷◌, drop, length, bit_xor, Option, None, Some}
+use Rattle.std.specs.Prelude.{◌≡◌, ℕ, Bool, false, ◌*◌, ◌-◌, ◌%◌, ◌^◌, ◌==◌, cond, nat_lt, not, List, drop, length, bit_xor, Option, None, Some}
 use Rattle.std.specs.Global.{Vec}
 use Rattle.std.specs.List.{All, filter, fold, list_any, slice_get, slice_split}
 use Rattle.std.specs.Str.{bytes_eq}

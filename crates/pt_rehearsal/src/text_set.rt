@@ -177,12 +177,15 @@ fn append(bucket: &mut Vec<u8>, text: &[u8]) -> Result<(), MemoryFault>
     }
 }
 
-// The texts of a bucket.
+// The texts of a bucket. Room for them is asked for once: `collect` goes on where the room that it asks for ahead is refused.
 fn texts_of(alloc: Global, bucket: &[u8]) -> Result<Vec<&[u8]>, MemoryFault>
     ensures { IfOk result (λ texts. map (λ (t : Bor (List ℕ)). t.now) texts.items
         ≡ texts_in bucket.now) }
 {
-    Ok(bucket.split(|byte| *byte == NUL).skip(1).collect(alloc)?)
+    let count = bucket.iter().filter(|byte| **byte == NUL).count();
+    let mut texts = Vec::with_capacity(alloc, count)?;
+    texts.extend(bucket.split(|byte| *byte == NUL).skip(1))?;
+    Ok(texts)
 }
 
 // Divides the texts of a bucket: those stay whose place isn't that of the new bucket.

@@ -1,4 +1,4 @@
-use Rattle.std.proofs.Common.{◌≡◌, ◌∙◌, [], ◌*◌, ◌%◌, Bor, List, ℕ, ap, arith, eq-eqb, map, ne_eqb, refl, rules, subst, sym, take, take_all}
+use Rattle.std.proofs.Common.{◌∙◌, [], ◌*◌, ◌%◌, Bor, List, ℕ, ap, eq-eqb, map, ne_eqb, refl, subst, sym, take_all}
 use Rattle.pt_rehearsal.specs.Buckets.{IsHalved, texts_in}
 use Rattle.pt_rehearsal.proofs.Packed.{free_at, gone_too, stayed_too}
 use Rattle.pt_rehearsal.proofs.text_set.halved.Goals as goal

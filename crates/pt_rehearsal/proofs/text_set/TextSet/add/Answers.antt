@@ -1,7 +1,7 @@
-use Rattle.std.proofs.Common.{◌≡◌, ◌<◌, ◌≤◌, ◌∙◌, arith, length, refl}
+use Rattle.std.proofs.Common.{◌<◌, ◌≤◌, arith, length, refl}
 use Rattle.std.specs.Prelude.{Result, Ok, Err, OnErr}
 use Rattle.std.proofs.lemmas.Option.{slice_get_read}
-use Rattle.pt_rehearsal.specs.Buckets.{bucket_of, hash_of}
+use Rattle.pt_rehearsal.specs.Buckets.{hash_of}
 use Rattle.pt_rehearsal.proofs.Divided.{bucket_within, kept_held, put_held}
 use Rattle.pt_rehearsal.proofs.text_set.TextSet.add.Goals as goal
 
