@@ -32,7 +32,8 @@ pub fn run<R, H: Host + HasInput>(rt: &R, host: &mut H) -> ExitCode
 where
     R: Started + Reads + Clock + Eprint + AllocGlobal + Terminals,
     ensures { Ends (R.starts rt.now) (EndsWith ⟦<H as Machine>⟧.words
-        (beside (AsksEnd R.ends rt.now) ⟦<H as InputMachine>⟧.input_words)) host.old host.new (exit_status result) }
+        (beside (AsksEnd R.ends rt.now) ⟦<H as InputMachine>⟧.input_words))
+        host.old host.new (exit_status result) }
 {
     ExitCode::from(status_of(rt, host))
 }
@@ -42,7 +43,8 @@ fn status_of<R, H: Host + HasInput>(rt: &R, host: &mut H) -> u8
 where
     R: Started + Reads + Clock + Eprint + AllocGlobal + Terminals,
     ensures { Ends (R.starts rt.now) (EndsWith ⟦<H as Machine>⟧.words
-        (beside (AsksEnd R.ends rt.now) ⟦<H as InputMachine>⟧.input_words)) host.old host.new result }
+        (beside (AsksEnd R.ends rt.now) ⟦<H as InputMachine>⟧.input_words))
+        host.old host.new result }
 {
     match rt.words(rt.alloc()) {
         Ok(words) => answer(rt, host, words.as_slice()),

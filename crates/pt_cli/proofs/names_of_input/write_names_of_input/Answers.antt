@@ -2,16 +2,16 @@ use Rattle.pt_cli.proofs.names_of_input.write_names_of_input.Goals as goal
 
 pub returns : goal.returns
 returns g c = (
-    c.input-input.result,
-    c.input-input.new.self,
-    c.input-input.ensures,
-    c.lend-ground.result,
-    c.lend-ground.new.self,
-    c.lend-ground.ensures,
-    c.list_names-listed.new.input,
-    c.list_names-listed.new.out,
-    c.list_names-listed.result,
-    c.list_names-listed.ensures,
-    c.take_back.ensures,
-    c.told.ensures,
-  )
+  c.input-input.result,
+  c.input-input.new.self,
+  c.input-input.ensures,
+  c.lend-ground.result,
+  c.lend-ground.new.self,
+  c.lend-ground.ensures,
+  c.list_names-listed.new.input,
+  c.list_names-listed.new.out,
+  c.list_names-listed.result,
+  c.list_names-listed.ensures,
+  c.take_back.ensures,
+  c.told.ensures,
+)
