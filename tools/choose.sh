@@ -1,7 +1,7 @@
 #!/bin/sh
-# Says which of the programs that are shipped this machine is to run: x86-64-v3 where all processors are Intel's and have what that is built for,
-# and x86-64-v2 elsewhere and where that is in doubt. (AMD's have it too, but take longer over SHA-256 so.) With --link it also makes
-# PREFIX/bin/pairtree2ocfl a link to that program, and says nothing.
+# Says which of the programs that are shipped this machine is to run: x86-64-v3 where all processors have what that is built for, whoever made
+# them, and x86-64-v2 elsewhere and where that is in doubt. (AMD's gain most by it: for x86-64-v2 a rotation is written as SHLD, which is slow
+# there, so that SHA-256 takes twice as long.) With --link it also makes PREFIX/bin/pairtree2ocfl a link to that program, and says nothing.
 #   choose.sh [--link PREFIX] [CPUINFO]
 set -eu
 prefix=
@@ -11,14 +11,9 @@ if [ "${1-}" = --link ]; then
 fi
 cpuinfo=${1:-/proc/cpuinfo}
 
-# The values of a line of all processors, each that differs once, between spaces.
-values() {
-    sed -n "s/^$1[[:space:]]*:[[:space:]]*\(.*\)/ \1 /p" "$cpuinfo" 2> /dev/null | LC_ALL=C sort -u
-}
-
+# What each processor has, between spaces, once where all have the same.
+flags=$(sed -n 's/^flags[[:space:]]*:[[:space:]]*\(.*\)/ \1 /p' "$cpuinfo" 2> /dev/null | LC_ALL=C sort -u)
 cpu=x86-64-v3
-[ "$(values vendor_id)" = ' GenuineIntel ' ] || cpu=x86-64-v2
-flags=$(values flags)
 [ "$(printf '%s\n' "$flags" | wc -l)" -eq 1 ] || cpu=x86-64-v2
 # abm is the name of LZCNT here; the system tells avx only where it keeps its registers.
 for flag in abm avx avx2 bmi1 bmi2 f16c fma movbe; do

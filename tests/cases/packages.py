@@ -375,14 +375,14 @@ def processors(*several):
 
 
 def choosing(program, folder):
-    """The program for x86-64-v3 is chosen where all processors are Intel's and have all of that; in doubt the one for x86-64-v2."""
-    intel, amd = "GenuineIntel", "AuthenticAMD"
-    lacking = [processors((intel, WHOLE.replace(f" {flag}", ""))) for flag in ("movbe", "avx", "f16c", "abm", "bmi1", "avx2", "bmi2", "fma")]
-    rows = [(processors((intel, WHOLE)), "x86-64-v3"), (processors(*[(intel, WHOLE)] * 4), "x86-64-v3")]
-    rows += [(text, "x86-64-v2") for text in lacking]
-    others = [[(amd, WHOLE)], [("HygonGenuine", WHOLE)], [(intel, WHOLE), (amd, WHOLE)], [(intel, WHOLE), (intel, WHOLE.replace(" bmi2", ""))]]
-    rows += [(processors(*several), "x86-64-v2") for several in others]
-    rows += [("", "x86-64-v2"), (f"flags\t\t: {WHOLE}\n", "x86-64-v2"), (f"vendor_id\t: {intel}\n", "x86-64-v2")]
+    """The program for x86-64-v3 is chosen where all processors have all of that, whoever made them; in doubt the one for x86-64-v2."""
+    makers, rows = ("GenuineIntel", "AuthenticAMD", "HygonGenuine"), []
+    for maker in makers:
+        lacking = [(maker, WHOLE.replace(f" {flag}", "")) for flag in ("movbe", "avx", "f16c", "abm", "bmi1", "avx2", "bmi2", "fma")]
+        rows += [(processors(*[(maker, WHOLE)] * count), "x86-64-v3") for count in (1, 4)]
+        rows += [(processors(*several), "x86-64-v2") for one in lacking for several in ([one], [(maker, WHOLE), one], [one, (maker, WHOLE)])]
+    rows += [(processors(*((maker, WHOLE) for maker in makers)), "x86-64-v3")]
+    rows += [("", "x86-64-v2"), (f"flags\t\t: {WHOLE}\n", "x86-64-v3"), (f"vendor_id\t: {makers[0]}\n", "x86-64-v2")]
     faults, script = [], f"{TOP}/tools/choose.sh"
     os.mkdir(f"{folder}/bin")
     for number, (text, cpu) in enumerate(rows):
