@@ -13,10 +13,11 @@ and moves nothing to another file system. Stopped at any moment, it goes on when
 
 Where standard error is a terminal, a line there shows how far it is: a count of objects, and by their places the share of the root.
 
-The status of `damaged` is 0 where every object is whole, 1 where some were listed that aren't, and 2 where the root was refused or an object
-could not be judged. That of `join` is 0 where all was moved and nothing is left but the roots' own files and empty folders, 1 where the
-places that it lists were taken, and 2 where something was refused, or could not be moved, or isn't the program's and was left out. Standard
-error says what; what can be listed and moved is, also at status 2.
+The status of `damaged` is 0 where every object is whole and nothing else is there, 1 where some were listed that aren't whole, and 2 where
+the root was refused, or an object could not be judged, or something isn't the program's and was left out. That of `join` is 0 where all was
+moved and nothing is left but the roots' own files and empty folders, 1 where the places that it lists were taken, and 2 where something was
+refused, or could not be moved, or isn't the program's and was left out. Standard error says what; what can be listed and moved is, also at
+status 2.
 """
 
 import argparse
@@ -309,7 +310,7 @@ def damaged(path):
             except (Foreign, OSError) as error:
                 root.unjudged += 1
                 say(f"{root}/{place}: it isn't judged: {reason(error)}")
-        return 2 if root.unjudged else min(count, 1)
+        return 2 if root.unjudged or root.strays else min(count, 1)
 
 
 def reason(error):

@@ -185,14 +185,22 @@ def killed(program, folder):
 
 
 def tells(program, folder):
-    """`damaged` lists places below tuple folders alone; another version and what can't be read are told apart, and the rest is looked at."""
+    """`damaged` lists places below tuple folders alone; what isn't the program's, another version and what can't be read are told apart by the
+    status, and the rest is looked at."""
     three(folder)
     top = f"{folder}/b/ocfl"
     tuples = place("ba").rsplit("/", 1)[0]
-    build(top, {f"{tuples}/notes": DIR, f"{tuples}/Thumbs.db": b"1", "notes": DIR, "abc": b"1", "zzz": DIR})
-    faults = differs(nothing=(roots(folder, "damaged", "b/ocfl")[:2], (0, [])))
+    others = {f"{tuples}/notes": DIR, f"{tuples}/Thumbs.db": b"1", "notes": DIR, "abc": b"1", "zzz": DIR}
+    faults = differs(whole=(roots(folder, "damaged", "b/ocfl"), (0, [], "")))
+    build(top, others)
+    status, listed, said = roots(folder, "damaged", "b/ocfl")
+    left = [f"roots.py: b/ocfl/{path}: it isn't a place of the program's, and is left out" for path in others]
+    faults += differs(nothing=((status, listed, sorted(said.splitlines())), (2, [], sorted(left))))
     build(f"{top}/{place('ba')}", {"v1/content/a.txt": b"other"})
+    faults += differs(both=(roots(folder, "damaged", "b/ocfl")[:2], (2, [place("ba")])))
+    build(top, dict.fromkeys(others, stores.GONE))
     faults += differs(one=(roots(folder, "damaged", "b/ocfl")[:2], (1, [place("ba")])))
+    build(top, others)
     build(folder, {f"b/{path}": held for path, held in {**an_object("va"), **an_object("vb"), **an_object("vc"), **an_object("vd")}.items()})
     build(f"{top}/{place('va')}", {"0=ocfl_object_1.1": GONE, "0=ocfl_object_1.0": b"ocfl_object_1.0\n"})
     build(f"{top}/{place('vb')}", {"v2": DIR, "inventory.json": b""})
@@ -242,13 +250,14 @@ def all_named(program, folder):
 
 
 def strays(program, folder):
-    """What isn't the program's stays in the other root and is told, with a status that isn't that of a clean join; `damaged` judges objects alone."""
+    """What isn't the program's stays in the other root and is told, with a status that isn't that of a clean join, nor of a root that `damaged`
+    finds whole."""
     three(folder)
     build(folder, {"b/ocfl/notes.txt": b"1", f"b/ocfl/{place('cc')}": GONE})
     status, lines, said = roots(folder, "join", "a/ocfl", "b/ocfl")
     faults = differs(left=((status, lines, said), (2, [], "roots.py: b/ocfl/notes.txt: it isn't a place of the program's, and is left out\n")))
     faults += differs(moved=(os.path.isdir(f"{folder}/a/ocfl/{place(LONG)}"), True), there=(os.path.exists(f"{folder}/b/ocfl/notes.txt"), True))
-    faults += differs(damaged=(roots(folder, "damaged", "b/ocfl")[:2], (0, [])))
+    faults += differs(damaged=(roots(folder, "damaged", "b/ocfl"), (2, [], said)))
     build(folder, {"b/ocfl/notes.txt": GONE, "a/ocfl/notes.txt": b"1"})
     return faults + differs(clean=(roots(folder, "join", "a/ocfl", "b/ocfl"), (0, [], "")))
 
