@@ -71,12 +71,18 @@ def made_again():
     return set(re.findall(r"`(\w+)`", told))
 
 
+def designed():
+    """What docs/DESIGN.md says of errors of the system."""
+    with open(f"{TOP}/docs/DESIGN.md", encoding="utf-8") as file:
+        return " ".join(file.read().split("**Any error of the system is a failure**", 1)[1].split("\n- ", 1)[0].split())
+
+
 def interrupted(program, folder):
     """Of the calls that a signal interrupts, as docs/GUARANTEES.md says, the opening of a file, fsync and flock are made again, and the run is as if
     nothing had been; of the others each is a failure."""
     needs("strace")
     whole, trace, tried = with_sync(folder, program), f"{folder}/trace", set()
-    faults = differs(documented=(made_again(), {"open", "fsync", "flock"}))
+    faults = differs(documented=(made_again(), {"open", "fsync", "flock"}), designed=("library makes [three calls](GUARANTEES.md#" in designed(), True))
     for call in ("openat", "fsync", "flock", "getdents64", "mkdir", "rename", "read", "write"):
         with_sync(folder, "strace", "-y", "-o", trace, "-e", f"trace={call}", program)
         with open(trace, encoding="utf-8", errors="replace") as file:
