@@ -170,7 +170,8 @@ class Root:
                 if wanted not in (None, texts[name]):
                     faults.append(f"{self.path}/{name} isn't the program's")
             except (Unlike, FileNotFoundError, NotADirectoryError) as error:
-                faults.append(f"{self.path} isn't a storage root of the program: {error}")
+                why = error if isinstance(error, Unlike) else f"{name!r} isn't there"
+                faults.append(f"{self.path} isn't a storage root of the program: {why}")
         found = re.fullmatch(rb'.*"numberOfTuples":(\d{1,2}),"tupleSize":(\d{1,2})}', texts.get(config, b""))
         if config in texts and not (found and texts[config] == config_of(*map(int, found.groups()))):
             faults.append(f"{self.path}/{config} isn't the program's")
@@ -419,11 +420,24 @@ def move_all(root, other):
     return taken
 
 
+def roots_of(paths, last):
+    """The roots at these paths; refused with all that is against any of them."""
+    roots, faults = [], []
+    for path in paths:
+        try:
+            roots.append(Root(path, last))
+        except Refused as error:
+            faults += error.args
+    if faults:
+        raise Refused(*faults)
+    return roots
+
+
 def join(paths):
     """Moves the objects of other roots into the first, and gives the status."""
     open_at_most(3 * len(paths) + 64)
     with contextlib.ExitStack() as last:
-        root, *others = roots = [Root(path, last) for path in paths]
+        root, *others = roots = roots_of(paths, last)
         agree(roots)
         held = set()
         for it in roots:

@@ -233,19 +233,26 @@ def helps(program, folder):
 
 
 def all_named(program, folder):
-    """Of a root whose own files are damaged all that are damaged are named at once, by `damaged` and by `join`."""
+    """Of roots whose own files are damaged all that are damaged are named at once, by `damaged` and by `join`, each by its root and its path."""
     three(folder)
     config = f"extensions/{stores.LAYOUT_NAME}/config.json"
-    whole = {f"b/ocfl/{path}": read_tree(f"{folder}/b/ocfl")[path] for path in ("0=ocfl_1.1", "ocfl_layout.json", config)}
-    faults = []
-    for bad in ({"0=ocfl_1.1": b"", config: b"{}"}, {"0=ocfl_1.1": GONE, "ocfl_layout.json": b"", config: GONE}, {"ocfl_layout.json": GONE, config: b""}):
-        build(f"{folder}/b/ocfl", bad)
-        for words in (("damaged", "b/ocfl"), ("join", "a/ocfl", "b/ocfl")):
+    own, faults = ("0=ocfl_1.1", "ocfl_layout.json", config), []
+    whole = {f"{name}/ocfl/{path}": read_tree(f"{folder}/b/ocfl")[path] for name in "bc" for path in own}
+    for bad in (
+        {"0=ocfl_1.1": b"", config: b"{}"},
+        {"0=ocfl_1.1": GONE, "ocfl_layout.json": b"", config: GONE},
+        {"ocfl_layout.json": GONE, config: b""},
+        {"0=ocfl_1.1": b"x", "extensions": GONE},
+    ):
+        named = [path for path in own if path in bad or path.split("/")[0] in bad]
+        for *words, damaged in (("damaged", "b/ocfl", "b"), ("join", "a/ocfl", "b/ocfl", "b"), ("join", "b/ocfl", "a/ocfl", "c/ocfl", "bc")):
+            for name in damaged:
+                build(f"{folder}/{name}/ocfl", bad)
             status, lines, said = roots(folder, *words)
-            told = [sum(name in line for line in said.splitlines()) for name in ("0=ocfl_1.1", "ocfl_layout.json", config)]
-            wanted = [int(name in bad) for name in ("0=ocfl_1.1", "ocfl_layout.json", config)]
-            faults += differs(**{f"{words[0]} {sorted(bad)}": ((status, lines, told), (2, [], wanted))})
-        build(folder, whole)
+            told = [[(name, path) for name in "abc" for path in own if re.match(f"roots.py: {name}/ocfl[^a-z].*{path}", line)] for line in said.splitlines()]
+            wanted = [[(name, path)] for name in damaged for path in named]
+            faults += differs(**{f"{words} {sorted(bad)}": ((status, lines, told, "Errno" in said), (2, [], wanted, False))})
+            build(folder, whole)
     return faults + differs(mended=(roots(folder, "damaged", "b/ocfl"), (0, [], "")))
 
 
