@@ -13,8 +13,10 @@ import carrying
 import options
 import program as words_alone
 import refusing
+import sharing
 import surroundings
 import twins
+import watching
 from alone import Alone, differs
 from running import MEANT, timeless
 from sharing import random_store
@@ -45,8 +47,10 @@ class Over:
 
 
 def over():
-    """The cases of runs, audits and what is around them, of each program that is shipped; none where these aren't built, which CASES tell."""
-    cases = [case for file in (carrying, refusing, auditing, twins, options, surroundings) for case in file.CASES]
+    """The cases of runs, audits, shares and what is around them, of each program that is shipped; none where these aren't built, which CASES tell.
+    What takes long and asks nothing more of a program is left to the gate's: progress over many objects, and a cluster, which runs the same script."""
+    files = (carrying, refusing, auditing, twins, options, surroundings, sharing)
+    cases = [case for file in files for case in file.CASES if case is not sharing.ON_A_CLUSTER] + watching.QUICK
     return [Over(cpu, case) for cpu in CPUS for case in cases] if os.path.isdir(FOLDER) else []
 
 

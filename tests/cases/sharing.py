@@ -298,6 +298,7 @@ def cluster(program, folder):
     return faults + list(differences(tree, wanted))
 
 
+ON_A_CLUSTER = Alone("shares by the script, on a cluster", cluster)
 CASES = [
     *(shares_of(seed) for seed in range(40)),
     Alone("the one share of one", whole_share),
@@ -305,5 +306,5 @@ CASES = [
     Alone("one share by the script", one_share),
     Alone("shares that the script can't carry", no_number),
     Alone("a share that faults, by the script", faulty_share),
-    Alone("shares by the script, on a cluster", cluster),
+    ON_A_CLUSTER,
 ]

@@ -240,13 +240,17 @@ def far_off(program, folder):
     return differs(status=(done.returncode, 0), told=(len(told) > 100, True), right=(all(right), True))
 
 
-CASES = [
+# What is run over each program that is shipped, too.
+QUICK = [
     Alone("progress on a terminal", shown),
-    Alone("progress by the terminal's width", wide),
-    Alone("progress elsewhere", seldom),
     Alone("progress of a short run", short),
     Alone("the summary of a run", summed),
     Alone("the summary of an audit", summed_of_audit),
+]
+CASES = [
+    *QUICK,
+    Alone("progress by the terminal's width", wide),
+    Alone("progress elsewhere", seldom),
     Alone("progress by a rehearsal's log", expected),
     Alone("progress of an audit by a log", expected_of_audit),
     Alone("progress of what takes long", far_off),
