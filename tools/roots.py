@@ -13,11 +13,10 @@ and moves nothing to another file system. Stopped at any moment, it goes on when
 
 Where standard error is a terminal, a line there shows how far it is: a count of objects, and by their places the share of the root.
 
-The status of `damaged` is 0 where every object is whole and nothing else is there, 1 where some were listed that aren't whole, and 2 where
-the root was refused, or an object could not be judged, or something isn't the program's and was left out. That of `join` is 0 where all was
-moved and nothing is left but the roots' own files and empty folders, 1 where the places that it lists were taken, and 2 where something was
-refused, or could not be moved, or isn't the program's and was left out. Standard error says what; what can be listed and moved is, also at
-status 2.
+The status of `damaged` is 0 where every object is whole and nothing else is there, and 1 where it listed those that aren't whole. That of `join`
+is 0 where all was moved and nothing is left but the roots' own files and empty folders, and 1 where the places that it lists were taken. Both
+are 2 where something was refused, or could not be judged or moved, or isn't the program's and was left out. Standard error says what; what can
+be listed and moved is, also at status 2.
 """
 
 import argparse
@@ -420,24 +419,19 @@ def move_all(root, other):
     return taken
 
 
-def roots_of(paths, last):
-    """The roots at these paths; refused with all that is against any of them."""
-    roots, faults = [], []
-    for path in paths:
-        try:
-            roots.append(Root(path, last))
-        except Refused as error:
-            faults += error.args
-    if faults:
-        raise Refused(*faults)
-    return roots
-
-
 def join(paths):
-    """Moves the objects of other roots into the first, and gives the status."""
+    """Moves the objects of other roots into the first, and gives the status. What is against any of them is told at once."""
     open_at_most(3 * len(paths) + 64)
+    roots, faults = [], []
     with contextlib.ExitStack() as last:
-        root, *others = roots = roots_of(paths, last)
+        for path in paths:
+            try:
+                roots.append(Root(path, last))
+            except Refused as error:
+                faults += error.args
+        if faults:
+            raise Refused(*faults)
+        root, *others = roots
         agree(roots)
         held = set()
         for it in roots:
