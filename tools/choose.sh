@@ -11,16 +11,12 @@ if [ "${1-}" = --link ]; then
 fi
 cpuinfo=${1:-/proc/cpuinfo}
 
-# What each processor has, between spaces, once where all have the same.
-flags=$(sed -n 's/^flags[[:space:]]*:[[:space:]]*\(.*\)/ \1 /p' "$cpuinfo" 2> /dev/null | LC_ALL=C sort -u)
+# What each processor has, a line each, between spaces.
+flags=$(sed -n 's/^flags[[:space:]]*:[[:space:]]*\(.*\)/ \1 /p' "$cpuinfo" 2> /dev/null) || flags=
 cpu=x86-64-v3
-[ "$(printf '%s\n' "$flags" | wc -l)" -eq 1 ] || cpu=x86-64-v2
 # abm is the name of LZCNT here; the system tells avx only where it keeps its registers.
 for flag in abm avx avx2 bmi1 bmi2 f16c fma movbe; do
-    case $flags in
-        *" $flag "*) ;;
-        *) cpu=x86-64-v2 ;;
-    esac
+    ! printf '%s\n' "$flags" | grep -v " $flag " > /dev/null || cpu=x86-64-v2
 done
 
 if [ -n "$prefix" ]; then

@@ -381,7 +381,7 @@ def choosing(program, folder):
         lacking = [(maker, WHOLE.replace(f" {flag}", "")) for flag in ("movbe", "avx", "f16c", "abm", "bmi1", "avx2", "bmi2", "fma")]
         rows += [(processors(*[(maker, WHOLE)] * count), "x86-64-v3") for count in (1, 4)]
         rows += [(processors(*several), "x86-64-v2") for one in lacking for several in ([one], [(maker, WHOLE), one], [one, (maker, WHOLE)])]
-    rows += [(processors(*((maker, WHOLE) for maker in makers)), "x86-64-v3")]
+    rows += [(processors(*((maker, f"{WHOLE} {maker.lower()}") for maker in makers)), "x86-64-v3")]
     rows += [("", "x86-64-v2"), (f"flags\t\t: {WHOLE}\n", "x86-64-v3"), (f"vendor_id\t: {makers[0]}\n", "x86-64-v2")]
     faults, script = [], f"{TOP}/tools/choose.sh"
     os.mkdir(f"{folder}/bin")
