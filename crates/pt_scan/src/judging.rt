@@ -140,14 +140,7 @@ fn find_place<O: Io>(
         }
         Some(_) => {
             let at = object_at(&state.trail, site, index)?;
-            put_present(
-                state.alloc,
-                out,
-                &at,
-                &candidate.id,
-                &candidate.place,
-                &mut state.counts,
-            )?;
+            put_present(state.alloc, out, &at, &candidate, &mut state.counts)?;
             Ok(Phase::Walk)
         }
     }

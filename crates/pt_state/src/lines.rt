@@ -6,7 +6,7 @@ ghost use Rattle.pt_plan.specs.ToldLines.{done_of};
 ghost use Rattle.pt_state.specs.Turns.{Told, WroteBy};
 
 use crate::{Io, Report};
-use pt_name::Identifier;
+use pt_name::Candidate;
 use pt_plan::Fault;
 use pt_plan::lines::{ToldObject, done_line, end_line, present_line, skip_line};
 use pt_tree::NamePath;
@@ -30,20 +30,19 @@ pub fn put_done<O: Io>(
     Ok(())
 }
 
-/// Tells that an object's place is taken already.
+/// Tells that the place of an object at this path is taken already.
 pub fn put_present<O: Io>(
     alloc: Global,
     out: &mut O,
     at: &NamePath,
-    id: &Identifier,
-    to: &NamePath,
+    object: &Candidate,
     counts: &mut Report,
 ) -> Result<(), Fault>
     requires { counts.old.present < 2 ^ 40 }
-    ensures { Told O.Io (PresentLine at.now id.now to.now)
+    ensures { Told O.Io (PresentLine at.now object.now.id object.now.place)
         (counts.old, out.old) (counts.new, out.new) result }
 {
-    let present = present_line(alloc, at, id, to)?;
+    let present = present_line(alloc, at, &object.id, &object.place)?;
     out.put(present.as_bytes())?;
     counts.present += 1;
     Ok(())
