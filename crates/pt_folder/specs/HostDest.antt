@@ -1,5 +1,5 @@
 -- What a folder as a destination tells, and what its calls ask of the system and leave.
-use Rattle.std.specs.Prelude.{◌≡◌, ◌⊎◌, ℕ, List, Option, None, Result, Err, IfSome, IsSome, IsSomeAnd, String}
+use Rattle.std.specs.Prelude.{◌≡◌, ◌⊎◌, ℕ, Bool, List, Option, None, Result, Err, IfSome, IsSome, IsSomeAnd, String}
 use Rattle.std.specs.Global.{Global}
 use Rattle.std.specs.declared.io.Error.{Error}
 use Rattle.pt_tree.specs.Dest.{Writing}
@@ -24,6 +24,7 @@ use Rattle.pt_folder.specs.declared.unsynced_change.UnsyncedChange.{UnsyncedChan
 use Rattle.pt_folder.specs.declared.system.Handle.{Ghosts as OfHandle}
 use Rattle.pt_folder.specs.declared.system.Input.{Ghosts as OfInput}
 use Rattle.pt_folder.specs.declared.system.System.{Ghosts as OfSystem}
+use Rattle.pt_folder.specs.declared.writing.Writing.{Writing as Open}
 use Rattle.pt_tree.specs.declared.kind.Kind.{Kind}
 
 module _ {S F D : Type 0} {sys : OfSystem S F D} {handle : OfHandle F} {file : OfInput F}
@@ -36,6 +37,10 @@ module _ {S F D : Type 0} {sys : OfSystem S F D} {handle : OfHandle F} {file : O
   abbrev pub folder_path : HostDest S F D sys handle file dir → List ℕ
   folder_path d = d.folder.path.now
 
+  -- the folder, with its path
+  abbrev pub folder_of : HostDest S F D sys handle file dir → Folder
+  folder_of d = d.folder
+
   -- the failure that is kept
   abbrev pub failure_of : HostDest S F D sys handle file dir → Option Failure
   failure_of d = d.desk.last.failure
@@ -43,6 +48,18 @@ module _ {S F D : Type 0} {sys : OfSystem S F D} {handle : OfHandle F} {file : O
   -- the greatest length of a path at which something is made
   abbrev pub longest_of : HostDest S F D sys handle file dir → ℕ
   longest_of d = d.longest
+
+  -- whether files are put onto the disk
+  abbrev pub synced_of : HostDest S F D sys handle file dir → Bool
+  synced_of d = d.synced
+
+  -- the open file
+  abbrev pub writing_of : HostDest S F D sys handle file dir → Option (Open F)
+  writing_of d = d.writing
+
+  -- how many calls failed
+  abbrev pub failures_of : HostDest S F D sys handle file dir → ℕ
+  failures_of d = d.failures
 
   -- what is stuck
   abbrev pub stuck_of : HostDest S F D sys handle file dir → Option UnsyncedChange

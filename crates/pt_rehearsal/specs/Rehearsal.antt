@@ -8,7 +8,7 @@ use Rattle.pt_tree.specs.declared.faults.TreeFault.TheVariants.{Device, Memory}
 use Rattle.pt_tree.specs.declared.kind.Kind.{Kind}
 use Rattle.pt_tree.specs.declared.kind.Kind.TheVariants.{Dir}
 use Rattle.pt_folder.specs.Calls.{LeadsToKind}
-use Rattle.pt_folder.specs.HostDest.{Looks, Peeks, told as told_by}
+use Rattle.pt_folder.specs.HostDest.{Looks, Peeks, failures_of, system_of, told as told_by}
 use Rattle.pt_folder.specs.declared.system.Handle.{Ghosts as OfHandle}
 use Rattle.pt_folder.specs.declared.system.Input.{Ghosts as OfInput}
 use Rattle.pt_folder.specs.declared.system.System.{Ghosts as OfSystem}
@@ -52,18 +52,18 @@ module _ {S F D : Type 0} {sys : OfSystem S F D} {handle : OfHandle F} {file : O
   pub record IsCall {T : Type 0} (old new : Rehearsal S F D sys handle file dir)
       (result : Result T TreeFault) : Type 0 where
     pub keeps : IsSame old new
-    pub failures : IsCounted old.dest.failures new.dest.failures result
+    pub failures : IsCounted (failures_of old.dest) (failures_of new.dest) result
 
   -- the answer is from memory; or what stands there stands in the folder, and the system is asked once to look
   abbrev pub LooksUnlessKnown : (old new : Rehearsal S F D sys handle file dir) → Path
       → Result (Option Kind) TreeFault → Type 0
   LooksUnlessKnown old new p result =
-      ((new.dest.desk.system ≡ old.dest.desk.system) × IsFromMemory (seen_at (view old.remembered) p) result)
+      ((system_of new.dest ≡ system_of old.dest) × IsFromMemory (seen_at (view old.remembered) p) result)
       ⊎ ((seen_at (view old.remembered) p ≡ seen.Standing) × Looks LeadsToKind old.dest new.dest p result)
 
   -- the same of first bytes
   abbrev pub PeeksUnlessKnown : (old new : Rehearsal S F D sys handle file dir) → Path → List ℕ
       → Result (Unit {0}) TreeFault → Type 0
   PeeksUnlessKnown old new p block result =
-      ((new.dest.desk.system ≡ old.dest.desk.system) × IsNotPeeked (seen_at (view old.remembered) p) result)
+      ((system_of new.dest ≡ system_of old.dest) × IsNotPeeked (seen_at (view old.remembered) p) result)
       ⊎ ((seen_at (view old.remembered) p ≡ seen.Standing) × Peeks old.dest new.dest p block result)

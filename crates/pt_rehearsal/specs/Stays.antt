@@ -3,7 +3,7 @@ use Rattle.std.specs.Prelude.{◌≡◌, ◌≢◌, ◌⊎◌, [], length, OnOk,
 use Rattle.pt_tree.specs.Path.{Path}
 use Rattle.pt_tree.specs.declared.faults.TreeFault.{TreeFault}
 use Rattle.pt_folder.specs.Calls.{IsThere}
-use Rattle.pt_folder.specs.HostDest.{Looks}
+use Rattle.pt_folder.specs.HostDest.{Looks, folder_of, folder_path, kept_by, longest_of, stuck_of, synced_of, system_of, writing_of}
 use Rattle.pt_folder.specs.Settings.{IsSetAs}
 use Rattle.pt_folder.specs.declared.dest.HostDest.{HostDest}
 use Rattle.pt_folder.specs.declared.system.Handle.{Ghosts as OfHandle}
@@ -15,17 +15,17 @@ module _ {S F D : Type 0} {sys : OfSystem S F D} {handle : OfHandle F} {file : O
   -- the same folder, with the same settings and open file, and the same stuck, of which the system keeps what it kept
   abbrev pub Stays : (old new : HostDest S F D sys handle file dir) → Type 0
   Stays old new =
-      (new.folder ≡ old.folder)
-      × IsSetAs old.longest old.synced new.longest new.synced
-      × (new.writing ≡ old.writing)
-      × (new.stuck ≡ old.stuck)
-      × (sys.kept new.desk.system old.folder.path.now ≡ sys.kept old.desk.system old.folder.path.now)
+      (folder_of new ≡ folder_of old)
+      × IsSetAs (longest_of old) (synced_of old) (longest_of new) (synced_of new)
+      × (writing_of new ≡ writing_of old)
+      × (stuck_of new ≡ stuck_of old)
+      × (sys.kept (system_of new) (folder_path old) ≡ kept_by old)
 
   -- nothing is asked, as of an entry that isn't right in the folder, or where it is refused; or the system is asked once to
   -- look at the folder itself, and a failed look is the answer
   abbrev pub LooksAtFolder : (old new : HostDest S F D sys handle file dir) → Path
       → Result (Unit {0}) TreeFault → Type 0
   LooksAtFolder old new p result =
-      ((new.desk.system ≡ old.desk.system) × OnOk result (length p ≢ 1))
+      ((system_of new ≡ system_of old) × OnOk result (length p ≢ 1))
       ⊎ ((looked : Result (Unit {0}) TreeFault) × Looks IsThere old new [] looked
       × OnErr looked (result ≡ looked))

@@ -5,7 +5,7 @@ ghost use Rattle.pt_folder.specs.Calls.{CannotMake};
 ghost use Rattle.pt_folder.specs.DestHeld.{told_of};
 ghost use Rattle.pt_folder.specs.Failure.{OnDevice};
 ghost use Rattle.pt_folder.specs.Folder.{entry_text};
-ghost use Rattle.pt_folder.specs.HostDest.{folder_path, kept_by, lasting, longest_of, stuck_of, system_of, told as told_by};
+ghost use Rattle.pt_folder.specs.HostDest.{failures_of, folder_path, kept_by, lasting, longest_of, stuck_of, system_of, told as told_by};
 ghost use Rattle.pt_rehearsal.specs.Fitting.{FitsTold};
 ghost use Rattle.pt_tree.specs.Failures.{IsCounted};
 ghost use Rattle.pt_rehearsal.specs.Stays.{LooksAtFolder, Stays};
@@ -74,7 +74,7 @@ impl<'a, S: System> Dest for Rehearsal<'a, S> {
 
     ghost told = { told };
 
-    ghost failed = { λ d. d.dest.failures };
+    ghost failed = { λ d. failures_of d.dest };
 
     // Nothing is made or changed: the system keeps of the folder what it kept.
     ghost keeps = { IsSame };
@@ -86,7 +86,7 @@ impl<'a, S: System> Dest for Rehearsal<'a, S> {
       (q.1.0 ∙ p.1.0, q.1.1 ∙ p.1.1),
       q.2 ∙ p.2,
       q.3 ∙ p.3,
-      subst (λ f. S.kept c.dest.desk.system f.path.now ≡ S.kept b.dest.desk.system f.path.now)
+      subst (λ f. S.kept (system_of c.dest) f.path.now ≡ S.kept (system_of b.dest) f.path.now)
           p.0 q.4 ∙ p.4,
     ) };
 
@@ -228,7 +228,7 @@ fn may_make_dir<S: System>(dest: &mut HostDest<'_, S>, path: &NamePath) -> Resul
     ensures refused { OnDevice result ((length path.now ≡ 1)
         ⊎ CannotMake (longest_of dest.old) (folder_path dest.old) path.now) }
     ensures stays { Stays dest.old dest.new }
-    ensures failures { IsCounted dest.old.failures dest.new.failures result }
+    ensures failures { IsCounted (failures_of dest.old) (failures_of dest.new) result }
 {
     dest.may_make(path)?;
     if path.len() == 1 {
