@@ -186,7 +186,7 @@ module _ (here next : Phase) (s s' : State) (told told' : Option Reading) where
 
 -- a turn that looks
 pub looks : (here next : Phase) (s s' : State) (told told' : Option Reading) (w : Option Writing) (l l' : Option (List ℕ)) (a b c a' b' c' : ℕ) (count : ℕ) → is_looking here ≡ true → IsSurvey told count (record { phase = here; state = s })
-    → CountedTurn here s s' (states told (Some bare) l a b c) (states told' w l' a' b' c') (Ok next) → GoesOn told told' l l' count (record { phase = here; state = s }) (record { phase = passed next; state = s' })
+    → CountedTurn here s s' (states told (Some bare) l a b c) (states told' w l' a' b' c') (Ok next) → GoesOn (told, l) (told', l') count (record { phase = here; state = s }) (record { phase = passed next; state = s' })
 unfolding CountedTurn Did
 looks here next s s' told told' w l l' a b c a' b' c' count looking it counted =
     let made = counted.1 it.fed (fed_going s.job.algorithm s.hasher it.fed (going here it.stands) it.was) in
@@ -196,7 +196,7 @@ looks here next s s' told told' w l l' a b c a' b' c' count looking it counted =
     later = history_after here next (held_of s it.fed) it.past
 
     by : (fed' : List ℕ) → HasBeenFed s.job.algorithm s'.hasher fed' → Turn (job_of s.job) here (turning (kept_of s it.fed)) (kept_of s' fed') (states told (Some bare) l a b c) (states told' w l' a' b' c') (Ok next)
-        → GoesOn told told' l l' count (record { phase = here; state = s }) (record { phase = passed next; state = s' })
+        → GoesOn (told, l) (told', l') count (record { phase = here; state = s }) (record { phase = passed next; state = s' })
     by fed' was (TurnGoesOn calls _ follows did counts) = record {
       next = later.count;
       is = survey_on here next s s' told told' it fed' counted.0 was (past_on here next s s' told told' follows did.0.source counts it.is) (within_on here next s s' told told' follows did.0.source counts it.is it.within) (looks_on looking follows);
@@ -223,7 +223,7 @@ line_follows (Place (place.TellsDone _ _)) = (refl, refl)
 
 -- the object at hand is passed
 pub passes : (object : Object) (next : Phase) (s s' : State) (told told' : Option Reading) (w : Option Writing) (l : Option (List ℕ)) (a b c a' b' c' : ℕ) (count : ℕ) → IsSurvey told count (record { phase = phase.Carrying object stage.Line; state = s })
-    → CountedTurn (phase.Carrying object stage.Line) s s' (states told (Some bare) None a b c) (states told' w None a' b' c') (Ok next) → GoesOn told told' l l count (record { phase = phase.Carrying object stage.Line; state = s }) (record { phase = passed next; state = s' })
+    → CountedTurn (phase.Carrying object stage.Line) s s' (states told (Some bare) None a b c) (states told' w None a' b' c') (Ok next) → GoesOn (told, l) (told', l) count (record { phase = phase.Carrying object stage.Line; state = s }) (record { phase = passed next; state = s' })
 unfolding CountedTurn Did Puts
 passes object next s s' told told' w l a b c a' b' c' count it counted =
     let made = counted.1 it.fed (fed_going s.job.algorithm s.hasher it.fed (going (phase.Carrying object stage.Line) it.stands) it.was) in
@@ -233,7 +233,7 @@ passes object next s s' told told' w l a b c a' b' c' count it counted =
     later = history_after (phase.Carrying object stage.Line) next (held_of s it.fed) it.past
 
     by : (fed' : List ℕ) → HasBeenFed s.job.algorithm s'.hasher fed' → Turn (job_of s.job) (phase.Carrying object stage.Line) (turning (kept_of s it.fed)) (kept_of s' fed') (states told (Some bare) None a b c) (states told' w None a' b' c') (Ok next)
-        → GoesOn told told' l l count (record { phase = phase.Carrying object stage.Line; state = s }) (record { phase = passed next; state = s' })
+        → GoesOn (told, l) (told', l) count (record { phase = phase.Carrying object stage.Line; state = s }) (record { phase = passed next; state = s' })
     by fed' was (TurnGoesOn calls _ follows did kept) =
         let walks = line_follows follows in
         record {
@@ -369,10 +369,10 @@ the_object _ is = absurd (true≢false (sym is))
 
 -- over whatever log
 pub passes_there : (here next : Phase) (s s' : State) (told told' : Option Reading) (w : Option Writing) (l : Option (List ℕ)) (a b c a' b' c' : ℕ) (count : ℕ) → is_at_hand here ≡ true → IsSurvey told count (record { phase = here; state = s })
-    → CountedTurn here s s' (states told (Some bare) None a b c) (states told' w None a' b' c') (Ok next) → GoesOn told told' l l count (record { phase = here; state = s }) (record { phase = passed next; state = s' })
+    → CountedTurn here s s' (states told (Some bare) None a b c) (states told' w None a' b' c') (Ok next) → GoesOn (told, l) (told', l) count (record { phase = here; state = s }) (record { phase = passed next; state = s' })
 passes_there here next s s' told told' w l a b c a' b' c' count is it counted =
     let line = the_object here is in
-    subst (λ (p : Phase). GoesOn told told' l l count (record { phase = p; state = s }) (record { phase = passed next; state = s' })) (sym line.1)
+    subst (λ (p : Phase). GoesOn (told, l) (told', l) count (record { phase = p; state = s }) (record { phase = passed next; state = s' })) (sym line.1)
     (passes line.0 next s s' told told' w l a b c a' b' c' count (subst (λ (p : Phase). IsSurvey told count (record { phase = p; state = s })) line.1 it)
     (subst (λ (p : Phase). CountedTurn p s s' (states told (Some bare) None a b c) (states told' w None a' b' c') (Ok next)) line.1 counted))
 
@@ -387,7 +387,7 @@ looking_is told here s it off more = by here (of_survey told (record { phase = h
 
 -- what it leaves
 pub leaves_ok : (here next : Phase) (s s' : State) (told told' : Option Reading) (v : Option Writing) (l l' : Option (List ℕ)) (a c a' c' : ℕ) → Surveys told (record { phase = here; state = s }) → CountedTurn here s s' (states told (Some bare) l a 0 c) (states told' v l' a' 0 c') (Ok next)
-    → Leaves told told' l l' a a' c c' s.job (Ok (passed next))
+    → Leaves (states told (Some bare) l a 0 c) (states told' (Some bare) l' a' 0 c') s.job (Ok (passed next))
 leaves_ok here next s s' told told' v l l' a c a' c' it counted = record {
   tree = tree_of_turn here s s' told told' (Some bare) v l l' a 0 c a' 0 c' (Ok next) it counted;
   grows = log_of_turn here s s' told told' (Some bare) v l l' a 0 c a' 0 c' (Ok next) it counted;
@@ -396,7 +396,7 @@ leaves_ok here next s s' told told' v l l' a c a' c' it counted = record {
 }
 
 pub leaves_err : (here : Phase) (why : Fault) (s s' : State) (told told' : Option Reading) (v : Option Writing) (l l' : Option (List ℕ)) (a c a' c' : ℕ) → Surveys told (record { phase = here; state = s }) → CountedTurn here s s' (states told (Some bare) l a 0 c) (states told' v l' a' 0 c') (Err why)
-    → Leaves told told' l l' a a' c c' s.job (Err why)
+    → Leaves (states told (Some bare) l a 0 c) (states told' (Some bare) l' a' 0 c') s.job (Err why)
 leaves_err here why s s' told told' v l l' a c a' c' it counted = record {
   tree = tree_of_turn here s s' told told' (Some bare) v l l' a 0 c a' 0 c' (Err why) it counted;
   grows = log_of_turn here s s' told told' (Some bare) v l l' a 0 c a' 0 c' (Err why) it counted;
@@ -405,7 +405,7 @@ leaves_err here why s s' told told' v l l' a c a' c' it counted = record {
 }
 
 -- of a turn that tells nothing, over a log that isn't touched
-pub leaves_log : {told told' : Option Reading} (l : Option (List ℕ)) {a a' : ℕ} (c : ℕ) {job : own.Job} {result : Result Phase Fault} → Leaves told told' None None a a' 0 0 job result → Leaves told told' l l a a' c c job result
+pub leaves_log : {told told' : Option Reading} (l : Option (List ℕ)) {a a' : ℕ} (c : ℕ) {job : own.Job} {result : Result Phase Fault} → Leaves (states told (Some bare) None a 0 0) (states told' (Some bare) None a' 0 0) job result → Leaves (states told (Some bare) l a 0 c) (states told' (Some bare) l a' 0 c) job result
 leaves_log l c {result = Ok next} it = record { tree = it.tree; grows = grows_none l; blames = record { source_is = it.blames.source_is; log_is = refl; no_dest = tt }; says = tt }
 leaves_log l c {result = Err why} it = record { tree = it.tree; grows = grows_none l; blames = record { source_is = it.blames.source_is; log_is = never why it.blames.log_is; no_dest = it.blames.no_dest }; says = it.says }
   where
@@ -417,11 +417,11 @@ leaves_log l c {result = Err why} it = record { tree = it.tree; grows = grows_no
 
 -- so it is where the object at hand was passed
 pub leaves_passed : (here next : Phase) (s s' : State) (told told' : Option Reading) (v : Option Writing) (l : Option (List ℕ)) (c a a' : ℕ) → Surveys told (record { phase = here; state = s }) → CountedTurn here s s' (states told (Some bare) None a 0 0) (states told' v None a' 0 0) (Ok next)
-    → Leaves told told' l l a a' c c s.job (Ok (passed next))
+    → Leaves (states told (Some bare) l a 0 c) (states told' (Some bare) l a' 0 c) s.job (Ok (passed next))
 leaves_passed here next s s' told told' v l c a a' it counted = leaves_log l c (leaves_ok here next s s' told told' v None None a 0 a' 0 it counted)
 
 pub leaves_halted : (here : Phase) (why : Fault) (s s' : State) (told told' : Option Reading) (v : Option Writing) (l : Option (List ℕ)) (c a a' : ℕ) → Surveys told (record { phase = here; state = s }) → CountedTurn here s s' (states told (Some bare) None a 0 0) (states told' v None a' 0 0) (Err why)
-    → Leaves told told' l l a a' c c s.job (Err why)
+    → Leaves (states told (Some bare) l a 0 c) (states told' (Some bare) l a' 0 c) s.job (Err why)
 leaves_halted here why s s' told told' v l c a a' it counted = leaves_log l c (leaves_err here why s s' told told' v None None a 0 a' 0 it counted)
 
 pub well_ok : (here next : Phase) (s s' : State) (told told' : Option Reading) (v : Option Writing) (l l' : Option (List ℕ)) (a b c a' b' c' : ℕ) → Surveys told (record { phase = here; state = s }) → TypeInvariant (record { phase = here; state = s }) → s.counts.turns < s.job.limits.turns
@@ -480,30 +480,30 @@ says_step {T} answer why job at source is says = subst (λ (r : Result T Fault).
 
 module _ (here next : Phase) (s s' : State) (told told' : Option Reading) (v : Option Writing) (l l' : Option (List ℕ)) (a c a' c' : ℕ) (at : Phase) where
   pub step_looks : (count : ℕ) → at ≡ passed next → is_looking here ≡ true → CountedTurn here s s' (states told (Some bare) l a 0 c) (states told' v l' a' 0 c') (Ok next) → IsSurvey told count (record { phase = here; state = s })
-      → GoesOn told told' l l' count (record { phase = here; state = s }) (record { phase = at; state = s' })
-  step_looks count is looking counted it = subst (λ (p : Phase). GoesOn told told' l l' count (record { phase = here; state = s }) (record { phase = p; state = s' })) (sym is) (looks here next s s' told told' v l l' a 0 c a' 0 c' count looking it counted)
+      → GoesOn (told, l) (told', l') count (record { phase = here; state = s }) (record { phase = at; state = s' })
+  step_looks count is looking counted it = subst (λ (p : Phase). GoesOn (told, l) (told', l') count (record { phase = here; state = s }) (record { phase = p; state = s' })) (sym is) (looks here next s s' told told' v l l' a 0 c a' 0 c' count looking it counted)
 
   pub step_well : at ≡ passed next → IsReady told here s → CountedTurn here s s' (states told (Some bare) l a 0 c) (states told' v l' a' 0 c') (Ok next) → TypeInvariant (record { phase = at; state = s' })
   step_well is ready counted = subst (λ (p : Phase). TypeInvariant (record { phase = p; state = s' })) (sym is) (well_ok here next s s' told told' v l l' a 0 c a' 0 c' ready.under_way ready.well ready.within counted)
 
-  pub step_leaves : at ≡ passed next → IsReady told here s → CountedTurn here s s' (states told (Some bare) l a 0 c) (states told' v l' a' 0 c') (Ok next) → Leaves told told' l l' a a' c c' s.job (Ok at)
-  step_leaves is ready counted = subst (λ (p : Phase). Leaves told told' l l' a a' c c' s.job (Ok p)) (sym is) (leaves_ok here next s s' told told' v l l' a c a' c' ready.under_way counted)
+  pub step_leaves : at ≡ passed next → IsReady told here s → CountedTurn here s s' (states told (Some bare) l a 0 c) (states told' v l' a' 0 c') (Ok next) → Leaves (states told (Some bare) l a 0 c) (states told' (Some bare) l' a' 0 c') s.job (Ok at)
+  step_leaves is ready counted = subst (λ (p : Phase). Leaves (states told (Some bare) l a 0 c) (states told' (Some bare) l' a' 0 c') s.job (Ok p)) (sym is) (leaves_ok here next s s' told told' v l l' a c a' c' ready.under_way counted)
 
   pub step_passes : (count : ℕ) → at ≡ passed next → is_at_hand here ≡ true → CountedTurn here s s' (states told (Some bare) None a 0 0) (states told' v None a' 0 0) (Ok next) → IsSurvey told count (record { phase = here; state = s })
-      → GoesOn told told' l l count (record { phase = here; state = s }) (record { phase = at; state = s' })
-  step_passes count is line counted it = subst (λ (p : Phase). GoesOn told told' l l count (record { phase = here; state = s }) (record { phase = p; state = s' })) (sym is) (passes_there here next s s' told told' v l a 0 0 a' 0 0 count line it counted)
+      → GoesOn (told, l) (told', l) count (record { phase = here; state = s }) (record { phase = at; state = s' })
+  step_passes count is line counted it = subst (λ (p : Phase). GoesOn (told, l) (told', l) count (record { phase = here; state = s }) (record { phase = p; state = s' })) (sym is) (passes_there here next s s' told told' v l a 0 0 a' 0 0 count line it counted)
 
-  pub step_leaves_log : at ≡ passed next → IsReady told here s → CountedTurn here s s' (states told (Some bare) None a 0 0) (states told' v None a' 0 0) (Ok next) → Leaves told told' l l a a' c c s.job (Ok at)
-  step_leaves_log is ready counted = subst (λ (p : Phase). Leaves told told' l l a a' c c s.job (Ok p)) (sym is) (leaves_passed here next s s' told told' v l c a a' ready.under_way counted)
+  pub step_leaves_log : at ≡ passed next → IsReady told here s → CountedTurn here s s' (states told (Some bare) None a 0 0) (states told' v None a' 0 0) (Ok next) → Leaves (states told (Some bare) l a 0 c) (states told' (Some bare) l a' 0 c) s.job (Ok at)
+  step_leaves_log is ready counted = subst (λ (p : Phase). Leaves (states told (Some bare) l a 0 c) (states told' (Some bare) l a' 0 c) s.job (Ok p)) (sym is) (leaves_passed here next s s' told told' v l c a a' ready.under_way counted)
 
 module _ (here : Phase) (why : Fault) (s s' : State) (told told' : Option Reading) (v : Option Writing) (l l' : Option (List ℕ)) (a c a' c' : ℕ) (answer : Answer) where
   pub halt_well : answer ≡ Err why → IsReady told here s → CountedTurn here s s' (states told (Some bare) l a 0 c) (states told' v l' a' 0 c') (Err why) → TypeInvariant (record { phase = phase_after answer; state = s' })
   halt_well is ready counted = subst (λ (r : Answer). TypeInvariant (record { phase = phase_after r; state = s' })) (sym is) (well_err here why s s' told told' v l l' a 0 c a' 0 c' ready.under_way ready.well ready.within counted)
 
-  pub halt_leaves : answer ≡ Err why → IsReady told here s → CountedTurn here s s' (states told (Some bare) l a 0 c) (states told' v l' a' 0 c') (Err why) → Leaves told told' l l' a a' c c' s.job answer
-  halt_leaves is ready counted = subst (λ (r : Answer). Leaves told told' l l' a a' c c' s.job r) (sym is) (leaves_err here why s s' told told' v l l' a c a' c' ready.under_way counted)
+  pub halt_leaves : answer ≡ Err why → IsReady told here s → CountedTurn here s s' (states told (Some bare) l a 0 c) (states told' v l' a' 0 c') (Err why) → Leaves (states told (Some bare) l a 0 c) (states told' (Some bare) l' a' 0 c') s.job answer
+  halt_leaves is ready counted = subst (λ (r : Answer). Leaves (states told (Some bare) l a 0 c) (states told' (Some bare) l' a' 0 c') s.job r) (sym is) (leaves_err here why s s' told told' v l l' a c a' c' ready.under_way counted)
 
-  pub halt_leaves_log : answer ≡ Err why → IsReady told here s → CountedTurn here s s' (states told (Some bare) None a 0 0) (states told' v None a' 0 0) (Err why) → Leaves told told' l l a a' c c s.job answer
-  halt_leaves_log is ready counted = subst (λ (r : Answer). Leaves told told' l l a a' c c s.job r) (sym is) (leaves_halted here why s s' told told' v l c a a' ready.under_way counted)
+  pub halt_leaves_log : answer ≡ Err why → IsReady told here s → CountedTurn here s s' (states told (Some bare) None a 0 0) (states told' v None a' 0 0) (Err why) → Leaves (states told (Some bare) l a 0 c) (states told' (Some bare) l a' 0 c) s.job answer
+  halt_leaves_log is ready counted = subst (λ (r : Answer). Leaves (states told (Some bare) l a 0 c) (states told' (Some bare) l a' 0 c) s.job r) (sym is) (leaves_halted here why s s' told told' v l c a a' ready.under_way counted)
 
 pub ruleset steps = (may_look, stands_so, fed_so, looking_is, new_survey, says_no_turn, says_ended, says_step, grows_none, step_looks, step_well, step_leaves, step_passes, step_leaves_log, halt_well, halt_leaves, halt_leaves_log)

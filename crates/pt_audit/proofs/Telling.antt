@@ -7,7 +7,7 @@ use Rattle.std.specs.Io.KnownBytes.{Appends}
 use Rattle.std.proofs.lemmas.Bool.{true≢false}
 use Rattle.std.proofs.lemmas.List.{drop-map}
 use Rattle.std.proofs.lemmas.Option.{slice_get-get_or}
-use Rattle.pt_audit.specs.Auditing.{CanCompare, EndsAs, Finds, GoesOn as AuditGoesOn, Nothing, HasToldOf, IsAt, IsFoundAtHand, IsFoundOf, IsSeen, IsTwinAtHand, IsUnderWay, CanGoOn, Leads, Next, is_told, Passes, TellsOf, Told, counted, last_text, sought, sought_at_hand, told_at}
+use Rattle.pt_audit.specs.Auditing.{CanCompare, EndsAs, Finds, GoesOn as AuditGoesOn, Nothing, HasToldOf, IsAt, IsFoundAtHand, IsFoundOf, IsSeen, IsTwinAtHand, IsUnderWay, CanGoOn, Leads, Next, is_told, Passes, TellsOf, Told, counted, last_text, sought, sought_at_hand, start_over, told_at}
 use Rattle.pt_audit.specs.Counting.{counts_with, no_counts}
 use Rattle.pt_audit.specs.Layout.{IsOfLayout}
 use Rattle.pt_audit.specs.Twin.{is_differing, is_twin}
@@ -152,7 +152,7 @@ saw_on job source root old count next counts skipped now new (WasAtHand it) puts
 
 -- a step of the survey was made
 pub seen_after : (told told' : Option Reading) (source root : Option Forest) (first now new : Option (List ℕ)) (counts : Counts) (before after : Running) → source_tree told ≡ source → (is_before_store before.phase ≡ true → is_before_sites after.phase ≡ true)
-    → (it : IsUnderWay told source root first now counts before) → GoesOn told told' now new it.count before after → IsSeen told' source root first new counts after
+    → (it : IsUnderWay told (start_over source root first) now counts before) → GoesOn (told, now) (told', new) it.count before after → IsSeen told' (start_over source root first) new counts after
 seen_after told told' source root first now new counts before after same order it on = record {
   count = on.next;
   is = on.is;
@@ -177,7 +177,7 @@ sites_after (phase.Opening (opening.Prefix _)) other later = later
 sites_after _ other later = later
 
 -- more is to be seen
-pub goes_on : {told : Option Reading} {source root : Option Forest} {first : Option (List ℕ)} (now : Option (List ℕ)) (counts : Counts) (r : Running) (what : SurveyEvent) → sight_at r.phase ≡ what → is_told what ≡ false → IsSeen told source root first now counts r → IsUnderWay told source root first now counts r
+pub goes_on : {told : Option Reading} {source root : Option Forest} {first : Option (List ℕ)} (now : Option (List ℕ)) (counts : Counts) (r : Running) (what : SurveyEvent) → sight_at r.phase ≡ what → is_told what ≡ false → IsSeen told (start_over source root first) now counts r → IsUnderWay told (start_over source root first) now counts r
 goes_on now counts r what is more it = record {
   count = it.count;
   is = it.is;
@@ -185,7 +185,7 @@ goes_on now counts r what is more it = record {
   opened = λ later. it.opened (sites_after r.phase (λ store. absurd (true≢false (sym (ap is_told (sym is ∙ store)) ∙ more))) later);
 }
 
-pub goes_on_store : {told : Option Reading} {source root : Option Forest} {first : Option (List ℕ)} (now : Option (List ℕ)) (counts : Counts) (r : Running) → sight_at r.phase ≡ sight.Store → CanGoOn root r → IsSeen told source root first now counts r → IsUnderWay told source root first now counts r
+pub goes_on_store : {told : Option Reading} {source root : Option Forest} {first : Option (List ℕ)} (now : Option (List ℕ)) (counts : Counts) (r : Running) → sight_at r.phase ≡ sight.Store → CanGoOn root r → IsSeen told (start_over source root first) now counts r → IsUnderWay told (start_over source root first) now counts r
 goes_on_store now counts r is layout it = record {
   count = it.count;
   is = it.is;
@@ -305,11 +305,11 @@ line_so told twin (found.Differs difference) = refl
 -- its line was put, and it is counted
 pub told_object : (told again : Option Reading) (source root : Option Forest) (first now new : Option (List ℕ)) (counts : Counts) (r : Running) (at : hand.AtHand) (finding : Comparison) (twin : Bool) (text : List ℕ) (job : own.Job) (later : Counts) → job ≡ r.state.job → later ≡ counts_with finding counts → sight_at r.phase ≡ sight.Object → source_tree told ≡ source → source_tree again ≡ source_tree told
     → IsHand r (Some at) → IsFoundAtHand job at source root finding → IsTwinAtHand source r at.told.id.now finding twin → text ≡ audit.line_text (audit.line_by (audit.told_of at.told) twin finding) → Appends now new text
-    → IsSeen told source root first now counts r → IsUnderWay again source root first new later r
+    → IsSeen told (start_over source root first) now counts r → IsUnderWay again (start_over source root first) new later r
 told_object told again source root first now new counts r at finding twin text job later job_is counted_is is tree same mine found_there twin_there line puts it = record {
   count = it.count;
   is = source_again is same it.is;
-  so_far = subst (λ (k : Counts). HasToldOf (job_of r.state.job) source root first new (told_at r.phase it.count) (counted k r)) (sym counted_is) (λ s e o f old g.
+  so_far = subst (λ (k : Counts). HasToldOf (job_of r.state.job) (start_over source root first) new (told_at r.phase it.count) (counted k r)) (sym counted_is) (λ s e o f old g.
       let told_is = reading_of told (tree ∙ e) in
       let had = it.so_far s e o f old g in
       let item = subst (λ (t : Forest). HasAtHand (job_of r.state.job) t it.count here.0 (held_of r.state [])) told_is.2
@@ -356,7 +356,7 @@ told_object told again source root first now new counts r at finding twin text j
 -- ---- the end
 
 pub told_end : (told : Option Reading) (source root : Option Forest) (first now new : Option (List ℕ)) (counts : Counts) (r : Running) → sight_at r.phase ≡ sight.End → source_tree told ≡ source → Appends now new (last_text (counted counts r))
-    → IsSeen told source root first now counts r → EndsAs (job_of r.state.job) source root first new (counted counts r)
+    → IsSeen told (start_over source root first) now counts r → EndsAs (job_of r.state.job) source root first new (counted counts r)
 told_end told source root first now new counts r is tree puts it = λ s e o f old g.
     let had = it.so_far s e o f old g in
     let told_is = reading_of told (tree ∙ e) in
@@ -408,32 +408,32 @@ not_told what (inr (inl is)) = ap is_told is
 not_told what (inr (inr (inl is))) = ap is_told is
 not_told what (inr (inr (inr is))) = ap is_told is
 
-pub on_more : {told : Option Reading} {source root : Option Forest} {first : Option (List ℕ)} (now : Option (List ℕ)) (counts : Counts) (r : Running) (what : SurveyEvent) → is_told what ≡ false → IsAt told what r → IsSeen told source root first now counts r → IsUnderWay told source root first now counts r
+pub on_more : {told : Option Reading} {source root : Option Forest} {first : Option (List ℕ)} (now : Option (List ℕ)) (counts : Counts) (r : Running) (what : SurveyEvent) → is_told what ≡ false → IsAt told what r → IsSeen told (start_over source root first) now counts r → IsUnderWay told (start_over source root first) now counts r
 on_more now counts r what more at it = goes_on now counts r what (sym at.saw) more it
 
-pub on_store : {told : Option Reading} {source root : Option Forest} {first : Option (List ℕ)} (now : Option (List ℕ)) (counts : Counts) (r : Running) (job : own.Job) → job ≡ r.state.job → ForSome root (IsOfLayout (job_of job)) → IsAt told sight.Store r → IsSeen told source root first now counts r → IsUnderWay told source root first now counts r
+pub on_store : {told : Option Reading} {source root : Option Forest} {first : Option (List ℕ)} (now : Option (List ℕ)) (counts : Counts) (r : Running) (job : own.Job) → job ≡ r.state.job → ForSome root (IsOfLayout (job_of job)) → IsAt told sight.Store r → IsSeen told (start_over source root first) now counts r → IsUnderWay told (start_over source root first) now counts r
 on_store {root} now counts r job same layout at it = goes_on_store now counts r (sym at.saw) (subst (λ (j : own.Job). ForSome root (IsOfLayout (job_of j))) same layout) it
 
-pub on_end : (told : Option Reading) (what : SurveyEvent) (root : Option Forest) (first now new : Option (List ℕ)) (counts last : Counts) (r : Running) → what ≡ sight.End → IsAt told what r → last ≡ counted counts r → Appends now new (last_text last) → IsSeen told (source_tree told) root first now counts r
+pub on_end : (told : Option Reading) (what : SurveyEvent) (root : Option Forest) (first now new : Option (List ℕ)) (counts last : Counts) (r : Running) → what ≡ sight.End → IsAt told what r → last ≡ counted counts r → Appends now new (last_text last) → IsSeen told (start_over (source_tree told) root first) now counts r
     → EndsAs (job_of r.state.job) (source_tree told) root first new (counted counts r) × CanGoOn root r
 on_end told what root first now new counts last r end at is puts it = (told_end told (source_tree told) root first now new counts r (sym at.saw ∙ end) refl (subst (λ (k : Counts). Appends now new (last_text k)) is puts) it, it.opened (ap is_before_sites (end_at r.phase (sym at.saw ∙ end))))
 
 -- ---- a step, and what was told of it
 
-pub surveys_on : (told told' : Option Reading) (now new : Option (List ℕ)) (before after : Running) → Surveys told before → ((count : ℕ) → IsSurvey told count before → GoesOn told told' now new count before after) → Surveys told' after
+pub surveys_on : (told told' : Option Reading) (now new : Option (List ℕ)) (before after : Running) → Surveys told before → ((count : ℕ) → IsSurvey told count before → GoesOn (told, now) (told', new) count before after) → Surveys told' after
 unfolding Surveys
 surveys_on told told' now new before after (count, it) on = let later = on count it in (later.next, later.is)
 
-pub step_told : (more : Bool) (told told' told'' : Option Reading) (root root' : Option Forest) (first now new last : Option (List ℕ)) (counts later : Counts) (before after : Running) → source_tree told' ≡ source_tree told → root' ≡ root → (is_before_store before.phase ≡ true → is_before_sites after.phase ≡ true) → ((count : ℕ) → IsSurvey told count before → GoesOn told told' now new count before after)
-    → ((first : Option (List ℕ)) → IsSeen told' (source_tree told') root' first new counts after → AuditGoesOn more told'' (source_tree told') root' first last later after) → IsUnderWay told (source_tree told) root first now counts before → AuditGoesOn more told'' (source_tree told) root first last later after
+pub step_told : (more : Bool) (told told' told'' : Option Reading) (root root' : Option Forest) (first now new last : Option (List ℕ)) (counts later : Counts) (before after : Running) → source_tree told' ≡ source_tree told → root' ≡ root → (is_before_store before.phase ≡ true → is_before_sites after.phase ≡ true) → ((count : ℕ) → IsSurvey told count before → GoesOn (told, now) (told', new) count before after)
+    → ((first : Option (List ℕ)) → IsSeen told' (start_over (source_tree told') root' first) new counts after → AuditGoesOn more told'' (start_over (source_tree told') root' first) last later after) → IsUnderWay told (start_over (source_tree told) root first) now counts before → AuditGoesOn more told'' (start_over (source_tree told) root first) last later after
 step_told more told told' told'' root root' first now new last counts later before after same stays order on tells it =
-    subst (λ (s : Option Forest). AuditGoesOn more told'' s root first last later after) same
-    (subst (λ (t : Option Forest). AuditGoesOn more told'' (source_tree told') t first last later after) stays
-    (tells first (subst (λ (s : Option Forest). IsSeen told' s root' first new counts after) (sym same)
-    (subst (λ (t : Option Forest). IsSeen told' (source_tree told) t first new counts after) (sym stays) (seen_after told told' (source_tree told) root first now new counts before after refl order it (on it.count it.is))))))
+    subst (λ (s : Option Forest). AuditGoesOn more told'' (start_over s root first) last later after) same
+    (subst (λ (t : Option Forest). AuditGoesOn more told'' (start_over (source_tree told') t first) last later after) stays
+    (tells first (subst (λ (s : Option Forest). IsSeen told' (start_over s root' first) new counts after) (sym same)
+    (subst (λ (t : Option Forest). IsSeen told' (start_over (source_tree told) t first) new counts after) (sym stays) (seen_after told told' (source_tree told) root first now new counts before after refl order it (on it.count it.is))))))
 
 -- an audit that is to begin
-pub first_step : (job : own.Job) (told : Option Reading) (source root : Option Forest) (first : Option (List ℕ)) (counts : Counts) (r : Running) → IsNew job r → IsSurvey told 0 r → counts ≡ no_counts → IsUnderWay told source root first first counts r
+pub first_step : (job : own.Job) (told : Option Reading) (source root : Option Forest) (first : Option (List ℕ)) (counts : Counts) (r : Running) → IsNew job r → IsSurvey told 0 r → counts ≡ no_counts → IsUnderWay told (start_over source root first) first counts r
 first_step job told source root first counts r new it none = record {
   count = 0;
   is = it;
@@ -451,20 +451,20 @@ unfolding Surveys
 surveys_first told count r it = (count, it)
 
 -- over trees that are the same
-pub same_trees : (more : Bool) (told : Option Reading) (source source' root root' : Option Forest) (first now : Option (List ℕ)) (counts : Counts) (r : Running) → more ≡ true → source' ≡ source → root' ≡ root → AuditGoesOn more told source root first now counts r → IsUnderWay told source' root' first now counts r
+pub same_trees : (more : Bool) (told : Option Reading) (source source' root root' : Option Forest) (first now : Option (List ℕ)) (counts : Counts) (r : Running) → more ≡ true → source' ≡ source → root' ≡ root → AuditGoesOn more told (start_over source root first) now counts r → IsUnderWay told (start_over source' root' first) now counts r
 same_trees more told source source' root root' first now counts r is s o it =
-    subst (λ (t : Option Forest). IsUnderWay told t root' first now counts r) (sym s) (subst (λ (t : Option Forest). IsUnderWay told source t first now counts r) (sym o) (subst (λ (b : Bool). AuditGoesOn b told source root first now counts r) is it))
+    subst (λ (t : Option Forest). IsUnderWay told (start_over t root' first) now counts r) (sym s) (subst (λ (t : Option Forest). IsUnderWay told (start_over source t first) now counts r) (sym o) (subst (λ (b : Bool). AuditGoesOn b told (start_over source root first) now counts r) is it))
 
-pub same_end : (more : Bool) (job : own.Job) (told : Option Reading) (source source' root root' : Option Forest) (first now : Option (List ℕ)) (counts result : Counts) (r : Running) → more ≡ false → r.state.job ≡ job → result ≡ counted counts r → source' ≡ source → root' ≡ root → AuditGoesOn more told source root first now counts r → EndsAs (job_of job) source' root' first now result
+pub same_end : (more : Bool) (job : own.Job) (told : Option Reading) (source source' root root' : Option Forest) (first now : Option (List ℕ)) (counts result : Counts) (r : Running) → more ≡ false → r.state.job ≡ job → result ≡ counted counts r → source' ≡ source → root' ≡ root → AuditGoesOn more told (start_over source root first) now counts r → EndsAs (job_of job) source' root' first now result
 same_end more job told source source' root root' first now counts result r is j k s o it =
     subst (λ (x : own.Job). EndsAs (job_of x) source' root' first now result) j
     (subst (λ (x : Counts). EndsAs (job_of r.state.job) source' root' first now x) (sym k)
     (subst (λ (t : Option Forest). EndsAs (job_of r.state.job) t root' first now (counted counts r)) (sym s)
-    (subst (λ (t : Option Forest). EndsAs (job_of r.state.job) source t first now (counted counts r)) (sym o) (subst (λ (b : Bool). AuditGoesOn b told source root first now counts r) is it).0)))
+    (subst (λ (t : Option Forest). EndsAs (job_of r.state.job) source t first now (counted counts r)) (sym o) (subst (λ (b : Bool). AuditGoesOn b told (start_over source root first) now counts r) is it).0)))
 
-pub same_layout : (more : Bool) (job : own.Job) (told : Option Reading) (source root root' : Option Forest) (first now : Option (List ℕ)) (counts : Counts) (r : Running) → more ≡ false → r.state.job ≡ job → root' ≡ root → AuditGoesOn more told source root first now counts r → ForSome root' (IsOfLayout (job_of job))
+pub same_layout : (more : Bool) (job : own.Job) (told : Option Reading) (source root root' : Option Forest) (first now : Option (List ℕ)) (counts : Counts) (r : Running) → more ≡ false → r.state.job ≡ job → root' ≡ root → AuditGoesOn more told (start_over source root first) now counts r → ForSome root' (IsOfLayout (job_of job))
 same_layout more job told source root root' first now counts r is j o it =
     subst (λ (x : own.Job). ForSome root' (IsOfLayout (job_of x))) j
-    (subst (λ (t : Option Forest). ForSome t (IsOfLayout (job_of r.state.job))) (sym o) (subst (λ (b : Bool). AuditGoesOn b told source root first now counts r) is it).1)
+    (subst (λ (t : Option Forest). ForSome t (IsOfLayout (job_of r.state.job))) (sym o) (subst (λ (b : Bool). AuditGoesOn b told (start_over source root first) now counts r) is it).1)
 
 pub ruleset auditing = (no_hand, surveys_again, can_compare, at_object, on_store, on_end, surveys_on, first_step, same_trees, same_end, same_layout)

@@ -86,12 +86,22 @@ pub data Told (job : Job) (source root : Forest) : ℕ → List ℕ → Counts �
 
 -- ---- an audit under way
 
--- where the trees of store and root are told, and the log told this at first: it has got the text of the first so many items, of which these are the counts
-abbrev pub HasToldOf : Job → Option Forest → Option Forest → Option (List ℕ) → Option (List ℕ) → ℕ → Counts → Type 0
-HasToldOf job source root first now count counts =
-    ForSome source
-    (λ s. ForSome root
-    (λ r. ForSome first
+-- what an audit began over, as far as it is told: the trees of store and root, and what the log told
+pub record AuditStart : Type 0 where
+  pub source : Option Forest
+  pub root : Option Forest
+  pub log : Option (List ℕ)
+
+-- over these
+abbrev pub start_over : Option Forest → Option Forest → Option (List ℕ) → AuditStart
+start_over source root log = record { source = source; root = root; log = log }
+
+-- where all three were told, the log has got the text of the first so many items, of which these are the counts
+abbrev pub HasToldOf : Job → AuditStart → Option (List ℕ) → ℕ → Counts → Type 0
+HasToldOf job start now count counts =
+    ForSome start.source
+    (λ s. ForSome start.root
+    (λ r. ForSome start.log
     (λ old. (text : List ℕ) × (now ≡ Some (old ++ text)) × Told job s r count text counts)))
 
 -- with those that the survey passed over
@@ -108,12 +118,12 @@ abbrev pub CanGoOn : Option Forest → Running → Type 0
 CanGoOn root r = ForSome root (IsOfLayout (job_of r.state.job))
 
 -- a step of the survey was made, and of nothing is told yet that it came to
-pub record IsSeen (told : Option Reading) (source root : Option Forest) (first now : Option (List ℕ))
+pub record IsSeen (told : Option Reading) (start : AuditStart) (now : Option (List ℕ))
     (counts : Counts) (r : Running) : Type 0 where
   pub count : ℕ
   pub is : IsSurvey told count r
-  pub so_far : HasToldOf (job_of r.state.job) source root first now count (counted counts r)
-  pub opened : is_before_sites r.phase ≡ false → CanGoOn root r
+  pub so_far : HasToldOf (job_of r.state.job) start now count (counted counts r)
+  pub opened : is_before_sites r.phase ≡ false → CanGoOn start.root r
 
 -- something is told or looked at that a step came to
 abbrev pub is_told : SurveyEvent → Bool
@@ -128,13 +138,12 @@ pub record IsAt (told : Option Reading) (what : SurveyEvent) (r : Running) : Typ
   pub saw : what ≡ sight_at r.phase
 
 -- between two steps
-pub record IsUnderWay (told : Option Reading) (source root : Option Forest) (first now : Option (List ℕ))
+pub record IsUnderWay (told : Option Reading) (start : AuditStart) (now : Option (List ℕ))
     (counts : Counts) (r : Running) : Type 0 where
   pub count : ℕ
   pub is : IsSurvey told count r
-  pub so_far : HasToldOf (job_of r.state.job) source root first now
-      (told_at r.phase count) (counted counts r)
-  pub opened : is_before_store r.phase ≡ false → CanGoOn root r
+  pub so_far : HasToldOf (job_of r.state.job) start now (told_at r.phase count) (counted counts r)
+  pub opened : is_before_store r.phase ≡ false → CanGoOn start.root r
 
 -- what is sought at the place of the object at hand
 abbrev pub sought_at_hand : own.Job → AtHand → Forest → Sought
@@ -185,8 +194,8 @@ EndsAs job source root first now counts =
     (λ old. (text : List ℕ) × (now ≡ Some (old ++ text)) × IsAuditLog job s r text counts)))
 
 -- a step leaves the audit under way, or ended with these counts
-abbrev pub GoesOn : Bool → Option Reading → Option Forest → Option Forest → Option (List ℕ)
-    → Option (List ℕ) → Counts → Running → Type 0
-GoesOn true told source root first now counts r = IsUnderWay told source root first now counts r
-GoesOn false told source root first now counts r =
-    EndsAs (job_of r.state.job) source root first now (counted counts r) × CanGoOn root r
+abbrev pub GoesOn : Bool → Option Reading → AuditStart → Option (List ℕ) → Counts → Running → Type 0
+GoesOn true told start now counts r = IsUnderWay told start now counts r
+GoesOn false told start now counts r =
+    EndsAs (job_of r.state.job) start.source start.root start.log now (counted counts r)
+    × CanGoOn start.root r

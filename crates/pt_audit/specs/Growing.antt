@@ -5,7 +5,7 @@ use Rattle.std.specs.Io.KnownBytes.{Appends}
 use Rattle.pt_move.specs.Counting.{Counts}
 use Rattle.pt_plan.specs.declared.fault.Fault.{Fault}
 use Rattle.pt_plan.specs.declared.fault.Fault.TheVariants as fault
-use Rattle.pt_plan.specs.DeviceStates.{source_tree}
+use Rattle.pt_plan.specs.DeviceStates.{DeviceStates, source_tree}
 use Rattle.pt_plan.specs.declared.phase.Phase.{Phase}
 use Rattle.pt_state.specs.declared.job.Job.{Job}
 use Rattle.pt_audit.specs.Surveying.{SurveySays}
@@ -45,9 +45,9 @@ pub record BlamesRightly {T : Type 0} (source source' log log' : ℕ) (result : 
   pub no_dest : IfErr result (λ f. f ≢ fault.Dest)
 
 -- what a turn leaves outside, whatever it answers: the source's tree is as it was, the log has grown, devices are blamed rightly, and a refusal is true and never that it has ended
-pub record Leaves (told told' : Option Reading) (old new : Option (List ℕ)) (source source' log log' : ℕ)
-    (job : Job) (result : Result Phase Fault) : Type 0 where
-  pub tree : source_tree told' ≡ source_tree told
-  pub grows : Grows old new
-  pub blames : BlamesRightly source source' log log' result
-  pub says : IfErr result (λ why. (here : Phase) → SurveySays job here (source_tree told) why)
+pub record Leaves (old new : DeviceStates) (job : Job) (result : Result Phase Fault) : Type 0 where
+  pub tree : source_tree new.source ≡ source_tree old.source
+  pub grows : Grows old.log new.log
+  pub blames : BlamesRightly old.failures.source new.failures.source
+      old.failures.log new.failures.log result
+  pub says : IfErr result (λ why. (here : Phase) → SurveySays job here (source_tree old.source) why)

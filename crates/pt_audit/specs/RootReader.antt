@@ -3,7 +3,7 @@ use Rattle.std.specs.Prelude.{◌≡◌, ◌≢◌, ◌≤◌, ◌⊎◌, ℕ, z
 use Rattle.std.specs.Bool.{OnTrue}
 use Rattle.std.specs.Global.{Global}
 use Rattle.std.specs.Option.{ForSome}
-use Rattle.pt_audit.specs.Auditing.{IsUnderWay}
+use Rattle.pt_audit.specs.Auditing.{IsUnderWay, start_over}
 use Rattle.pt_audit.specs.declared.counts.Counts.{Counts}
 use Rattle.pt_audit.specs.declared.root_reader.RootReader.{RootReader}
 use Rattle.pt_compare.specs.Beside.{StandsAlike}
@@ -193,7 +193,7 @@ pub record FollowsOn (source root : Option Reading) (b : RootReader) (r : Runnin
 -- nothing was told yet, with these counts
 pub record Begins (source root : Option Reading) (log : Option (List ℕ)) (counts : Counts)
     (b : RootReader) (r : Running) : Type 0 where
-  pub under_way : IsUnderWay source (tree_in source) (tree_in root) log log counts r
+  pub under_way : IsUnderWay source (start_over (tree_in source) (tree_in root) log) log counts r
   pub follows : FollowsOn source root b r
 
 -- so it is where a step was made that came to this

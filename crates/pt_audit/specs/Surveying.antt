@@ -230,12 +230,12 @@ pub record Saw (source : Forest) (count next : ℕ) (before after : Running) (ol
   pub skips : after.state.counts.skipped
       ≡ before.state.counts.skipped + count_by is_skipped (option_to_list line)
 
--- the survey goes on after a step: so many items are seen, and, where the source tells, this was seen
-pub record GoesOn (told told' : Option Reading) (old new : Option (List ℕ)) (count : ℕ)
+-- the survey goes on after a step, before and after which source and log tell this: so many items are seen, and, where the source tells, this was seen
+pub record GoesOn (old new : Option Reading × Option (List ℕ)) (count : ℕ)
     (before after : Running) : Type 0 where
   pub next : ℕ
-  pub is : IsSurvey told' next after
-  pub saw : ForSome told (λ s. Saw s.tree count next before after old new)
+  pub is : IsSurvey new.0 next after
+  pub saw : ForSome old.0 (λ s. Saw s.tree count next before after old.1 new.1)
   pub job : after.state.job ≡ before.state.job
 
 -- ---- the object at hand

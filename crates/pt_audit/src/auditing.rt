@@ -1,6 +1,6 @@
 //! A whole audit.
 ghost use Rattle.std.specs.Prelude.{◌≡◌, ◌≢◌, ℕ, IfErr, IfOk, List, OnOk, Option, Some, drop, length};
-ghost use Rattle.pt_audit.specs.Auditing.{EndsAs, GoesOn, IsFoundAtHand, IsSeen, IsTwinAtHand, IsUnderWay, counted, last_text};
+ghost use Rattle.pt_audit.specs.Auditing.{EndsAs, GoesOn, IsFoundAtHand, IsSeen, IsTwinAtHand, IsUnderWay, counted, last_text, start_over};
 ghost use Rattle.std.specs.Bool.{OnFalse, OnTrue};
 ghost use Rattle.std.specs.Option.{ForSome};
 ghost use Rattle.std.specs.Io.KnownBytes.{Appends};
@@ -152,10 +152,11 @@ impl Auditor {
         requires { FollowsOn (S.told source.old) (R.told root.old)
             self.old.beside self.old.survey }
         ensures on { (first : Option (List ℕ)) → IsUnderWay (S.told source.old)
-            (tree_in (S.told source.old)) (tree_in (R.told root.old)) first (L.told log.old)
-            self.old.counts self.old.survey
-            → IfOk result (λ more. GoesOn more (S.told source.new) (tree_in (S.told source.old))
-            (tree_in (R.told root.old)) first (L.told log.new) self.new.counts self.new.survey) }
+            (start_over (tree_in (S.told source.old)) (tree_in (R.told root.old)) first)
+            (L.told log.old) self.old.counts self.old.survey
+            → IfOk result (λ more. GoesOn more (S.told source.new)
+            (start_over (tree_in (S.told source.old)) (tree_in (R.told root.old)) first)
+            (L.told log.new) self.new.counts self.new.survey) }
         ensures still { IfOk result (λ more. Steps (source_tree (S.told source.old))
             self.old.survey self.new.survey
             × Follows (S.told source.new) (R.told root.new) self.new.beside self.new.survey
@@ -186,10 +187,11 @@ impl Auditor {
     ) -> Result<StepTold, Fault>
         requires { Saw (S.told source.old) (R.told root.old) self.now.beside sight self.now.survey }
         ensures on { (first : Option (List ℕ)) → IsSeen (S.told source.old)
-            (tree_in (S.told source.old)) (tree_in (R.told root.old)) first (L.told log.old)
-            self.now.counts self.now.survey
-            → IfOk result (λ it. GoesOn it.more (S.told source.new) (tree_in (S.told source.old))
-            (tree_in (R.told root.old)) first (L.told log.new) it.counts self.now.survey) }
+            (start_over (tree_in (S.told source.old)) (tree_in (R.told root.old)) first)
+            (L.told log.old) self.now.counts self.now.survey
+            → IfOk result (λ it. GoesOn it.more (S.told source.new)
+            (start_over (tree_in (S.told source.old)) (tree_in (R.told root.old)) first)
+            (L.told log.new) it.counts self.now.survey) }
         ensures still { IfOk result (λ it. Follows (S.told source.new) (R.told root.new)
             self.now.beside self.now.survey × OnFalse it.more (self.now.survey.phase ≡ phase.End)
             × OnTrue it.more (self.now.survey.phase ≢ phase.End)) }
@@ -241,10 +243,11 @@ impl Auditor {
             self.now.beside self.now.survey }
         requires at_hand { sight_at self.now.survey.phase ≡ sight.Object }
         ensures on { (first : Option (List ℕ)) → IsSeen (S.told source.old)
-            (tree_in (S.told source.old)) (tree_in (R.told root.old)) first (L.told log.old)
-            self.now.counts self.now.survey
-            → IfOk result (λ counts. IsUnderWay (S.told source.new) (tree_in (S.told source.old))
-            (tree_in (R.told root.old)) first (L.told log.new) counts self.now.survey) }
+            (start_over (tree_in (S.told source.old)) (tree_in (R.told root.old)) first)
+            (L.told log.old) self.now.counts self.now.survey
+            → IfOk result (λ counts. IsUnderWay (S.told source.new)
+            (start_over (tree_in (S.told source.old)) (tree_in (R.told root.old)) first)
+            (L.told log.new) counts self.now.survey) }
         ensures still { OnOk result (Surveys (S.told source.new) self.now.survey) }
         ensures source { KeepsRoot S.told S.keeps source.old source.new }
         ensures root { KeepsRoot R.told R.keeps root.old root.new }
@@ -334,8 +337,8 @@ fn see<S: Source, R: Root, L: Log>(
 ) -> Result<SurveyEvent, Fault>
     requires { FollowsOn (S.told source.old) (R.told root.old) beside.old survey.old }
     ensures on { (count : ℕ) → IsSurvey (S.told source.old) count survey.old
-        → OnOk result (SurveyGoesOn (S.told source.old) (S.told source.new)
-        (L.told log.old) (L.told log.new) count survey.old survey.new) }
+        → OnOk result (SurveyGoesOn (S.told source.old, L.told log.old)
+        (S.told source.new, L.told log.new) count survey.old survey.new) }
     ensures saw { IfOk result (λ what. Steps (source_tree (S.told source.old)) survey.old survey.new
         × Saw (S.told source.new) (R.told root.new) beside.new what survey.new) }
     ensures source { KeepsRoot S.told S.keeps source.old source.new }

@@ -125,8 +125,8 @@ impl Survey {
     ) -> Result<SurveyEvent, Fault>
         requires { Surveys (S.told source.old) self.old }
         ensures on { (count : ℕ) → IsSurvey (S.told source.old) count self.old
-            → OnOk result (GoesOn (S.told source.old) (S.told source.new)
-            (L.told log.old) (L.told log.new) count self.old self.new) }
+            → OnOk result (GoesOn (S.told source.old, L.told log.old)
+            (S.told source.new, L.told log.new) count self.old self.new) }
         ensures sight { IfOk result (λ sight. sight ≡ sight_at self.new.phase) }
         ensures made { OnOk result (MakesStep (S.told source.old) (S.told source.new)
             self.old self.new) }
@@ -233,14 +233,12 @@ fn stepped<S: Source, L: Log>(
     requires more { here ≢ phase.End }
     ensures on { (count : ℕ)
         → IsSurvey (S.told source.old) count (record { phase = here; state = state.old })
-        → IfOk result (λ next. GoesOn (S.told source.old) (S.told source.new)
-        (L.told log.old) (L.told log.new) count (record { phase = here; state = state.old })
+        → IfOk result (λ next. GoesOn (S.told source.old, L.told log.old)
+        (S.told source.new, L.told log.new) count (record { phase = here; state = state.old })
         (record { phase = next; state = state.new })) }
     ensures well { TypeInvariant (record { phase = phase_after result; state = state.new }) }
-    ensures leaves { Leaves (S.told source.old) (S.told source.new)
-        (L.told log.old) (L.told log.new)
-        (S.failed source.old) (S.failed source.new) (L.failed log.old) (L.failed log.new)
-        state.old.job result }
+    ensures leaves { Leaves (bare_states S.Source L.Log source.old log.old)
+        (bare_states S.Source L.Log source.new log.new) state.old.job result }
     ensures made { IfOk result (λ next. MakesStep (S.told source.old) (S.told source.new)
         (record { phase = here; state = state.old })
         (record { phase = next; state = state.new })) }

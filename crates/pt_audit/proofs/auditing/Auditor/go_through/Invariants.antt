@@ -1,5 +1,5 @@
 use Rattle.std.proofs.Common.{◌≡◌, ◌-◌, ℕ}
-use Rattle.pt_audit.specs.Auditing.{IsUnderWay}
+use Rattle.pt_audit.specs.Auditing.{IsUnderWay, start_over}
 use Rattle.pt_audit.specs.RootReader.{FollowsOn}
 use Rattle.pt_audit.specs.Bounds.{Surveyed}
 use Rattle.pt_audit.specs.Failing.{failures}
@@ -10,7 +10,7 @@ use Rattle.pt_audit.proofs.auditing.Auditor.go_through.Given as goal
 
 abbrev pub invariant-loop-more : goal.invariant-loop-more
 invariant-loop-more g l =
-    IsUnderWay (g.S.Source.told l.source) (tree_in (g.S.Source.told l.source)) (tree_in (g.R.Source.told l.root)) (g.L.Log.told l.fn.log) (g.L.Log.told l.log) l.self.counts l.self.survey
+    IsUnderWay (g.S.Source.told l.source) (start_over (tree_in (g.S.Source.told l.source)) (tree_in (g.R.Source.told l.root)) (g.L.Log.told l.fn.log)) (g.L.Log.told l.log) l.self.counts l.self.survey
     × FollowsOn (g.S.Source.told l.source) (g.R.Source.told l.root) l.self.beside l.self.survey
     × (l.self.survey.state.job ≡ l.fn.self.survey.state.job)
     × KeepsRoot g.S.Source.told g.S.Source.keeps l.fn.source l.source
