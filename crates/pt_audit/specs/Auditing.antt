@@ -92,7 +92,7 @@ pub record AuditStart : Type 0 where
   pub root : Option Forest
   pub log : Option (List ℕ)
 
--- over these
+-- the start over these trees, where the log told this
 abbrev pub start_over : Option Forest → Option Forest → Option (List ℕ) → AuditStart
 start_over source root log = record { source = source; root = root; log = log }
 
