@@ -1,4 +1,4 @@
-use Rattle.std.proofs.Common.{rules, arith}
+use Rattle.std.proofs.Common.{arith, rules}
 use Rattle.pt_guard.proofs.guard.begin.Goals as goal
 
 pub returns-in-Taken : goal.returns-in-Taken
