@@ -283,8 +283,7 @@ impl NamePath {
         let [first, others @ ..] = self.names() else {
             return Ok(());
         };
-        first.add_to(text)?;
-        let mut end = text.len();
+        let mut end = put_first(first, others, text)?;
         for (i, name) in others.iter().enumerate() {
             end = put_next(name, others, others.len() - 1 - i, text, end)?;
         }
@@ -324,6 +323,29 @@ impl PartialEq for NamePath {
 
 impl Eq for NamePath {
     ghost laws = { lists_equiv nat_list_eq_equiv };
+}
+
+// Adds a name at the end of a text, and gives the new end. Behind it zeros are made for the others, if the next is short.
+fn put_first(name: &Name, others: &[Name], text: &mut Vec<u8>) -> Result<usize, MemoryFault>
+    ensures bytes { IfOk result (λ n. take n text.new.items ≡ text.old.items ++ name.now) }
+    ensures within { IfOk result (λ n. n ≤ length text.new.items) }
+    ensures name { IsTrue (is_name name.now) }
+{
+    name.add_to(text)?;
+    let end = text.len();
+    add_zeros_for(others, text);
+    Ok(end)
+}
+
+// Makes zeros behind a text for names, as `add_zeros` does, if the first of them is short.
+fn add_zeros_for(names: &[Name], text: &mut Vec<u8>)
+    ensures { take (length text.old.items) text.new.items ≡ text.old.items }
+{
+    if let Some(next) = names.first()
+        && next.short().is_some()
+    {
+        add_zeros(text, names.len());
+    }
 }
 
 // Adds a slash and a name at the end of a text, and gives the new end. Zeros may stand behind it, before and afterwards, over which a short

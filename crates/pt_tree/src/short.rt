@@ -71,6 +71,7 @@ impl Short {
 
     // Adds what stands from a place on, as `extend_from_slice` of it does: all up to the array's end is copied, a length that the
     // compiler knows, and the text is cut behind the bytes. It asks for room for all that is copied.
+    #[inline(always)]
     fn add_from(&self, start: usize, text: &mut Vec<u8>) -> Result<(), MemoryFault>
         requires { start ≤ 1 }
         ensures { OnOk result (text.new.items
