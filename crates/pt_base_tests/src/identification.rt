@@ -31,12 +31,12 @@ impl Holds for Row {
 // The path isn't empty, and this is said of its object.
 fn is_identified(path: &NamePath, prefix: &str, share: u32, said: &Said) -> bool {
     match (Layout::of(0, 0), Share::of(share, 2)) {
-        (Ok(layout), Ok(share)) => path.len() > 0 && says(path, prefix, layout, share, said),
+        (Ok(layout), Ok(share)) => path.len() > 0 && says(path, prefix, layout, &share, said),
         _ => false,
     }
 }
 
-fn says(path: &NamePath, prefix: &str, layout: Layout, share: Share, said: &Said) -> bool
+fn says(path: &NamePath, prefix: &str, layout: Layout, share: &Share, said: &Said) -> bool
     requires { 0 < length path.now }
 {
     match identify(path, prefix, layout, share) {

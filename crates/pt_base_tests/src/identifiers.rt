@@ -2,7 +2,7 @@
 use crate::tables::{Holds, all_hold, gives_bytes, gives_text, refuses};
 use pt_memory::texts::path;
 use pt_name::*;
-use std::alloc::Global;
+use std::alloc::{AllocError, Global};
 
 enum Row {
     // An identifier, its pairpath and its place in the default layout.
@@ -159,6 +159,8 @@ enum Form {
     NotHeld(u32, u32, &'static [u8]),
     // The share that is the whole is the first one.
     WholeIsFirst,
+    // Texts, an identifier, and whether the whole holds it of which only what begins with the texts is taken.
+    Begins(&'static [&'static str], &'static [u8], bool),
 }
 
 impl Holds for Form {
@@ -177,6 +179,10 @@ impl Holds for Form {
             Form::Shares(id, numbers) => find_missed_count(id, numbers).is_none(),
             Form::NotHeld(index, count, id) => is_held(*index, *count, id, false),
             Form::WholeIsFirst => Share::whole().is_first(),
+            Form::Begins(texts, id, answer) => match owned(alloc, texts) {
+                Ok(texts) => Share::whole().only(texts).holds(id) == *answer,
+                Err(_) => false,
+            },
         }
     }
 }
@@ -348,6 +354,27 @@ const NOT_HELD: &[Form] = &[
     Form::WholeIsFirst,
 ];
 
+// Copies of texts.
+fn owned(alloc: Global, texts: &[&str]) -> Result<Vec<String>, AllocError> {
+    let mut owned = Vec::new(alloc);
+    for text in texts {
+        owned.push(String::from_str(alloc, text)?)?;
+    }
+    Ok(owned)
+}
+
+const BEGINS: &[Form] = &[
+    Form::Begins(&[], b"abc", true),
+    Form::Begins(&["ab"], b"abc", true),
+    Form::Begins(&["abc"], b"abc", true),
+    Form::Begins(&["abcd"], b"abc", false),
+    Form::Begins(&["bc"], b"abc", false),
+    Form::Begins(&["x", "a"], b"abc", true),
+    Form::Begins(&["x", "B"], b"bc", false),
+    Form::Begins(&["\u{e9}"], b"\xc3\xa9a", true),
+    Form::Begins(&["a"], b"", false),
+];
+
 const NO_SHARES: &[Form] = &[
     Form::NoShare(0, 0, ShareFault::Zero),
     Form::NoShare(0, 5000, ShareFault::Zero),
@@ -407,6 +434,7 @@ fn layouts_and_shares_keep_within_their_ranges(rt: HostRuntime) {
         "shares hold no other identifiers",
         NOT_HELD,
     );
+    all_hold(&rt, rt.alloc(), "beginnings of identifiers", BEGINS);
     all_hold(&rt, rt.alloc(), "shares that are refused", NO_SHARES);
 }
 

@@ -1,10 +1,14 @@
--- The number of the share that an identifier is of.
-use Rattle.std.proofs.Common.{◌≡◌, ◌<◌, ℕ, ◌^◌, List, arith, slice_index}
+-- The number of the share that an identifier is of, and how it begins.
+use Rattle.std.proofs.Common.{◌≡◌, ◌<◌, ℕ, ◌^◌, Bool, true, List, [], ◌∷◌, ◌∙◌, arith, length, map, refl, slice_index, sym}
+use Rattle.std.specs.Global.{Global}
+use Rattle.std.specs.List.{list_any}
+use Rattle.std.specs.Prelude.{◌||◌, String}
+use Rattle.std.specs.String.{string_bytes}
 use Rattle.std.proofs.lemmas.List.Elements.{All-get_or}
 use Rattle.sha2.specs.Sha256.{sha256}
 use Rattle.sha2.proofs.Facts256.{length-sha256}
 use Rattle.pt_name.proofs.Digits.{All-sha256}
-use Rattle.pt_name.specs.Share.{digest_number, share_number}
+use Rattle.pt_name.specs.Share.{begins_so, begins_with, digest_number, share_number}
 
 -- a byte of a digest
 small_byte : (id : List ℕ) (i : ℕ) → i < 32 → slice_index (sha256 id) i < 256
@@ -23,3 +27,19 @@ digest_number-small id =
 -- of one share each identifier is
 pub whole_number : (id : List ℕ) → share_number 1 id ≡ 1
 whole_number id = let small = digest_number-small id in omega (arith, small)
+
+-- ---- texts
+
+any_mapped : {A B : Type 0} (f : A → B) (test : B → Bool) (xs : List A) → list_any test (map f xs) ≡ list_any (λ x. test (f x)) xs
+any_mapped f test [] = refl
+any_mapped f test (x ∷ xs) = λ i. test (f x) || any_mapped f test xs i
+
+-- where there is no text each identifier begins so
+pub begun_by_any : (texts : List (String Global)) (id : List ℕ) → length texts ≡ 0 → true ≡ begins_so (map string_bytes texts) id
+begun_by_any [] id none = refl
+begun_by_any (text ∷ texts) id none = absurd (omega (arith, none))
+
+-- where there is one it begins with one of them
+pub begun_by_one : (texts : List (String Global)) (id : List ℕ) (b : Bool) → 0 < length texts → b ≡ list_any (λ t. begins_with (string_bytes t) id) texts → b ≡ begins_so (map string_bytes texts) id
+begun_by_one [] id b some is = absurd (omega (arith, some))
+begun_by_one (text ∷ texts) id b some is = is ∙ sym (any_mapped string_bytes (λ t. begins_with t id) (text ∷ texts))

@@ -1,14 +1,28 @@
--- The shares of a store: which there are, and which of them an identifier is of.
-use Rattle.std.specs.Prelude.{ℕ, ◌≤◌, ◌+◌, ◌*◌, ◌/◌, ◌^◌, ◌==◌, ◌||◌, Bool, nat_lt, if◌then◌else◌, List, Result, Ok, Err}
+-- What a run takes of a store: its share, and of that what begins with the texts that are asked for.
+use Rattle.std.specs.Prelude.{ℕ, ◌≤◌, ◌+◌, ◌*◌, ◌/◌, ◌^◌, ◌==◌, ◌&&◌, ◌||◌, Bool, true, nat_lt, if◌then◌else◌, List, [], ◌∷◌, length, map, take, Option, None, Some, String, Vec, Result, Ok, Err}
+use Rattle.std.specs.Global.{Global}
 use Rattle.std.specs.Int.{from_be_bytes, w32}
+use Rattle.std.specs.List.{list_any}
+use Rattle.std.specs.Str.{bytes_eq}
+use Rattle.std.specs.String.{string_bytes}
 use Rattle.sha2.specs.Sha256.{sha256}
 use Rattle.pt_name.specs.declared.share.ShareFault.{ShareFault}
 use Rattle.pt_name.specs.declared.share.ShareFault.TheVariants as fault
 
--- the share of this number, of so many
+-- the share of this number, of so many, and of it what begins with one of these texts; all of it, where there is no text
 pub record Portion : Type 0 where
   pub index : ℕ
   pub count : ℕ
+  pub only : List (List ℕ)
+
+-- the share of this number, of so many, whatever its identifiers begin with
+abbrev pub numbered : ℕ → ℕ → Portion
+numbered index count = record { index = index; count = count; only = [] }
+
+-- the texts that are asked for, where any are
+abbrev pub texts_of : Option (Vec (String Global) Global) → List (List ℕ)
+texts_of None = []
+texts_of (Some texts) = map string_bytes texts.items
 
 -- the shares are counted from 1, and there are at most 4,096
 pub record IsPortion (share : Portion) : Type 0 where
@@ -22,7 +36,7 @@ share_of index count =
     if index == 0 || count == 0 then Err fault.Zero
     else if nat_lt 4096 count then Err fault.TooMany
     else if nat_lt count index then Err fault.OutOfRange
-    else Ok (record { index = index; count = count })
+    else Ok (numbered index count)
 
 -- the number of a refusal
 abbrev pub share_number_of_fault : ShareFault → ℕ
@@ -32,7 +46,7 @@ share_number_of_fault fault.OutOfRange = 3
 
 -- the whole store, as the one share of one
 abbrev pub whole : Portion
-whole = record { index = 1; count = 1 }
+whole = numbered 1 1
 
 -- the first four bytes of an identifier's SHA-256 as a number, the first byte the highest
 unfoldable pub digest_number : List ℕ → ℕ
@@ -42,9 +56,18 @@ digest_number id = from_be_bytes w32 (sha256 id)
 abbrev pub share_number : ℕ → List ℕ → ℕ
 share_number count id = digest_number id * count / 2 ^ 32 + 1
 
--- the share has this identifier
+-- the identifier begins with this text, byte for byte
+abbrev pub begins_with : List ℕ → List ℕ → Bool
+begins_with text id = bytes_eq text (take (length text) id)
+
+-- the identifier begins with one of these texts, or there is none
+abbrev pub begins_so : List (List ℕ) → List ℕ → Bool
+begins_so [] id = true
+begins_so (text ∷ texts) id = list_any (λ t. begins_with t id) (text ∷ texts)
+
+-- the identifier is of the share, and begins as it is asked for
 abbrev pub holds : Portion → List ℕ → Bool
-holds share id = share_number share.count id == share.index
+holds share id = begins_so share.only id && share_number share.count id == share.index
 
 -- it is the first
 abbrev pub is_first : Portion → Bool

@@ -54,11 +54,11 @@ pub fn identify(
     site: &NamePath,
     prefix: &str,
     layout: Layout,
-    share: Share,
+    share: &Share,
 ) -> Result<Identification, MemoryFault>
     requires { 0 < length site.now }
     ensures { IfOk result (λ answer. answer
-        ≡ identification_of layout share prefix.now site.now) }
+        ≡ identification_of layout share.now prefix.now site.now) }
 {
     let alloc = site.allocator();
     let text = text_of_names(alloc, site)?;
@@ -100,11 +100,11 @@ fn with_place(
     alloc: Global,
     id: Identifier,
     layout: Layout,
-    share: Share,
+    share: &Share,
 ) -> Result<Identification, MemoryFault>
     requires { 0 < length id }
     ensures { IfOk result (λ answer. answer
-        ≡ identification_by layout share (unless_reserved layout id)) }
+        ≡ identification_by layout share.now (unless_reserved layout id)) }
 {
     let place = layout.place(alloc, id.as_str().as_bytes())?;
     if is_reserved(layout, &place) {

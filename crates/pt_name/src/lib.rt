@@ -11,8 +11,8 @@
 //! - `Layout::place`: exactly the place of the identifier, as a path: the tuples from the front of its SHA-256, then its last name.
 //!   `Layout::place_text`: its names with `/` between.
 //! - `Share::of`: accepts exactly the shares 1 to N of up to 4,096, and refuses each other pair by the first rule that it breaks. `whole`: the
-//!   one share of one. `holds`: exactly whether the number of the share that the identifier's SHA-256 gives (`share_number`) is its own;
-//!   `is_first`: whether it is 1.
+//!   one share of one. `only`: of a share what begins with some texts. `holds`: exactly whether the number of the share that the identifier's
+//!   SHA-256 gives (`share_number`) is its own, and it begins with one of the texts, where there are any; `is_first`: whether it is 1.
 //! - `Identifier`: a text, seen as its bytes.
 //! - `unclean`: reads a cleaned text back: gives an identifier exactly where the text reads it and it is UTF-8, and says of each other text
 //!   exactly whether it reads nothing or bytes that aren't UTF-8. `concatenate`: joins the names of a pairpath for it.

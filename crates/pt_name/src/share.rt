@@ -1,5 +1,8 @@
 ghost use Rattle.std.specs.Prelude.{◌≡◌, ◌≤◌, ◌<◌, ◌^◌};
-ghost use Rattle.pt_name.specs.Share.{digest_number, share_number};
+ghost use Rattle.std.specs.Prelude.{map};
+ghost use Rattle.std.specs.List.{list_any};
+ghost use Rattle.std.specs.String.{string_bytes};
+ghost use Rattle.pt_name.specs.Share.{begins_so, begins_with, digest_number, share_number};
 
 use sha2::{Digest, Sha256};
 use std::marker::Model;
@@ -36,24 +39,24 @@ impl ShareFault {
     }
 }
 
-/// One of the shares in which a store is carried, each by a run of its own: its number, from 1 on, and how many there are.
-/// An object is of the share that its identifier's SHA-256 gives.
-#[derive(Clone, Copy, Debug, PartialEq, Eq)]
+/// What a run takes of a store: one of the shares in which it is carried, each by a run of its own, by the share's number,
+/// from 1 on, and how many there are; and of that the objects whose identifiers begin with one of some texts, where there
+/// are any. An object is of the share that its identifier's SHA-256 gives.
+#[derive(Debug, Drop)]
 pub struct Share {
     index: u32,
     count: u32,
+    only: Option<Vec<String>>,
 }
 
 impl Model for Share {
-    ghost use Rattle.pt_name.specs.Share.{Portion, IsPortion};
+    ghost use Rattle.pt_name.specs.Share.{Portion, IsPortion, numbered, texts_of};
 
     ghost Value = { Portion };
 
-    ghost view = { λ s. record { index = s.index; count = s.count } };
+    ghost view = { λ s. record { index = s.index; count = s.count; only = texts_of s.only } };
 
-    ghost invariant = { λ s. IsPortion (record { index = s.index; count = s.count }) };
-
-    ghost inverse = { λ p. record { index = p.index; count = p.count } };
+    ghost invariant = { λ s. IsPortion (numbered s.index s.count) };
 }
 
 impl Share {
@@ -63,7 +66,11 @@ impl Share {
     pub fn whole() -> Share
         ensures { result ≡ whole }
     {
-        Share { index: 1, count: 1 }
+        Share {
+            index: 1,
+            count: 1,
+            only: None,
+        }
     }
 
     /// The share of this number, of `count` shares.
@@ -82,7 +89,22 @@ impl Share {
         if index > count {
             return Err(ShareFault::OutOfRange);
         }
-        Ok(Share { index, count })
+        Ok(Share {
+            index,
+            count,
+            only: None,
+        })
+    }
+
+    /// Of the share, only the objects whose identifiers begin with one of these texts, byte for byte, the store's prefix
+    /// included; all of its objects, where there is no text.
+    pub fn only(self, texts: Vec<String>) -> Share
+        ensures { result ≡ record self { only = map string_bytes texts.items } }
+    {
+        Share {
+            only: Some(texts),
+            ..self
+        }
     }
 
     /// The number of the share, from 1 on.
@@ -108,15 +130,41 @@ impl Share {
         self.index == 1
     }
 
-    /// Whether the object with this identifier is of this share. The first four bytes of the identifier's SHA-256, as a number
-    /// whose first byte is the highest, times the count and divided by 2^32, are the share's number less one.
+    /// Whether the object with this identifier is of this share, and begins as it is asked for. The first four bytes of the
+    /// identifier's SHA-256, as a number whose first byte is the highest, times the count and divided by 2^32, are the share's
+    /// number less one.
     ///
     /// Takes any bytes. Of the whole store each object is, and no digest is made.
     pub fn holds(&self, id: &[u8]) -> bool
         ensures { result ≡ holds self.now id.now }
     {
-        self.count == 1 || number_of(self.count, id) == self.index
+        self.chooses(id) && (self.count == 1 || number_of(self.count, id) == self.index)
     }
+
+    // Whether an identifier begins with one of the texts, or there is none.
+    fn chooses(&self, id: &[u8]) -> bool
+        ensures { result ≡ begins_so self.now.only id.now }
+    {
+        match &self.only {
+            Some(texts) => begins_so(texts, id),
+            None => true,
+        }
+    }
+}
+
+// Whether an identifier begins with one of these texts, or there is none.
+#[tactic(auto, using(crate::proofs::Shares::begun_by_one, crate::proofs::Shares::begun_by_any))]
+fn begins_so(texts: &[String], id: &[u8]) -> bool
+    ensures { result ≡ begins_so (map string_bytes texts.now) id.now }
+{
+    texts.is_empty() || begins_with_one(texts, id)
+}
+
+// Whether an identifier begins with one of these texts.
+fn begins_with_one(texts: &[String], id: &[u8]) -> bool
+    ensures { result ≡ list_any (λ t. begins_with (string_bytes t) id.now) texts.now }
+{
+    texts.iter().any(|text| id.starts_with(text.as_bytes()))
 }
 
 // The number of the share that an identifier is of.

@@ -1,21 +1,30 @@
--- The shares of a store, each carried by a run of its own over the same root, are together what one run carries.
-use Rattle.std.specs.Prelude.{◌≡◌, ◌≢◌, ◌⊎◌, ◌↔◌, ◌≤◌, ℕ, zero, suc, ◌+◌, Bool, count_by, Some}
-use Rattle.pt_name.specs.Share.{whole}
+-- The shares of a store, each carried by a run of its own over the same root, are together what one run carries; and so are any choices that divide its identifiers.
+use Rattle.std.specs.Prelude.{◌≡◌, ◌≢◌, ◌⊎◌, ◌↔◌, ◌≤◌, ℕ, zero, suc, ◌+◌, Bool, true, false, List, count_by, Some}
+use Rattle.std.specs.List.{list_all}
+use Rattle.pt_name.specs.Place.{place_of}
+use Rattle.pt_name.specs.Share.{Portion, holds, numbered, whole}
+use Rattle.pt_name.specs.Tuples.{Tuples}
 use Rattle.pt_object.specs.Root.{base}
 use Rattle.pt_tree.specs.Forest.{Forest}
 use Rattle.pt_tree.specs.Path.{Path}
 use Rattle.pt_tree.specs.Tree.{Entry, Folder, Tree}
+use Rattle.pt_walk.specs.declared.cause.Cause.{Cause}
 use Rattle.pt_plan.specs.Carried.{after_all}
+use Rattle.pt_plan.specs.Items.{Interior, Item, Named, Skip, Verdict, items}
 use Rattle.pt_plan.specs.Job.{Job}
-use Rattle.pt_plan.specs.Lines.{Line, all_lines}
+use Rattle.pt_plan.specs.Lines.{Line, Skipped, all_lines}
+
+-- the job for what this takes of the store
+abbrev pub with_share : Job → Portion → Job
+with_share job share = record job { share = share }
 
 -- the job for the whole store
 abbrev pub of_whole : Job → Job
-of_whole job = record job { share = whole }
+of_whole job = with_share job whole
 
 -- the job for the share of this number, of so many
 abbrev pub of_share : Job → ℕ → ℕ → Job
-of_share job count index = record job { share = record { index = index; count = count } }
+of_share job count index = with_share job (numbered index count)
 
 -- one of the shares 1 to `count`
 pub record IsOneOf (count index : ℕ) : Type 0 where
@@ -51,3 +60,56 @@ SharesMeetInFolders =
     → after_all (of_share job count index) source root path ≡ Some entry
     → after_all (of_share job count other) source root path ≡ Some there
     → (base job.tuples root path ≡ Some entry) ⊎ (entry ≡ Folder)
+
+-- ---- choices
+
+-- the identifier passes the test, if there is one
+abbrev pub is_known : (List ℕ → Bool) → Verdict → Bool
+is_known known Interior = true
+is_known known (Skip why) = true
+is_known known (Named id object) = known id
+
+-- each identifier of the store passes the test
+abbrev pub KnowsAll : (List ℕ → Bool) → Job → Forest → Type 0
+KnowsAll known job source =
+    list_all (λ (item : Item). is_known known item.verdict) (items (of_whole job) source) ≡ true
+
+-- the choices 1 to `count` divide the identifiers that pass the test: each is of one of them, and those of one place are of the same
+pub record Divide (tuples : Tuples) (known : List ℕ → Bool) (count : ℕ) (choices : ℕ → Portion) : Type 0 where
+  pub one : (id : List ℕ) → known id ≡ true
+      → (index : ℕ) × IsOneOf count index × (holds (choices index) id ≡ true)
+  pub apart : (index other : ℕ) (a b : List ℕ) → IsOneOf count index → IsOneOf count other
+      → known a ≡ true → known b ≡ true → holds (choices index) a ≡ true
+      → holds (choices other) b ≡ true → place_of tuples a ≡ place_of tuples b → index ≡ other
+
+-- what stands at a path after a run of the whole stands there after the run of some choice, as it is, and nothing else stands there after any choice's, where the choices divide the store
+abbrev pub ChoicesLeaveTheWhole : Type 0
+ChoicesLeaveTheWhole =
+    (job : Job) (source : Forest) (root : Tree) (known : List ℕ → Bool) (count : ℕ)
+    (choices : ℕ → Portion) → 1 ≤ count → KnowsAll known job source
+    → Divide job.tuples known count choices → (path : Path) (entry : Entry)
+    → (after_all (of_whole job) source root path ≡ Some entry)
+    ↔ ((index : ℕ) × IsOneOf count index
+    × (after_all (with_share job (choices index)) source root path ≡ Some entry))
+
+-- where two choices have something, it stood in the root that both began with, or is a folder
+abbrev pub ChoicesMeetInFolders : Type 0
+ChoicesMeetInFolders =
+    (job : Job) (source : Forest) (root : Tree) (known : List ℕ → Bool) (count : ℕ)
+    (choices : ℕ → Portion) → KnowsAll known job source
+    → Divide job.tuples known count choices → (index other : ℕ) (path : Path)
+    (entry there : Entry) → IsOneOf count index → IsOneOf count other → index ≢ other
+    → after_all (with_share job (choices index)) source root path ≡ Some entry
+    → after_all (with_share job (choices other)) source root path ≡ Some there
+    → (base job.tuples root path ≡ Some entry) ⊎ (entry ≡ Folder)
+
+-- whatever is asked of lines of objects that aren't passed over, as many of the whole's log are such as of the logs of all choices together
+abbrev pub ChoicesTellTheWhole : Type 0
+ChoicesTellTheWhole =
+    (job : Job) (source : Forest) (root : Tree) (known : List ℕ → Bool) (count : ℕ)
+    (choices : ℕ → Portion) → KnowsAll known job source
+    → Divide job.tuples known count choices → (test : Line → Bool)
+    → ((path : Path) (why : Cause) → test (Skipped path why) ≡ false)
+    → count_by test (all_lines (of_whole job) source root)
+    ≡ sum_of_shares
+    (λ index. count_by test (all_lines (with_share job (choices index)) source root)) count

@@ -6,6 +6,7 @@ ghost use Rattle.pt_plan.specs.CountLaws.{CountsGrow, EachLineIsCounted, EndLine
 ghost use Rattle.pt_plan.specs.RerunLaws.{RerunEndsAlike, RerunLeavesTheSame, RootStaysWithoutStaging, TurnsHaveNoPart};
 ghost use Rattle.pt_plan.specs.GrowthLaws.{AfterGrows, AfterStays, FoldersGrow, ObjectIsMovedIn, RootIsItsOwn, RootIsMadeInPlace, RootIsMovedIn, RootsHaveNoGaps};
 ghost use Rattle.pt_plan.specs.FixityLaws.{FaultsLeaveWhatIsKept, RowsMakeWholeObjects};
+ghost use Rattle.pt_plan.specs.ShareLaws.{ChoicesLeaveTheWhole, ChoicesMeetInFolders, ChoicesTellTheWhole};
 ghost use Rattle.pt_plan.specs.ShareLaws.{SharesLeaveTheWhole, SharesMeetInFolders, SharesTellTheWhole};
 ghost use Rattle.pt_plan.specs.WholeLaws.{CarriedHaveTheirFiles, CarriedStandWhole};
 
@@ -196,4 +197,24 @@ pub fn shares_leave_the_whole()
 /// Where two shares have something at a path, it stood in the root that both began with, or else is a folder.
 pub fn shares_meet_in_folders()
     ensures { SharesMeetInFolders }
+{}
+
+/// Over one root, what stands at a path after a run of the whole stands there after the run of some choice, as it is, and
+/// nothing else stands there after any choice's: where each identifier of the store is of one choice, and those of one place
+/// are of the same. Choices are shares, and shares of what begins with some texts.
+pub fn choices_leave_the_whole()
+    ensures { ChoicesLeaveTheWhole }
+{}
+
+/// Where two such choices have something at a path, it stood in the root that both began with, or else is a folder.
+#[tactic(auto, using(crate::proofs::SharedRoots::choices_meet_in_folders))]
+pub fn choices_meet_in_folders()
+    ensures { ChoicesMeetInFolders }
+{}
+
+/// The logs of all such choices have together the lines of the whole's that aren't of what is passed over, each line in the
+/// log of one choice.
+#[tactic(auto, using(crate::proofs::SharedItems::choices_tell_the_whole))]
+pub fn choices_tell_the_whole()
+    ensures { ChoicesTellTheWhole }
 {}

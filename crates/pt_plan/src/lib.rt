@@ -32,6 +32,8 @@
 //!   stands in one share's log, and the numbers of the end lines add up. `shares_leave_the_whole`: what stands at a path after a run of the
 //!   whole stands there after the run of some share, as it is, and nothing else stands there after any share's. `shares_meet_in_folders`: where
 //!   two shares have something, it stood in the root that both began with (over no root, in the new one: its own files), or is a folder.
+//! - Of any choices of shares and texts that divide a store's identifiers (`Divide`) the same: `choices_leave_the_whole`,
+//!   `choices_meet_in_folders`, and `choices_tell_the_whole` of the lines of what isn't passed over.
 #![tactic(auto)]
 
 mod fault;

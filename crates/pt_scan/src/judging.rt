@@ -101,7 +101,7 @@ fn judge_object<O: Io>(
         (state.old, out.old) (state.new, out.new) result }
 {
     let prefix = state.prefix.as_str();
-    match identify(site, prefix, state.job.layout, state.job.share)? {
+    match identify(site, prefix, state.job.layout, &state.job.share)? {
         Identification::Refused(refusal) => pass_over(state, site, cause_of(refusal), out),
         Identification::OtherShare => Ok(Phase::Walk),
         Identification::Candidate(candidate) => find_place(state, site, index, candidate, out),
