@@ -1,5 +1,6 @@
 pub mod Apart
 pub mod Declaration
+pub mod FilePlace
 pub mod Guard
 pub mod LockAttempt
 pub mod Paths

@@ -1,8 +1,9 @@
 //! Whether one folder lies in another: by where their paths lead, links resolved, and by what the folders are, whatever leads to them.
-ghost use Rattle.std.specs.Prelude.{◌≡◌, ◌++◌, IfErr, IfOk, string_bytes};
+ghost use Rattle.std.specs.Prelude.{◌≡◌, ◌++◌, IfErr, IfOk, codes, string_bytes};
 ghost use Rattle.std.specs.IoError.{error_kind};
 ghost use Rattle.std.specs.Path.{path_buf_bytes};
-ghost use Rattle.pt_guard.specs.Apart.{Climbs, Finds, InEither, IsHeld, IsUnresolved, LiesIn, Overlaps, folders_in, lie_of};
+ghost use Rattle.pt_guard.specs.Apart.{Climbs, Finds, InEither, IsHeld, IsUnresolved, LiesIn, Overlaps, folders_in, folders_of, lie_of};
+ghost use Rattle.pt_guard.specs.FilePlace.{FindsFile, FindsNamed};
 
 use crate::places::{FileId, Places, is_wanting};
 use std::alloc::{AllocError, Global};
@@ -128,17 +129,50 @@ pub(crate) fn overlap<S: Places>(
     ensures ok { IfOk result (λ lie.
         Overlaps S.does source.now dest.now system.old system.new lie) }
 {
-    let tree = below(alloc, source, TREE)?;
-    let root = below(alloc, dest, ROOT)?;
-    let staging = below(alloc, dest, STAGING)?;
+    let inner = inner_paths(alloc, source, dest)?;
     let paths = RunPaths {
         source,
-        tree: tree.as_str(),
+        tree: inner.tree.as_str(),
         dest,
-        root: root.as_str(),
-        staging: staging.as_str(),
+        root: inner.root.as_str(),
+        staging: inner.staging.as_str(),
     };
     Ok(paths.first_found(system, alloc))
+}
+
+/// How the folder that a file is to be made in lies to a store, to its `pairtree_root` and to what the destination is to hold; and where the file
+/// has the name of one of these, to the destination. The first answer that isn't `Apart`. An error where memory for the paths was refused; then
+/// nothing was asked.
+pub(crate) fn surroundings<S: Places>(
+    system: &mut S,
+    alloc: Global,
+    file: FilePlace<'_>,
+    source: &str,
+    dest: &str,
+) -> Result<Nesting, AllocError>
+    ensures err { IfErr result (λ _. system.new ≡ system.old) }
+    ensures ok { IfOk result (λ lie.
+        FindsFile S.does (folders_of source.now dest.now) file.entry.folder.now file.entry.is_named
+        system.old system.new lie) }
+{
+    let inner = inner_paths(alloc, source, dest)?;
+    let paths = RunPaths {
+        source,
+        tree: inner.tree.as_str(),
+        dest,
+        root: inner.root.as_str(),
+        staging: inner.staging.as_str(),
+    };
+    Ok(paths.first_around(system, alloc, file))
+}
+
+/// Where a file is to be made: its folder, and whether it has the name of what a destination is to hold.
+#[derive(Clone, Copy)]
+pub(crate) struct FilePlace<'a> {
+    /// The folder.
+    pub folder: &'a str,
+    /// Whether its name is `ocfl` or `staging`.
+    pub is_named: bool,
 }
 
 // The paths of a store and its `pairtree_root`, and of a destination and what it is to hold.
@@ -170,6 +204,29 @@ impl<'a> RunPaths<'a> {
             Nesting::Wanting => Nesting::Wanting,
         }
     }
+
+    // How the folder of a file lies to them.
+    fn first_around<S: Places>(&self, system: &mut S, alloc: Global, file: FilePlace<'_>) -> Nesting
+        ensures { FindsFile S.does (folders_in self.now) file.entry.folder.now file.entry.is_named
+            system.old system.new result }
+    {
+        match in_either(system, alloc, file.folder, (self.source, self.tree)) {
+            Nesting::Apart => match in_either(
+                system,
+                alloc,
+                file.folder,
+                (self.root, self.staging),
+            ) {
+                Nesting::Apart => named_in(system, alloc, file, self.dest),
+                Nesting::Inside => Nesting::Inside,
+                Nesting::Unknown => Nesting::Unknown,
+                Nesting::Wanting => Nesting::Wanting,
+            },
+            Nesting::Inside => Nesting::Inside,
+            Nesting::Unknown => Nesting::Unknown,
+            Nesting::Wanting => Nesting::Wanting,
+        }
+    }
 }
 
 // How what a path leads to lies to the first of two folders, and where it is apart from that, to the second.
@@ -183,6 +240,42 @@ fn in_either<S: Places>(system: &mut S, alloc: Global, inner: &str, outers: (&st
         Nesting::Unknown => Nesting::Unknown,
         Nesting::Wanting => Nesting::Wanting,
     }
+}
+
+// How a file that has the name of what a destination is to hold lies to the destination; another is apart from it.
+fn named_in<S: Places>(system: &mut S, alloc: Global, file: FilePlace<'_>, dest: &str) -> Nesting
+    ensures { FindsNamed S.does file.entry.is_named file.entry.folder.now dest.now
+        system.old system.new result }
+{
+    if file.is_named {
+        lies_in(system, alloc, file.folder, dest)
+    } else {
+        Nesting::Apart
+    }
+}
+
+// The paths of what a store holds, and a destination is to hold.
+#[derive(Drop)]
+struct InnerPaths {
+    tree: String,
+    root: String,
+    staging: String,
+}
+
+// Those of a store and a destination at these paths.
+fn inner_paths(alloc: Global, source: &str, dest: &str) -> Result<InnerPaths, AllocError>
+    ensures tree { IfOk result (λ inner. string_bytes inner.tree ≡ source.now ++ codes "/pairtree_root") }
+    ensures root { IfOk result (λ inner. string_bytes inner.root ≡ dest.now ++ codes "/ocfl") }
+    ensures staging { IfOk result (λ inner. string_bytes inner.staging ≡ dest.now ++ codes "/staging") }
+{
+    let tree = below(alloc, source, TREE)?;
+    let root = below(alloc, dest, ROOT)?;
+    let staging = below(alloc, dest, STAGING)?;
+    Ok(InnerPaths {
+        tree,
+        root,
+        staging,
+    })
 }
 
 // A folder's path with a name behind it.

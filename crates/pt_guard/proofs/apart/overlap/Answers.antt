@@ -9,9 +9,9 @@ returns-clause-ok g c =
     let finds = λ (tree : List ℕ) (root : List ℕ) (staging : List ℕ). Finds g.S.Places.does
     (record { source = source; tree = tree; dest = dest; root = root; staging = staging })
     c.args.system.now c.first_found.new.system c.first_found.result in
-    let tree = c.as_str.ensures.value ∙ c.in_ok-tree.ensures in
-    let root = c.as_str-2.ensures.value ∙ c.in_ok-root.ensures in
-    let staging = c.as_str-3.ensures.value ∙ c.in_ok-staging.ensures in
+    let tree = c.as_str.ensures.value ∙ c.in_ok-inner.ensures.tree in
+    let root = c.as_str-2.ensures.value ∙ c.in_ok-inner.ensures.root in
+    let staging = c.as_str-3.ensures.value ∙ c.in_ok-inner.ensures.staging in
     subst (λ text. finds (source ++ codes "/pairtree_root") (dest ++ codes "/ocfl") text) staging
     (subst (λ text. finds (source ++ codes "/pairtree_root") text c.as_str-3.result.now) root
     (subst (λ text. finds text c.as_str-2.result.now c.as_str-3.result.now) tree c.first_found.ensures))

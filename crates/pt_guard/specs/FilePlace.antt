@@ -1,0 +1,44 @@
+-- Whether a file may be made at a path.
+use Rattle.std.specs.Prelude.{◌≡◌, ◌⊎◌, ◌==◌, ◌||◌, ℕ, Bool, true, false, List, Option, Some, None, Result, Ok, Err, length, codes, if◌then◌else◌}
+use Rattle.std.specs.Path.{path_file_name, path_parent}
+use Rattle.std.specs.Str.{bytes_eq}
+use Rattle.pt_guard.specs.Apart.{Ends, Folders, InEither, LiesIn, OrElse, folders_of}
+use Rattle.pt_guard.specs.PlaceCall.{PlaceCall}
+use Rattle.pt_guard.specs.declared.apart.Nesting.{Nesting}
+use Rattle.pt_guard.specs.declared.apart.Nesting.TheVariants.{Apart, Inside, Unknown, Wanting}
+use Rattle.pt_guard.specs.declared.file.FileFault.{FileFault}
+use Rattle.pt_guard.specs.declared.file.FileFault.TheVariants as fault
+
+-- the folder that a path names before its last name; the one at hand where it names none
+abbrev pub folder_in : Option (List ℕ) → List ℕ
+folder_in None = codes "."
+folder_in (Some folder) = if length folder == 0 then codes "." else folder
+
+-- the last name of a path is that of what a destination is to hold
+abbrev pub is_named_so : Option (List ℕ) → Bool
+is_named_so None = false
+is_named_so (Some name) = bytes_eq name (codes "ocfl") || bytes_eq name (codes "staging")
+
+module _ {S L : Type 0} (does : S → PlaceCall L → S → Type 0) where
+  -- a file of such a name is asked for in the destination too
+  abbrev pub FindsNamed : Bool → List ℕ → List ℕ → S → S → Nesting → Type 0
+  FindsNamed true folder dest = LiesIn does folder dest
+  FindsNamed false folder dest = Ends Apart
+
+  -- asked one after another, until one isn't apart: the folder of a file in the store or its `pairtree_root`, in one of what the destination
+  -- is to hold, and, where the file has the name of one of these, in the destination
+  abbrev pub FindsFile : Folders → List ℕ → Bool → S → S → Nesting → Type 0
+  FindsFile at folder named = OrElse (InEither does folder (at.source, at.tree))
+      (OrElse (InEither does folder (at.root, at.staging)) (FindsNamed named folder at.dest))
+
+  -- the same of a file at a path, beside a store and a destination
+  abbrev pub FileLies : List ℕ × List ℕ → List ℕ → S → S → Nesting → Type 0
+  FileLies folders file = FindsFile (folders_of folders.0 folders.1) (folder_in (path_parent file))
+      (is_named_so (path_file_name file))
+
+  -- a file may be made there where it lies apart of all; memory was wanting for a text before anything was asked, or for an answer of the system
+  abbrev pub JudgesFile : List ℕ × List ℕ → List ℕ → S → S → Result (Unit {0}) FileFault → Type 0
+  JudgesFile folders file old new (Ok done) = FileLies folders file old new Apart
+  JudgesFile folders file old new (Err fault.Inside) = FileLies folders file old new Inside
+  JudgesFile folders file old new (Err fault.Hidden) = FileLies folders file old new Unknown
+  JudgesFile folders file old new (Err fault.Memory) = (new ≡ old) ⊎ FileLies folders file old new Wanting
