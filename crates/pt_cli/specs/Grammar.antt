@@ -91,6 +91,10 @@ interval_rule = number_rule (codes "interval") (codes "10")
 abbrev pub expect_rule : Rule
 expect_rule = option_rule (codes "expect")
 
+-- `--event FILE`
+abbrev pub event_rule : Rule
+event_rule = option_rule (codes "event")
+
 -- `--prefix TEXT`
 abbrev pub prefix_rule : Rule
 prefix_rule = option_rule (codes "prefix")
@@ -147,7 +151,7 @@ migrate_rules words =
     ∷ size_rule ∷ count_rule ∷ gather_rule
     ∷ share_rule ∷ ignore_rule ∷ sync_rule ∷ rehearse_rule ∷ present_rule ∷ verbose_rule
     ∷ quiet_rule
-    ∷ progress_rule words.times ∷ interval_rule ∷ expect_rule
+    ∷ progress_rule words.times ∷ interval_rule ∷ expect_rule ∷ event_rule
     ∷ source_rule ∷ dest_rule ∷ []
 
 -- `migrate [OPTIONS] SOURCE DEST`
@@ -163,7 +167,7 @@ abbrev pub audit_rules : Spelled → List Rule
 audit_rules words =
     digest_rule words.algorithms ∷ size_rule ∷ count_rule ∷ gather_rule ∷ share_rule ∷ ignore_rule
     ∷ skips_rule ∷ verbose_rule ∷ quiet_rule ∷ progress_rule words.times
-    ∷ interval_rule ∷ expect_rule ∷ source_rule ∷ dest_rule ∷ []
+    ∷ interval_rule ∷ expect_rule ∷ event_rule ∷ source_rule ∷ dest_rule ∷ []
 
 -- `audit [OPTIONS] SOURCE DEST`
 abbrev pub audit_app : Spelled → App

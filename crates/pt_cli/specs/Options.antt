@@ -68,7 +68,7 @@ job_in meta rows = do
     share = share;
   })
 
--- what is shown beside the log
+-- what is told beside the log
 abbrev pub feedback_in : List Row → Result Feedback Unread
 feedback_in rows = do
   progress ← progress_in rows
@@ -79,6 +79,7 @@ feedback_in rows = do
     progress = progress;
     interval = interval;
     expected = first_of (codes "expect") rows;
+    event = first_of (codes "event") rows;
   })
 
 -- the options of `migrate`

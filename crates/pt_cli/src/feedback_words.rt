@@ -1,4 +1,4 @@
-//! The words that say what is shown beside the log: `--verbose`, `--quiet`, `--progress`, `--interval` and `--expect`.
+//! The words that say what is told beside the log: `--verbose`, `--quiet`, `--progress`, `--interval`, `--expect` and `--event`.
 ghost use Rattle.std.specs.Prelude.{◌≡◌, IfOk, option_map};
 ghost use Rattle.clap.specs.Words.{found_of, rows_of};
 ghost use Rattle.pt_cli.specs.Arguments.{ReadsAs, progress_in, progress_of};
@@ -7,13 +7,13 @@ ghost use Rattle.pt_cli.specs.Options.{feedback_in};
 use crate::Text;
 use crate::arguments::{is_set, needed, number, text};
 use crate::faults::Unread;
-use crate::grammar::{EXPECT, INTERVAL, PROGRESS, QUIET, VERBOSE};
+use crate::grammar::{EVENT, EXPECT, INTERVAL, PROGRESS, QUIET, VERBOSE};
 use clap::ArgMatches;
 use pt_host::{Feedback, Progress};
 use pt_tree::MemoryFault;
 use std::alloc::Global;
 
-// What standard error is to show.
+// What standard error is to show, and the file of the event.
 pub(crate) fn feedback(alloc: Global, matches: &ArgMatches<'_>) -> Result<Feedback, Unread>
     ensures { ReadsAs (feedback_in (rows_of (found_of matches.now))) result }
 {
@@ -25,6 +25,7 @@ pub(crate) fn feedback(alloc: Global, matches: &ArgMatches<'_>) -> Result<Feedba
         progress,
         interval,
         expected: copy_of(alloc, text(matches, EXPECT))?,
+        event: copy_of(alloc, text(matches, EVENT))?,
     })
 }
 

@@ -8,6 +8,7 @@ ghost use Rattle.pt_cli.specs.ArgSpec.{IsLocal, IsTaker, TakesToo, defaulted_rul
 ghost use Rattle.pt_cli.specs.ArgSpec.{repeated_rule, rule_of_taken, word_rule};
 
 use clap::{Arg, ArgAction, Command as Parser, value_parser};
+use pt_host::VERSION;
 use std::alloc::{AllocError, Global};
 
 pub(crate) const NAMES: &str = "names";
@@ -55,6 +56,8 @@ pub(crate) const PROGRESS: &str = "progress";
 pub(crate) const INTERVAL: &str = "interval";
 
 pub(crate) const EXPECT: &str = "expect";
+
+pub(crate) const EVENT: &str = "event";
 
 pub(crate) const PREFIX: &str = "prefix";
 
@@ -131,6 +134,12 @@ const TAKES_INTERVAL: ArgSpec = ArgSpec {
     id: INTERVAL,
     form: Form::Number("SECONDS", "10"),
     help: "Seconds between two such lines, where they don't go to a terminal",
+};
+
+const TAKES_EVENT: ArgSpec = ArgSpec {
+    id: EVENT,
+    form: Form::Value("FILE"),
+    help: "Record in FILE, which is made new, what was done, when and how it ended, as JSON",
 };
 
 const TAKES_SOURCE: ArgSpec = ArgSpec {
@@ -219,6 +228,7 @@ const MIGRATE_TAKES: &[ArgSpec] = &[
         form: Form::Value("LOG"),
         help: "Show the share done and the time left too, by the log of a rehearsal",
     },
+    TAKES_EVENT,
     TAKES_SOURCE,
     ArgSpec {
         id: DEST,
@@ -261,6 +271,7 @@ const AUDIT_TAKES: &[ArgSpec] = &[
         form: Form::Value("LOG"),
         help: "Show the share done and the time left too, by the log of a run, a rehearsal or an audit",
     },
+    TAKES_EVENT,
     TAKES_SOURCE,
     ArgSpec {
         id: DEST,
@@ -268,9 +279,6 @@ const AUDIT_TAKES: &[ArgSpec] = &[
         help: "The folder in which ocfl is",
     },
 ];
-
-// The program's version, and the line of the toolchain that proves it.
-const VERSION: &str = "0.1.0\nrattle-kit-13f logic dac8208d650f15bf";
 
 const LOG_AND_STATUS: &str =
     r#"The log goes to standard output: a line of JSON for each object, and for each place that isn't carried.

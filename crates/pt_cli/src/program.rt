@@ -24,8 +24,8 @@ use std::rt::Clock;
 
 /// Runs the program on the words that it was started with, on a machine, and gives its exit status: 0 the names were written, all was
 /// carried, each object stands, or help or the version was asked for; 1 a run or an audit ended whose log has other lines; 2 the words or a
-/// line of the input were refused, or the folders lie in one another, or the destination is a storage root itself; 3 a fault of the run, a destination that
-/// another run has, an output that failed, or want of memory.
+/// line of the input were refused, or the folders lie in one another, or the destination is a storage root itself, or the file of an event may not be made
+/// there; 3 a fault of the run, a destination that another run has, an output or an event's file that failed, or want of memory.
 ///
 /// What the words lead to is said at `answer`.
 pub fn run<R, H: Host + HasInput>(rt: &R, host: &mut H) -> ExitCode

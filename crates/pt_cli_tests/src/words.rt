@@ -1,5 +1,5 @@
 //! Words of a command line: the commands that are read of them, the fault as which they are refused, and help.
-use pt_cli::{Audit, Command, Migrate, NamesArgs, WordsFault, read_words};
+use pt_cli::{Audit, Command, Migrate, NamesArgs, Text, WordsFault, read_words};
 use pt_name::Layout;
 use pt_object::{Algorithm, Meta};
 use std::alloc::Global;
@@ -12,7 +12,7 @@ enum Reading {
     Names,
     // The migration that the row has.
     Migration(&'static Row),
-    // An audit of what was gathered, by SHA-256 and two tuples of three digits.
+    // An audit of what was gathered, by SHA-256 and two tuples of three digits, with its event.
     Audit,
     // The fault of this number; 0 where it is a migration.
     Fault(u8),
@@ -55,6 +55,16 @@ fn is_migration(asked: &Migrate, row: &Row) -> bool {
         && has_tuples(&job.layout, row.tuples)
         && (job.algorithm, job.gather) == (row.algorithm, row.gather)
         && (asked.source.as_str(), asked.dest.as_str()) == row.folders
+        && is_event(&asked.options.feedback.event, row.event)
+}
+
+// Whether this path is given for an event's file, or none.
+fn is_event(event: &Option<Text>, path: Option<&str>) -> bool {
+    match (event, path) {
+        (Some(event), Some(path)) => event.as_str() == path,
+        (None, None) => true,
+        _ => false,
+    }
 }
 
 fn is_meta(meta: &Meta, row: &Row) -> bool {
@@ -69,6 +79,7 @@ fn is_gathering(asked: &Audit) -> bool {
     has_tuples(&job.layout, (3, 2))
         && (job.algorithm, job.gather) == (Algorithm::Sha256, true)
         && (asked.source.as_str(), asked.dest.as_str()) == ("S", "D")
+        && is_event(&asked.options.feedback.event, Some("E"))
 }
 
 // Whether a layout has tuples of so many digits, and so many of them.
@@ -99,6 +110,7 @@ struct Row {
     tuples: (u32, u32),
     gather: bool,
     folders: (&'static str, &'static str),
+    event: Option<&'static str>,
 }
 
 const MIGRATIONS: &[Row] = &[
@@ -122,6 +134,7 @@ const MIGRATIONS: &[Row] = &[
         tuples: (3, 3),
         gather: false,
         folders: ("S", "D"),
+        event: None,
     },
     Row {
         what: "every option",
@@ -135,6 +148,8 @@ const MIGRATIONS: &[Row] = &[
             "--message",
             "",
             "--gather",
+            "--event",
+            "ev.json",
             "--tuple-size=2",
             "--address",
             "mailto:ada@example.org",
@@ -153,6 +168,7 @@ const MIGRATIONS: &[Row] = &[
         tuples: (2, 4),
         gather: true,
         folders: ("/in", "-out"),
+        event: Some("ev.json"),
     },
     Row {
         what: "an empty address, which is none",
@@ -174,6 +190,7 @@ const MIGRATIONS: &[Row] = &[
         tuples: (3, 3),
         gather: false,
         folders: ("S", "D"),
+        event: None,
     },
 ];
 
@@ -194,6 +211,7 @@ const AUDIT: Words = &[
     "--gather",
     "--digest=sha256",
     "--tuples=2",
+    "--event=E",
     "S",
     "D",
 ];

@@ -1,7 +1,7 @@
 //! Whether a run or an audit may begin between two folders: they lie apart, none is a root itself, and the lock can be had.
 ghost use Rattle.std.specs.Prelude.{⊤};
 
-use pt_guard::{Claim, FileId, GuardFault, LockAttempt, Places, begin};
+use pt_guard::{Claim, FileFault, FileId, GuardFault, LockAttempt, Places, begin, judge_file};
 use std::alloc::Global;
 use std::cell::Cell;
 use std::io;
@@ -306,5 +306,99 @@ fn want_of_memory_is_told_as_such(rt: HostRuntime) {
     for (leads, numbers) in WANTING_MEMORY {
         let comes = find_lock(rt.alloc(), leads, numbers);
         assert!(rt; comes == Err(GuardFault::Memory), "{leads:?}");
+    }
+}
+
+// A file beside the folders `s` and `d`, where paths lead, what is known of them, and whether the file may be made.
+struct FileRow {
+    file: &'static str,
+    leads: Leads,
+    numbers: Numbers,
+    comes: Result<(), FileFault>,
+}
+
+const TWO: Numbers = &[("s", 1), ("d", 2)];
+
+const FILES: &[FileRow] = &[
+    FileRow {
+        file: "x/ev",
+        leads: &[("s", "/a"), ("d", "/b"), ("x", "/c")],
+        numbers: TWO,
+        comes: Ok(()),
+    },
+    FileRow {
+        file: "x/ev",
+        leads: &[("s", "/a"), ("d", "/b")],
+        numbers: TWO,
+        comes: Ok(()),
+    },
+    FileRow {
+        file: "x/ev",
+        leads: &[("s", "/a"), ("d", "/b"), ("x", "/a/in")],
+        numbers: TWO,
+        comes: Err(FileFault::Inside),
+    },
+    FileRow {
+        file: "x/ev",
+        leads: &[("s", "/a"), ("d", "/b"), ("x", "/c")],
+        numbers: &[("s", 1), ("d", 2), ("/c", 1)],
+        comes: Err(FileFault::Inside),
+    },
+    FileRow {
+        file: "x/ev",
+        leads: &[("s", "/a"), ("d", "/b"), ("d/staging", "/e"), ("x", "/e/in")],
+        numbers: TWO,
+        comes: Err(FileFault::Inside),
+    },
+    FileRow {
+        file: "ev",
+        leads: &[("s", "/a"), ("d", "/b"), (".", "/b")],
+        numbers: TWO,
+        comes: Ok(()),
+    },
+    FileRow {
+        file: "ocfl",
+        leads: &[("s", "/a"), ("d", "/b"), (".", "/b")],
+        numbers: TWO,
+        comes: Err(FileFault::Inside),
+    },
+    FileRow {
+        file: "x/staging/",
+        leads: &[("s", "/a"), ("d", "/b"), ("x", "/b")],
+        numbers: TWO,
+        comes: Err(FileFault::Inside),
+    },
+    FileRow {
+        file: "x/staging",
+        leads: &[("s", "/a"), ("d", "/b"), ("x", "/c")],
+        numbers: TWO,
+        comes: Ok(()),
+    },
+    FileRow {
+        file: "x/ev",
+        leads: &[("s", "/a"), ("d", "/b")],
+        numbers: &[("s", 1), ("d", 2), ("x", 3)],
+        comes: Err(FileFault::Hidden),
+    },
+    FileRow {
+        file: "x/ev",
+        leads: &[("s", "/a"), ("d", "/b"), ("x", NO_MEMORY_AT)],
+        numbers: TWO,
+        comes: Err(FileFault::Memory),
+    },
+];
+
+impl FileRow {
+    // Whether the file is judged so.
+    fn holds(&self, alloc: Global) -> bool {
+        let paths = make_places(self.leads, self.numbers, Lock::Held);
+        judge_file(&mut &paths, alloc, self.file, "s", "d") == self.comes
+    }
+}
+
+#[test]
+fn files_are_judged_by_their_folders(rt: HostRuntime) {
+    for row in FILES {
+        assert!(rt; row.holds(rt.alloc()), "{} {:?}", row.file, row.leads);
     }
 }

@@ -15,9 +15,9 @@
 //!   answered only where nothing was asked yet (`Wants`).
 //! - `is_declared`, over any reader that tells its bytes, which are a folder's names, each ended by a NUL: true exactly where `0=ocfl_` stands
 //!   at the start of one (`IsDeclared`).
-//! - `judge_file` asks so of the folder that a file is to be made in (`FindsFile`), and answers `Inside` exactly where that leads to the store, its
-//!   `pairtree_root`, `ocfl` or `staging` of the destination, or below one, or where the file would be one of these two (`JudgesFile`); `Hidden` exactly
-//!   where that can't be told. Nothing is asked of the file itself.
+//! - `judge_file` asks so of the folder that a file is to be made in (`FindsFile`), and answers `Inside` exactly where that leads to the store, to its tree
+//!   or to what the destination is to hold, or below one, or where the file would be one of the last (`JudgesFile`); `Hidden` exactly where that can't be
+//!   told. Nothing is asked of the file itself.
 //! - A lock that is held is no value that may be dropped: it is given back by `release` (`Places`).
 //! - `lock_opened`: the lock is asked for as it is to be had, and what the question is answered is told so: held, another's, or that it can't be asked
 //!   for (`hold_of`). The runtime's own instance asks so too (`AsksLock`).

@@ -10,6 +10,7 @@ use Rattle.pt_folder.specs.SourceHeld.{told_of as source_told}
 use Rattle.pt_guard.specs.declared.places.Claim.TheVariants.{Shared}
 use Rattle.pt_tree.specs.Ignoring.{told_without}
 use Rattle.pt_plan.specs.declared.fault.Fault.{Fault}
+use Rattle.pt_host.specs.Events.{IsRecorded}
 use Rattle.pt_host.specs.HostCall.{Lend, TakeBack}
 use Rattle.pt_host.specs.Machine.{HostIoOf, HostIoWords, MachineWords}
 use Rattle.pt_host.specs.Made.{Guarded}
@@ -79,7 +80,11 @@ module _ {H : Type 0} (words : MachineWords H) (asks : Option (List ℕ) → Typ
       × (ground : HostIoOf words) × (lent : H) × words.host old (Lend ground) lent × (after : HostIoOf words)
       × AuditsOver words.read call ground after status × words.host lent (TakeBack after) new
 
+  -- the same, recorded where a file is named for its event
+  abbrev pub RecordsAudit : H → H → ℕ → Type 0
+  RecordsAudit = IsRecorded words (call.store, call.folder) call.options.feedback.event Compares
+
   -- what `audit_guarded` does on a machine, by the words of that: the guard, with a lock that others may share, the audit that
-  -- is asked for, and the lock
+  -- is asked for, with its event, and the lock
   abbrev pub Audits : H → H → ℕ → Type 0
-  Audits = Guarded words.places Shared (call.store, call.folder) Compares
+  Audits = Guarded words.places Shared (call.store, call.folder) RecordsAudit

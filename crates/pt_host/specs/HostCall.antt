@@ -1,5 +1,5 @@
 -- The calls of a machine that lends what runs are made over.
-use Rattle.std.specs.Prelude.{Option, Result}
+use Rattle.std.specs.Prelude.{ℕ, List, Option, Result}
 use Rattle.std.specs.declared.io.Error.{Error}
 
 -- a call of `Host`, with what it comes to: of a machine whose output's file is one of these, and which lends one of those
@@ -10,3 +10,7 @@ pub data HostCall (F G : Type 0) : Type 0 where
   Lend : (ground : G) → HostCall F G
   -- it is taken back, as the run left it
   TakeBack : (ground : G) → HostCall F G
+  -- a file is made at a path with this text, where nothing stands
+  MakeFile : (path text : List ℕ) → (made : Result (Unit {0}) Error) → HostCall F G
+  -- the file at a path is renamed to another, and replaces what stands there
+  MoveFile : (from to : List ℕ) → (moved : Result (Unit {0}) Error) → HostCall F G

@@ -2,6 +2,7 @@ pub mod Audits
 pub mod Devices
 pub mod Durable
 pub mod Ends
+pub mod Events
 pub mod HostCall
 pub mod Machine
 pub mod Made

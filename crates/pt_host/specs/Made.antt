@@ -23,6 +23,7 @@ use Rattle.pt_state.specs.declared.job.Report.{Report}
 use Rattle.pt_tree.specs.Dest.{Writing}
 use Rattle.pt_host.specs.Durable.{IsLogged}
 use Rattle.pt_host.specs.Ends.{guard_status, run_status}
+use Rattle.pt_host.specs.Events.{IsRecorded}
 use Rattle.pt_host.specs.HostCall.{Lend, OpenOutput, TakeBack}
 use Rattle.pt_host.specs.Machine.{HostIoOf, HostIoWords, MachineWords}
 use Rattle.pt_host.specs.declared.host.HostIo.{HostIo}
@@ -191,7 +192,11 @@ module _ {H : Type 0} (words : MachineWords H) (asks : Option (List ℕ) → Typ
   Carries old new status = (file : Result (Option words.OutputFile) Error) × (mid : H)
       × FindsLog words call.options.sync old mid file × GoesOver file mid new status
 
+  -- the same, recorded where a file is named for its event
+  abbrev pub RecordsRun : H → H → ℕ → Type 0
+  RecordsRun = IsRecorded words (call.store, call.folder) call.options.feedback.event Carries
+
   -- what `run_guarded` does on a machine, by the words of that: the guard, with the lock for it alone, the run that is asked
-  -- for, and the lock
+  -- for, with its event, and the lock
   abbrev pub Runs : H → H → ℕ → Type 0
-  Runs = Guarded words.places Alone (call.store, call.folder) Carries
+  Runs = Guarded words.places Alone (call.store, call.folder) RecordsRun

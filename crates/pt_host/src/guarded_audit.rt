@@ -1,22 +1,27 @@
 //! An audit of the root in a folder against a store, on a machine.
 ghost use Rattle.std.specs.Prelude.{◌≡◌};
 ghost use Rattle.pt_messages.specs.Expected.{AsksEnd};
-ghost use Rattle.pt_host.specs.Audits.{Audits, AuditsOver, Compares, audit_call, audit_status};
+ghost use Rattle.pt_host.specs.Audits.{Audits, AuditsOver, Compares, RecordsAudit, audit_call, audit_status};
 ghost use Rattle.pt_host.specs.Machine.{host_io_words};
 
+use crate::asked::Asked;
 use crate::beginning::check_guard;
 use crate::devices::{Sides, both_sides};
+use crate::event::{begin_event, end_event, end_unbegun};
 use crate::log::SyncsOutput;
-use crate::running::Ended;
-use crate::saying::{end_with_refusal, tell_fault};
+use crate::options::Telling;
+use crate::running::{Ended, Ending};
+use crate::saying::{end_with_refusal, tell_fault, tell_why};
 use crate::status::{DONE, FAILED, INCOMPLETE};
 use crate::{AuditOptions, Host, HostIo, Machine};
 use pt_audit::Counts;
 use pt_folder::{HostSource, System};
 use pt_guard::Claim;
-use pt_messages::{Counted, Reads, Tally, Terminals, Watched, Words, lines_expected, reason};
+use pt_messages::{
+    Counted, Outcome, Reads, Tally, Terminals, Watched, Why, Words, lines_expected, reason,
+};
 use pt_move::Fault;
-use std::alloc::AllocGlobal;
+use std::alloc::{AllocError, AllocGlobal};
 use std::io::Write;
 use std::rt::Clock;
 
@@ -26,7 +31,7 @@ use std::rt::Clock;
 ///
 /// The guard is asked first, and for a lock that other audits may share. Where the audit may begin it is made over what the machine
 /// lends, which is given back then; and at last the lock is given back. Where it ends well the output has got its log, of both folders as their systems keep them.
-/// Nothing is made or changed in either folder.
+/// Nothing is made or changed in either folder. Where a file is named for its event, that is made and replaced as of a run.
 ///
 /// Skip lines count as others, unless the options say that they are well. The log that is expected to be as long may be one of a
 /// rehearsal, a run or an audit.
@@ -51,28 +56,55 @@ where
         dest,
     ) {
         Ok(Ok(lock)) => {
-            let status = hold(rt, host, options, source, dest);
+            let status = record(rt, host, options, source, dest);
             host.release(lock);
             status
         }
-        Ok(Err(_)) => hold(rt, host, options, source, dest),
+        Ok(Err(_)) => record(rt, host, options, source, dest),
         Err(fault) => end_with_refusal(rt, fault),
     }
 }
 
+// Holds the root against the store, and records that where a file is named for it.
+fn record<R, H: Host>(rt: &R, host: &mut H, options: AuditOptions, store: &str, folder: &str) -> u8
+where
+    R: Reads + Clock + Eprint + AllocGlobal + Terminals,
+    ensures { RecordsAudit ⟦<H as Machine>⟧.words (AsksEnd R.ends rt.now)
+        (audit_call options store.now folder.now) host.old host.new result }
+{
+    let path = options.feedback.event();
+    match begin_event(rt, host, path, &Asked::Audit(&options), (store, folder)) {
+        Ok(event) => {
+            let Ending { status, outcome } = hold(rt, host, options, store, folder);
+            end_event(rt, host, event, status, &outcome)
+        }
+        Err(fault) => end_unbegun(rt, &fault),
+    }
+}
+
 // Holds the root against the store over what the machine lends.
-fn hold<R, H: Host>(rt: &R, host: &mut H, options: AuditOptions, store: &str, folder: &str) -> u8
+fn hold<R, H: Host>(
+    rt: &R,
+    host: &mut H,
+    options: AuditOptions,
+    store: &str,
+    folder: &str,
+) -> Ending
 where
     R: Reads + Clock + Eprint + AllocGlobal + Terminals,
     ensures { Compares ⟦<H as Machine>⟧.words (AsksEnd R.ends rt.now)
-        (audit_call options store.now folder.now) host.old host.new result }
+        (audit_call options store.now folder.now) host.old host.new result.status }
 {
     let expected = lines_expected(rt, options.feedback.expected());
     let ground = host.lend();
     let file: Option<H::File> = None;
-    let Ended { status, ground } = compare(rt, ground, file, options, expected, store, folder);
+    let Ended {
+        status,
+        ground,
+        outcome,
+    } = compare(rt, ground, file, options, expected, store, folder);
     host.take_back(ground);
-    status
+    Ending { status, outcome }
 }
 
 // Holds the root in a folder against a store, watched as that is wanted, and tells standard error of a fault.
@@ -92,7 +124,7 @@ where
 {
     let alloc = rt.alloc();
     let tally = Tally::new();
-    let verbose = options.feedback.verbose;
+    let telling = options.feedback.telling();
     let watching = options.feedback.watching(Words::Audit, expected);
     let ignores = !options.ignored.names().is_empty();
     let Sides {
@@ -101,37 +133,46 @@ where
         log,
     } = both_sides(alloc, ground, file, options.ignored, store, folder);
     let mut source = Watched::new(source, rt, alloc, &tally, watching);
-    let mut log = Counted::new(log, source.sums());
+    let mut log = Counted::new(log, source.sums() | telling.records);
     let ran = pt_audit::audit(alloc, &mut source, &mut root, &mut log, options.job, &tally);
     source.end(log.counts_if(ran.is_ok()));
     let ignoring = source.into_source();
-    reason::tell_left_out(rt, verbose & ignores, ignoring.left_out());
+    reason::tell_left_out(rt, telling.verbose & ignores, ignoring.left_out());
     let source = ignoring.into_source();
-    report_outcome(rt, &ran, verbose, &source, &root, store);
+    let why = report_outcome(rt, &ran, telling, &source, &root, store);
+    let outcome = Outcome::new(Words::Audit, log.counts(), ran.as_ref().err(), why);
     let status = status_of(&ran, options.skips_ok);
     let ground = HostIo {
         store: source.into_system(),
         folder: root.into_system(),
         output: log.into_log().into_writer(),
     };
-    Ended { status, ground }
+    Ended {
+        status,
+        ground,
+        outcome,
+    }
 }
 
-// Says what an audit came to, if a fault ended it, and why, if that is asked for.
+// Says what an audit came to, if a fault ended it, and why, if that is asked for; and gives why, where that is told or recorded.
 fn report_outcome<R: Reads + Eprint + AllocGlobal, S: System, D: System>(
     rt: &R,
     ran: &Result<Counts, Fault>,
-    verbose: bool,
+    telling: Telling,
     source: &HostSource<'_, S>,
     root: &HostSource<'_, D>,
     store: &str,
-) {
-    if let Err(fault) = ran {
-        tell_audit_fault(rt, fault);
-        if verbose {
-            reason::tell_audit(rt, fault, source, root, store);
-        }
+) -> Result<Option<Why>, AllocError> {
+    let Err(fault) = ran else {
+        return Ok(None);
+    };
+    tell_audit_fault(rt, fault);
+    if !telling.wants_why() {
+        return Ok(None);
     }
+    let why = reason::of_audit(rt, fault, source, root, store);
+    tell_why(rt, telling, &why);
+    why
 }
 
 // Says which fault ended an audit, by which a destination is only read.

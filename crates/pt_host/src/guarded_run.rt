@@ -1,15 +1,18 @@
 //! A run from one folder to another, on a machine.
 ghost use Rattle.pt_messages.specs.Expected.{AsksEnd};
-ghost use Rattle.pt_host.specs.Made.{Carries, FindsLog, Runs, run_call};
+ghost use Rattle.std.specs.Prelude.{◌≡◌};
+ghost use Rattle.pt_host.specs.Made.{Carries, FindsLog, RecordsRun, Runs, run_call};
 
+use crate::asked::Asked;
 use crate::beginning::check_guard;
 use crate::devices::open_devices;
+use crate::event::{begin_event, end_event, end_unbegun};
 use crate::log::Syncs;
-use crate::running::{Ended, run};
+use crate::running::{Ended, Ending, run};
 use crate::saying::{end_with_fault, end_with_refusal};
 use crate::{Host, Machine, RunOptions};
 use pt_guard::Claim;
-use pt_messages::{Reads, Terminals, lines_expected, reason};
+use pt_messages::{Outcome, Reads, Terminals, Words, lines_expected, reason};
 use pt_move::Fault;
 use std::alloc::AllocGlobal;
 use std::io;
@@ -22,7 +25,8 @@ use std::rt::Clock;
 ///
 /// The guard is asked first, and the lock for this run alone. Where the run may begin, the log that is expected to be as long
 /// is looked at, if one is named, and the run is made over what the machine lends, which is given back then; and at last the lock
-/// is given back.
+/// is given back. Where a file is named for its event, that is made once the lock is held, before all else, and replaced before the lock is
+/// given back; where it can't begin no run is made: 2 where the file may not lie there or stands, else 3. Where its end can't be recorded: 3.
 pub fn run_guarded<R, H: Host>(
     rt: &R,
     host: &mut H,
@@ -44,32 +48,63 @@ where
         dest,
     ) {
         Ok(Ok(lock)) => {
-            let status = carry(rt, host, options, source, dest);
+            let status = record(rt, host, options, source, dest);
             host.release(lock);
             status
         }
-        Ok(Err(_)) => carry(rt, host, options, source, dest),
+        Ok(Err(_)) => record(rt, host, options, source, dest),
         Err(fault) => end_with_refusal(rt, fault),
     }
 }
 
+// Carries a store from folder to folder, or rehearses that, and records it where a file is named for that.
+fn record<R, H: Host>(rt: &R, host: &mut H, options: RunOptions, store: &str, folder: &str) -> u8
+where
+    R: Reads + Clock + Eprint + AllocGlobal + Terminals,
+    ensures { RecordsRun ⟦<H as Machine>⟧.words (AsksEnd R.ends rt.now)
+        (run_call options store.now folder.now) host.old host.new result }
+{
+    let path = options.feedback.event();
+    match begin_event(rt, host, path, &Asked::Run(&options), (store, folder)) {
+        Ok(event) => {
+            let Ending { status, outcome } = carry(rt, host, options, store, folder);
+            end_event(rt, host, event, status, &outcome)
+        }
+        Err(fault) => end_unbegun(rt, &fault),
+    }
+}
+
 // Carries a store from folder to folder, or rehearses that, over what the machine lends.
-fn carry<R, H: Host>(rt: &R, host: &mut H, options: RunOptions, store: &str, folder: &str) -> u8
+fn carry<R, H: Host>(rt: &R, host: &mut H, options: RunOptions, store: &str, folder: &str) -> Ending
 where
     R: Reads + Clock + Eprint + AllocGlobal + Terminals,
     ensures { Carries ⟦<H as Machine>⟧.words (AsksEnd R.ends rt.now)
-        (run_call options store.now folder.now) host.old host.new result }
+        (run_call options store.now folder.now) host.old host.new result.status }
 {
     let file = match synced_output(rt, host, options.sync) {
         Ok(file) => file,
-        Err(_) => return end_with_fault(rt, &Fault::Log),
+        Err(_) => return end_unsynced(rt),
     };
     let expected = lines_expected(rt, options.feedback.expected());
     let ground = host.lend();
     let devices = open_devices(rt.alloc(), ground, file, &options, store, folder);
-    let Ended { status, ground } = run(rt, devices, options, expected, store);
+    let Ended {
+        status,
+        ground,
+        outcome,
+    } = run(rt, devices, options, expected, store);
     host.take_back(ground);
-    status
+    Ending { status, outcome }
+}
+
+// Says that the log can't be put onto its disk, and gives the end of that.
+fn end_unsynced(rt: &impl Eprint) -> Ending
+    ensures { result.status ≡ 3 }
+{
+    Ending {
+        status: end_with_fault(rt, &Fault::Log),
+        outcome: Outcome::of_fault(Words::Run, &Fault::Log),
+    }
 }
 
 // The file that the machine's output goes to, where there is one and it is to be put onto its disk. Where that can't be had it is told; an

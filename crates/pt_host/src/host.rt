@@ -1,7 +1,7 @@
 //! The machine that a run is made on. One ghost word says of each call what it may come to, so that a contract over it says which
 //! calls are made, in which order, and what becomes of their answers.
 ghost use Rattle.std.specs.Prelude.{⊤};
-ghost use Rattle.pt_host.specs.HostCall.{HostCall, Lend, OpenOutput, TakeBack};
+ghost use Rattle.pt_host.specs.HostCall.{HostCall, Lend, MakeFile, MoveFile, OpenOutput, TakeBack};
 ghost use Rattle.pt_host.specs.declared.host.HostIo.{HostIo};
 
 use crate::log::{Syncs, SyncsOutput};
@@ -53,6 +53,15 @@ pub trait Host: Places {
     /// Takes back what it lent.
     fn take_back(&mut self, ground: HostIo<Self::Store, Self::Folder, Self::Output>)
         ensures { does self.old (TakeBack ground) self.new };
+
+    /// Makes a file at a path where nothing stands, not even a link, with this text, and has it put onto the disk. Nothing else is made or
+    /// changed; where it fails a part of the file may be left.
+    fn make_file(&mut self, path: &str, text: &str) -> io::Result<()>
+        ensures { does self.old (MakeFile path.now text.now result) self.new };
+
+    /// Renames the file at a path to another, and so replaces what stands there. Nothing else is made or changed.
+    fn move_file(&mut self, from: &str, to: &str) -> io::Result<()>
+        ensures { does self.old (MoveFile from.now to.now result) self.new };
 }
 
 /// A file that standard output goes to, opened once more. Having one opening of a file put onto its disk does that for what was written
@@ -108,5 +117,17 @@ where
         ensures { ⊤ }
     {
         let HostIo { .. } = ground;
+    }
+
+    fn make_file(&mut self, path: &str, text: &str) -> io::Result<()> {
+        let mut options = OpenOptions::new();
+        options.write(true).create_new(true);
+        let mut file = self.open_file(&options, path)?;
+        file.write_all(text.as_bytes())?;
+        file.sync_all()
+    }
+
+    fn move_file(&mut self, from: &str, to: &str) -> io::Result<()> {
+        self.rename(from, to)
     }
 }

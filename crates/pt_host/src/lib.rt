@@ -34,12 +34,19 @@
 //!   that its writer has written, and answered Ok (`IsPutBehind`). It has its file to its end, and unless it failed all that it wrote was
 //!   put onto the disk (`LogStays`). That is proved whatever `puts`, the word for it, means of a file and a writer (`SyncsOutput`). What a
 //!   disk then has no contract says.
+//! - Where a file is named for its event (`--event`), a run or an audit is recorded in it (`IsRecorded`): once the lock is held, and before all else,
+//!   where the file may lie is judged (`judge_file` of pt_guard), what stands at its path with `.part` behind it is asked for, and the file is made where
+//!   nothing stands (`MakesEvent`). Where one of these refuses, that is the status (`event_status`), and no run or audit is made. After it, and before the
+//!   lock is given back, another is made at the path with `.part` behind it and renamed to the file (`EndsFile`); where that fails the status is 3. No
+//!   other path is named in these calls. Where no file is named none of them is made. What the texts say isn't promised.
 //! - `synced_output`: where syncing isn't wanted nothing is asked. Where there is no file, or it can't be opened or has no such call, the
 //!   log isn't synced; where syncing it fails otherwise, that is the log's fault.
 #![tactic(auto)]
 
+mod asked;
 mod beginning;
 mod devices;
+mod event;
 mod guarded_audit;
 mod guarded_run;
 mod host;
@@ -53,13 +60,14 @@ mod saying;
 pub mod status;
 mod text;
 
+pub use event::EventFault;
 pub use guarded_audit::audit_guarded;
 pub use guarded_run::run_guarded;
 pub use host::{Host, HostIo, OutputFile};
 pub use log::{DurableLog, Syncs, SyncsOutput};
 pub use machine::Machine;
 pub use options::{AuditOptions, Feedback, RunOptions};
-pub use pt_messages::{Progress, Reads, Terminals};
+pub use pt_messages::{Progress, Reads, Terminals, VERSION};
 pub use room::longest_made;
 pub use saying::end_with_fault;
 pub use text::Text;

@@ -36,7 +36,7 @@ pub struct AuditOptions {
     pub feedback: Feedback,
 }
 
-/// What standard error shows of a run or an audit.
+/// What is told of a run or an audit beside its log: what standard error shows, and the file of its event.
 #[derive(Debug, Drop)]
 pub struct Feedback {
     /// Whether the reason of a fault is told too, and a summary at the end.
@@ -49,6 +49,22 @@ pub struct Feedback {
     pub interval: u32,
     /// The path of a log, of a rehearsal say, whose end line tells how many lines there may be.
     pub expected: Option<Text>,
+    /// The path of the file in which the run or the audit is recorded as an event.
+    pub event: Option<Text>,
+}
+
+// Which reasons are wanted of a fault: to be told, and to be recorded in an event.
+#[derive(Clone, Copy)]
+pub(crate) struct Telling {
+    pub verbose: bool,
+    pub records: bool,
+}
+
+impl Telling {
+    // Whether they are wanted at all.
+    pub(crate) fn wants_why(self) -> bool {
+        self.verbose || self.records
+    }
 }
 
 impl Feedback {
@@ -59,6 +75,24 @@ impl Feedback {
         match &self.expected {
             Some(path) => Some(path.as_str()),
             None => None,
+        }
+    }
+
+    // The path of the event's file, if one is named.
+    pub(crate) fn event(&self) -> Option<&str>
+        ensures { option_map (λ path. path.now) result ≡ self.now.event }
+    {
+        match &self.event {
+            Some(path) => Some(path.as_str()),
+            None => None,
+        }
+    }
+
+    // Which reasons it wants of a fault.
+    pub(crate) fn telling(&self) -> Telling {
+        Telling {
+            verbose: self.verbose,
+            records: self.event.is_some(),
         }
     }
 

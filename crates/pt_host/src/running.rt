@@ -12,23 +12,32 @@ ghost use Rattle.pt_state.specs.Outside.{states_of};
 
 use crate::devices::Devices;
 use crate::log::{DurableLog, SyncsOutput};
-use crate::saying::tell_fault;
+use crate::options::Telling;
+use crate::saying::{tell_fault, tell_why};
 use crate::status::{DONE, FAILED, INCOMPLETE};
 use crate::{HostIo, RunOptions};
 use pt_folder::{HostDest, HostSource, System};
-use pt_messages::{Counted, Reads, Tally, Terminals, Watched, Words, reason};
+use pt_messages::{Counted, Outcome, Reads, Tally, Terminals, Watched, Why, Words, reason};
 use pt_move::{Fault, Job, Report, migrate_observed};
 use pt_rehearsal::Rehearsal;
 use pt_tree::{Dest, Ignoring, Log, Source};
-use std::alloc::{AllocGlobal, Global};
+use std::alloc::{AllocError, AllocGlobal, Global};
 use std::io::Write;
 use std::rt::Clock;
 
-/// A run that has ended: its status, and what it was made over.
+/// A run that has ended: its status, what it was made over, and what it came to.
 #[derive(Drop)]
 pub(crate) struct Ended<S, D, W> {
     pub status: u8,
     pub ground: HostIo<S, D, W>,
+    pub outcome: Outcome,
+}
+
+/// What is left of it once that was given back.
+#[derive(Drop)]
+pub(crate) struct Ending {
+    pub status: u8,
+    pub outcome: Outcome,
 }
 
 /// Makes the run that is asked for over its devices, or rehearses it, watched as its options say, and tells standard error of a fault.
@@ -64,12 +73,12 @@ where
     let alloc = rt.alloc();
     let tally = Tally::new();
     let Devices { source, dest, log } = devices;
-    let verbose = options.feedback.verbose;
+    let telling = options.feedback.telling();
     let watching = options.feedback.watching(Words::Run, expected);
     let ignores = !options.ignored.names().is_empty();
     let ignoring = Ignoring::new(source, options.ignored);
     let mut source = Watched::new(ignoring, rt, alloc, &tally, watching);
-    let mut log = Counted::new(log, source.sums());
+    let mut log = Counted::new(log, source.sums() | telling.records);
     let Ran { ran, dest } = run_or_rehearse(
         alloc,
         &mut source,
@@ -81,16 +90,21 @@ where
     );
     source.end(log.counts_if(ran.is_ok()));
     let ignoring = source.into_source();
-    reason::tell_left_out(rt, verbose & ignores, ignoring.left_out());
+    reason::tell_left_out(rt, telling.verbose & ignores, ignoring.left_out());
     let source = ignoring.into_source();
-    report_outcome(rt, &ran, verbose, &source, &dest, store);
+    let why = report_outcome(rt, &ran, telling, &source, &dest, store);
+    let outcome = Outcome::new(Words::Run, log.counts(), ran.as_ref().err(), why);
     let status = status_of(&ran, options.present_ok);
     let ground = HostIo {
         store: source.into_system(),
         folder: dest.into_system(),
         output: log.into_log().into_writer(),
     };
-    Ended { status, ground }
+    Ended {
+        status,
+        ground,
+        outcome,
+    }
 }
 
 // What a run came to, and its destination.
@@ -133,21 +147,25 @@ fn run_or_rehearse<'a, S: Source, D: System, L: Log>(
     Ran { ran, dest }
 }
 
-// Says what a run over these folders came to, if a fault ended it, and why, if that is asked for.
+// Says what a run over these folders came to, if a fault ended it, and why, if that is asked for; and gives why, where that is told or recorded.
 fn report_outcome<R: Reads + Eprint + AllocGlobal, S: System, D: System>(
     rt: &R,
     ran: &Result<Report, Fault>,
-    verbose: bool,
+    telling: Telling,
     source: &HostSource<'_, S>,
     dest: &HostDest<'_, D>,
     store: &str,
-) {
-    if let Err(fault) = ran {
-        tell_fault(rt, fault);
-        if verbose {
-            reason::tell(rt, fault, source, dest, store);
-        }
+) -> Result<Option<Why>, AllocError> {
+    let Err(fault) = ran else {
+        return Ok(None);
+    };
+    tell_fault(rt, fault);
+    if !telling.wants_why() {
+        return Ok(None);
     }
+    let why = reason::of_run(rt, fault, source, dest, store);
+    tell_why(rt, telling, &why);
+    why
 }
 
 // The exit status of a run, whose present lines are well or not.

@@ -7,9 +7,9 @@ pub const DONE: u8 = 0;
 /// taken, of one that is absent or differs.
 pub const INCOMPLETE: u8 = 1;
 
-/// The words were refused, or the folders lie in one another, or it isn't known where they lie, or the destination is a storage root itself.
-/// Nothing was done.
+/// The words were refused, or the folders lie in one another, or it isn't known where they lie, or the destination is a storage root itself, or the
+/// file of an event may not lie where it is named, or stands. Nothing was done.
 pub const REFUSED: u8 = 2;
 
-/// A fault ended the command, or another run has the destination. Standard error says which.
+/// A fault ended the command, or another run has the destination, or the file of an event can't be written. Standard error says which.
 pub const FAILED: u8 = 3;

@@ -1,4 +1,4 @@
-ghost use Rattle.std.specs.Prelude.{◌≡◌, IfOk};
+ghost use Rattle.std.specs.Prelude.{◌≡◌, ◌++◌, IfOk};
 
 use pt_tree::MemoryFault;
 use std::alloc::Global;
@@ -27,6 +27,15 @@ impl Text {
         Ok(Text {
             text: String::from_str(alloc, text)?,
         })
+    }
+
+    /// A text with another behind it. Refused as `Memory`, where a growth was.
+    pub fn joined(alloc: Global, text: &str, end: &str) -> Result<Text, MemoryFault>
+        ensures { IfOk result (λ whole. whole ≡ text.now ++ end.now) }
+    {
+        let mut whole = String::from_str(alloc, text)?;
+        whole.push_str(end)?;
+        Ok(Text { text: whole })
     }
 
     /// The text that a value is shown as. Refused as `Memory`, where a growth was.

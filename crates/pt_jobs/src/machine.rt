@@ -124,6 +124,14 @@ impl<'a> Host for Machine<'a> {
         self.store = ground.store;
         self.root = ground.folder;
     }
+
+    fn make_file(&mut self, _: &str, _: &str) -> io::Result<()> {
+        Err(io::Error::from(ErrorKind::PermissionDenied))
+    }
+
+    fn move_file(&mut self, _: &str, _: &str) -> io::Result<()> {
+        Err(io::Error::from(ErrorKind::PermissionDenied))
+    }
 }
 
 /// How a store is carried.
@@ -144,6 +152,7 @@ const NOTHING_SHOWN: Feedback = Feedback {
     progress: Progress::Never,
     interval: 10,
     expected: None,
+    event: None,
 };
 
 /// Carries the store into the root, or rehearses that.

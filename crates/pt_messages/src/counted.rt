@@ -1,6 +1,7 @@
 //! A log whose lines are counted, for the summary at the end.
 ghost use Rattle.std.specs.Prelude.{◌≡◌};
 
+use crate::members::Members;
 use crate::numbers::{count_text, group_digits, size};
 use crate::watch::Words;
 use pt_tree::{Log, TreeFault};
@@ -14,7 +15,7 @@ const CAUSES: [&str; 9] = [
 const REASONS: [&str; 5] = ["missing", "extra", "kind", "bytes", "twin"];
 
 /// The lines of a log, how many there are of each kind.
-#[derive(Drop)]
+#[derive(Clone, Copy)]
 pub struct LineCounts {
     // Those of objects that were carried, or are the same; and what these hold.
     well: u64,
@@ -52,6 +53,11 @@ impl<L: Log> Counted<L> {
         if whole { Some(&self.counts) } else { None }
     }
 
+    /// The lines so far.
+    pub fn counts(&self) -> LineCounts {
+        self.counts
+    }
+
     /// The log, as the calls left it.
     pub fn into_log(self) -> L
         ensures { result ≡ self.log }
@@ -87,7 +93,8 @@ impl<L: Log> Log for Counted<L> {
 }
 
 impl LineCounts {
-    fn none() -> LineCounts {
+    /// No lines.
+    pub fn none() -> LineCounts {
         LineCounts {
             well: 0,
             files: 0,
@@ -116,6 +123,31 @@ impl LineCounts {
             "skip" => add_word(&CAUSES, &mut self.skipped, last_word(rest)),
             _ => {}
         }
+    }
+
+    /// Puts into a record how many lines there are of each kind, skips by their cause and differing objects by their reason, and what the objects
+    /// that were carried, or are the same, hold.
+    pub(crate) fn put_into(&self, record: &mut Members, words: Words) -> Result<(), AllocError> {
+        let mut lines = record.empty();
+        match words {
+            Words::Run => {
+                lines.put_number("done", self.well)?;
+                lines.put_number("present", self.present)?;
+            }
+            Words::Audit => {
+                lines.put_number("absent", self.absent)?;
+                lines.put_number("differs", sum(&self.differing))?;
+                lines.put_number("same", self.well)?;
+                let whys = with_counts(record.empty(), &REASONS, &self.differing)?;
+                record.put_members("differs", whys)?;
+            }
+        }
+        lines.put_number("skip", sum(&self.skipped))?;
+        record.put_members("lines", lines)?;
+        let causes = with_counts(record.empty(), &CAUSES, &self.skipped)?;
+        record.put_members("skips", causes)?;
+        record.put_number("files", self.files)?;
+        record.put_number("bytes", self.bytes)
     }
 
     /// How many lines there are of each kind, and what the objects that were carried, or are the same, hold: as
@@ -172,6 +204,27 @@ fn add_word(words: &[&str], counts: &mut [u64], word: &str) {
             *count = count.saturating_add(1);
         }
     }
+}
+
+// How many there are in all.
+fn sum(counts: &[u64]) -> u64 {
+    let mut sum = 0u64;
+    for count in counts {
+        sum = sum.saturating_add(*count);
+    }
+    sum
+}
+
+// How many there are of each word.
+fn with_counts(
+    mut members: Members,
+    words: &[&str],
+    counts: &[u64],
+) -> Result<Members, AllocError> {
+    for (word, count) in words.iter().zip(counts.iter()) {
+        members.put_number(word, *count)?;
+    }
+    Ok(members)
 }
 
 // How many there are in all, and of which words: `9 skipped (split 7, other 2)`.

@@ -5,10 +5,14 @@
 //!
 //! `Reads` is what can be read of files beside a run: the end of a log, and a store's prefix. Its calls change nothing. `lines_expected` asks
 //! for the end of the log that is named, if one is (`AsksEnd`); what it makes of it is shown only.
+//!
+//! `Event` is the record of a run or an audit that `--event` asks for, as a text; who calls it writes that.
 #![tactic(auto)]
 
 mod counted;
+mod event;
 mod expected;
+mod members;
 mod numbers;
 pub mod prefix;
 mod reads;
@@ -19,8 +23,11 @@ mod terminal;
 mod watch;
 
 pub use counted::{Counted, LineCounts};
+pub use event::{Event, Outcome, VERSION};
 pub use expected::lines_expected;
+pub use members::Members;
 pub use reads::Reads;
+pub use reason::Why;
 pub use tally::Tally;
 pub use terminal::Terminals;
 pub use watch::{Progress, Watched, Watching, Words};

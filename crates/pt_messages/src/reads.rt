@@ -26,6 +26,9 @@ pub trait Reads {
     /// What the file at a path holds, links not followed; none where it is no file, or has more bytes than `most`.
     fn read_small(&self, path: &str, most: u64) -> io::Result<Option<Vec<u8>>>;
 
+    /// Where a path leads, from the top, links resolved.
+    fn find_place(&self, alloc: Global, path: &str) -> io::Result<PathBuf>;
+
     /// The folder of the store whose `pairtree_root` a path leads to, links resolved; none where it leads to no such folder, or that can't
     /// be told.
     fn store_above(&self, alloc: Global, path: &str) -> Option<PathBuf>;
@@ -49,6 +52,10 @@ impl Reads for HostRuntime {
             return Ok(None);
         }
         Ok(Some(fs::read(self, path)?))
+    }
+
+    fn find_place(&self, alloc: Global, path: &str) -> io::Result<PathBuf> {
+        self.canonicalize(alloc, path)
     }
 
     fn store_above(&self, alloc: Global, path: &str) -> Option<PathBuf> {

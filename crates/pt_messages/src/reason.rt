@@ -1,89 +1,128 @@
 //! Why a run failed, in a line of its own: the path of the call that failed, and the system's text, or the program's where no
 //! call failed.
+use crate::members::Members;
 use crate::reads::Reads;
 use crate::shown::escaped;
 use pt_folder::{Failure, HostDest, HostSource, System};
 use pt_move::Fault;
-use std::alloc::AllocGlobal;
-use std::io;
+use std::alloc::{AllocError, AllocGlobal, Global};
 use std::io::ErrorKind;
+use std::{fmt, io};
 
 // Of what stands where a root, or one of its files, would be.
 const ANOTHER_ROOT: &str = "it is not what this program makes there with these tuples";
 
-/// Tells standard error why a run over these folders ended with a fault, where that has a path.
-pub fn tell<R: Reads + Eprint + AllocGlobal, S: System, D: System>(
+const NO_STORE: &str = "it holds no file pairtree_version0_1 or no directory pairtree_root";
+
+const NO_PREFIX: &str =
+    "pairtree_prefix in it is no file, has more than 1024 bytes, or is not UTF-8";
+
+const CHANGED: &str = "it was not the same at its second reading";
+
+/// Why a run or an audit failed: the path of the call that failed or of what was found, and the reason.
+#[derive(Drop)]
+pub struct Why {
+    path: String,
+    reason: String,
+}
+
+impl Why {
+    // This reason at a path.
+    fn at(
+        alloc: Global,
+        path: &str,
+        reason: &impl fmt::Display,
+    ) -> Result<Option<Why>, AllocError> {
+        Ok(Some(Why {
+            path: String::from_str(alloc, path)?,
+            reason: reason.to_string(alloc)?,
+        }))
+    }
+
+    /// Puts it into a record of the fault.
+    pub(crate) fn put_into(&self, fault: &mut Members) -> Result<(), AllocError> {
+        fault.put_text("path", self.path.as_str())?;
+        fault.put_text("reason", self.reason.as_str())
+    }
+}
+
+/// Why a run over these folders ended with a fault, where that has a path. An error where a growth was refused.
+pub fn of_run<R: Reads + AllocGlobal, S: System, D: System>(
     rt: &R,
     fault: &Fault,
     source: &HostSource<'_, S>,
     dest: &HostDest<'_, D>,
     store: &str,
-) {
+) -> Result<Option<Why>, AllocError> {
     match fault {
-        Fault::Dest => failure(rt, dest.last_failure()),
-        Fault::StagingLeft => say(rt, dest.looked_path(), "it stands there already"),
-        Fault::Target => say(rt, dest.looked_path(), ANOTHER_ROOT),
-        _ => tell_of_source(rt, fault, source, store),
+        Fault::Dest => of_failure(rt.alloc(), dest.last_failure()),
+        Fault::StagingLeft => Why::at(rt.alloc(), dest.looked_path(), &"it stands there already"),
+        Fault::Target => Why::at(rt.alloc(), dest.looked_path(), &ANOTHER_ROOT),
+        _ => of_source(rt, fault, source, store),
     }
 }
 
-// Tells standard error why a fault of the source ended a run or an audit, where that has a path.
-fn tell_of_source<R: Reads + Eprint + AllocGlobal, S: System>(
+/// Why an audit of the root in a folder ended with a fault, where that has a path. An error where a growth was refused.
+pub fn of_audit<R: Reads + AllocGlobal, S: System, D: System>(
+    rt: &R,
+    fault: &Fault,
+    source: &HostSource<'_, S>,
+    root: &HostSource<'_, D>,
+    store: &str,
+) -> Result<Option<Why>, AllocError> {
+    match fault {
+        Fault::Dest => of_failure(rt.alloc(), root.last_failure()),
+        Fault::Target => Why::at(rt.alloc(), root.looked_path(), &ANOTHER_ROOT),
+        _ => of_source(rt, fault, source, store),
+    }
+}
+
+// Why a fault of the source ended a run or an audit, where that has a path.
+fn of_source<R: Reads + AllocGlobal, S: System>(
     rt: &R,
     fault: &Fault,
     source: &HostSource<'_, S>,
     store: &str,
-) {
+) -> Result<Option<Why>, AllocError> {
     match fault {
-        Fault::Source => failure(rt, source.last_failure()),
-        Fault::NotPairtree => no_store(rt, store),
-        Fault::Prefix => say(
-            rt,
-            store,
-            "pairtree_prefix in it is no file, has more than 1024 bytes, or is not UTF-8",
-        ),
-        Fault::Changed => say(
-            rt,
-            source.opened_path(),
-            "it was not the same at its second reading",
-        ),
+        Fault::Source => of_failure(rt.alloc(), source.last_failure()),
+        Fault::NotPairtree => of_no_store(rt, store),
+        Fault::Prefix => Why::at(rt.alloc(), store, &NO_PREFIX),
+        Fault::Changed => Why::at(rt.alloc(), source.opened_path(), &CHANGED),
         Fault::Dest
         | Fault::Log
         | Fault::Memory
         | Fault::StagingLeft
         | Fault::Target
         | Fault::Turns
-        | Fault::Ended => {}
+        | Fault::Ended => Ok(None),
     }
 }
 
-// Tells why a folder is no store; where it is the `pairtree_root` of one, which folder that is.
-fn no_store<R: Reads + Eprint + AllocGlobal>(rt: &R, store: &str) {
-    let Some(above) = rt.store_above(rt.alloc(), store) else {
-        let reason = "it holds no file pairtree_version0_1 or no directory pairtree_root";
-        return say(rt, store, reason);
+// Why a folder is no store; where it is the `pairtree_root` of one, which folder that is.
+fn of_no_store<R: Reads + AllocGlobal>(rt: &R, store: &str) -> Result<Option<Why>, AllocError> {
+    let alloc = rt.alloc();
+    let Some(above) = rt.store_above(alloc, store) else {
+        return Why::at(alloc, store, &NO_STORE);
     };
-    if let Ok(path) = escaped(rt.alloc(), store)
-        && let Ok(above) = escaped(rt.alloc(), above.as_str())
-    {
-        let _ = eprintln!(rt;
-            "pairtree2ocfl: {path}: it is the pairtree_root of a store: name {above}"
-        );
+    let above = escaped(alloc, above.as_str())?;
+    let reason = format!(in alloc; "it is the pairtree_root of a store: name {above}")?;
+    Why::at(alloc, store, &reason)
+}
+
+// Why a call failed.
+fn of_failure(alloc: Global, failure: Option<&Failure>) -> Result<Option<Why>, AllocError> {
+    match failure {
+        Some(failure) => Why::at(alloc, failure.path(), &failure.cause()),
+        None => Ok(None),
     }
 }
 
-/// Tells standard error why an audit of the root in a folder ended with a fault, where that has a path.
-pub fn tell_audit<R: Reads + Eprint + AllocGlobal, S: System, D: System>(
-    rt: &R,
-    fault: &Fault,
-    source: &HostSource<'_, S>,
-    root: &HostSource<'_, D>,
-    store: &str,
-) {
-    match fault {
-        Fault::Dest => failure(rt, root.last_failure()),
-        Fault::Target => say(rt, root.looked_path(), ANOTHER_ROOT),
-        _ => tell_of_source(rt, fault, source, store),
+/// Tells standard error why a run or an audit failed.
+pub fn tell<R: Eprint + AllocGlobal>(rt: &R, why: &Why) {
+    if let Ok(path) = escaped(rt.alloc(), why.path.as_str()) {
+        let reason = &why.reason;
+        let _ = eprintln!(rt; "pairtree2ocfl: {path}: {reason}");
     }
 }
 
@@ -102,26 +141,14 @@ pub fn tell_unsynced<R: Eprint>(rt: &R, error: &io::Error) {
     let _ = eprintln!(rt; "pairtree2ocfl: the log's file will not be put onto its disk: {error}");
 }
 
+/// Tells standard error that the file of an event can't be written.
+pub fn tell_unwritten<R: Eprint>(rt: &R, error: &io::Error) {
+    let _ = eprintln!(rt; "pairtree2ocfl: cannot write FILE of --event: {error}");
+}
+
 /// Tells standard error how many entries were left out by their names, if that is wanted.
 pub fn tell_left_out<R: Eprint>(rt: &R, wanted: bool, count: u64) {
     if wanted {
         let _ = eprintln!(rt; "pairtree2ocfl: left out by their names: {count}");
-    }
-}
-
-// Tells of a call that failed.
-fn failure<R: Eprint + AllocGlobal>(rt: &R, failure: Option<&Failure>) {
-    if let Some(failure) = failure {
-        let cause = failure.cause();
-        if let Ok(path) = escaped(rt.alloc(), failure.path()) {
-            let _ = eprintln!(rt; "pairtree2ocfl: {path}: {cause}");
-        }
-    }
-}
-
-// Tells what was found at a path.
-fn say<R: Eprint + AllocGlobal>(rt: &R, path: &str, reason: &str) {
-    if let Ok(path) = escaped(rt.alloc(), path) {
-        let _ = eprintln!(rt; "pairtree2ocfl: {path}: {reason}");
     }
 }

@@ -85,6 +85,14 @@ impl<'a> Host for Machine<'a> {
     {
         self.devices = devices;
     }
+
+    fn make_file(&mut self, _: &str, _: &str) -> io::Result<()> {
+        Err(io::Error::from(ErrorKind::PermissionDenied))
+    }
+
+    fn move_file(&mut self, _: &str, _: &str) -> io::Result<()> {
+        Err(io::Error::from(ErrorKind::PermissionDenied))
+    }
 }
 
 /// What runs leave.
@@ -185,6 +193,7 @@ fn make_options(alloc: Global, rehearse: bool) -> Option<RunOptions> {
             progress: Progress::Never,
             interval: 10,
             expected: None,
+            event: None,
         },
     })
 }

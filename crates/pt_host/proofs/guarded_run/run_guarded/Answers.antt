@@ -6,7 +6,7 @@ returns-in-Ok-Ok g c = (
   Ok (Ok c.in-Ok-Ok.lock),
   c.check_guard.new.host,
   rw c.in-Ok-Ok.field-0-is at c.in-Ok-Ok.ensures,
-  (c.carry-status.new.host, c.carry-status.ensures, c.release.ensures),
+  (c.record-status.new.host, c.record-status.ensures, c.release.ensures),
 )
 
 pub returns-in-Ok-Err : goal.returns-in-Ok-Err
@@ -14,7 +14,7 @@ returns-in-Ok-Err g c = (
   Ok (Err c.in-Ok-Err.field-0-0),
   c.check_guard.new.host,
   rw c.in-Ok-Err.field-0-is at c.in-Ok-Err.ensures,
-  c.carry.ensures,
+  c.record.ensures,
 )
 
 pub returns-in-Err : goal.returns-in-Err

@@ -1,0 +1,183 @@
+//! The record of a run or an audit beside its log: what an archive's record of preservation events wants of it (PREMIS 3.0, "Event"), as one
+//! JSON object on a line. It has two texts: as the run begins, and with how it ended.
+use crate::counted::LineCounts;
+use crate::members::Members;
+use crate::reads::Reads;
+use crate::reason::Why;
+use crate::watch::Words;
+use jiff::Timestamp;
+use pt_move::Fault;
+use std::alloc::{AllocError, AllocGlobal, Global};
+use std::io;
+use std::io::ErrorKind;
+use std::rt::Clock;
+
+/// The program's version, and the line of the toolchain that proves it.
+pub const VERSION: &str = "0.1.0\nrattle-kit-13f logic dac8208d650f15bf";
+
+const PROGRAM: &str = "pairtree2ocfl";
+
+// Where Linux tells the name of the machine.
+const HOST: &str = "/proc/sys/kernel/hostname";
+
+// How many bytes that may have.
+const LONGEST: u64 = 1024;
+
+/// The record of a run or an audit.
+#[derive(Drop)]
+pub struct Event {
+    members: Members,
+}
+
+/// What a run or an audit came to.
+#[derive(Drop)]
+pub struct Outcome {
+    words: Words,
+    counts: LineCounts,
+    fault: Option<Fault>,
+    why: Result<Option<Why>, AllocError>,
+}
+
+impl Outcome {
+    /// It put so many lines, and ended with this fault, if with any; why that came is given where it has a path, and is an error where
+    /// a growth was refused for it.
+    pub fn new(
+        words: Words,
+        counts: LineCounts,
+        fault: Option<&Fault>,
+        why: Result<Option<Why>, AllocError>,
+    ) -> Outcome {
+        Outcome {
+            words,
+            counts,
+            fault: fault.copied(),
+            why,
+        }
+    }
+
+    /// No line was put, for this fault.
+    pub fn of_fault(words: Words, fault: &Fault) -> Outcome {
+        Outcome::new(words, LineCounts::none(), Some(fault), Ok(None))
+    }
+}
+
+impl Event {
+    /// The record of what is done under this word with these options, as it begins. An error where a growth was refused.
+    pub fn begin<R: Reads + Clock + AllocGlobal>(
+        rt: &R,
+        word: &str,
+        options: Members,
+    ) -> Result<Event, AllocError> {
+        let mut members = Members::new(rt.alloc());
+        members.put_text("as", word)?;
+        members.put_text("program", PROGRAM)?;
+        if let Some((version, toolchain)) = VERSION.split_once('\n') {
+            members.put_text("version", version)?;
+            members.put_text("toolchain", toolchain)?;
+        }
+        members.put_members("options", options)?;
+        put_host(rt, &mut members)?;
+        put_moment(rt, &mut members, "begin")?;
+        Ok(Event { members })
+    }
+
+    /// Puts a folder at a key: its path as it was given, and where that leads, links resolved, if it leads anywhere.
+    pub fn put_folder<R: Reads + AllocGlobal>(
+        &mut self,
+        rt: &R,
+        key: &str,
+        path: &str,
+    ) -> Result<(), AllocError> {
+        let mut folder = self.members.empty();
+        folder.put_text("given", path)?;
+        match rt.find_place(rt.alloc(), path) {
+            Ok(place) => folder.put_text("resolved", place.as_str())?,
+            Err(error) => pass_unless_wanting(&error)?,
+        }
+        self.members.put_members(key, folder)
+    }
+
+    /// Puts how it ended: with this status, and so.
+    pub fn end<R: Clock + AllocGlobal>(
+        &mut self,
+        rt: &R,
+        status: u8,
+        outcome: &Outcome,
+    ) -> Result<(), AllocError> {
+        put_moment(rt, &mut self.members, "end")?;
+        self.members.put_number("status", u64::from(status))?;
+        outcome.counts.put_into(&mut self.members, outcome.words)?;
+        if let Some(fault) = &outcome.fault {
+            let fault = outcome.told_fault(rt.alloc(), fault)?;
+            self.members.put_members("fault", fault)?;
+        }
+        Ok(())
+    }
+
+    /// The record as a line.
+    pub fn line(&self) -> Result<String, AllocError> {
+        self.members.line()
+    }
+}
+
+impl Outcome {
+    // What is told of its fault: the number and the text, and the path and the reason where it has these.
+    fn told_fault(&self, alloc: Global, fault: &Fault) -> Result<Members, AllocError> {
+        let mut told = Members::new(alloc);
+        told.put_number("number", u64::from(fault.number()))?;
+        let text = fault.to_string(alloc)?;
+        told.put_text("text", self.text_of(fault, text.as_str()))?;
+        match &self.why {
+            Ok(Some(why)) => why.put_into(&mut told)?,
+            Ok(None) => {}
+            Err(error) => return Err(*error),
+        }
+        Ok(told)
+    }
+
+    // The text of a fault, which is this of a run: an audit only reads its destination.
+    fn text_of<'a>(&self, fault: &Fault, text: &'a str) -> &'a str {
+        match (self.words, fault) {
+            (Words::Audit, Fault::Dest) => "cannot read the destination",
+            _ => text,
+        }
+    }
+}
+
+// Puts the name of the machine, where Linux tells it.
+fn put_host<R: Reads>(rt: &R, members: &mut Members) -> Result<(), AllocError> {
+    match rt.read_small(HOST, LONGEST) {
+        Ok(Some(bytes)) => match str::from_utf8(bytes.as_slice()) {
+            Ok(name) => members.put_text("host", name.trim_end()),
+            Err(_) => Ok(()),
+        },
+        Ok(None) => Ok(()),
+        Err(error) => pass_unless_wanting(&error),
+    }
+}
+
+// Puts at a key the clock's moment to the second, in UTC, as RFC 3339 writes it. None is put where there is no clock.
+fn put_moment<R: Clock + AllocGlobal>(
+    rt: &R,
+    members: &mut Members,
+    key: &str,
+) -> Result<(), AllocError> {
+    let Ok(passed) = rt.since_1970() else {
+        return Ok(());
+    };
+    let Ok(second) = i64::try_from(passed.as_secs()) else {
+        return Ok(());
+    };
+    match Timestamp::from_second(second) {
+        Ok(moment) => members.put_text(key, moment.to_string(rt.alloc())?.as_str()),
+        Err(_) => Ok(()),
+    }
+}
+
+// An error by which the system wants memory; another is passed over.
+fn pass_unless_wanting(error: &io::Error) -> Result<(), AllocError> {
+    match error.kind() {
+        ErrorKind::OutOfMemory => Err(AllocError),
+        _ => Ok(()),
+    }
+}
