@@ -29,6 +29,9 @@ OUT_OF_MEMORY = b"pairtree2ocfl: fault 4: out of memory\n"
 # A name that is too long by a byte to be held in the value of a name, a longer one, and the longest that there is.
 LONGER, LONG, LONGEST = "b" * 22, "c" * 36, "d" * 255
 
+# An event's file, and the one that is to replace it.
+EVENTS = ("ev", "ev.part")
+
 # An identifier, and the folders of its object in a store.
 IDENTIFIER = "an-identifier-of-thirty-six-bytes-01"
 FOLDERS = "/".join(IDENTIFIER[at : at + 2] for at in range(0, len(IDENTIFIER), 2)) + f"/{LONGER}"
@@ -152,10 +155,12 @@ class Looking(Case):
     def reset(self, folder):
         shutil.rmtree(f"{folder}/d")
         shutil.copytree(f"{folder}/before", f"{folder}/d")
+        forget_events(folder)
 
     def try_one(self, program, folder, number):
         over, faults = super().try_one(program, folder, number)
         faults += stores.differences(stores.read_tree(f"{folder}/s"), self.store)
+        faults += [f"an event is {event!r}" for event in events(folder) if not is_whole(event)]
         return over, [*faults, *self.left_faults(program, folder, over)]
 
     def left_faults(self, program, folder, over):
@@ -189,12 +194,34 @@ class Writing(Looking):
     def rerun_faults(self, program, folder, beside):
         """What is wrong with a second run, after `staging` is taken away."""
         shutil.rmtree(f"{folder}/d/staging", ignore_errors=True)
+        forget_events(folder)
         answer, _ = program.run(folder, self.words)
         entries = [rewritten(entry, beside) for entry in self.entries()]
         status = int(any(entry["as"] != "done" for entry in entries))
         if answer[:2] != (status, stores.whole_log(*entries)):
             yield f"the second run answers {stores.shown(answer)}"
         yield from stores.differences(stores.read_tree(f"{folder}/d"), self.left)
+
+
+def events(folder):
+    """The texts of an event's file and of the one beside it, of those that stand."""
+    for name in EVENTS:
+        if os.path.exists(f"{folder}/{name}"):
+            with open(f"{folder}/{name}", encoding="utf-8") as file:
+                yield file.read()
+
+
+def forget_events(folder):
+    """Takes the event's files away, since one that stands is refused."""
+    for name in EVENTS:
+        if os.path.exists(f"{folder}/{name}"):
+            os.remove(f"{folder}/{name}")
+
+
+def is_whole(event):
+    """Whether a text is a record, as it begins or with how it ended."""
+    keys = json.loads(event).keys() if event.endswith("}\n") else ()
+    return {"as", "begin", "dest", "options", "source"} <= keys and ("end" in keys) == ("status" in keys)
 
 
 def rewritten(entry, beside):
@@ -214,6 +241,7 @@ OPTIONS = [
     (["--gather", "--verbose"], ["--sync"]),
     (["--share", "1/2"], []),
     (["--progress", "always"], ["--expect", "log", "--interval", "86400"]),
+    (["--event", "ev"], []),
 ]
 NOTICES = ("--verbose", "--progress", "always", "--expect", "log")
 
