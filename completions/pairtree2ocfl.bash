@@ -18,17 +18,17 @@ _pairtree2ocfl() {
     case $previous in
         --digest) mapfile -t COMPREPLY < <(compgen -P "$front" -W 'sha512 sha256' -- "$current") && return ;;
         --progress) mapfile -t COMPREPLY < <(compgen -P "$front" -W 'auto always never' -- "$current") && return ;;
-        --expect) mapfile -t COMPREPLY < <(compgen -P "$front" -f -- "$current") && return ;;
+        --expect | --event) mapfile -t COMPREPLY < <(compgen -P "$front" -f -- "$current") && return ;;
         --created | --name | --address | --message | --tuple-size | --tuples | --share | --ignore | --interval | --prefix) return ;;
     esac
     case $command in
         migrate)
             options='--created --name --address --message --digest --tuple-size --tuples --gather --share
-                --ignore --sync --dry-run -n --present-ok --verbose -v --quiet -q --progress --interval --expect --help -h'
+                --ignore --sync --dry-run -n --present-ok --verbose -v --quiet -q --progress --interval --expect --event --help -h'
             ;;
         audit)
             options='--digest --tuple-size --tuples --gather --share --ignore --skips-ok --verbose -v --quiet -q --progress
-                --interval --expect --help -h'
+                --interval --expect --event --help -h'
             ;;
         names) options='--prefix --tuple-size --tuples --help -h' ;;
         help) options='migrate audit names help' ;;

@@ -27,4 +27,5 @@ complete -c pairtree2ocfl -n '__fish_seen_subcommand_from migrate audit' -s q -l
 complete -c pairtree2ocfl -n '__fish_seen_subcommand_from migrate audit' -l progress -x -a 'auto always never' -d 'When to show how far the run is'
 complete -c pairtree2ocfl -n '__fish_seen_subcommand_from migrate audit' -l interval -x -d 'Seconds between two such lines'
 complete -c pairtree2ocfl -n '__fish_seen_subcommand_from migrate audit' -l expect -r -F -d 'The log of a rehearsal'
+complete -c pairtree2ocfl -n '__fish_seen_subcommand_from migrate audit' -l event -r -F -d 'Record what was done in a new file'
 complete -c pairtree2ocfl -n '__fish_seen_subcommand_from migrate audit' -a '(__fish_complete_directories)'
