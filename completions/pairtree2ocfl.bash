@@ -19,16 +19,17 @@ _pairtree2ocfl() {
         --digest) mapfile -t COMPREPLY < <(compgen -P "$front" -W 'sha512 sha256' -- "$current") && return ;;
         --progress) mapfile -t COMPREPLY < <(compgen -P "$front" -W 'auto always never' -- "$current") && return ;;
         --expect | --event) mapfile -t COMPREPLY < <(compgen -P "$front" -f -- "$current") && return ;;
-        --created | --name | --address | --message | --tuple-size | --tuples | --share | --ignore | --interval | --prefix) return ;;
+        --created | --name | --address | --message | --tuple-size | --tuples | --share | --only | --ignore | --interval | --prefix) return ;;
     esac
     case $command in
         migrate)
             options='--created --name --address --message --digest --tuple-size --tuples --gather --share
-                --ignore --sync --dry-run -n --present-ok --verbose -v --quiet -q --progress --interval --expect --event --help -h'
+                --only --ignore --sync --dry-run -n --present-ok --verbose -v --quiet -q --progress --interval --expect --event
+                --help -h'
             ;;
         audit)
-            options='--digest --tuple-size --tuples --gather --share --ignore --skips-ok --verbose -v --quiet -q --progress
-                --interval --expect --event --help -h'
+            options='--digest --tuple-size --tuples --gather --share --only --ignore --skips-ok --verbose -v --quiet -q
+                --progress --interval --expect --event --help -h'
             ;;
         names) options='--prefix --tuple-size --tuples --help -h' ;;
         help) options='migrate audit names help' ;;

@@ -17,6 +17,7 @@ complete -c pairtree2ocfl -n '__fish_seen_subcommand_from migrate' -l message -x
 complete -c pairtree2ocfl -n '__fish_seen_subcommand_from migrate audit' -l digest -x -a 'sha512 sha256' -d 'The digest algorithm'
 complete -c pairtree2ocfl -n '__fish_seen_subcommand_from migrate audit' -l gather -d "Carry what lies directly in an identifier's folder too, as one object"
 complete -c pairtree2ocfl -n '__fish_seen_subcommand_from migrate audit' -l share -x -d 'Carry one share of the store'
+complete -c pairtree2ocfl -n '__fish_seen_subcommand_from migrate audit' -l only -x -d 'Carry the objects alone whose identifiers begin so'
 complete -c pairtree2ocfl -n '__fish_seen_subcommand_from migrate audit' -l ignore -x -d 'Leave out every entry of this name'
 complete -c pairtree2ocfl -n '__fish_seen_subcommand_from migrate' -l sync -d 'Have all put onto the disk'
 complete -c pairtree2ocfl -n '__fish_seen_subcommand_from migrate' -s n -l dry-run -d 'Rehearse'

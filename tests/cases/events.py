@@ -23,7 +23,7 @@ CAUSES = ("root", "empty", "split", "past", "name", "utf8", "other", "limit", "r
 REASONS = ("missing", "extra", "kind", "bytes", "twin")
 
 # What the options say that both commands take, where none is given.
-BOTH = {"digest": "sha512", "tuple-size": 3, "tuples": 3, "gather": False, "share": "1/1", "ignore": [], "verbose": False, "quiet": False}
+BOTH = {"digest": "sha512", "tuple-size": 3, "tuples": 3, "gather": False, "share": "1/1", "only": [], "ignore": [], "verbose": False, "quiet": False}
 BOTH |= {"progress": "auto", "interval": 10}
 OF_RUN = {**BOTH, "created": MEANT[1], "name": MEANT[3], "message": "Migrated from Pairtree", "sync": False, "dry-run": False, "present-ok": False}
 OF_AUDIT = {**BOTH, "skips-ok": False}

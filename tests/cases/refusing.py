@@ -267,6 +267,7 @@ def words_refused():
         yield Case(f"the tuples of {' '.join(given)}", ONE, refused("the tuples are out of range", MEANT, *given))
     for share in ("", "/", "1", "1/", "/1", "0/1", "1/0", "2/1", "1/4097", "4097/4097", "1/2/3", " 1/2", "1/2 ", "-1/2", "a/b", "1/4294967296"):
         yield Case(f"--share {share!r}", ONE, refused(NO_SHARE, MEANT, f"--share={share}"))
+    yield Case("an empty --only", ONE, refused_by_parser(MEANT, "--only", "x", "--only="), refused_by_parser(MEANT, "--only", ""))
     for name in ("", ".", "..", "a/b", "/", "n" * 256):
         yield Case(f"--ignore {name[:9]!r}", ONE, refused(NO_ENTRY, MEANT, "--ignore", "x", f"--ignore={name}"))
     yield Case("the tuples before the share", ONE, refused("the tuples are out of range", MEANT, "--share", "x", "--tuples", "33"))

@@ -1,5 +1,5 @@
 """Cases of shares: what each share of a store carries and tells, and that their joined roots are what one run leaves; on this machine
-and on a cluster of one node, whose engine is Slurm's own.
+and on a cluster of one node, whose engine is Slurm's own. So of what is chosen by how identifiers begin.
 
 The number of the share that an identifier is of is computed here, apart from the program.
 """
@@ -42,6 +42,14 @@ def ran(program, folder, dest, *words):
     if done.returncode not in (0, 1):
         raise OSError(f"{' '.join(words)}: {done.returncode} {done.stderr!r}")
     return done.returncode, done.stdout.splitlines()
+
+
+def audited(program, folder, dest, *words):
+    """The lines of an audit of a folder below, but for the end line."""
+    done = subprocess.run([program, "audit", *words, "s", dest], cwd=folder, capture_output=True, timeout=300)
+    if done.returncode not in (0, 1):
+        raise OSError(f"{' '.join(words)}: {done.returncode} {done.stderr!r}")
+    return done.stdout.splitlines()[:-1]
 
 
 def random_store(chance, links=True):
@@ -109,6 +117,56 @@ def shares_of(seed):
         return faults + list(differences(read_tree(f"{folder}/1"), read_tree(f"{folder}/whole")))
 
     return Alone(f"shares of a random store, {seed}", test)
+
+
+def begins_so(line, texts):
+    """The line is of an object whose identifier begins with one of the texts, or of what has none; the end line isn't meant."""
+    entry = json.loads(line)
+    return entry["as"] != "end" and ("id" not in entry or entry["id"].startswith(texts))
+
+
+def chosen_of(seed):
+    """Of a random store each choice tells those of one run's lines that it chooses, and an audit of it too; choices that divide the store
+    leave, joined, what one run leaves. With `--share` both hold."""
+    chance = random.Random(seed)
+
+    def test(program, folder):
+        shutil.rmtree(f"{folder}/s")
+        build(f"{folder}/s", random_store(chance, links=False))
+        whole, faults = ran(program, folder, "whole"), []
+        wholly = audited(program, folder, "whole")
+        ids = [json.loads(line)["id"] for line in whole[1] if b'"id"' in line]
+        heads = sorted({identifier[: len(os.path.commonprefix(ids)) + 1] for identifier in ids})
+        parts = [tuple(heads[::2]) or ("none",), tuple(heads[1::2]) or ("nothing", "no")]
+        for number, texts in enumerate(parts, 1):
+            words = [word for text in texts for word in ("--only", text)]
+            lines = [line for line in whole[1] if begins_so(line, texts)]
+            done = ran(program, folder, f"{number}", *words)
+            faults += differs(chosen=(done[1][:-1], lines), end=(done[0] in (0, 1), True))
+            faults += differs(rehearsed=(ran(program, folder, "none", *words, "--dry-run"), done))
+            faults += differs(audited=(audited(program, folder, f"{number}", *words), [line for line in wholly if begins_so(line, texts)]))
+            halves = [ran(program, folder, f"half {half}", *words, "--share", f"{half}/2")[1] for half in (1, 2)]
+            faults += differs(halves=(told(halves), told([done[1]])))
+        faults += joined(folder, 2)
+        return faults + list(differences(read_tree(f"{folder}/1"), read_tree(f"{folder}/whole")))
+
+    return Alone(f"choices of a random store, {seed}", test)
+
+
+def chosen(program, folder):
+    """The identifier is compared by its bytes, with the store's prefix; a text that nothing begins with chooses nothing, and what has no
+    identifier has its line."""
+    shutil.rmtree(f"{folder}/s")
+    build(f"{folder}/s", store({"aa/obj/f": b"1", "ab/obj/f": b"2", "xx": DIR}, b"ark:/1/"))
+    faults = []
+    for number, (words, ids) in enumerate(CHOSEN):
+        given = [word for text in words for word in ("--only", text)]
+        status, lines = ran(program, folder, f"{number}", *given)
+        entries = [json.loads(line) for line in lines]
+        done = [entry["id"] for entry in entries if entry["as"] == "done"]
+        skips = [entry["cause"] for entry in entries if entry["as"] == "skip"]
+        faults += differs(**{repr(words): ((status, done, skips, entries[-1]["done"]), (1, ids, ["empty"], len(ids)))})
+    return faults
 
 
 def whole_share(program, folder):
@@ -299,8 +357,25 @@ def cluster(program, folder):
 
 
 ON_A_CLUSTER = Alone("shares by the script, on a cluster", cluster)
+
+# Texts of `--only`, and the objects of a store whose prefix is `ark:/1/` that are carried.
+CHOSEN = [
+    ([], ["ark:/1/aa", "ark:/1/ab"]),
+    (["ark:/1/aa"], ["ark:/1/aa"]),
+    (["ark:/1/a"], ["ark:/1/aa", "ark:/1/ab"]),
+    (["ark:/1/ab", "ark:/1/aa"], ["ark:/1/aa", "ark:/1/ab"]),
+    (["ark:/1/ab", "ark:/1/ab"], ["ark:/1/ab"]),
+    (["a"], ["ark:/1/aa", "ark:/1/ab"]),
+    (["aa"], []),
+    (["ark:/1/aaa"], []),
+    (["ARK:/1/aa"], []),
+    (["\u00e9"], []),
+]
+
 CASES = [
     *(shares_of(seed) for seed in range(40)),
+    *(chosen_of(seed) for seed in range(20)),
+    Alone("objects chosen by how their identifiers begin", chosen),
     Alone("the one share of one", whole_share),
     Alone("shares by the script, on this machine", here),
     Alone("one share by the script", one_share),

@@ -25,6 +25,10 @@ needed_rule id = record (option_rule id) { required = true }
 abbrev pub repeated_rule : Text → Rule
 repeated_rule id = record (option_rule id) { action = Some Append }
 
+-- the same, and no value is empty
+abbrev pub repeated_text_rule : Text → Rule
+repeated_text_rule id = record (repeated_rule id) { parser = Some vp.NonEmptyString }
+
 -- `--id VALUE`, which is this unless it is given
 abbrev pub defaulted_rule : Text → Text → Rule
 defaulted_rule id default = record (option_rule id) { defaults = default ∷ [] }
@@ -39,6 +43,7 @@ formed_rule id form.Place = place_rule id
 formed_rule id (form.Value name) = option_rule id
 formed_rule id (form.Needed name) = needed_rule id
 formed_rule id (form.Repeated name) = repeated_rule id
+formed_rule id (form.RepeatedText name) = repeated_text_rule id
 formed_rule id (form.Default name default) = defaulted_rule id default.now
 formed_rule id (form.Number name default) = number_rule id default.now
 formed_rule id (form.Word name words default) = word_rule id words default.now

@@ -3,7 +3,7 @@
 use Rattle.std.specs.Prelude.{ℕ, List, [], ◌∷◌, Option, None, Some, Result, Ok, Err, if◌then◌else◌, codes}
 use Rattle.std.specs.Option.{unwrap_or}
 use Rattle.std.specs.Str.{bytes_eq}
-use Rattle.clap.specs.Words.{Row, Text, first_of}
+use Rattle.clap.specs.Words.{Row, Text, all_of, first_of}
 use Rattle.pt_name.specs.Layout.{layout_of}
 use Rattle.pt_name.specs.Tuples.{Tuples}
 use Rattle.pt_name.specs.declared.layout.LayoutFault.{LayoutFault}
@@ -17,7 +17,7 @@ use Rattle.pt_state.specs.declared.job.Job.{Job}
 use Rattle.pt_walk.specs.Limits.{greatest_limits}
 use Rattle.pt_cli.specs.Arguments.{◌>>=◌, algorithm_in, is_set_in, judged, needed, number_in, progress_in, unread_of_meta}
 use Rattle.pt_cli.specs.Ignore.{ignored_in}
-use Rattle.pt_cli.specs.Share.{share_asked}
+use Rattle.pt_cli.specs.Share.{share_asked, with_only}
 use Rattle.pt_cli.specs.declared.command.Command.{Command}
 use Rattle.pt_cli.specs.declared.command.Command.TheVariants.{Audit, Migrate, Names}
 use Rattle.pt_cli.specs.declared.faults.Unread.{Unread}
@@ -65,7 +65,7 @@ job_in meta rows = do
     algorithm = algorithm;
     limits = greatest_limits;
     gather = is_set_in (codes "gather") rows;
-    share = share;
+    share = with_only (all_of (codes "only") rows) share;
   })
 
 -- what is told beside the log

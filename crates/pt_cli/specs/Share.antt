@@ -1,5 +1,5 @@
--- The share that `--share` names.
-use Rattle.std.specs.Prelude.{◌==◌, Option, None, Some, option_and_then}
+-- The share that `--share` names, and what of it `--only` takes.
+use Rattle.std.specs.Prelude.{◌==◌, List, Option, None, Some, option_and_then}
 use Rattle.std.specs.List.{after_first, before_first}
 use Rattle.std.specs.Result.{result_ok}
 use Rattle.clap.specs.Words.{Text}
@@ -21,3 +21,8 @@ share_in text = do
 abbrev pub share_asked : Option Text → Option Portion
 share_asked None = Some whole
 share_asked (Some text) = share_in text
+
+-- of the share only what begins with these texts, where some are given
+abbrev pub with_only : Option (List Text) → Portion → Portion
+with_only None share = share
+with_only (Some texts) share = record share { only = texts }

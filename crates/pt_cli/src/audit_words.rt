@@ -35,7 +35,7 @@ pub(crate) fn audit_command(alloc: Global, matches: &ArgMatches<'_>) -> Result<C
 fn audit_options(alloc: Global, matches: &ArgMatches<'_>) -> Result<AuditOptions, Unread>
     ensures { ReadsAs (audit_options_in (rows_of (found_of matches.now))) result }
 {
-    let job = job(matches, meta(alloc)?)?;
+    let job = job(alloc, matches, meta(alloc)?)?;
     let ignored = ignored(alloc, matches)?;
     let feedback = feedback(alloc, matches)?;
     Ok(AuditOptions {

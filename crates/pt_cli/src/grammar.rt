@@ -5,8 +5,9 @@ ghost use Rattle.clap.specs.declared.builder.command.Command.TheViews.{out-Comma
 ghost use Rattle.pt_cli.specs.Grammar.{IsAuditApp, IsMigrateApp, IsProgram, names_app, top_app};
 ghost use Rattle.pt_cli.specs.Grammar.{flag_rule, number_rule, option_rule};
 ghost use Rattle.pt_cli.specs.ArgSpec.{IsLocal, IsTaker, TakesToo, defaulted_rule, needed_rule, place_rule};
-ghost use Rattle.pt_cli.specs.ArgSpec.{repeated_rule, rule_of_taken, word_rule};
+ghost use Rattle.pt_cli.specs.ArgSpec.{repeated_rule, repeated_text_rule, rule_of_taken, word_rule};
 
+use clap::builder::ValueParser;
 use clap::{Arg, ArgAction, Command as Parser, value_parser};
 use pt_host::VERSION;
 use std::alloc::{AllocError, Global};
@@ -36,6 +37,8 @@ pub(crate) const TUPLES: &str = "tuples";
 pub(crate) const GATHER: &str = "gather";
 
 pub(crate) const SHARE: &str = "share";
+
+pub(crate) const ONLY: &str = "only";
 
 pub(crate) const IGNORE: &str = "ignore";
 
@@ -82,7 +85,9 @@ pub(crate) enum Form {
     Needed(&'static str),
     // The same, which may be given again.
     Repeated(&'static str),
-    // The same, and the value that it has where it isn't given.
+    // The same, and no value is empty.
+    RepeatedText(&'static str),
+    // An option with a value, and the value that it has where it isn't given.
     Default(&'static str, &'static str),
     // The same, whose value is a number of `u32`.
     Number(&'static str, &'static str),
@@ -110,6 +115,12 @@ const TAKES_DIGEST: ArgSpec = ArgSpec {
     id: DIGEST,
     form: Form::Word("ALGORITHM", &["sha512", "sha256"], "sha512"),
     help: "The digest algorithm of the inventories",
+};
+
+const TAKES_ONLY: ArgSpec = ArgSpec {
+    id: ONLY,
+    form: Form::RepeatedText("TEXT"),
+    help: "Take the objects alone whose identifiers begin with TEXT, the prefix included; may be given again",
 };
 
 const TAKES_IGNORE: ArgSpec = ArgSpec {
@@ -199,6 +210,7 @@ const MIGRATE_TAKES: &[ArgSpec] = &[
         form: Form::Value("K/N"),
         help: "Carry the objects of share K of N shares alone, as 2/8 [default: all objects]",
     },
+    TAKES_ONLY,
     TAKES_IGNORE,
     ArgSpec {
         id: SYNC,
@@ -252,6 +264,7 @@ const AUDIT_TAKES: &[ArgSpec] = &[
         form: Form::Value("K/N"),
         help: "Audit the objects of share K of N shares alone, as 2/8 [default: all objects]",
     },
+    TAKES_ONLY,
     TAKES_IGNORE,
     ArgSpec {
         id: SKIPS_OK,
@@ -419,6 +432,7 @@ impl ArgSpec {
             Form::Value(name) => option(alloc, self.id, name),
             Form::Needed(name) => needed(alloc, self.id, name),
             Form::Repeated(name) => repeated(alloc, self.id, name),
+            Form::RepeatedText(name) => repeated_text(alloc, self.id, name),
             Form::Default(name, default) => defaulted(alloc, self.id, name, default),
             Form::Number(name, default) => number(alloc, self.id, name, default),
             Form::Word(name, words, default) => word(alloc, self.id, name, words, default),
@@ -450,6 +464,12 @@ fn repeated<'a>(alloc: Global, id: &'a str, name: &'a str) -> Arg<'a>
     ensures { IsLocal (repeated_rule id.entry.now) result }
 {
     option(alloc, id, name).action(ArgAction::Append)
+}
+
+fn repeated_text<'a>(alloc: Global, id: &'a str, name: &'a str) -> Arg<'a>
+    ensures { IsLocal (repeated_text_rule id.entry.now) result }
+{
+    repeated(alloc, id, name).value_parser(ValueParser::NonEmptyString)
 }
 
 fn defaulted<'a>(alloc: Global, id: &'a str, name: &'a str, default: &'a str) -> Arg<'a>

@@ -1,15 +1,15 @@
 //! The words that say what is carried, and where it comes to lie: `--digest`, `--tuple-size`, `--tuples`, `--gather`, `--share`,
-//! and the two folders.
+//! `--only`, and the two folders.
 ghost use Rattle.std.specs.Prelude.{◌≡◌, option_map};
 ghost use Rattle.clap.specs.Words.{found_of, rows_of};
 ghost use Rattle.pt_cli.specs.Arguments.{ReadsAs, algorithm_in, algorithm_of};
 ghost use Rattle.pt_cli.specs.Options.{described, folders_in, job_in, layout_in};
 
 use crate::Text;
-use crate::arguments::{is_set, needed, number, text};
+use crate::arguments::{is_set, needed, number, text, texts};
 use crate::faults::Unread;
-use crate::grammar::{DEST, DIGEST, GATHER, SHARE, SOURCE, TUPLE_SIZE, TUPLES};
-use crate::share_words::share;
+use crate::grammar::{DEST, DIGEST, GATHER, ONLY, SHARE, SOURCE, TUPLE_SIZE, TUPLES};
+use crate::share_words::{share, with_only};
 use clap::ArgMatches;
 use pt_move::Job;
 use pt_name::Layout;
@@ -32,14 +32,15 @@ pub(crate) fn meta_of(
 }
 
 // The run whose versions are described so, with the greatest limits: refused as `Tuples`, and then as `Share`.
-pub(crate) fn job(matches: &ArgMatches<'_>, meta: Meta) -> Result<Job, Unread>
-    ensures { result ≡ job_in meta (rows_of (found_of matches.now)) }
+pub(crate) fn job(alloc: Global, matches: &ArgMatches<'_>, meta: Meta) -> Result<Job, Unread>
+    ensures { ReadsAs (job_in meta (rows_of (found_of matches.now))) result }
 {
     let algorithm = algorithm(matches)?;
     let layout = layout(matches)?;
     let Some(share) = share(text(matches, SHARE)) else {
         return Err(Unread::Share);
     };
+    let share = with_only(alloc, texts(matches, ONLY), share)?;
     Ok(Job {
         meta,
         layout,

@@ -32,7 +32,7 @@ pub(crate) fn migrate_command(alloc: Global, matches: &ArgMatches<'_>) -> Result
 fn run_options(alloc: Global, matches: &ArgMatches<'_>) -> Result<RunOptions, Unread>
     ensures { ReadsAs (run_options_in (rows_of (found_of matches.now))) result }
 {
-    let job = job(matches, meta(alloc, matches)?)?;
+    let job = job(alloc, matches, meta(alloc, matches)?)?;
     let ignored = ignored(alloc, matches)?;
     let feedback = feedback(alloc, matches)?;
     Ok(RunOptions {

@@ -1,9 +1,12 @@
-//! The words of a share, as `2/8`.
-ghost use Rattle.std.specs.Prelude.{◌≡◌, option_map};
+//! The words of a share, as `2/8`, and of what is taken of it.
+ghost use Rattle.std.specs.Prelude.{◌≡◌, IfOk, map, option_map};
+ghost use Rattle.std.specs.String.{string_bytes};
 ghost use Rattle.pt_cli.specs.Arguments.{number_of};
-ghost use Rattle.pt_cli.specs.Share.{share_asked, share_in};
+ghost use Rattle.pt_cli.specs.Share.{share_asked, share_in, with_only};
 
 use pt_name::Share;
+use pt_tree::MemoryFault;
+use std::alloc::Global;
 
 // The share that is asked for, if it is one: the whole store where none is.
 pub(crate) fn share(text: Option<&str>) -> Option<Share>
@@ -13,6 +16,32 @@ pub(crate) fn share(text: Option<&str>) -> Option<Share>
         Some(text) => share_in_text(text),
         None => Some(Share::whole()),
     }
+}
+
+// Of a share only what begins with these texts, where some are given. It holds copies of them.
+pub(crate) fn with_only(
+    alloc: Global,
+    texts: Option<&[&str]>,
+    share: Share,
+) -> Result<Share, MemoryFault>
+    ensures { IfOk result (λ taken. taken
+        ≡ with_only (option_map (λ s. map (λ t. t.now) s.now) texts.entry) share) }
+{
+    match texts {
+        Some(texts) => Ok(share.only(copies(alloc, texts)?)),
+        None => Ok(share),
+    }
+}
+
+// Copies of these texts.
+fn copies(alloc: Global, texts: &[&str]) -> Result<Vec<String>, MemoryFault>
+    ensures { IfOk result (λ copies. map string_bytes copies.items ≡ map (λ t. t.now) texts.now) }
+{
+    let mut copies = Vec::with_capacity(alloc, texts.len())?;
+    for text in texts {
+        copies.push(String::from_str(alloc, text)?)?;
+    }
+    Ok(copies)
 }
 
 // The share that a text names, as `2/8`.

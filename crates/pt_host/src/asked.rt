@@ -68,7 +68,8 @@ fn put_job(alloc: Global, members: &mut Members, job: &Job) -> Result<(), AllocE
     members.put_flag("gather", job.gather)?;
     let (index, count) = (job.share.index(), job.share.count());
     let share = format!(in alloc; "{index}/{count}")?;
-    members.put_text("share", share.as_str())
+    members.put_text("share", share.as_str())?;
+    members.put_texts("only", job.share.texts())
 }
 
 // Those that say what is told beside the log.

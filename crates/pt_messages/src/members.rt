@@ -64,6 +64,15 @@ impl Members {
         self.put(key, Value::from(texts))
     }
 
+    /// Puts at a key a list of texts.
+    pub fn put_texts(&mut self, key: &str, texts: &[String]) -> Result<(), AllocError> {
+        let mut values = Vec::with_capacity(self.alloc, texts.len())?;
+        for text in texts {
+            values.push(Value::from(String::from_str(self.alloc, text)?))?;
+        }
+        self.put(key, Value::from(values))
+    }
+
     /// The object as a line: compact, its keys in the order of their bytes, with LF.
     pub fn line(&self) -> Result<String, AllocError> {
         let mut text = self.object.to_string(self.alloc)?;

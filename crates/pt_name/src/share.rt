@@ -123,6 +123,16 @@ impl Share {
         self.count
     }
 
+    /// The texts with one of which an identifier has to begin; none where any identifier will do.
+    pub fn texts(&self) -> &[String]
+        ensures { map string_bytes result.now ≡ self.now.only }
+    {
+        match &self.only {
+            Some(texts) => texts.as_slice(),
+            None => &[],
+        }
+    }
+
     /// Whether it is the first: what is passed over before an identifier is read is told by the first share alone.
     pub fn is_first(&self) -> bool
         ensures { result ≡ is_first self.now }
