@@ -346,7 +346,12 @@ const FILES: &[FileRow] = &[
     },
     FileRow {
         file: "x/ev",
-        leads: &[("s", "/a"), ("d", "/b"), ("d/staging", "/e"), ("x", "/e/in")],
+        leads: &[
+            ("s", "/a"),
+            ("d", "/b"),
+            ("d/staging", "/e"),
+            ("x", "/e/in"),
+        ],
         numbers: TWO,
         comes: Err(FileFault::Inside),
     },
