@@ -1,5 +1,5 @@
 //! What the folders of a run share: texts of paths, and how the system's errors are answered and counted.
-ghost use Rattle.std.specs.Prelude.{◌≡◌, ◌≢◌, ◌↔◌, ◌≤◌, Err, IfOk, IfSome, IsSomeAnd, OnOk, IsErrOf, IsTrue, length, min, string_bytes, true};
+ghost use Rattle.std.specs.Prelude.{◌≡◌, ◌≢◌, ◌↔◌, ◌+◌, ◌≤◌, Err, IfOk, IfSome, IsSomeAnd, OnOk, IsErrOf, IsTrue, length, min, string_bytes, string_capacity, string_len, true};
 ghost use Rattle.pt_tree.specs.Name.{is_name};
 ghost use Rattle.pt_folder.specs.Laws.{IsPath};
 ghost use Rattle.std.specs.IoError.{error_kind};
@@ -46,6 +46,7 @@ impl<'a> Folder<'a> {
     ) -> Result<String, TreeFault>
         ensures text { IfOk result
             (λ text. string_bytes text ≡ entry_text self.now.path.now path.now) }
+        ensures room { IfOk result (λ text. string_len text + room ≤ string_capacity text) }
         ensures named { OnOk result (IsPath path.now) }
         ensures empty { IsErrOf result TreeFault.Device ↔ (length self.now.path.now ≡ 0) }
         ensures kept { OnDevice result (IsSomeAnd last.new.failure (IsUnasked self.now.path.now)) }
@@ -106,6 +107,7 @@ fn path_text(
     room: usize,
 ) -> Result<String, MemoryFault>
     ensures text { IfOk result (λ text. string_bytes text ≡ entry_text folder.now path.now) }
+    ensures room { IfOk result (λ text. string_len text + room ≤ string_capacity text) }
     ensures named { OnOk result (IsPath path.now) }
 {
     let names = path.len().saturating_add(1).saturating_mul(NAME_ROOM);
