@@ -84,7 +84,7 @@ def of_a_run(program, folder):
     for line in lines:
         if line["as"] == "skip":
             skips[line["cause"]] = skips.get(line["cause"], 0) + 1
-    ends = ended({"done": 2, "present": 0, "skip": len(lines) - 3}, skips, 3, 8, 1)
+    ends = ended({"done": 2, "present": 0, "skip": len(lines) - 3}, skips, 2, 8, 1)
     faults += differs(record=(found, wanted(program, folder, "run", {**OF_RUN, "event": "ev.json"}, **ends)), moments=(moments, 2))
     faults += differs(answer=(done, plain), status=(done[0], 1), skips=(sum(skips.values()) > 1, True), root=(read_tree(f"{folder}/d"), without))
     return faults + differs(names=(sorted(os.listdir(folder)), ["d", "ev.json", "s"]))
@@ -94,11 +94,11 @@ def of_every_option(program, folder):
     """What each option says is recorded."""
     build(folder, {"old.log": b""})
     words = ["--address", "mailto:a@b", "--message", "M \u00e9\n\"", "--digest", "sha256", "--tuple-size", "2", "--tuples", "1", "--gather"]
-    words += ["--share", "2/2", "--ignore", ".DS_Store", "--ignore", "Thumbs.db", "--sync", "-n", "--present-ok", "-v", "-q"]
+    words += ["--share", "2/2", "--only", "ab", "--only", "\u00e9", "--ignore", ".DS_Store", "--ignore", "Thumbs.db", "--sync", "-n", "--present-ok", "-v", "-q"]
     words += ["--progress", "never", "--interval", "7", "--expect", "old.log", "--event", "./ev"]
     done = answer(program, folder, "migrate", *MEANT, *words, "s", "d")
     options = {**OF_RUN, "address": "mailto:a@b", "message": "M \u00e9\n\"", "digest": "sha256", "tuple-size": 2, "tuples": 1, "gather": True}
-    options |= {"share": "2/2", "ignore": [".DS_Store", "Thumbs.db"], "sync": True, "dry-run": True, "present-ok": True, "verbose": True}
+    options |= {"share": "2/2", "only": ["ab", "\u00e9"], "ignore": [".DS_Store", "Thumbs.db"], "sync": True, "dry-run": True, "present-ok": True, "verbose": True}
     options |= {"quiet": True, "progress": "never", "interval": 7, "expect": "old.log", "event": "./ev"}
     found, _, faults = recorded(f"{folder}/ev")
     faults += differs(options=(found["options"], options), status=(done[0], 0))
@@ -116,11 +116,12 @@ def of_a_rehearsal(program, folder):
     faults += differs(record=(found, wanted(program, folder, "rehearsal", options, **ends)), moments=(moments, 2))
     faults += differs(answer=(done, (0, whole_log(ONE_DONE), b"")), dest=(read_tree(f"{folder}/d"), {}))
     build(f"{folder}/d", ONE_ROOT)
+    stands = read_tree(f"{folder}/d")
     done = answer(program, folder, "migrate", *MEANT, "--event", "again", "s", "d")
     found, _, more = recorded(f"{folder}/again")
     ends = ended({"done": 0, "present": 1, "skip": 0}, {}, 0, 0, 1)
     again = wanted(program, folder, "run", {**OF_RUN, "event": "again"}, **ends)
-    return faults + more + differs(again=(found, again), log=(done, (1, whole_log(ONE_PRESENT), b"")), root=(read_tree(f"{folder}/d"), ONE_ROOT))
+    return faults + more + differs(again=(found, again), log=(done, (1, whole_log(ONE_PRESENT), b"")), root=(read_tree(f"{folder}/d"), stands))
 
 
 def of_an_audit(program, folder):
