@@ -1,4 +1,4 @@
-mod Ahead
+pub mod Ahead
 pub mod BadEntries
 pub mod FilePaths
 pub mod Findings

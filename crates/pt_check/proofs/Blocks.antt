@@ -1,0 +1,125 @@
+-- Opening a file, and reading it to its end.
+use Rattle.std.proofs.Common.{◌≡◌, ◌≤◌, ◌+◌, ℕ, List, [], ◌∷◌, refl, sym, ap, ◌∙◌, subst, arith, length, take, drop, min}
+use Rattle.std.proofs.lemmas.List.{length-append, take-append-drop}
+use Rattle.std.specs.Option.{ForSome, option_map}
+use Rattle.std.specs.Prelude.{IsSome, Option, None, Some}
+use Rattle.pt_check.specs.Visits.{tree_in}
+use Rattle.pt_tree.specs.Failures.{greatest_count}
+use Rattle.pt_tree.specs.Forest.{Forest, file_at, dir_at}
+use Rattle.pt_tree.specs.Path.{Path}
+use Rattle.pt_tree.specs.Source.{Reading, CanList, CanOpen, CanRead, IsRead, after_next, after_open}
+
+-- a folder may be listed where it stands in the tree that is told
+pub may_list : (told : Option Reading) (path : Path) → ForSome (tree_in told) (λ tree. IsSome (dir_at tree path)) → CanList told path
+unfolding CanList
+may_list told path there s is = there s.tree (ap tree_in is)
+
+-- and a file may be opened
+pub may_open : (told : Option Reading) (path : Path) → ForSome (tree_in told) (λ tree. IsSome (file_at tree path)) → CanOpen told path
+unfolding CanOpen
+may_open told path there s is = there s.tree (ap tree_in is)
+
+-- the tree is the same then
+pub open_stays : (old new : Option Reading) (path : Path) → new ≡ option_map (after_open path) old → tree_in new ≡ tree_in old
+open_stays None new path is = ap tree_in is
+open_stays (Some s) new path is = ap tree_in is
+
+-- and where a block is read
+pub next_stays : (old new : Option Reading) → new ≡ option_map after_next old → tree_in new ≡ tree_in old
+next_stays None new is = ap tree_in is
+next_stays (Some s) new is = ap tree_in is
+
+-- and the file is open
+pub is_opened : (old new : Option Reading) (path : Path) → ForSome (tree_in old) (λ tree. IsSome (file_at tree path)) → new ≡ option_map (after_open path) old → CanRead new
+unfolding CanRead
+is_opened None new path there is s told = absurd (cc)
+is_opened (Some old) new path there is s told =
+    let same : s ≡ after_open path old = cc in
+    subst (λ (r : Reading). IsSome r.unread) (sym same) (there old.tree refl)
+
+-- so many bytes of a file were read and counted: what is left
+pub record Part (total : ℕ) (tree : Forest) (bytes : List ℕ) (now : Option Reading) : Type 0 where
+  pub rest : List ℕ
+  pub told : now ≡ Some (record { tree = tree; unread = Some rest })
+  pub read : ℕ
+  pub whole : length bytes ≡ read + length rest
+  pub counted : total ≡ min read greatest_count
+
+-- the same of the file that was open, where the source tells
+abbrev pub ReadTo : ℕ → Option Reading → Option Reading → Type 0
+ReadTo total old now = ForSome old (λ s. ForSome s.unread (λ bytes. Part total s.tree bytes now))
+
+-- nothing is read yet
+pub read_none : (old : Option Reading) → ReadTo 0 old old
+read_none old s is bytes has = record {
+  rest = bytes;
+  told = is ∙ ap (λ (u : Option (List ℕ)). Some (record { tree = s.tree; unread = u })) has;
+  read = 0;
+  whole = omega arith;
+  counted = refl;
+}
+
+some_is : (s : Reading) → IsSome s.unread → (bytes : List ℕ) × (s.unread ≡ Some bytes)
+some_is s there = by s.unread there refl
+  where
+    by : (u : Option (List ℕ)) → IsSome u → s.unread ≡ u → (bytes : List ℕ) × (s.unread ≡ Some bytes)
+    by None some is = absurd (cc)
+    by (Some bytes) some is = (bytes, is)
+
+-- what is read on may be read
+pub may_read : (total : ℕ) (old now : Option Reading) → CanRead old → tree_in now ≡ tree_in old → ReadTo total old now → CanRead now
+unfolding CanRead
+may_read total None now can same to s is = absurd (cc)
+may_read total (Some o) now can same to s is =
+    let has = some_is o (can o refl) in
+    let part = to o refl has.0 has.1 in
+    let this : s ≡ record { tree = o.tree; unread = Some part.rest } = cc in
+    subst (λ (r : Reading). IsSome r.unread) (sym this) refl
+
+-- a block more
+pub read_more : (total more : ℕ) (old now new : Option Reading) (block : List ℕ) → ReadTo total old now → IsRead now block → new ≡ option_map after_next now
+    → more ≡ min (total + length block) greatest_count → ReadTo more old new
+unfolding IsRead
+read_more total more old now new block to is after adds s told bytes has =
+    let part = to s told bytes has in
+    let first : Some (take 8192 part.rest) ≡ Some block = is (record { tree = s.tree; unread = Some part.rest }) part.told in
+    let block_is : take 8192 part.rest ≡ block = cc in
+    let both : length part.rest ≡ length (take 8192 part.rest) + length (drop 8192 part.rest) =
+    ap length (sym (take-append-drop 8192 part.rest)) ∙ length-append (take 8192 part.rest) (drop 8192 part.rest) in
+    let long : length (take 8192 part.rest) ≡ length block = ap length block_is in
+    let whole = part.whole in
+    let counted = part.counted in
+    record {
+      rest = drop 8192 part.rest;
+      told = after ∙ ap (option_map after_next) part.told;
+      read = part.read + length block;
+      whole = omega (arith, whole, both, long);
+      counted = omega (arith, adds, counted);
+    }
+
+-- after an empty block all was read
+pub read_all : (total : ℕ) (old now : Option Reading) (block : List ℕ) → ReadTo total old now → IsRead now block → length block ≡ 0
+    → ForSome old (λ s. ForSome s.unread (λ bytes. total ≡ min (length bytes) greatest_count))
+unfolding IsRead
+read_all total old now block to is empty s told bytes has =
+    let part = to s told bytes has in
+    let first : Some (take 8192 part.rest) ≡ Some block = is (record { tree = s.tree; unread = Some part.rest }) part.told in
+    let block_is : take 8192 part.rest ≡ block = cc in
+    let long : length (take 8192 part.rest) ≡ length block = ap length block_is in
+    let none : length part.rest ≡ 0 = nothing part.rest (long ∙ empty) in
+    let whole = part.whole in
+    let counted = part.counted in
+    omega (arith, whole, counted, none)
+  where
+    nothing : (rest : List ℕ) → length (take 8192 rest) ≡ 0 → length rest ≡ 0
+    nothing [] h = refl
+    nothing (x ∷ rest) h = absurd (omega (arith, h))
+
+-- and so it was after as many bytes as can be counted
+pub read_most : (total : ℕ) (old now : Option Reading) → ReadTo total old now → greatest_count ≤ total
+    → ForSome old (λ s. ForSome s.unread (λ bytes. total ≡ min (length bytes) greatest_count))
+read_most total old now to most s told bytes has =
+    let part = to s told bytes has in
+    let whole = part.whole in
+    let counted = part.counted in
+    omega (arith, whole, counted, most)

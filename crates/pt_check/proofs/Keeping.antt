@@ -1,0 +1,52 @@
+-- What a check keeps of its source and its log.
+use Rattle.std.proofs.Common.{◌≡◌, ℕ, List, [], ◌++◌, sym, ap, ◌∙◌, subst, append-nil, append_assoc}
+use Rattle.std.specs.Prelude.{Option, None, Some}
+use Rattle.pt_check.specs.Visits.{Keeps, Grows, seen_by, tree_in}
+use Rattle.pt_check.specs.declared.checking.Check.{Check}
+use Rattle.pt_check.specs.declared.numbers.Numbers.{Numbers}
+use Rattle.pt_tree.specs.Source.{Reading}
+
+grows_none : (told : Option (List ℕ)) → Grows told told
+grows_none None = ([], tt)
+grows_none (Some xs) = ([], sym (append-nil xs))
+
+grows_on : (a b c : Option (List ℕ)) → Grows a b → Grows b c → Grows a c
+grows_on None b c p q = ([], tt)
+grows_on (Some xs) None c p q = absurd (p.1)
+grows_on (Some xs) (Some ys) None p q = absurd (q.1)
+grows_on (Some xs) (Some ys) (Some zs) p q = (
+  p.0 ++ q.0,
+  q.1 ∙ ap (λ l. l ++ q.0) p.1 ∙ append_assoc xs p.0 q.0,
+)
+
+-- and what is kept twice is kept
+pub keeps_on : {S L E : Type 0} (told : S → Option Reading) (keeps : S → S → Type 0) (held : L → Option (List ℕ))
+    → ((a b c : S) → keeps a b → keeps b c → keeps a c) → (a b c : Check S L E) → Keeps told keeps held a b → Keeps told keeps held b c → Keeps told keeps held a c
+keeps_on told keeps held on a b c first second = record {
+  tree = second.tree ∙ first.tree;
+  source = on a.source b.source c.source first.source second.source;
+  reads = second.reads ∙ first.reads;
+  log = grows_on (held a.log) (held b.log) (held c.log) first.log second.log;
+}
+
+-- where its numbers alone are changed, it is the same
+pub counts_on : {S L E : Type 0} (told : S → Option Reading) (keeps : S → S → Type 0) (held : L → Option (List ℕ)) → ((a : S) → keeps a a)
+    → (a b : Check S L E) → b.source ≡ a.source → b.log ≡ a.log → b.reads ≡ a.reads → Keeps told keeps held a b
+counts_on {S} {L} told keeps held is_kept a b source log reads = record {
+  tree = ap (λ (s : S). tree_in (told s)) source;
+  source = subst (λ (s : S). keeps a.source s) (sym source) (is_kept a.source);
+  reads = reads;
+  log = subst (λ (l : L). Grows (held a.log) (held l)) (sym log) (grows_none (held a.log));
+}
+
+-- as at the end of an object
+pub ends_on : {S L E : Type 0} (told : S → Option Reading) (keeps : S → S → Type 0) (held : L → Option (List ℕ)) → ((a : S) → keeps a a)
+    → (a b : Check S L E) (n : Numbers) → b ≡ record a { numbers = n } → Keeps told keeps held a b
+ends_on {S} {L} {E} told keeps held is_kept a b n is =
+    counts_on told keeps held is_kept a b (ap (λ (s : Check S L E). s.source) is) (ap (λ (s : Check S L E). s.log) is) (ap (λ (s : Check S L E). s.reads) is)
+
+-- and that is how far it is then
+pub ended : {S L E : Type 0} (failed : S → ℕ) (held : L → Option (List ℕ)) (a b : Check S L E) (n : Numbers) → b ≡ record a { numbers = b.numbers } → b.numbers ≡ n
+    → seen_by failed held b ≡ record (seen_by failed held a) { numbers = n }
+ended {S} {L} {E} failed held a b n rest is =
+    ap (λ (s : Check S L E). seen_by failed held s) rest ∙ ap (λ (m : Numbers). record (seen_by failed held a) { numbers = m }) is

@@ -1,0 +1,76 @@
+-- The steps of a check outside of a folder's entries.
+use Rattle.std.proofs.Common.{◌≡◌, Bool, true, false, List, [], ◌∷◌, sym, ap, ◌∙◌, subst, cond, inl, inr}
+use Rattle.std.specs.Io.KnownBytes.{Appends}
+use Rattle.std.specs.Option.{ForSome}
+use Rattle.std.specs.Prelude.{Option, Some}
+use Rattle.pt_check.specs.Lines.{End, Told, line_text}
+use Rattle.pt_check.specs.Visits.{Checks, Folder, Looks, Seen, Tells, TellsFailure, TellsIf, VisitsFolder, missing, root_folder}
+use Rattle.pt_check.specs.declared.numbers.Numbers.{Numbers}
+use Rattle.pt_check.specs.declared.trouble.Trouble.TheVariants as trouble
+use Rattle.pt_check.specs.declared.within.Within.TheVariants as within
+use Rattle.pt_plan.specs.Store.{pairtree_root, version_file}
+use Rattle.pt_plan.specs.TurnStart.{is_dir_kind, is_file_kind, kind_in}
+use Rattle.pt_tree.specs.Forest.{Forest, listing_at, listing_of}
+use Rattle.pt_tree.specs.Listing.{Item}
+use Rattle.pt_tree.specs.Path.{Path}
+use Rattle.pt_walk.specs.Left.{inside_at}
+use Rattle.pt_walk.specs.declared.site.At.TheVariants as at
+
+-- ---- a store
+
+lists_top : (t : Forest) (items : List Item) → listing_at t [] ≡ Some items → items ≡ listing_of t
+lists_top t items lists = let same : Some (listing_of t) ≡ Some items = lists in cc
+
+-- what a store must have was looked for, and `pairtree_root` visited
+pub looked : (here there : Option Forest) (reads again : Bool) (items : List Item) (version root : Path) (a m b : Seen)
+    → ForSome here (λ t. listing_at t [] ≡ Some items) → version ≡ version_file ∷ [] → root ≡ pairtree_root ∷ []
+    → TellsIf version (missing (is_file_kind (kind_in items version_file))) a m → is_dir_kind (kind_in items pairtree_root) ≡ true → there ≡ here → again ≡ reads
+    → ForSome there (λ t. VisitsFolder again (record { path = root; here = within.Site at.Root; left = 601 }) (inside_at t root) m b)
+    → ForSome here (λ t. Looks reads t a b)
+looked here there reads again items version root a m b lists version_is root_is tells is same same_reads visits t told =
+    let top = lists_top t items (lists t told) in
+    let folder : Path → Folder = λ p. record { path = p; here = within.Site at.Root; left = 601 } in
+    let visited : VisitsFolder again (folder root) (inside_at t root) m b = visits t (same ∙ told) in
+    let named : VisitsFolder again root_folder (inside_at t (pairtree_root ∷ [])) m b =
+    subst (λ (p : Path). VisitsFolder again (folder p) (inside_at t p) m b) root_is visited in
+    let whole : VisitsFolder reads root_folder (inside_at t (pairtree_root ∷ [])) m b =
+    subst (λ (r : Bool). VisitsFolder r root_folder (inside_at t (pairtree_root ∷ [])) m b) same_reads named in
+    let first : TellsIf (version_file ∷ []) (missing (is_file_kind (kind_in items version_file))) a m =
+    subst (λ (p : Path). TellsIf p (missing (is_file_kind (kind_in items version_file))) a m) version_is tells in (
+      m,
+      subst (λ (l : List Item). TellsIf (version_file ∷ []) (missing (is_file_kind (kind_in l version_file))) a m) top first,
+      by (is_dir_kind (kind_in (listing_of t) pairtree_root)) (ap (λ (l : List Item). is_dir_kind (kind_in l pairtree_root)) (sym top) ∙ is) whole,
+    )
+  where
+    by : (d : Bool) → d ≡ true → VisitsFolder reads root_folder (inside_at t (pairtree_root ∷ [])) m b
+        → cond d (VisitsFolder reads root_folder (inside_at t (pairtree_root ∷ [])) m b) (Tells (Told (pairtree_root ∷ []) trouble.Missing) m b)
+    by true d whole = whole
+    by false d whole = absurd (cc)
+
+-- then the numbers were told
+pub checked : (here there : Option Forest) (reads again : Bool) (numbers : Numbers) (a m last b : Seen) → m ≡ a → there ≡ here → again ≡ reads
+    → ForSome there (λ t. Looks again t m last) → numbers ≡ last.numbers → b.failed ≡ last.failed → b.numbers ≡ last.numbers
+    → Appends last.held b.held (line_text (End last.numbers)) → ForSome here (λ t. Checks reads t numbers a b)
+checked here there reads again numbers a m last b begun same same_reads looks is failed counted held t told =
+    let all : Looks again t m last = looks t (same ∙ told) in
+    let from : Looks again t a last = subst (λ (s : Seen). Looks again t s last) begun all in
+    record {
+      last = last;
+      looks = inl (subst (λ (r : Bool). Looks r t a last) same_reads from);
+      numbers_are = is;
+      failed = failed;
+      counted = counted;
+      held = held;
+    }
+
+-- and so they were where the top couldn't be listed
+pub checked_nothing : (here : Option Forest) (reads : Bool) (numbers : Numbers) (a last b : Seen) → TellsFailure [] a last → numbers ≡ last.numbers → b.failed ≡ last.failed
+    → b.numbers ≡ last.numbers → Appends last.held b.held (line_text (End last.numbers)) → ForSome here (λ t. Checks reads t numbers a b)
+checked_nothing here reads numbers a last b fails is failed counted held t told = record {
+  last = last;
+  looks = inr fails;
+  numbers_are = is;
+  failed = failed;
+  counted = counted;
+  held = held;
+}

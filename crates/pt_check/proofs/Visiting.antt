@@ -1,0 +1,244 @@
+-- The steps of a check through a folder.
+use Rattle.std.proofs.Common.{◌≡◌, ◌≤◌, ◌+◌, ◌-◌, ◌==◌, ℕ, Bool, true, false, suc, zero, List, [], ◌∷◌, ◌++◌, refl, sym, ap, ◌∙◌, subst, arith, length, cond, inr}
+use Rattle.std.proofs.lemmas.Bool.{ne_eqb}
+use Rattle.std.specs.Option.{ForSome, option_and_then, option_map}
+use Rattle.std.specs.Str.{bytes_eq}
+use Rattle.std.specs.Prelude.{◌⊎◌, IsSome, is_some, Option, None, Some, slice_get, unwrap_or}
+use Rattle.pt_check.specs.Counting.{with_object}
+use Rattle.pt_check.specs.Lines.{Told}
+use Rattle.pt_check.specs.Visits.{Enters, Folder, Judges, Meets, Opens, OpensIf, Seen, Tells, TellsFailure, Visits, VisitsFolder, counting, ends, finding_of, folder_in, has_object, tree_in}
+use Rattle.pt_check.specs.Within.{below, starts_object}
+use Rattle.pt_check.specs.declared.trouble.Trouble.TheVariants as trouble
+use Rattle.pt_check.specs.declared.within.Within.{Within}
+use Rattle.pt_tree.specs.Forest.{Forest, none, file, other, dir, Node, File, Dir, Other, as_dir, dir_at, file_at, find, is_proper, kind_of, listing_at, listing_of, node_at}
+use Rattle.pt_tree.specs.Listing.{Item}
+use Rattle.pt_tree.specs.Path.{Path, joined}
+use Rattle.pt_tree.specs.Source.{Reading, IsListed}
+use Rattle.pt_plan.specs.TurnStart.{is_dir_kind, kind_in}
+use Rattle.pt_tree.specs.declared.kind.Kind.{Kind}
+use Rattle.pt_tree.specs.declared.kind.Kind.TheVariants as kind
+use Rattle.pt_walk.specs.Left.{bytes_at, entries_from, inside_at}
+use Rattle.pt_walk.proofs.Ahead.{dir_ahead, file_ahead, nothing_ahead, other_ahead}
+
+-- the tree that is told is proper
+abbrev pub IsProperTold : Option Reading → Type 0
+IsProperTold told = ForSome told (λ s. is_proper s.tree ≡ true)
+
+-- of the folder at this path what was visited up to a place leads on: whatever visiting the rest comes to, visiting all comes to it
+abbrev pub VisitedTo : Bool → Folder → Bool → Forest → ℕ → Seen → Seen → Type 0
+VisitedTo reads folder holds top place first now = (last : Seen) → Visits reads folder holds (entries_from place (inside_at top folder.path)) now last
+    → Visits reads folder holds (inside_at top folder.path) first last
+
+-- its listing is that of the tree
+pub listed_in : (told : Option Reading) (path : Path) (items : List Item) → IsListed told path items → ForSome (tree_in told) (λ tree. listing_at tree path ≡ Some items)
+unfolding IsListed
+listed_in None path items listed tree is = absurd (cc)
+listed_in (Some s) path items listed tree is = let same : s.tree ≡ tree = cc in subst (λ (t : Forest). listing_at t path ≡ Some items) same (listed s refl)
+
+-- and it is proper
+pub proper_in : (told : Option Reading) → IsProperTold told → ForSome (tree_in told) (λ tree. is_proper tree ≡ true)
+proper_in None proper tree is = absurd (cc)
+proper_in (Some s) proper tree is = let same : s.tree ≡ tree = cc in subst (λ (t : Forest). is_proper t ≡ true) same (proper s refl)
+
+-- a folder that is listed stands there
+pub dir_stands : (top : Forest) (path : Path) (items : List Item) (place : ℕ) (name : List ℕ) → is_proper top ≡ true → listing_at top path ≡ Some items
+    → slice_get items place ≡ Some (name, kind.Dir) → IsSome (dir_at top (path ++ name ∷ []))
+dir_stands top path items place name proper listed at =
+    let ahead = dir_ahead top path items place name proper listed at in
+    subst (λ (o : Option Forest). IsSome o) (sym ahead.dir_is) refl
+
+-- and a file
+pub file_stands : (top : Forest) (path : Path) (items : List Item) (place : ℕ) (name : List ℕ) → is_proper top ≡ true → listing_at top path ≡ Some items
+    → slice_get items place ≡ Some (name, kind.File) → IsSome (file_at top (path ++ name ∷ []))
+file_stands top path items place name proper listed at =
+    let ahead = file_ahead top path items place name proper listed at in
+    subst (λ (o : Option (List ℕ)). IsSome o) (sym ahead.file_is) refl
+
+-- a file was met and opened
+pub visited_file : (reads : Bool) (folder : Folder) (holds : Bool) (top : Forest) (items : List Item) (place : ℕ) (name : List ℕ) (first now met opened : Seen)
+    → is_proper top ≡ true → listing_at top folder.path ≡ Some items → slice_get items place ≡ Some (name, kind.File)
+    → VisitedTo reads folder holds top place first now
+    → Meets (folder.path ++ name ∷ []) folder.here (name, kind.File) now met
+    → Opens reads (folder.path ++ name ∷ []) (bytes_at top (folder.path ++ name ∷ [])) met opened
+    → VisitedTo reads folder holds top (place + 1) first opened
+visited_file reads folder holds top items place name first now met opened proper listed at to meets opens last rest =
+    let ahead = file_ahead top folder.path items place name proper listed at in
+    to last (subst (λ (f : Forest). Visits reads folder holds f now last) (sym ahead.rest_is) (met, meets, opened, opens, rest))
+
+-- what is neither a file nor a directory was met
+pub visited_other : (reads : Bool) (folder : Folder) (holds : Bool) (top : Forest) (items : List Item) (place : ℕ) (name : List ℕ) (first now met : Seen)
+    → is_proper top ≡ true → listing_at top folder.path ≡ Some items → slice_get items place ≡ Some (name, kind.Other)
+    → VisitedTo reads folder holds top place first now
+    → Meets (folder.path ++ name ∷ []) folder.here (name, kind.Other) now met
+    → VisitedTo reads folder holds top (place + 1) first met
+visited_other reads folder holds top items place name first now met proper listed at to meets last rest =
+    let ahead = other_ahead top folder.path items place name proper listed at in
+    to last (subst (λ (f : Forest). Visits reads folder holds f now last) (sym ahead) (met, meets, rest))
+
+-- a folder was met and visited
+pub visited_dir : (reads : Bool) (folder : Folder) (holds : Bool) (top : Forest) (items : List Item) (place : ℕ) (name : List ℕ) (first now met left : Seen)
+    → is_proper top ≡ true → listing_at top folder.path ≡ Some items → slice_get items place ≡ Some (name, kind.Dir)
+    → VisitedTo reads folder holds top place first now
+    → Meets (folder.path ++ name ∷ []) folder.here (name, kind.Dir) now met
+    → VisitsFolder reads (folder_in folder holds name) (inside_at top (folder.path ++ name ∷ [])) met left
+    → VisitedTo reads folder holds top (place + 1) first (counting (ends (folder_in folder holds name) folder.here met.numbers) left)
+visited_dir reads folder holds top items place name first now met left proper listed at to meets visits last rest =
+    let ahead = dir_ahead top folder.path items place name proper listed at in
+    to last (subst (λ (f : Forest). Visits reads folder holds f now last) (sym ahead.rest_is) (met, meets, left, visits, rest))
+
+-- at the end of the listing all was visited
+pub visited_all : (reads : Bool) (folder : Folder) (holds : Bool) (top : Forest) (items : List Item) (place : ℕ) (first now : Seen)
+    → listing_at top folder.path ≡ Some items → slice_get items place ≡ None
+    → VisitedTo reads folder holds top place first now → Visits reads folder holds (inside_at top folder.path) first now
+visited_all reads folder holds top items place first now listed at to =
+    let ahead = nothing_ahead top folder.path items place listed at in
+    to now (subst (λ (f : Forest). Visits reads folder holds f now now) (sym ahead) refl)
+
+-- an entry that is no folder was met, and opened if it is a file
+pub visited_leaf : (reads : Bool) (folder : Folder) (holds : Bool) (top : Forest) (items : List Item) (place : ℕ) (name : List ℕ) (here : Kind) (first now met left : Seen)
+    → is_proper top ≡ true → listing_at top folder.path ≡ Some items → slice_get items place ≡ Some (name, here) → (here ≡ kind.Dir → ⊥)
+    → VisitedTo reads folder holds top place first now
+    → Meets (folder.path ++ name ∷ []) folder.here (name, here) now met
+    → OpensIf reads (folder.path ++ name ∷ []) here (bytes_at top (folder.path ++ name ∷ [])) met left
+    → VisitedTo reads folder holds top (place + 1) first left
+visited_leaf reads folder holds top items place name kind.File first now met left proper listed at leaf to meets opens =
+    visited_file reads folder holds top items place name first now met left proper listed at to meets opens
+visited_leaf reads folder holds top items place name kind.Dir first now met left proper listed at leaf to meets opens = absurd (leaf refl)
+visited_leaf reads folder holds top items place name kind.Other first now met left proper listed at leaf to meets opens =
+    subst (λ (s : Seen). VisitedTo reads folder holds top (place + 1) first s) (sym opens)
+    (visited_other reads folder holds top items place name first now met proper listed at to meets)
+
+-- what is no folder may be opened if it is a file
+pub leaf_stands : (top : Forest) (path : Path) (items : List Item) (place : ℕ) (name : List ℕ) (here : Kind) → is_proper top ≡ true → listing_at top path ≡ Some items
+    → slice_get items place ≡ Some (name, here) → here ≡ kind.File → IsSome (file_at top (path ++ name ∷ []))
+leaf_stands top path items place name here proper listed at is =
+    file_stands top path items place name proper listed (at ∙ ap (λ (k : Kind). Some (name, k)) is)
+
+-- behind the last entry there is none
+pub past_end : (items : List Item) (place : ℕ) → length items ≤ place → slice_get items place ≡ None
+past_end [] place past = refl
+past_end (x ∷ items) zero past = absurd (omega (arith, past))
+past_end (x ∷ items) (suc place) past = past_end items place (omega (arith, past))
+
+-- ---- the top of a store
+
+kind_one : (b : Bool) (node : Node) (k : Kind) (rest : Option Kind) (later : Option Node) → k ≡ kind_of node → rest ≡ option_map kind_of later
+    → cond b (Some k) rest ≡ option_map kind_of (cond b (Some node) later)
+kind_one true node k rest later is same = ap (λ (x : Kind). Some x) is
+kind_one false node k rest later is same = same
+
+-- the kind that is listed of a name is that of what stands there
+kind_found : (f : Forest) (name : List ℕ) → kind_in (listing_of f) name ≡ option_map kind_of (find f name)
+kind_found none name = refl
+kind_found (file n bytes after) name = kind_one (bytes_eq n name) (File bytes) kind.File (kind_in (listing_of after) name) (find after name) refl (kind_found after name)
+kind_found (other n after) name = kind_one (bytes_eq n name) Other kind.Other (kind_in (listing_of after) name) (find after name) refl (kind_found after name)
+kind_found (dir n inside after) name = kind_one (bytes_eq n name) (Dir inside) kind.Dir (kind_in (listing_of after) name) (find after name) refl (kind_found after name)
+
+-- a folder that is listed at the top stands there
+pub root_stands : (here there : Option Forest) (items : List Item) (name : List ℕ) → ForSome here (λ tree. listing_at tree [] ≡ Some items) → is_dir_kind (kind_in items name) ≡ true
+    → there ≡ here → ForSome there (λ tree. IsSome (dir_at tree (name ∷ [])))
+root_stands here there items name listed is same tree at =
+    let lists : Some (listing_of tree) ≡ Some items = listed tree (sym same ∙ at) in
+    let items_are : items ≡ listing_of tree = cc in
+    by (find tree name) (ap is_dir_kind (sym (kind_found tree name)) ∙ ap (λ (l : List Item). is_dir_kind (kind_in l name)) (sym items_are) ∙ is)
+  where
+    by : (node : Option Node) → is_dir_kind (option_map kind_of node) ≡ true → is_some (option_and_then as_dir (option_and_then (λ n. node_at n []) node)) ≡ true
+    by None is = absurd (cc)
+    by (Some (File bytes)) is = absurd (cc)
+    by (Some (Dir inside)) is = refl
+    by (Some Other) is = absurd (cc)
+
+-- ---- the steps of a visit
+
+-- what holds of a tree holds of the same one
+pub in_same : (P : Forest → Type 0) (old new : Option Forest) → new ≡ old → ForSome old P → ForSome new P
+in_same P old new same holds tree is = holds tree (sym same ∙ is)
+
+-- a folder that isn't too deep is told as unreadable, or visited
+pub enters : (folder : Folder) (items : List Item) (visits : Seen → Seen → Type 0) (a b : Seen) → (folder.left ≡ 0 → ⊥)
+    → TellsFailure folder.path a b ⊎ ((m : Seen) × Judges folder.path folder.here items a m × visits m b) → Enters folder items visits a b
+enters folder items visits a b some does = by (folder.left == 0) (ne_eqb folder.left 0 some)
+  where
+    by : (t : Bool) → t ≡ false → cond t (Tells (Told folder.path trouble.Deep) a b)
+        (TellsFailure folder.path a b ⊎ ((m : Seen) × Judges folder.path folder.here items a m × visits m b))
+    by true is = absurd (cc)
+    by false is = does
+
+-- a folder among the entries was met and visited
+pub dir_step : (told : Option Reading) → IsProperTold told → (reads again : Bool) (folder : Folder) (holds : Bool) (items : List Item) (place : ℕ) (name : List ℕ) (what : Kind) (entry : Path)
+    (inside : Within) (first now met after final : Seen) (there : Option Forest) → ForSome (tree_in told) (λ t. listing_at t folder.path ≡ Some items)
+    → slice_get items place ≡ Some (name, what) → what ≡ kind.Dir → entry ≡ folder.path ++ name ∷ [] → inside ≡ below folder.here holds name (length (joined entry))
+    → ForSome (tree_in told) (λ t. VisitedTo reads folder holds t place first now) → Meets entry folder.here (name, what) now met → there ≡ tree_in told → again ≡ reads
+    → ForSome there (λ t. VisitsFolder again (record { path = entry; here = inside; left = folder.left - 1 }) (inside_at t entry) met after)
+    → final ≡ record after { numbers = cond (starts_object inside folder.here) (with_object met.numbers.bytes after.numbers) after.numbers }
+    → ForSome (tree_in told) (λ t. VisitedTo reads folder holds t (place + 1) first final)
+dir_step told proper reads again folder holds items place name what entry inside first now met after final there listed at is_dir entry_is inside_is to meets there_is same_reads visits final_is tree is =
+    let path : Path = folder.path ++ name ∷ [] in
+    let make : Path → Within → Folder = λ q w. record { path = q; here = w; left = folder.left - 1 } in
+    let whole : inside ≡ below folder.here holds name (length (joined path)) = inside_is ∙ ap (λ (q : Path). below folder.here holds name (length (joined q))) entry_is in
+    let it : make entry inside ≡ folder_in folder holds name = ap (λ (q : Path). make q inside) entry_is ∙ ap (make path) whole in
+    let visited : VisitsFolder again (make entry inside) (inside_at tree entry) met after = visits tree (there_is ∙ is) in
+    let read : VisitsFolder reads (make entry inside) (inside_at tree entry) met after =
+    subst (λ (r : Bool). VisitsFolder r (make entry inside) (inside_at tree entry) met after) same_reads visited in
+    let named : VisitsFolder reads (folder_in folder holds name) (inside_at tree entry) met after =
+    subst (λ (f : Folder). VisitsFolder reads f (inside_at tree entry) met after) it read in
+    let below_it : VisitsFolder reads (folder_in folder holds name) (inside_at tree path) met after =
+    subst (λ (q : Path). VisitsFolder reads (folder_in folder holds name) (inside_at tree q) met after) entry_is named in
+    let met_dir : Meets entry folder.here (name, kind.Dir) now met = subst (λ (k : Kind). Meets entry folder.here (name, k) now met) is_dir meets in
+    let met_it : Meets path folder.here (name, kind.Dir) now met = subst (λ (q : Path). Meets q folder.here (name, kind.Dir) now met) entry_is met_dir in
+    let at_dir : slice_get items place ≡ Some (name, kind.Dir) = at ∙ ap (λ (k : Kind). Some (name, k)) is_dir in
+    let ended : final ≡ counting (ends (folder_in folder holds name) folder.here met.numbers) after =
+    final_is ∙ ap (λ (w : Within). record after { numbers = cond (starts_object w folder.here) (with_object met.numbers.bytes after.numbers) after.numbers }) whole in
+    subst (λ (s : Seen). VisitedTo reads folder holds tree (place + 1) first s) (sym ended)
+    (visited_dir reads folder holds tree items place name first now met after (proper_in told proper tree is) (listed tree is) at_dir (to tree is) met_it below_it)
+
+-- another entry was met, and opened if it is a file
+pub leaf_step : (told : Option Reading) → IsProperTold told → (reads again : Bool) (folder : Folder) (holds : Bool) (items : List Item) (place : ℕ) (name : List ℕ) (here : Kind) (entry : Path)
+    (first now met after : Seen) (there : Option Forest) → ForSome (tree_in told) (λ t. listing_at t folder.path ≡ Some items)
+    → slice_get items place ≡ Some (name, here) → (here ≡ kind.Dir → ⊥) → entry ≡ folder.path ++ name ∷ []
+    → ForSome (tree_in told) (λ t. VisitedTo reads folder holds t place first now) → Meets entry folder.here (name, here) now met → there ≡ tree_in told
+    → again ≡ reads → ForSome there (λ t. OpensIf again entry here (bytes_at t entry) met after)
+    → ForSome (tree_in told) (λ t. VisitedTo reads folder holds t (place + 1) first after)
+leaf_step told proper reads again folder holds items place name here entry first now met after there listed at leaf entry_is to meets there_is same_reads opens tree is =
+    let path : Path = folder.path ++ name ∷ [] in
+    let read : OpensIf reads entry here (bytes_at tree entry) met after = subst (λ (r : Bool). OpensIf r entry here (bytes_at tree entry) met after) same_reads (opens tree (there_is ∙ is)) in
+    let opened : OpensIf reads path here (bytes_at tree path) met after =
+    subst (λ (q : Path). OpensIf reads q here (bytes_at tree q) met after) entry_is read in
+    let met_it : Meets path folder.here (name, here) now met = subst (λ (q : Path). Meets q folder.here (name, here) now met) entry_is meets in
+    visited_leaf reads folder holds tree items place name here first now met after (proper_in told proper tree is) (listed tree is) at leaf (to tree is) met_it opened
+
+-- the folder that is visited next stands there
+pub dir_there : (told : Option Reading) → IsProperTold told → (path entry : Path) (items : List Item) (place : ℕ) (name : List ℕ) (what : Kind) (there : Option Forest)
+    → ForSome (tree_in told) (λ t. listing_at t path ≡ Some items) → slice_get items place ≡ Some (name, what) → what ≡ kind.Dir → entry ≡ path ++ name ∷ [] → there ≡ tree_in told
+    → ForSome there (λ t. IsSome (dir_at t entry))
+dir_there told proper path entry items place name what there listed at is_dir entry_is there_is tree is =
+    let here = sym there_is ∙ is in
+    let at_dir : slice_get items place ≡ Some (name, kind.Dir) = at ∙ ap (λ (k : Kind). Some (name, k)) is_dir in
+    subst (λ (q : Path). IsSome (dir_at tree q)) (sym entry_is) (dir_stands tree path items place name (proper_in told proper tree here) (listed tree here) at_dir)
+
+-- and the file that is opened next
+pub leaf_there : (told : Option Reading) → IsProperTold told → (path entry : Path) (items : List Item) (place : ℕ) (name : List ℕ) (what : Kind) (there : Option Forest)
+    → ForSome (tree_in told) (λ t. listing_at t path ≡ Some items) → slice_get items place ≡ Some (name, what) → entry ≡ path ++ name ∷ [] → there ≡ tree_in told
+    → ForSome there (λ t. what ≡ kind.File → IsSome (file_at t entry))
+leaf_there told proper path entry items place name what there listed at entry_is there_is tree is is_file =
+    let here = sym there_is ∙ is in
+    subst (λ (q : Path). IsSome (file_at tree q)) (sym entry_is) (leaf_stands tree path items place name what (proper_in told proper tree here) (listed tree here) at is_file)
+
+inside_lists : (top : Forest) (path : Path) (items : List Item) → listing_at top path ≡ Some items → listing_of (inside_at top path) ≡ items
+inside_lists top path items listed = by (dir_at top path) listed
+  where
+    by : (found : Option Forest) → option_map listing_of found ≡ Some items → listing_of (unwrap_or found none) ≡ items
+    by None is = absurd (cc)
+    by (Some inside) is = cc
+
+-- at the end of its listing a folder was visited
+pub all_step : (told : Option Reading) (reads : Bool) (folder : Folder) (holds : Bool) (items : List Item) (place : ℕ) (a first now : Seen)
+    → ForSome (tree_in told) (λ t. listing_at t folder.path ≡ Some items) → length items ≤ place → (folder.left ≡ 0 → ⊥) → Judges folder.path folder.here items a first
+    → holds ≡ has_object (finding_of folder.here items) → ForSome (tree_in told) (λ t. VisitedTo reads folder holds t place first now)
+    → ForSome (tree_in told) (λ t. VisitsFolder reads folder (inside_at t folder.path) a now)
+all_step told reads folder holds items place a first now listed past some judges holds_is to tree is =
+    let lists : items ≡ listing_of (inside_at tree folder.path) = sym (inside_lists tree folder.path items (listed tree is)) in
+    let judged : Judges folder.path folder.here (listing_of (inside_at tree folder.path)) a first = subst (λ (l : List Item). Judges folder.path folder.here l a first) lists judges in
+    let all : Visits reads folder holds (inside_at tree folder.path) first now = visited_all reads folder holds tree items place first now (listed tree is) (past_end items place past) (to tree is) in
+    let held : holds ≡ has_object (finding_of folder.here (listing_of (inside_at tree folder.path))) = holds_is ∙ ap (λ (l : List Item). has_object (finding_of folder.here l)) lists in
+    enters folder (listing_of (inside_at tree folder.path)) (Visits reads folder (has_object (finding_of folder.here (listing_of (inside_at tree folder.path)))) (inside_at tree folder.path)) a now some (inr (first, judged, subst (λ (h : Bool). Visits reads folder h (inside_at tree folder.path) first now) held all))

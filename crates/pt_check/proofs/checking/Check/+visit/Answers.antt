@@ -1,0 +1,80 @@
+use Rattle.std.proofs.Common.{arith, ap, sym, subst, is_some, ℕ, ◌≡◌, ◌∙◌, Some}
+use Rattle.std.specs.Option.{ForSome}
+use Rattle.pt_check.specs.Visits.{Folder, Judges, Seen, seen_by, tree_by, tree_in}
+use Rattle.pt_check.specs.Within.{below}
+use Rattle.pt_tree.specs.Forest.{listing_at}
+use Rattle.pt_check.proofs.Keeping.{ended, ends_on, keeps_on}
+use Rattle.pt_check.proofs.Visiting.{all_step, dir_step, dir_there, leaf_step, leaf_there}
+use Rattle.pt_check.proofs.checking.Check.+visit.Goals as goal
+
+pub returns-in_err-bytes-clause-keeps : goal.returns-in_err-bytes-clause-keeps
+returns-in_err-bytes-clause-keeps g t c =
+    keeps_on g.S.Source.told g.S.Source.keeps g.L.Log.told g.met.S.Source.keeps_on _ _ _ c.loop-i.invariant.keeps c.meet.ensures.keeps
+
+pub visit-requires : goal.visit-requires
+visit-requires g t c κs within =
+    let here = g.S.Source.told c.args.self.now.source in
+    let listed : ForSome (tree_in here) (λ t. listing_at t c.args.path.now ≡ Some c.in-Some.listing) = rw c.in-Some.is at c.in_ok-listing.ensures.listed in
+    let same_tree = c.meet.ensures.keeps.tree ∙ c.loop-i.invariant.keeps.tree in
+    let stands = dir_there here (g.met.S.Source.proper c.args.self.now.source) c.args.path.now c.in_ok-entry.entry c.in-Some.listing c.loop-i.i c.in-Some-get.name.now c.in-Some-get.kind
+    (tree_by g.S.Source.told c.meet.new.self) listed (sym c.in-Some-get.ensures) c.in-Dir.is c.in_ok-entry.ensures same_tree in
+    (omega (arith, c.if-left-eq0.false, c.decreases), (within.0, (within.1.0, (within.1.1, stands))))
+
+pub returns-in_err-visit-clause-keeps : goal.returns-in_err-visit-clause-keeps
+returns-in_err-visit-clause-keeps g t c =
+    keeps_on g.S.Source.told g.S.Source.keeps g.L.Log.told g.met.S.Source.keeps_on _ _ _ (keeps_on g.S.Source.told g.S.Source.keeps g.L.Log.told g.met.S.Source.keeps_on _ _ _ c.loop-i.invariant.keeps c.meet.ensures.keeps) c.visit.ensures.keeps
+
+pub loop-i-preserved-in-Dir : goal.loop-i-preserved-in-Dir
+loop-i-preserved-in-Dir g t c =
+    let here = g.S.Source.told c.args.self.now.source in
+    let listed : ForSome (tree_in here) (λ t. listing_at t c.args.path.now ≡ Some c.in-Some.listing) = rw c.in-Some.is at c.in_ok-listing.ensures.listed in
+    let same_tree = c.meet.ensures.keeps.tree ∙ c.loop-i.invariant.keeps.tree in
+    let folder : Folder = record { path = c.args.path.now; here = c.args.within; left = c.args.left } in
+    let inside_is = c.below-inside.ensures ∙ ap (λ (n : ℕ). below c.args.within c.in_ok-has_object.has_object c.in-Some-get.name.now n) c.in_ok-bytes.ensures.length in
+    record {
+      keeps = keeps_on g.S.Source.told g.S.Source.keeps g.L.Log.told g.met.S.Source.keeps_on _ _ _ (keeps_on g.S.Source.told g.S.Source.keeps g.L.Log.told g.met.S.Source.keeps_on _ _ _ (keeps_on g.S.Source.told g.S.Source.keeps g.L.Log.told g.met.S.Source.keeps_on _ _ _ c.loop-i.invariant.keeps c.meet.ensures.keeps) c.visit.ensures.keeps)
+          (ends_on g.S.Source.told g.S.Source.keeps g.L.Log.told g.met.S.Source.is_kept c.visit.new.self c.end.new.self _ c.end.ensures.rest);
+      visited = dir_step here (g.met.S.Source.proper c.args.self.now.source) c.args.self.now.reads c.meet.new.self.reads folder c.in_ok-has_object.has_object c.in-Some.listing c.loop-i.i
+          c.in-Some-get.name.now c.in-Some-get.kind c.in_ok-entry.entry c.below-inside.result (seen_by g.S.Source.failed g.L.Log.told c.judge.new.self) (seen_by g.S.Source.failed g.L.Log.told c.loop-i.self) (seen_by g.S.Source.failed g.L.Log.told c.meet.new.self)
+          (seen_by g.S.Source.failed g.L.Log.told c.visit.new.self) (seen_by g.S.Source.failed g.L.Log.told c.end.new.self) (tree_by g.S.Source.told c.meet.new.self)
+          listed (sym c.in-Some-get.ensures) c.in-Dir.is c.in_ok-entry.ensures inside_is c.loop-i.invariant.visited c.in_ok-bytes.ensures.met same_tree
+          (c.meet.ensures.keeps.reads ∙ c.loop-i.invariant.keeps.reads) c.in_ok-visit.ensures.visited
+          (ended g.S.Source.failed g.L.Log.told c.visit.new.self c.end.new.self _ c.end.ensures.rest c.end.ensures.numbers);
+    }
+
+pub visit_leaf-requires : goal.visit_leaf-requires
+visit_leaf-requires g t c =
+    let here = g.S.Source.told c.args.self.now.source in
+    let listed : ForSome (tree_in here) (λ t. listing_at t c.args.path.now ≡ Some c.in-Some.listing) = rw c.in-Some.is at c.in_ok-listing.ensures.listed in
+    let same_tree = c.meet.ensures.keeps.tree ∙ c.loop-i.invariant.keeps.tree in
+    leaf_there here (g.met.S.Source.proper c.args.self.now.source) c.args.path.now c.in_ok-entry.entry c.in-Some.listing c.loop-i.i c.in-Some-get.name.now c.in-Some-get.kind
+    (tree_by g.S.Source.told c.meet.new.self) listed (sym c.in-Some-get.ensures) c.in_ok-entry.ensures same_tree
+
+pub returns-in_err-visit_leaf-clause-keeps : goal.returns-in_err-visit_leaf-clause-keeps
+returns-in_err-visit_leaf-clause-keeps g t c =
+    keeps_on g.S.Source.told g.S.Source.keeps g.L.Log.told g.met.S.Source.keeps_on _ _ _ (keeps_on g.S.Source.told g.S.Source.keeps g.L.Log.told g.met.S.Source.keeps_on _ _ _ c.loop-i.invariant.keeps c.meet.ensures.keeps) c.visit_leaf.ensures.keeps
+
+pub loop-i-preserved : goal.loop-i-preserved
+loop-i-preserved g t c =
+    let here = g.S.Source.told c.args.self.now.source in
+    let listed : ForSome (tree_in here) (λ t. listing_at t c.args.path.now ≡ Some c.in-Some.listing) = rw c.in-Some.is at c.in_ok-listing.ensures.listed in
+    let same_tree = c.meet.ensures.keeps.tree ∙ c.loop-i.invariant.keeps.tree in
+    let folder : Folder = record { path = c.args.path.now; here = c.args.within; left = c.args.left } in
+    record {
+      keeps = keeps_on g.S.Source.told g.S.Source.keeps g.L.Log.told g.met.S.Source.keeps_on _ _ _ (keeps_on g.S.Source.told g.S.Source.keeps g.L.Log.told g.met.S.Source.keeps_on _ _ _ c.loop-i.invariant.keeps c.meet.ensures.keeps) c.visit_leaf.ensures.keeps;
+      visited = leaf_step here (g.met.S.Source.proper c.args.self.now.source) c.args.self.now.reads c.meet.new.self.reads folder c.in_ok-has_object.has_object c.in-Some.listing c.loop-i.i
+          c.in-Some-get.name.now c.in-Some-get.kind c.in_ok-entry.entry (seen_by g.S.Source.failed g.L.Log.told c.judge.new.self) (seen_by g.S.Source.failed g.L.Log.told c.loop-i.self) (seen_by g.S.Source.failed g.L.Log.told c.meet.new.self)
+          (seen_by g.S.Source.failed g.L.Log.told c.visit_leaf.new.self) (tree_by g.S.Source.told c.meet.new.self) listed (sym c.in-Some-get.ensures) c.in_default-kind.not-Dir c.in_ok-entry.ensures
+          c.loop-i.invariant.visited c.in_ok-bytes.ensures.met same_tree (c.meet.ensures.keeps.reads ∙ c.loop-i.invariant.keeps.reads) c.in_ok-visit_leaf.ensures.opened;
+    }
+
+pub returns-clause-visited : goal.returns-clause-visited
+returns-clause-visited g t c =
+    let here = g.S.Source.told c.args.self.now.source in
+    let listed : ForSome (tree_in here) (λ t. listing_at t c.args.path.now ≡ Some c.in-Some.listing) = rw c.in-Some.is at c.in_ok-listing.ensures.listed in
+    let folder : Folder = record { path = c.args.path.now; here = c.args.within; left = c.args.left } in
+    let same = c.in_ok-listing.ensures.same (ap is_some c.in-Some.is) in
+    let judged = subst (λ (s : Seen). Judges c.args.path.now c.args.within c.in-Some.listing s (seen_by g.S.Source.failed g.L.Log.told c.judge.new.self)) same c.in_ok-has_object.ensures.judged in
+    all_step here c.args.self.now.reads folder c.in_ok-has_object.has_object c.in-Some.listing c.loop-i.i (seen_by g.S.Source.failed g.L.Log.told c.args.self.now)
+    (seen_by g.S.Source.failed g.L.Log.told c.judge.new.self) (seen_by g.S.Source.failed g.L.Log.told c.loop-i.self) listed (omega (arith, c.len-i-end.ensures.len, c.loop-i-test.false)) c.if-left-eq0.false judged
+    c.in_ok-has_object.ensures.object c.loop-i.invariant.visited

@@ -1,0 +1,15 @@
+use Rattle.std.specs.Option.{ForSome}
+use Rattle.pt_check.proofs.Visiting.{VisitedTo}
+use Rattle.pt_check.specs.Visits.{Keeps, seen_by, tree_by}
+use Rattle.pt_check.proofs.checking.Check.+visit.Given as goal
+
+abbrev pub decreases-visit : goal.decreases-visit
+decreases-visit g l = l.left
+
+abbrev pub invariant-loop-i : goal.invariant-loop-i
+invariant-loop-i g l = record {
+  keeps : Keeps g.S.Source.told g.S.Source.keeps g.L.Log.told l.fn.self l.self;
+  visited : ForSome (tree_by g.S.Source.told l.fn.self) (λ tree. VisitedTo l.fn.self.reads
+      (record { path = l.path; here = l.within; left = l.left }) l.has_object tree l.i
+      (seen_by g.S.Source.failed g.L.Log.told l.initial.self) (seen_by g.S.Source.failed g.L.Log.told l.self));
+}

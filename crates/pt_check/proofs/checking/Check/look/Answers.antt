@@ -1,0 +1,46 @@
+use Rattle.std.proofs.Common.{ap, sym, subst, ℕ, List, true, ◌≡◌, ◌∙◌}
+use Rattle.std.proofs.lemmas.Result.{on_ok_weaker}
+use Rattle.std.specs.Option.{ForSome}
+use Rattle.std.specs.Prelude.{IsSome, Option}
+use Rattle.pt_check.specs.Visits.{TellsIf, missing, seen_by, tree_by}
+use Rattle.pt_check.specs.declared.trouble.Trouble.{Trouble}
+use Rattle.pt_plan.specs.Store.{pairtree_root, version_file}
+use Rattle.pt_plan.specs.TurnStart.{is_dir_kind, is_file_kind, kind_in}
+use Rattle.pt_tree.specs.Forest.{dir_at}
+use Rattle.pt_tree.specs.Path.{Path}
+use Rattle.pt_check.proofs.Keeping.{keeps_on}
+use Rattle.pt_check.proofs.Stepping.{looked}
+use Rattle.pt_check.proofs.Visiting.{root_stands}
+use Rattle.pt_check.proofs.checking.Check.look.Goals as goal
+
+pub visit-requires : goal.visit-requires
+visit-requires g c =
+    let named : kind_in c.args.listing.now c.as_bytes-2.result.now ≡ kind_in c.args.listing.now pairtree_root =
+    ap (λ (n : List ℕ). kind_in c.args.listing.now n) (c.as_bytes-2.ensures.value ∙ c.text-2.ensures) in
+    let is : is_dir_kind (kind_in c.args.listing.now pairtree_root) ≡ true = sym (c.if-is_dir.ensures ∙ ap is_dir_kind (c.kind_in-2.ensures ∙ named)) in
+    subst (λ (p : Path). ForSome (tree_by g.S.Source.told c.tell_if.new.self) (λ tree. IsSome (dir_at tree p))) (sym c.in_ok-root.ensures)
+    (root_stands (tree_by g.S.Source.told c.args.self.now) (tree_by g.S.Source.told c.tell_if.new.self) c.args.listing.now pairtree_root c.requires is c.tell_if.ensures.keeps.tree)
+
+pub returns-then-is_dir-clause-looked : goal.returns-then-is_dir-clause-looked
+returns-then-is_dir-clause-looked g c =
+    let named : kind_in c.args.listing.now c.as_bytes-2.result.now ≡ kind_in c.args.listing.now pairtree_root =
+    ap (λ (n : List ℕ). kind_in c.args.listing.now n) (c.as_bytes-2.ensures.value ∙ c.text-2.ensures) in
+    let is : is_dir_kind (kind_in c.args.listing.now pairtree_root) ≡ true = sym (c.if-is_dir.ensures ∙ ap is_dir_kind (c.kind_in-2.ensures ∙ named)) in
+    let marks : kind_in c.args.listing.now c.as_bytes.result.now ≡ kind_in c.args.listing.now version_file =
+    ap (λ (n : List ℕ). kind_in c.args.listing.now n) (c.as_bytes.ensures.value ∙ c.text.ensures) in
+    let marked : c.is_file-marked.result ≡ is_file_kind (kind_in c.args.listing.now version_file) = c.is_file-marked.ensures ∙ ap is_file_kind (c.kind_in.ensures ∙ marks) in
+    let lacks : c.missing.result ≡ missing (is_file_kind (kind_in c.args.listing.now version_file)) = c.missing.ensures ∙ ap missing marked in
+    let a = seen_by g.S.Source.failed g.L.Log.told c.args.self.now in
+    let m = seen_by g.S.Source.failed g.L.Log.told c.tell_if.new.self in
+    let b = seen_by g.S.Source.failed g.L.Log.told c.visit.new.self in
+    let tells : TellsIf c.in_ok-version.version (missing (is_file_kind (kind_in c.args.listing.now version_file))) a m =
+    subst (λ (o : Option Trouble). TellsIf c.in_ok-version.version o a m) lacks c.in_ok-tell_if.ensures.told in
+    on_ok_weaker c.visit.result
+    (looked (tree_by g.S.Source.told c.args.self.now) (tree_by g.S.Source.told c.tell_if.new.self) c.args.self.now.reads c.tell_if.new.self.reads c.args.listing.now c.in_ok-version.version
+    c.in_ok-root.root a m b c.requires c.in_ok-version.ensures c.in_ok-root.ensures tells is c.tell_if.ensures.keeps.tree c.tell_if.ensures.keeps.reads) c.visit.ensures.visited
+
+pub returns-then-is_dir-clause-keeps : goal.returns-then-is_dir-clause-keeps
+returns-then-is_dir-clause-keeps g c = keeps_on g.S.Source.told g.S.Source.keeps g.L.Log.told g.met.S.Source.keeps_on _ _ _ c.tell_if.ensures.keeps c.visit.ensures.keeps
+
+pub returns-clause-keeps : goal.returns-clause-keeps
+returns-clause-keeps g c = keeps_on g.S.Source.told g.S.Source.keeps g.L.Log.told g.met.S.Source.keeps_on _ _ _ c.tell_if.ensures.keeps c.tell.ensures.keeps

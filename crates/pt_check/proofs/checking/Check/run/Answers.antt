@@ -1,0 +1,49 @@
+use Rattle.std.proofs.Common.{ap, subst, is_some, ◌≡◌, [], Some}
+use Rattle.std.specs.Option.{ForSome}
+use Rattle.std.specs.Prelude.{IfOk, OnOk, Result, Ok, Err}
+use Rattle.pt_check.specs.Visits.{TellsFailure, seen_by, tree_by}
+use Rattle.pt_tree.specs.Forest.{Forest, listing_at}
+use Rattle.pt_tree.specs.Path.{Path}
+use Rattle.pt_check.proofs.Keeping.{keeps_on}
+use Rattle.pt_check.proofs.Stepping.{checked, checked_nothing}
+use Rattle.pt_check.proofs.Visiting.{in_same}
+use Rattle.pt_check.proofs.checking.Check.run.Goals as goal
+
+-- what follows of a value that is answered
+of_answer : {T E : Type 0} (r : Result T E) (P R : T → Type 0) (Q : Type 0) → IfOk r P → OnOk r Q → ((x : T) → P x → Q → R x) → IfOk r R
+of_answer (Ok x) P R Q p q f = f x p q
+of_answer (Err e) P R Q p q f = tt
+
+pub look-requires : goal.look-requires
+look-requires g c =
+    let there = rw c.in-Some.is at c.in_ok-listing.ensures.listed in
+    let listed : ForSome (tree_by g.S.Source.told c.args.self.now) (λ t. listing_at t [] ≡ Some c.in-Some.listing) =
+    subst (λ (p : Path). ForSome (tree_by g.S.Source.told c.args.self.now) (λ t. listing_at t p ≡ Some c.in-Some.listing)) c.new-top.ensures there in
+    in_same (λ (t : Forest). listing_at t [] ≡ Some c.in-Some.listing) (tree_by g.S.Source.told c.args.self.now) (tree_by g.S.Source.told c.list.new.self) c.list.ensures.keeps.tree listed
+
+pub returns-in-Some-clause-checked : goal.returns-in-Some-clause-checked
+returns-in-Some-clause-checked g c =
+    of_answer c.tell_numbers.result _ _ _ c.tell_numbers.ensures.numbers c.tell_numbers.ensures.told
+    (λ numbers is held. checked (tree_by g.S.Source.told c.args.self.now) (tree_by g.S.Source.told c.list.new.self) c.args.self.now.reads c.list.new.self.reads numbers
+    (seen_by g.S.Source.failed g.L.Log.told c.args.self.now) (seen_by g.S.Source.failed g.L.Log.told c.list.new.self)
+    (seen_by g.S.Source.failed g.L.Log.told c.look.new.self) (seen_by g.S.Source.failed g.L.Log.told c.tell_numbers.new.self)
+    (c.in_ok-listing.ensures.same (ap is_some c.in-Some.is)) c.list.ensures.keeps.tree c.list.ensures.keeps.reads c.in_ok-look-in-Some.ensures.looked is
+    (ap g.S.Source.failed c.tell_numbers.ensures.source) c.tell_numbers.ensures.counted held)
+
+pub returns-in-Some-clause-keeps : goal.returns-in-Some-clause-keeps
+returns-in-Some-clause-keeps g c =
+    keeps_on g.S.Source.told g.S.Source.keeps g.L.Log.told g.met.S.Source.keeps_on _ _ _ (keeps_on g.S.Source.told g.S.Source.keeps g.L.Log.told g.met.S.Source.keeps_on _ _ _ c.list.ensures.keeps c.look.ensures.keeps) c.tell_numbers.ensures.keeps
+
+pub returns-clause-checked : goal.returns-clause-checked
+returns-clause-checked g c =
+    let a = seen_by g.S.Source.failed g.L.Log.told c.args.self.now in
+    let last = seen_by g.S.Source.failed g.L.Log.told c.list.new.self in
+    let there = rw c.in-None.is at c.in_ok-listing.ensures.listed in
+    let fails : TellsFailure [] a last = subst (λ (p : Path). TellsFailure p a last) c.new-top.ensures there in
+    of_answer c.tell_numbers-in-None.result _ _ _ c.tell_numbers-in-None.ensures.numbers c.tell_numbers-in-None.ensures.told
+    (λ numbers is held. checked_nothing (tree_by g.S.Source.told c.args.self.now) c.args.self.now.reads numbers a last
+    (seen_by g.S.Source.failed g.L.Log.told c.tell_numbers-in-None.new.self) fails is
+    (ap g.S.Source.failed c.tell_numbers-in-None.ensures.source) c.tell_numbers-in-None.ensures.counted held)
+
+pub returns-clause-keeps : goal.returns-clause-keeps
+returns-clause-keeps g c = keeps_on g.S.Source.told g.S.Source.keeps g.L.Log.told g.met.S.Source.keeps_on _ _ _ c.list.ensures.keeps c.tell_numbers-in-None.ensures.keeps

@@ -1,0 +1,48 @@
+-- What a check counts.
+use Rattle.std.specs.Prelude.{◌+◌, ◌-◌, ℕ, Bool, cond, max, min}
+use Rattle.pt_check.specs.declared.numbers.Numbers.{Numbers}
+use Rattle.pt_tree.specs.Failures.{greatest_count}
+use Rattle.pt_tree.specs.declared.kind.Kind.{Kind}
+use Rattle.pt_tree.specs.declared.kind.Kind.TheVariants as kind
+
+-- nothing is counted
+abbrev pub no_numbers : Numbers
+no_numbers = record {
+  told = 0;
+  sites = 0;
+  objects = 0;
+  folders = 0;
+  files = 0;
+  bytes = 0;
+  largest = 0;
+  longest = 0;
+}
+
+-- two numbers together, up to the greatest that is counted
+abbrev pub plus : ℕ → ℕ → ℕ
+plus n m = min (n + m) greatest_count
+
+-- a line more
+abbrev pub with_line : Numbers → Numbers
+with_line numbers = record numbers { told = plus numbers.told 1 }
+
+-- a site more, which has an object or not
+abbrev pub with_site : Bool → Numbers → Numbers
+with_site has_object numbers =
+    record numbers { sites = plus numbers.sites 1; objects = plus numbers.objects (cond has_object 1 0) }
+
+-- an entry of this kind more, whose path has so many bytes
+abbrev pub with_entry : Kind → ℕ → Numbers → Numbers
+with_entry kind.File length numbers =
+    record numbers { files = plus numbers.files 1; longest = max numbers.longest length }
+with_entry kind.Dir length numbers =
+    record numbers { folders = plus numbers.folders 1; longest = max numbers.longest length }
+with_entry kind.Other length numbers = record numbers { longest = max numbers.longest length }
+
+-- a file of so many bytes was read
+abbrev pub with_bytes : ℕ → Numbers → Numbers
+with_bytes bytes numbers = record numbers { bytes = plus numbers.bytes bytes }
+
+-- an object is at its end, before which so many bytes were read
+abbrev pub with_object : ℕ → Numbers → Numbers
+with_object before numbers = record numbers { largest = max numbers.largest (numbers.bytes - before) }

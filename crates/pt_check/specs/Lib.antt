@@ -1,0 +1,5 @@
+pub mod Counting
+pub mod Lines
+pub mod Trouble
+pub mod Visits
+pub mod Within

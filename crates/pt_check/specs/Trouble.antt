@@ -1,0 +1,21 @@
+-- The numbers and words of what a check tells.
+use Rattle.std.specs.Prelude.{ℕ, List, codes}
+use Rattle.pt_walk.specs.Cause.{cause_number, cause_word}
+use Rattle.pt_check.specs.declared.trouble.Trouble.{Trouble}
+use Rattle.pt_check.specs.declared.trouble.Trouble.TheVariants as trouble
+
+-- the number of a trouble
+abbrev pub trouble_number : Trouble → ℕ
+trouble_number (trouble.Skipped why) = cause_number why
+trouble_number trouble.Desktop = 10
+trouble_number trouble.Long = 11
+trouble_number trouble.Deep = 12
+trouble_number trouble.Missing = 13
+
+-- its word in a line
+abbrev pub trouble_word : Trouble → List ℕ
+trouble_word (trouble.Skipped why) = cause_word why
+trouble_word trouble.Desktop = codes "desktop"
+trouble_word trouble.Long = codes "long"
+trouble_word trouble.Deep = codes "deep"
+trouble_word trouble.Missing = codes "missing"

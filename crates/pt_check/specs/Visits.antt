@@ -1,0 +1,257 @@
+-- What a check does at the folders and entries of a store, one after another.
+use Rattle.std.specs.Prelude.{◌≡◌, ◌-◌, ◌==◌, ◌||◌, ◌⊎◌, ℕ, Bool, true, false, cond, codes, drop, length, nat_lt, take, List, [], ◌∷◌, ◌++◌, Option, None, Some}
+use Rattle.std.specs.Io.KnownBytes.{Appends}
+use Rattle.std.specs.List.{concat}
+use Rattle.std.specs.Option.{option_map}
+use Rattle.std.specs.Str.{bytes_eq, is_utf8}
+use Rattle.pt_check.specs.Counting.{plus, with_bytes, with_entry, with_line, with_object, with_site}
+use Rattle.pt_check.specs.Lines.{Line, End, Told, Unreadable, line_text}
+use Rattle.pt_check.specs.Within.{below, starts_object}
+use Rattle.pt_check.specs.declared.checking.Check.{Check}
+use Rattle.pt_check.specs.declared.numbers.Numbers.{Numbers}
+use Rattle.pt_check.specs.declared.trouble.Trouble.{Trouble}
+use Rattle.pt_check.specs.declared.trouble.Trouble.TheVariants as trouble
+use Rattle.pt_check.specs.declared.within.Within.{Within}
+use Rattle.pt_check.specs.declared.within.Within.TheVariants as within
+use Rattle.pt_name.specs.Reading.{reading_of}
+use Rattle.pt_plan.specs.Store.{pairtree_root, version_file}
+use Rattle.pt_plan.specs.TurnStart.{is_dir_kind, is_file_kind, kind_in}
+use Rattle.pt_tree.specs.Failures.{HasRisen}
+use Rattle.pt_tree.specs.Forest.{Forest, none, file, other, dir, listing_of}
+use Rattle.pt_tree.specs.Listing.{Item}
+use Rattle.pt_tree.specs.Path.{Path, joined}
+use Rattle.pt_tree.specs.Source.{Reading}
+use Rattle.pt_tree.specs.declared.kind.Kind.{Kind}
+use Rattle.pt_tree.specs.declared.kind.Kind.TheVariants as kind
+use Rattle.pt_walk.specs.Left.{inside_at}
+use Rattle.pt_walk.specs.Site.{found}
+use Rattle.pt_walk.specs.declared.site.At.TheVariants as at
+use Rattle.pt_walk.specs.declared.cause.Cause.TheVariants as cause
+use Rattle.pt_walk.specs.declared.site.Finding.{Finding}
+use Rattle.pt_walk.specs.declared.site.Finding.TheVariants as finding
+use Rattle.pt_walk.specs.declared.site.Form.TheVariants as form
+
+-- how far a check is: how often its source failed, what its log holds, and what it has counted
+pub record Seen : Type 0 where
+  pub failed : ℕ
+  pub held : Option (List ℕ)
+  pub numbers : Numbers
+
+-- how far this one is, by what its source and its log say of themselves
+abbrev pub seen_by : {S L E : Type 0} → (S → ℕ) → (L → Option (List ℕ)) → Check S L E → Seen
+seen_by failed held check =
+    record { failed = failed check.source; held = held check.log; numbers = check.numbers }
+
+-- the tree that is told
+abbrev pub tree_in : Option Reading → Option Forest
+tree_in told = option_map (λ s. s.tree) told
+
+-- the tree of its source, if that tells
+abbrev pub tree_by : {S L E : Type 0} → (S → Option Reading) → Check S L E → Option Forest
+tree_by told check = tree_in (told check.source)
+
+-- what stood in a log stands, and bytes may stand behind it
+abbrev pub Grows : Option (List ℕ) → Option (List ℕ) → Type 0
+Grows old new = (more : List ℕ) × Appends old new more
+
+-- its source is the same one still, with its tree; it reads files whole or not, as before; and its log has only grown
+pub record Keeps {S L E : Type 0} (told : S → Option Reading) (keeps : S → S → Type 0)
+    (held : L → Option (List ℕ)) (old new : Check S L E) : Type 0 where
+  pub tree : tree_by told new ≡ tree_by told old
+  pub source : keeps old.source new.source
+  pub reads : new.reads ≡ old.reads
+  pub log : Grows (held old.log) (held new.log)
+
+-- ---- what is told
+
+-- this text of a line is put into the log and counted, and nothing fails
+pub record Puts (text : List ℕ) (a b : Seen) : Type 0 where
+  pub failed : b.failed ≡ a.failed
+  pub numbers : b.numbers ≡ with_line a.numbers
+  pub held : Appends a.held b.held text
+
+-- a line is told
+abbrev pub Tells : Line → Seen → Seen → Type 0
+Tells line = Puts (line_text line)
+
+-- it is told of this path that it can't be read, with a reason
+abbrev pub TellsUnread : Path → Seen → Seen → Type 0
+TellsUnread path a b = (reason : List ℕ) × Tells (Unreadable path reason) a b
+
+-- the same of a trouble at this path, if there is one
+abbrev pub TellsIf : Path → Option Trouble → Seen → Seen → Type 0
+TellsIf path None a b = b ≡ a
+TellsIf path (Some trouble) a b = Tells (Told path trouble) a b
+
+-- the source failed, and that is told of this path with a reason
+abbrev pub TellsFailure : Path → Seen → Seen → Type 0
+TellsFailure path a b =
+    (m : Seen) × HasRisen a.failed m.failed × (m.held ≡ a.held) × (m.numbers ≡ a.numbers)
+    × TellsUnread path m b
+
+-- with other numbers
+abbrev pub counting : (Numbers → Numbers) → Seen → Seen
+counting change a = record a { numbers = change a.numbers }
+
+-- ---- a folder
+
+-- what a site is; another folder only leads on
+abbrev pub finding_of : Within → List Item → Finding
+finding_of (within.Site at) items = found items at form.Plain
+finding_of within.Past items = finding.Interior
+finding_of (within.Object before) items = finding.Interior
+finding_of within.Beside items = finding.Interior
+
+-- it has an object
+abbrev pub has_object : Finding → Bool
+has_object finding.Interior = false
+has_object (finding.Skip why) = false
+has_object (finding.Candidate i) = true
+has_object finding.Gathered = false
+
+-- why the names of a site are no identifier, by what they read
+abbrev pub trouble_of_reading : Option (List ℕ) → Option Trouble
+trouble_of_reading None = Some (trouble.Skipped cause.Name)
+trouble_of_reading (Some read) = cond (is_utf8 read) None (Some (trouble.Skipped cause.Utf8))
+
+-- what is told of a folder below `pairtree_root`, which is this, and found to be that: the names of a site with an object are read
+abbrev pub folder_trouble : Within → Finding → Path → Option Trouble
+folder_trouble within.Past found path = Some (trouble.Skipped cause.Past)
+folder_trouble _ finding.Interior path = None
+folder_trouble _ (finding.Skip why) path = Some (trouble.Skipped why)
+folder_trouble _ (finding.Candidate i) path = trouble_of_reading (reading_of (concat (drop 1 path)))
+folder_trouble _ finding.Gathered path = None
+
+-- a site is counted, with an object or without
+abbrev pub with_folder : Within → Bool → Numbers → Numbers
+with_folder (within.Site at) holds numbers = with_site holds numbers
+with_folder within.Past holds numbers = numbers
+with_folder (within.Object before) holds numbers = numbers
+with_folder within.Beside holds numbers = numbers
+
+-- a folder that lists these entries is judged: it is counted, and told if there is trouble
+abbrev pub Judges : Path → Within → List Item → Seen → Seen → Type 0
+Judges path here items a b =
+    let what = finding_of here items in
+    TellsIf path (folder_trouble here what path) (counting (with_folder here (has_object what)) a) b
+
+-- ---- an entry
+
+-- a name that desktops leave: `.DS_Store`, `Thumbs.db`, `desktop.ini`, or one that begins with `._`
+abbrev pub is_of_desktop : List ℕ → Bool
+is_of_desktop name =
+    bytes_eq name (codes ".DS_Store") || (bytes_eq name (codes "Thumbs.db")
+    || (bytes_eq name (codes "desktop.ini") || bytes_eq (take 2 name) (codes "._")))
+
+-- the logical path of an entry whose whole path has so many bytes is longer than a run carries
+abbrev pub is_long : Within → ℕ → Bool
+is_long (within.Object before) bytes = nat_lt (plus before 4000) bytes
+is_long _ bytes = false
+
+-- what is told of an entry by its name alone
+abbrev pub name_trouble : List ℕ → Option Trouble
+name_trouble name = cond (is_of_desktop name) (Some trouble.Desktop) None
+
+-- what is told of an entry of this name and kind in a folder that is this, whose path has so many bytes
+abbrev pub entry_trouble : Within → List ℕ → Kind → ℕ → Option Trouble
+entry_trouble here name kind.Other bytes = Some (trouble.Skipped cause.Other)
+entry_trouble here name kind.File bytes = cond (is_long here bytes) (Some trouble.Long) (name_trouble name)
+entry_trouble here name kind.Dir bytes = name_trouble name
+
+-- an entry at this path is met: it is counted, and told if there is trouble
+abbrev pub Meets : Path → Within → Item → Seen → Seen → Type 0
+Meets path here item a b =
+    let bytes = length (joined path) in
+    TellsIf path (entry_trouble here item.0 item.1 bytes) (counting (with_entry item.1 bytes) a) b
+
+-- a file with these bytes is opened, and read whole if that is wanted; or it is told that it can't be
+abbrev pub Opens : Bool → Path → List ℕ → Seen → Seen → Type 0
+Opens reads path bytes a b =
+    (b ≡ counting (with_bytes (cond reads (length bytes) 0)) a) ⊎ TellsFailure path a b
+
+-- the same of an entry of this kind, if it is a file
+abbrev pub OpensIf : Bool → Path → Kind → List ℕ → Seen → Seen → Type 0
+OpensIf reads path kind.File bytes a b = Opens reads path bytes a b
+OpensIf reads path kind.Dir bytes a b = b ≡ a
+OpensIf reads path kind.Other bytes a b = b ≡ a
+
+-- ---- the walk
+
+-- a folder of a store as a check comes to it: its path, what it is, and how many folders may stand one in another from it on
+pub record Folder : Type 0 where
+  pub path : Path
+  pub here : Within
+  pub left : ℕ
+
+-- the folder of this name in one which is this and has an object or not
+abbrev pub folder_in : Folder → Bool → List ℕ → Folder
+folder_in folder holds name =
+    let path = folder.path ++ name ∷ [] in
+    record {
+      path = path;
+      here = below folder.here holds name (length (joined path));
+      left = folder.left - 1;
+    }
+
+-- where an object ends with this folder, that stands in one which is this, its bytes are compared with the most of any
+abbrev pub ends : Folder → Within → Numbers → Numbers → Numbers
+ends folder above before after = cond (starts_object folder.here above) (with_object before.bytes after) after
+
+-- a folder is met that lists these entries, by what is then done with them: it is too deep and told so, it can't be listed
+-- and that is told, or it is judged and its entries are visited
+abbrev pub Enters : Folder → List Item → (Seen → Seen → Type 0) → Seen → Seen → Type 0
+Enters folder items visits a b = cond (folder.left == 0) (Tells (Told folder.path trouble.Deep) a b)
+    (TellsFailure folder.path a b ⊎ ((m : Seen) × Judges folder.path folder.here items a m × visits m b))
+
+-- the entries of a folder, which has an object or not, are visited one after another, each once, and all that stands in them
+abbrev pub Visits : Bool → Folder → Bool → Forest → Seen → Seen → Type 0
+Visits reads folder holds none a b = b ≡ a
+Visits reads folder holds (file name bytes after) a b =
+    let path = folder.path ++ name ∷ [] in
+    (m : Seen) × Meets path folder.here (name, kind.File) a m
+    × (n : Seen) × Opens reads path bytes m n
+    × Visits reads folder holds after n b
+Visits reads folder holds (other name after) a b =
+    (m : Seen) × Meets (folder.path ++ name ∷ []) folder.here (name, kind.Other) a m
+    × Visits reads folder holds after m b
+Visits reads folder holds (dir name inside after) a b =
+    let it = folder_in folder holds name in
+    let holds_it = has_object (finding_of it.here (listing_of inside)) in
+    (m : Seen) × Meets it.path folder.here (name, kind.Dir) a m
+    × (n : Seen) × Enters it (listing_of inside) (Visits reads it holds_it inside) m n
+    × Visits reads folder holds after (counting (ends it folder.here m.numbers) n) b
+
+-- a folder of the store and all that stands in it are visited
+abbrev pub VisitsFolder : Bool → Folder → Forest → Seen → Seen → Type 0
+VisitsFolder reads folder inside =
+    Enters folder (listing_of inside)
+    (Visits reads folder (has_object (finding_of folder.here (listing_of inside))) inside)
+
+-- ---- a store
+
+-- what is told of an entry that a store must have, by whether it is there
+abbrev pub missing : Bool → Option Trouble
+missing true = None
+missing false = Some trouble.Missing
+
+-- the folder `pairtree_root`, below which a run walks folders up to 600 deep
+abbrev pub root_folder : Folder
+root_folder = record { path = pairtree_root ∷ []; here = within.Site at.Root; left = 601 }
+
+-- at the top of a store stand the version's file and `pairtree_root` (Pairtree 0.1): it is told where one doesn't, and the second is visited
+abbrev pub Looks : Bool → Forest → Seen → Seen → Type 0
+Looks reads tree a b =
+    (m : Seen) × TellsIf (version_file ∷ []) (missing (is_file_kind (kind_in (listing_of tree) version_file))) a m
+    × cond (is_dir_kind (kind_in (listing_of tree) pairtree_root))
+    (VisitsFolder reads root_folder (inside_at tree (pairtree_root ∷ [])) m b)
+    (Tells (Told (pairtree_root ∷ []) trouble.Missing) m b)
+
+-- a store is checked whole: what its top lists is looked at, or that can't be listed and is told; and at the end stands the line of
+-- these numbers
+pub record Checks (reads : Bool) (tree : Forest) (numbers : Numbers) (a b : Seen) : Type 0 where
+  pub last : Seen
+  pub looks : Looks reads tree a last ⊎ TellsFailure [] a last
+  pub numbers_are : numbers ≡ last.numbers
+  pub failed : b.failed ≡ last.failed
+  pub counted : b.numbers ≡ last.numbers
+  pub held : Appends last.held b.held (line_text (End last.numbers))

@@ -1,0 +1,328 @@
+//! The walk of a check over all that lies below a folder of a store.
+ghost use Rattle.std.specs.Io.KnownBytes.{Appends};
+ghost use Rattle.std.specs.Prelude.{◌≡◌, [], cond, length, IfOk, IsSome, OnOk, MatchOption, Some};
+ghost use Rattle.std.specs.Option.{ForSome};
+ghost use Rattle.pt_check.specs.Counting.{no_numbers, with_object};
+ghost use Rattle.pt_check.specs.Lines.{End, Told, line_text};
+ghost use Rattle.pt_check.specs.Within.{starts_object};
+ghost use Rattle.pt_tree.specs.Path.{joined};
+ghost use Rattle.pt_check.specs.Visits.{Checks, Judges, Keeps, Looks, Meets, Opens, OpensIf, Puts, Tells, TellsFailure, TellsIf, TellsUnread, VisitsFolder, finding_of as finding_of_items, has_object as has_object_in, missing as missing_by, seen_by, tree_by};
+ghost use Rattle.pt_tree.specs.Forest.{dir_at, file_at, listing_at};
+ghost use Rattle.pt_tree.specs.declared.kind.Kind.TheVariants as kind;
+ghost use Rattle.pt_walk.specs.Left.{bytes_at, inside_at};
+
+use crate::judging::{entry_trouble, finding_of, folder_trouble};
+use crate::lines::{end_line, trouble_line, unreadable_line};
+use crate::reading::open_whole;
+use crate::{Numbers, Trouble, Within};
+use pt_object::WellKnownName;
+use pt_plan::Fault;
+use pt_plan::kinds::{is_dir, is_file, kind_in};
+use pt_tree::{Kind, KnownName, Listing, Log, MemoryFault, Name, NamePath, Source, TreeFault};
+use pt_walk::{At, Finding};
+use std::alloc::Global;
+
+/// Why a source failed.
+pub trait Explains<S> {
+    /// The reason of the source's last failure, in words. `Memory` where a growth was refused.
+    fn reason(&self, alloc: Global, source: &S) -> Result<String, MemoryFault>;
+}
+
+/// A check under way: what it goes over, and what it has counted.
+#[derive(Drop)]
+pub struct Check<S, L, E> {
+    pub(crate) source: S,
+    pub(crate) log: L,
+    pub(crate) explains: E,
+    pub(crate) reads: bool,
+    pub(crate) numbers: Numbers,
+    pub(crate) alloc: Global,
+}
+
+// How many folders may stand one in another, `pairtree_root` with them.
+const MOST_FOLDERS: usize = 601;
+
+// What is told of an entry that a store must have, by whether it is there.
+fn missing(is_there: bool) -> Option<Trouble>
+    ensures { result ≡ missing_by is_there }
+{
+    if is_there {
+        None
+    } else {
+        Some(Trouble::Missing)
+    }
+}
+
+impl<S: Source, L: Log, E: Explains<S> + Drop> Check<S, L, E> {
+    /// A check of the store whose folder a source is, which reads each file whole or not, and tells a log. Nothing is counted yet.
+    pub fn new(alloc: Global, source: S, log: L, explains: E, reads: bool) -> Check<S, L, E>
+        ensures source { result.source ≡ source }
+        ensures log { result.log ≡ log }
+        ensures reads { result.reads ≡ reads }
+        ensures numbers { result.numbers ≡ no_numbers }
+    {
+        Check {
+            source,
+            log,
+            explains,
+            reads,
+            numbers: Numbers::none(),
+            alloc,
+        }
+    }
+
+    /// Checks the store, and gives the numbers of its last line. What the source fails at is told, and passed.
+    ///
+    /// `Log` where a line couldn't be put, and `Memory` where a growth was refused.
+    pub fn run(&mut self) -> Result<Numbers, Fault>
+        ensures checked { IfOk result (λ numbers. ForSome (tree_by S.told self.old)
+            (λ tree. Checks self.old.reads tree numbers
+            (seen_by S.failed L.told self.old) (seen_by S.failed L.told self.new))) }
+        ensures keeps { Keeps S.told S.keeps L.told self.old self.new }
+    {
+        let top = NamePath::new(self.alloc);
+        match self.list(&top)? {
+            Some(listing) => {
+                self.look(&listing)?;
+                self.tell_numbers()
+            }
+            None => self.tell_numbers(),
+        }
+    }
+
+    /// The source and the log, as the check left them.
+    pub fn into_devices(self) -> (S, L)
+        ensures source { result.0 ≡ self.source }
+        ensures log { result.1 ≡ self.log }
+    {
+        (self.source, self.log)
+    }
+
+    // Looks at what the top of a store lists, and visits `pairtree_root`.
+    fn look(&mut self, listing: &Listing) -> Result<(), Fault>
+        requires { ForSome (tree_by S.told self.old)
+            (λ tree. listing_at tree [] ≡ Some listing.now) }
+        ensures looked { OnOk result (ForSome (tree_by S.told self.old)
+            (λ tree. Looks self.old.reads tree
+            (seen_by S.failed L.told self.old) (seen_by S.failed L.told self.new))) }
+        ensures keeps { Keeps S.told S.keeps L.told self.old self.new }
+    {
+        let version = NamePath::of_known(self.alloc, &[WellKnownName::VersionFile])?;
+        let root = NamePath::of_known(self.alloc, &[WellKnownName::PairtreeRoot])?;
+        let marked = is_file(kind_in(listing, WellKnownName::VersionFile.text().as_bytes()));
+        self.tell_if(&version, missing(marked))?;
+        if is_dir(kind_in(listing, WellKnownName::PairtreeRoot.text().as_bytes())) {
+            self.visit(&root, Within::Site(At::Root), MOST_FOLDERS)
+        } else {
+            self.tell(&root, Trouble::Missing)
+        }
+    }
+
+    // Puts the line of the numbers.
+    fn tell_numbers(&mut self) -> Result<Numbers, Fault>
+        ensures numbers { IfOk result (λ numbers. numbers ≡ self.old.numbers) }
+        ensures told { OnOk result (Appends (L.told self.old.log) (L.told self.new.log)
+            (line_text (End self.old.numbers))) }
+        ensures counted { self.new.numbers ≡ self.old.numbers }
+        ensures source { self.new.source ≡ self.old.source }
+        ensures keeps { Keeps S.told S.keeps L.told self.old self.new }
+    {
+        let line = end_line(self.alloc, &self.numbers)?;
+        match self.log.put(line.as_str().as_bytes()) {
+            Ok(()) => Ok(self.numbers),
+            Err(fault) => Err(Fault::of_log(fault)),
+        }
+    }
+
+    // A folder at a path, which is this, and below which folders may stand so deep, and all that lies in it. What can't be read
+    // is told, and passed. `Log` where a line couldn't be put, `Memory` where a growth was refused.
+    fn visit(&mut self, path: &NamePath, within: Within, left: usize) -> Result<(), Fault>
+        requires { ForSome (tree_by S.told self.old) (λ tree. IsSome (dir_at tree path.now)) }
+        ensures visited { OnOk result (ForSome (tree_by S.told self.old)
+            (λ tree. VisitsFolder self.old.reads
+            (record { path = path.now; here = within; left = left }) (inside_at tree path.now)
+            (seen_by S.failed L.told self.old) (seen_by S.failed L.told self.new))) }
+        ensures keeps { Keeps S.told S.keeps L.told self.old self.new }
+    {
+        if left == 0 {
+            return self.tell(path, Trouble::Deep);
+        }
+        let Some(listing) = self.list(path)? else {
+            return Ok(());
+        };
+        let has_object = self.judge(path, within, &listing)?;
+        for i in 0..listing.len() {
+            let Some((name, kind)) = listing.get(i) else {
+                continue;
+            };
+            let entry = path.child(name)?;
+            let bytes = self.meet(&entry, within, name, kind)?;
+            if let Kind::Dir = kind {
+                let inside = within.below(has_object, name, bytes);
+                let before = self.numbers.bytes;
+                self.visit(&entry, inside, left - 1)?;
+                self.end(inside, within, before);
+                continue;
+            }
+            self.visit_leaf(&entry, kind)?;
+        }
+        Ok(())
+    }
+
+    // Opens an entry that is no folder, if it is a file.
+    fn visit_leaf(&mut self, path: &NamePath, here: Kind) -> Result<(), Fault>
+        requires { ForSome (tree_by S.told self.old)
+            (λ tree. here ≡ kind.File → IsSome (file_at tree path.now)) }
+        ensures opened { OnOk result (ForSome (tree_by S.told self.old)
+            (λ tree. OpensIf self.old.reads path.now here (bytes_at tree path.now)
+            (seen_by S.failed L.told self.old) (seen_by S.failed L.told self.new))) }
+        ensures keeps { Keeps S.told S.keeps L.told self.old self.new }
+    {
+        match here {
+            Kind::File => self.open(path),
+            Kind::Dir | Kind::Other => Ok(()),
+        }
+    }
+
+    // Where an object ends with a folder, its bytes are compared with the most of any.
+    fn end(&mut self, within: Within, above: Within, before: u64)
+        ensures numbers { self.new.numbers ≡ cond (starts_object within above)
+            (with_object before self.old.numbers)
+            self.old.numbers }
+        ensures rest { self.new ≡ record self.old { numbers = self.new.numbers } }
+    {
+        if within.starts_object(above) {
+            self.numbers = self.numbers.with_object(before);
+        }
+    }
+
+    // Judges a folder by what it lists: it is counted, and told if there is trouble. Gives whether it has an object.
+    fn judge(&mut self, path: &NamePath, within: Within, listing: &Listing) -> Result<bool, Fault>
+        ensures judged { OnOk result (Judges path.now within listing.now
+            (seen_by S.failed L.told self.old) (seen_by S.failed L.told self.new)) }
+        ensures object { IfOk result (λ holds. holds
+            ≡ has_object_in (finding_of_items within listing.now)) }
+        ensures keeps { Keeps S.told S.keeps L.told self.old self.new }
+    {
+        let finding = finding_of(within, listing);
+        let has_object = matches!(finding, Finding::Candidate(_));
+        if let Within::Site(_) = within {
+            self.numbers = self.numbers.with_site(has_object);
+        }
+        let trouble = folder_trouble(self.alloc, within, finding, path)?;
+        self.tell_if(path, trouble)?;
+        Ok(has_object)
+    }
+
+    // Meets an entry of a folder that is this: it is counted, and told if there is trouble. Gives how many bytes its path has.
+    fn meet(
+        &mut self,
+        path: &NamePath,
+        within: Within,
+        name: &Name,
+        kind: Kind,
+    ) -> Result<u64, Fault>
+        ensures met { OnOk result (Meets path.now within (name.now, kind)
+            (seen_by S.failed L.told self.old) (seen_by S.failed L.told self.new)) }
+        ensures length { IfOk result (λ bytes. bytes ≡ length (joined path.now)) }
+        ensures keeps { Keeps S.told S.keeps L.told self.old self.new }
+    {
+        let bytes = path.join()?.len() as u64;
+        self.numbers = self.numbers.with_entry(kind, bytes);
+        self.tell_if(path, entry_trouble(within, name, kind, bytes))?;
+        Ok(bytes)
+    }
+
+    // The listing of a folder; None where it can't be listed, which is told.
+    #[tactic(auto, using(crate::proofs::Visiting::listed_in))]
+    fn list(&mut self, path: &NamePath) -> Result<Option<Listing>, Fault>
+        requires { ForSome (tree_by S.told self.old) (λ tree. IsSome (dir_at tree path.now)) }
+        ensures listed { IfOk result (λ found. MatchOption found
+            (TellsFailure path.now (seen_by S.failed L.told self.old)
+            (seen_by S.failed L.told self.new))
+            (λ listing. ForSome (tree_by S.told self.old)
+            (λ tree. listing_at tree path.now ≡ Some listing))) }
+        ensures same { IfOk result (λ found. IsSome found
+            → seen_by S.failed L.told self.new ≡ seen_by S.failed L.told self.old) }
+        ensures keeps { Keeps S.told S.keeps L.told self.old self.new }
+    {
+        match self.source.list(path) {
+            Ok(listing) => Ok(Some(listing)),
+            Err(TreeFault::Device) => {
+                self.tell_failure(path)?;
+                Ok(None)
+            }
+            Err(TreeFault::Memory) => Err(Fault::Memory),
+        }
+    }
+
+    // Opens a file, and reads it whole where that is wanted; where that can't be done it is told.
+    fn open(&mut self, path: &NamePath) -> Result<(), Fault>
+        requires { ForSome (tree_by S.told self.old) (λ tree. IsSome (file_at tree path.now)) }
+        ensures opened { OnOk result (ForSome (tree_by S.told self.old)
+            (λ tree. Opens self.old.reads path.now (bytes_at tree path.now)
+            (seen_by S.failed L.told self.old) (seen_by S.failed L.told self.new))) }
+        ensures keeps { Keeps S.told S.keeps L.told self.old self.new }
+    {
+        match open_whole(&mut self.source, path, self.reads) {
+            Ok(bytes) => {
+                self.numbers = self.numbers.with_bytes(bytes);
+                Ok(())
+            }
+            Err(TreeFault::Device) => self.tell_failure(path),
+            Err(TreeFault::Memory) => Err(Fault::Memory),
+        }
+    }
+
+    // Tells of a trouble at a path, if there is one.
+    fn tell_if(&mut self, path: &NamePath, trouble: Option<Trouble>) -> Result<(), Fault>
+        ensures told { OnOk result (TellsIf path.now trouble
+            (seen_by S.failed L.told self.old) (seen_by S.failed L.told self.new)) }
+        ensures source { self.new.source ≡ self.old.source }
+        ensures keeps { Keeps S.told S.keeps L.told self.old self.new }
+    {
+        match trouble {
+            Some(trouble) => self.tell(path, trouble),
+            None => Ok(()),
+        }
+    }
+
+    // Tells of a trouble at a path.
+    fn tell(&mut self, path: &NamePath, trouble: Trouble) -> Result<(), Fault>
+        ensures told { OnOk result (Tells (Told path.now trouble)
+            (seen_by S.failed L.told self.old) (seen_by S.failed L.told self.new)) }
+        ensures source { self.new.source ≡ self.old.source }
+        ensures keeps { Keeps S.told S.keeps L.told self.old self.new }
+    {
+        let line = trouble_line(self.alloc, path, trouble)?;
+        self.put(line.as_str())
+    }
+
+    // Tells that the source failed at a path.
+    fn tell_failure(&mut self, path: &NamePath) -> Result<(), Fault>
+        ensures told { OnOk result (TellsUnread path.now
+            (seen_by S.failed L.told self.old) (seen_by S.failed L.told self.new)) }
+        ensures source { self.new.source ≡ self.old.source }
+        ensures keeps { Keeps S.told S.keeps L.told self.old self.new }
+    {
+        let reason = self.explains.reason(self.alloc, &self.source)?;
+        let line = unreadable_line(self.alloc, path, reason.as_str())?;
+        self.put(line.as_str())
+    }
+
+    // Puts a line, and counts it.
+    fn put(&mut self, line: &str) -> Result<(), Fault>
+        ensures put { OnOk result (Puts line.now
+            (seen_by S.failed L.told self.old) (seen_by S.failed L.told self.new)) }
+        ensures source { self.new.source ≡ self.old.source }
+        ensures keeps { Keeps S.told S.keeps L.told self.old self.new }
+    {
+        match self.log.put(line.as_bytes()) {
+            Ok(()) => {
+                self.numbers = self.numbers.with_line();
+                Ok(())
+            }
+            Err(fault) => Err(Fault::of_log(fault)),
+        }
+    }
+}

@@ -1,0 +1,110 @@
+//! What is told of a folder and of an entry, by what a check sees of them.
+#![tactic(auto, using(crate::proofs::NamesRead::names_read))]
+
+ghost use Rattle.std.specs.Prelude.{◌≡◌, drop, IfOk};
+ghost use Rattle.std.specs.List.{concat};
+ghost use Rattle.pt_check.specs.Visits.{entry_trouble as entry_trouble_of, finding_of as finding_of_items, folder_trouble as folder_trouble_of, is_long as is_long_path, is_of_desktop as is_of_desktop_name, name_trouble as name_trouble_of, trouble_of_reading};
+ghost use Rattle.pt_name.specs.Reading.{reading_of};
+
+use crate::{Trouble, Within};
+use pt_name::{UncleanFault, concatenate, unclean};
+use pt_tree::{Kind, Listing, MemoryFault, Name, NamePath};
+use pt_walk::{Cause, Finding, Form, judge};
+use std::alloc::Global;
+
+const LONGEST_PATH: u64 = 4_000;
+
+/// What a site is, by what it lists; another folder only leads on.
+pub(crate) fn finding_of(within: Within, listing: &Listing) -> Finding
+    ensures { result ≡ finding_of_items within listing.now }
+{
+    match within {
+        Within::Site(at) => judge(listing, at, Form::Plain),
+        _ => Finding::Interior,
+    }
+}
+
+/// What is told of a folder at a path from the store's folder on, which is found to be this.
+pub(crate) fn folder_trouble(
+    alloc: Global,
+    within: Within,
+    finding: Finding,
+    path: &NamePath,
+) -> Result<Option<Trouble>, MemoryFault>
+    ensures { IfOk result (λ trouble. trouble ≡ folder_trouble_of within finding path.now) }
+{
+    match (within, finding) {
+        (Within::Past, _) => Ok(Some(Trouble::Skipped(Cause::Past))),
+        (_, Finding::Skip(cause)) => Ok(Some(Trouble::Skipped(cause))),
+        (_, Finding::Candidate(_)) => identifier_trouble(alloc, path),
+        _ => Ok(None),
+    }
+}
+
+// What is told of the names of a site, which are read with nothing between (Pairtree 0.1, "Identifier string cleaning").
+fn identifier_trouble(alloc: Global, path: &NamePath) -> Result<Option<Trouble>, MemoryFault>
+    ensures { IfOk result (λ trouble. trouble
+        ≡ trouble_of_reading (reading_of (concat (drop 1 path.now)))) }
+{
+    let below = NamePath::new(alloc).followed_by(names_below(path))?;
+    let text = concatenate(alloc, &below)?;
+    match unclean(alloc, &text) {
+        Ok(_) => Ok(None),
+        Err(UncleanFault::Malformed) => Ok(Some(Trouble::Skipped(Cause::Name))),
+        Err(UncleanFault::NotUtf8) => Ok(Some(Trouble::Skipped(Cause::Utf8))),
+        Err(UncleanFault::Memory) => Err(MemoryFault::Memory),
+    }
+}
+
+// The names of a path behind the first.
+fn names_below(path: &NamePath) -> &[Name]
+    ensures { result.now ≡ drop 1 path.now }
+{
+    match path.names() {
+        [] => &[],
+        [_, below @ ..] => below,
+    }
+}
+
+/// What is told of an entry in a folder that is this, whose path from the store's folder on has so many bytes.
+pub(crate) fn entry_trouble(within: Within, name: &Name, kind: Kind, length: u64) -> Option<Trouble>
+    ensures { result ≡ entry_trouble_of within name.now kind length }
+{
+    match kind {
+        Kind::Other => Some(Trouble::Skipped(Cause::Other)),
+        Kind::File if is_long(within, length) => Some(Trouble::Long),
+        _ => name_trouble(name),
+    }
+}
+
+// What is told of an entry by its name alone.
+fn name_trouble(name: &Name) -> Option<Trouble>
+    ensures { result ≡ name_trouble_of name.now }
+{
+    if is_of_desktop(name) {
+        Some(Trouble::Desktop)
+    } else {
+        None
+    }
+}
+
+// Whether the logical path of an entry is longer than a run carries, which has so many bytes with what is before it.
+fn is_long(within: Within, length: u64) -> bool
+    ensures { result ≡ is_long_path within length }
+{
+    match within {
+        Within::Object(before) => length > before.saturating_add(LONGEST_PATH),
+        _ => false,
+    }
+}
+
+// Whether desktops leave entries of this name.
+fn is_of_desktop(name: &Name) -> bool
+    ensures { result ≡ is_of_desktop_name name.now }
+{
+    let bytes = name.bytes();
+    bytes == b".DS_Store".as_slice()
+        || bytes == b"Thumbs.db".as_slice()
+        || bytes == b"desktop.ini".as_slice()
+        || bytes.starts_with(b"._")
+}

@@ -1,0 +1,104 @@
+ghost use Rattle.std.specs.Prelude.{◌≡◌};
+ghost use Rattle.pt_check.specs.Counting.{no_numbers, with_bytes, with_entry, with_line, with_object, with_site};
+
+use pt_tree::Kind;
+
+/// What a check counts, each number up to 2^64 - 1.
+#[derive(Clone, Copy, Debug, PartialEq, Eq)]
+pub struct Numbers {
+    /// The lines that told of something.
+    pub told: u64,
+    /// The sites that were listed.
+    pub sites: u64,
+    /// Those that have an object.
+    pub objects: u64,
+    /// The folders below `pairtree_root`.
+    pub folders: u64,
+    /// The files.
+    pub files: u64,
+    /// The bytes of those that were read.
+    pub bytes: u64,
+    /// The most bytes that were read of one object.
+    pub largest: u64,
+    /// The length of the longest path, from the store's folder on.
+    pub longest: u64,
+}
+
+impl Numbers {
+    /// Of nothing yet.
+    pub fn none() -> Numbers
+        ensures { result ≡ no_numbers }
+    {
+        Numbers {
+            told: 0,
+            sites: 0,
+            objects: 0,
+            folders: 0,
+            files: 0,
+            bytes: 0,
+            largest: 0,
+            longest: 0,
+        }
+    }
+
+    /// With a line more.
+    pub fn with_line(self) -> Numbers
+        ensures { result ≡ with_line self }
+    {
+        Numbers {
+            told: self.told.saturating_add(1),
+            ..self
+        }
+    }
+
+    /// With a site more, which has an object or not.
+    pub fn with_site(self, has_object: bool) -> Numbers
+        ensures { result ≡ with_site has_object self }
+    {
+        Numbers {
+            sites: self.sites.saturating_add(1),
+            objects: self.objects.saturating_add(u64::from(has_object)),
+            ..self
+        }
+    }
+
+    /// With an entry of this kind more, whose path has so many bytes.
+    pub fn with_entry(self, kind: Kind, length: u64) -> Numbers
+        ensures { result ≡ with_entry kind length self }
+    {
+        let longest = self.longest.max(length);
+        match kind {
+            Kind::File => Numbers {
+                files: self.files.saturating_add(1),
+                longest,
+                ..self
+            },
+            Kind::Dir => Numbers {
+                folders: self.folders.saturating_add(1),
+                longest,
+                ..self
+            },
+            Kind::Other => Numbers { longest, ..self },
+        }
+    }
+
+    /// With a file of so many bytes read.
+    pub fn with_bytes(self, bytes: u64) -> Numbers
+        ensures { result ≡ with_bytes bytes self }
+    {
+        Numbers {
+            bytes: self.bytes.saturating_add(bytes),
+            ..self
+        }
+    }
+
+    /// With an object at its end, before which so many bytes were read.
+    pub fn with_object(self, before: u64) -> Numbers
+        ensures { result ≡ with_object before self }
+    {
+        Numbers {
+            largest: self.largest.max(self.bytes.saturating_sub(before)),
+            ..self
+        }
+    }
+}

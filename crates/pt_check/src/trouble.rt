@@ -1,0 +1,47 @@
+ghost use Rattle.std.specs.Prelude.{◌≡◌};
+ghost use Rattle.pt_check.specs.Trouble.{trouble_number, trouble_word};
+
+use pt_walk::Cause;
+
+/// What a check tells of a folder or an entry that it could look at.
+#[derive(Clone, Copy, Debug, PartialEq, Eq)]
+pub enum Trouble {
+    /// A run passes it over for this cause.
+    Skipped(Cause),
+    /// Its name is one that desktops leave.
+    Desktop,
+    /// The path of a file in its object is longer than a run carries.
+    Long,
+    /// A folder lies deeper than a run, and a check, go.
+    Deep,
+    /// What a store must have isn't there, or is of another kind.
+    Missing,
+}
+
+impl Trouble {
+    /// The trouble's number: that of its cause, 1 to 9; 10 `Desktop`, 11 `Long`, 12 `Deep`, 13 `Missing`.
+    pub fn number(&self) -> u8
+        ensures { result ≡ trouble_number self.now }
+    {
+        match self {
+            Trouble::Skipped(cause) => cause.number(),
+            Trouble::Desktop => 10,
+            Trouble::Long => 11,
+            Trouble::Deep => 12,
+            Trouble::Missing => 13,
+        }
+    }
+
+    /// The trouble's word in a line: that of its cause; `desktop`, `long`, `deep`, `missing`.
+    pub fn word(&self) -> &'static str
+        ensures { result.now ≡ trouble_word self.now }
+    {
+        match self {
+            Trouble::Skipped(cause) => cause.word(),
+            Trouble::Desktop => "desktop",
+            Trouble::Long => "long",
+            Trouble::Deep => "deep",
+            Trouble::Missing => "missing",
+        }
+    }
+}

@@ -1,0 +1,103 @@
+//! The lines of a check over stores in memory.
+#![tactic(auto)]
+
+use pt_check::{Check, Explains};
+use pt_memory::texts::store;
+use pt_memory::{MemLog, MemSource};
+use pt_tree::MemoryFault;
+use std::alloc::Global;
+
+// What is told of each call that fails.
+#[derive(Drop)]
+struct ItFailed;
+
+impl Explains<MemSource> for ItFailed {
+    fn reason(&self, alloc: Global, _: &MemSource) -> Result<String, MemoryFault> {
+        Ok(String::from_str(alloc, "it failed")?)
+    }
+}
+
+// A check: the store's entries, how many calls of it pass, and the log.
+struct Row {
+    entries: &'static str,
+    calls: Option<u64>,
+    log: &'static str,
+}
+
+const WHOLE: Row = Row {
+    entries: " ab/c/obj/f=abc",
+    calls: None,
+    log: "{\"as\":\"end\",\"bytes\":3,\"files\":1,\"folders\":3,\"largest\":3,\"longest\":24,\"objects\":1,\"sites\":3,\"told\":0}\n",
+};
+
+const TWO_OBJECTS: Row = Row {
+    entries: " ab/c/obj/f=abc ab/d/obj/f=de ab/d/obj/g=fg ab/d/obj/h/i=hi",
+    calls: None,
+    log: "{\"as\":\"end\",\"bytes\":9,\"files\":4,\"folders\":6,\"largest\":6,\"longest\":26,\"objects\":2,\"sites\":4,\"told\":0}\n",
+};
+
+const STRAY: Row = Row {
+    entries: " ab/c/.DS_Store=x ab/c/obj/f=abc",
+    calls: None,
+    log: "{\"as\":\"split\",\"path\":\"pairtree_root/ab/c\"}\n{\"as\":\"desktop\",\"path\":\"pairtree_root/ab/c/.DS_Store\"}\n{\"as\":\"end\",\"bytes\":4,\"files\":2,\"folders\":3,\"largest\":0,\"longest\":28,\"objects\":0,\"sites\":3,\"told\":2}\n",
+};
+
+const OTHER: Row = Row {
+    entries: " ab/c/obj/l?",
+    calls: None,
+    log: "{\"as\":\"other\",\"path\":\"pairtree_root/ab/c/obj/l\"}\n{\"as\":\"end\",\"bytes\":0,\"files\":0,\"folders\":3,\"largest\":0,\"longest\":24,\"objects\":1,\"sites\":3,\"told\":1}\n",
+};
+
+const BAD_NAME: Row = Row {
+    entries: " ^z/c/obj/f=",
+    calls: None,
+    log: "{\"as\":\"name\",\"path\":\"pairtree_root/^z/c\"}\n{\"as\":\"end\",\"bytes\":0,\"files\":1,\"folders\":3,\"largest\":0,\"longest\":24,\"objects\":1,\"sites\":3,\"told\":1}\n",
+};
+
+const PAST: Row = Row {
+    entries: " a/bc/obj/f=",
+    calls: None,
+    log: "{\"as\":\"past\",\"path\":\"pairtree_root/a/bc\"}\n{\"as\":\"end\",\"bytes\":0,\"files\":1,\"folders\":3,\"largest\":0,\"longest\":24,\"objects\":0,\"sites\":2,\"told\":1}\n",
+};
+
+// After the top, `pairtree_root` and `ab` no call passes: each folder beside them is still met, and told.
+const FAILING: Row = Row {
+    entries: " ab/c/obj/f=abc de/f/obj/g=de",
+    calls: Some(3),
+    log: "{\"as\":\"unreadable\",\"path\":\"pairtree_root/ab/c\",\"reason\":\"it failed\"}\n{\"as\":\"unreadable\",\"path\":\"pairtree_root/de\",\"reason\":\"it failed\"}\n{\"as\":\"end\",\"bytes\":0,\"files\":0,\"folders\":3,\"largest\":0,\"longest\":18,\"objects\":0,\"sites\":2,\"told\":2}\n",
+};
+
+// The store of no entry lacks nothing; a source of nothing lacks the version's file and `pairtree_root`.
+const EMPTY: &str =
+    "{\"as\":\"missing\",\"path\":\"pairtree_version0_1\"}\n{\"as\":\"missing\",\"path\":\"pairtree_root\"}\n{\"as\":\"end\",\"bytes\":0,\"files\":0,\"folders\":0,\"largest\":0,\"longest\":0,\"objects\":0,\"sites\":0,\"told\":2}\n";
+
+const ROWS: [Row; 7] = [WHOLE, TWO_OBJECTS, STRAY, OTHER, BAD_NAME, PAST, FAILING];
+
+// Whether a check that reads each file whole ends well, and its log is this.
+fn tells(alloc: Global, source: MemSource, log: &str) -> bool {
+    let mut check = Check::new(alloc, source, MemLog::new(alloc), ItFailed, true);
+    let ran = check.run();
+    let (_, held) = check.into_devices();
+    ran.is_ok() && held.bytes() == log.as_bytes()
+}
+
+fn holds(alloc: Global, row: &Row) -> bool {
+    match store(alloc, row.entries) {
+        Ok(mut source) => {
+            source.fuse(row.calls);
+            tells(alloc, source, row.log)
+        }
+        Err(_) => false,
+    }
+}
+
+#[test]
+fn each_trouble_is_told_in_its_place(rt: HostRuntime) {
+    let wrong = ROWS.iter().position(|row| !holds(rt.alloc(), row));
+    assert!(rt; wrong.is_none(), "row {wrong:?}");
+}
+
+#[test]
+fn what_a_store_must_have_is_told_as_missing(rt: HostRuntime) {
+    assert!(rt; tells(rt.alloc(), MemSource::new(rt.alloc()), EMPTY));
+}
