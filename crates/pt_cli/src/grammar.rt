@@ -7,6 +7,7 @@ ghost use Rattle.pt_cli.specs.Grammar.{flag_rule, number_rule, option_rule};
 ghost use Rattle.pt_cli.specs.ArgSpec.{IsLocal, IsTaker, TakesToo, defaulted_rule, needed_rule, place_rule};
 ghost use Rattle.pt_cli.specs.ArgSpec.{repeated_rule, repeated_text_rule, rule_of_taken, word_rule};
 
+use crate::help::{AUDIT_AND_STATUS, LOG_AND_STATUS};
 use clap::builder::ValueParser;
 use clap::{Arg, ArgAction, Command as Parser, value_parser};
 use pt_host::VERSION;
@@ -292,50 +293,6 @@ const AUDIT_TAKES: &[ArgSpec] = &[
         help: "The folder in which ocfl is",
     },
 ];
-
-const LOG_AND_STATUS: &str =
-    r#"The log goes to standard output: a line of JSON for each object, and for each place that isn't carried.
-Each line says under "as" what became of it:
-  done     carried, from the folder "at" of the source to the folder "to" of ocfl
-  present  left alone, since something stands at its place in ocfl already
-  skip     not carried, for the cause below
-  end      the last line: how many there were of each
-
-The causes of a skip:
-  root      pairtree_root itself holds files, or folders whose names are longer than two bytes
-  empty     the folder that an identifier leads to is empty
-  split     the folder that an identifier leads to holds more than one folder of an object, or files
-  past      the folder stands below a name of one byte, where identifiers end
-  name      the names of the folders read as no identifier
-  utf8      the identifier isn't a text in UTF-8
-  other     the object holds a link, or a file of a special kind
-  limit     the object is too large or lies too deep
-  reserved  the object's place would be the folder extensions
-
-Exit status:
-  0  everything was carried
-  1  the run ended, but the log has a line of skip or present (with --present-ok, of skip)
-  2  the words were refused, and nothing was done
-  3  a fault ended the run, and standard error says which"#;
-
-const AUDIT_AND_STATUS: &str =
-    r#"What a run makes of each object is held against what stands at its place, path by path and byte by byte.
-Give the options that the run had. Nothing is made or changed.
-The log goes to standard output: a line of JSON for each object, and for each place that isn't carried.
-Each line says under "as" what was found:
-  same     exactly the object stands at "to"; its moment, user and message may be any
-  absent   nothing stands there
-  differs  the first difference is at "path" in it, by "why":
-           missing, extra, kind (a file for a folder, or so) or bytes;
-           or twin: its folder has other names than its identifier's, which stands too
-  skip     not carried, for the cause that migrate gives
-  end      the last line: how many there were of each
-
-Exit status:
-  0  all lines are same
-  1  the log has other lines (with --skips-ok, lines of absent or differs)
-  2  the words were refused, and nothing was done
-  3  a fault ended the audit, and standard error says which"#;
 
 // The parser of the program's words.
 pub(crate) fn parser<'a>(alloc: Global) -> Result<Parser<'a>, AllocError>

@@ -30,6 +30,7 @@ mod command;
 mod faults;
 mod feedback_words;
 mod grammar;
+mod help;
 mod ignore_words;
 mod input;
 mod job_words;
