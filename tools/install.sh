@@ -9,6 +9,8 @@ program=$1
 prefix=${2:?name the folder to install to}
 documents=$prefix/${3:-share/doc/pairtree2ocfl}
 top=$(dirname "$0")/..
+made=$(mktemp -d)
+trap 'rm -rf "$made"' EXIT
 
 put() {
     if [ "$program" = --remove ]; then
@@ -19,6 +21,7 @@ put() {
     fi
 }
 
+[ "$program" = --remove ] || "${PYTHON:-python3}" "$top/tools/fill.py" "$made"
 if [ -d "$program" ]; then
     for name in README libos_c.a liblibc_c.a x86-64-v2/pairtree2ocfl.o x86-64-v3/pairtree2ocfl.o; do
         put 644 "$program/$name" "lib/pairtree2ocfl/$name"
@@ -32,10 +35,10 @@ if [ -d "$program" ]; then
 else
     put 755 "$program" bin/pairtree2ocfl
 fi
-put 644 "$top/man/pairtree2ocfl.1" share/man/man1/pairtree2ocfl.1
-put 644 "$top/completions/pairtree2ocfl.bash" share/bash-completion/completions/pairtree2ocfl
-put 644 "$top/completions/_pairtree2ocfl" share/zsh/site-functions/_pairtree2ocfl
-put 644 "$top/completions/pairtree2ocfl.fish" share/fish/vendor_completions.d/pairtree2ocfl.fish
+put 644 "$made/pairtree2ocfl.1" share/man/man1/pairtree2ocfl.1
+put 644 "$made/pairtree2ocfl.bash" share/bash-completion/completions/pairtree2ocfl
+put 644 "$made/_pairtree2ocfl" share/zsh/site-functions/_pairtree2ocfl
+put 644 "$made/pairtree2ocfl.fish" share/fish/vendor_completions.d/pairtree2ocfl.fish
 put 755 "$top/tools/roots.py" share/pairtree2ocfl/roots.py
 put 755 "$top/examples/shares.sh" share/pairtree2ocfl/shares.sh
 put 755 "$top/examples/report.py" share/pairtree2ocfl/report.py

@@ -26,6 +26,7 @@ from alone import Alone, differs
 TOP = os.path.dirname(os.path.dirname(os.path.dirname(os.path.abspath(__file__))))
 sys.path.append(f"{TOP}/tools")
 
+import fill
 import index
 
 DOCUMENTS = ("README.md", "CONTRIBUTING.md", "CHANGELOG.md", *sorted(f"docs/{name}" for name in os.listdir(f"{TOP}/docs")))
@@ -360,8 +361,10 @@ def gathering(program, folder):
     """What `--gather` does is said in the same sentence everywhere."""
     helped = subprocess.run([program, "migrate", "--help"], capture_output=True, check=True, timeout=120).stdout.decode()
     sentence = re.search(r"--gather\s+Carry (.*?) \[default", " ".join(helped.split()))[1]
-    places = ("docs/REFERENCE.md", "docs/GUIDE.md", "man/pairtree2ocfl.1", *(f"completions/{name}" for name in ("_pairtree2ocfl", "pairtree2ocfl.fish")))
-    return [f"{path} doesn't say of --gather: {sentence}" for path in places if sentence not in re.sub(r"\s+", " ", text_of(path)).replace("'\\''", "'")]
+    made = fill.made(text_of(fill.GRAMMAR))
+    texts = {path: text_of(path) for path in ("docs/REFERENCE.md", "docs/GUIDE.md")} | {path: made[path] for path in (fill.PAGE, fill.ZSH, fill.FISH)}
+    plain = {path: re.sub(r"\s+", " ", text).replace("'\\''", "'").replace("\\'", "'") for path, text in texts.items()}
+    return [f"{path} doesn't say of --gather: {sentence}" for path, text in plain.items() if sentence not in text]
 
 
 CASES = [

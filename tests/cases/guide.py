@@ -360,7 +360,7 @@ def quick_start(program, folder):
 def own_logs(program, folder):
     """Each run of the guide, of the README and of the man page has a log of its own: none writes over another's, or behind it."""
     faults = []
-    for path in ("docs/GUIDE.md", "README.md", "man/pairtree2ocfl.1"):
+    for path in ("docs/GUIDE.md", "README.md", "man/pairtree2ocfl.1.in"):
         with open(f"{TOP}/{path}", encoding="utf-8") as file:
             text = file.read().replace("\\-", "-").replace("\\\n", " ")
         written = re.findall(r"pairtree2ocfl (?:migrate|audit) [^>\n]*>+ *\"?([\w./$-]+)", text)

@@ -451,7 +451,7 @@ def in_little_memory(program, folder):
 
 def documented(program, folder):
     """The README, the guide, the man page, the changelog and CONTRIBUTING name report.py, and the guide its options."""
-    texts = {path: documents.text_of(path) for path in ("README.md", "docs/GUIDE.md", "man/pairtree2ocfl.1", "CHANGELOG.md", "CONTRIBUTING.md")}
+    texts = {path: documents.text_of(path) for path in ("README.md", "docs/GUIDE.md", "man/pairtree2ocfl.1.in", "CHANGELOG.md", "CONTRIBUTING.md")}
     faults = [f"{path} doesn't name report.py" for path, text in texts.items() if "report.py" not in text]
     guide = next((part for part in texts["docs/GUIDE.md"].split("\n\n") if "report.py" in part), "")
     return faults + [f"GUIDE doesn't tell of {word}" for word in ("--csv", "what is still missing") if word not in guide]
