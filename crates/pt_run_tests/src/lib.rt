@@ -1,9 +1,12 @@
 //! Tests of runs by the libraries' public calls: the definitions of a run over worked stores, and whole runs over trees
-//! in memory: their lines, what they leave, and how they end. No code of the program stands on this crate.
+//! in memory: their lines, what they leave, and how they end; and the lines and numbers of a check of a store. No code of the
+//! program stands on this crate.
 #![tactic(auto)]
 
 #[cfg(test)]
 mod broken_runs;
+#[cfg(test)]
+mod check_lines;
 #[cfg(test)]
 mod expected_roots;
 #[cfg(test)]

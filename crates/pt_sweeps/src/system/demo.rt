@@ -1,5 +1,5 @@
 //! The store in demo/, and what runs over it must tell and leave.
-use crate::cases::{Case, Met, Object};
+use crate::system::case::{Case, Met, Object};
 
 pub const CASE: Case = Case {
     name: "the store in demo/",

@@ -1,5 +1,5 @@
 //! A store of one object of one file, and what runs over it must tell and leave.
-use crate::cases::{Case, Met, Object};
+use crate::system::case::{Case, Met, Object};
 
 pub const CASE: Case = Case {
     name: "one object of one file",

@@ -1,5 +1,5 @@
 //! One device fails at each of its calls, or the log at each of its bytes.
-use crate::cases::{Case, carry, make_dest_before, make_whole_dest, run};
+use crate::devices::cases::{Case, carry, make_dest_before, make_whole_dest, run};
 use pt_memory::texts::{path, store};
 use pt_memory::{MemDest, MemLog, MemSource};
 use pt_move::Fault;

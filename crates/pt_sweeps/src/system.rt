@@ -1,7 +1,6 @@
-//! Whole runs over a system in memory, by the program's own call. It prints a line for each: that all is as it should be, or what isn't.
-#![tactic(auto)]
+//! Whole runs over a system in memory, by the program's own call. They print a line for each: that all is as it should be, or what isn't.
 
-mod cases;
+mod case;
 mod demo;
 mod expected;
 mod machine;
@@ -9,7 +8,7 @@ mod one_object;
 mod rows;
 mod texts;
 
-use cases::Case;
+use case::Case;
 use rows::{Found, Row, try_row};
 
 const ROWS: &[(&str, Row)] = &[
@@ -19,9 +18,10 @@ const ROWS: &[(&str, Row)] = &[
     ("stopped and carried again", Row::Stop),
 ];
 
-fn main(rt: HostRuntime) {
-    tell(&rt, &one_object::CASE);
-    tell(&rt, &demo::CASE);
+/// Tries each row over each case.
+pub fn run_all(rt: &HostRuntime) {
+    tell(rt, &one_object::CASE);
+    tell(rt, &demo::CASE);
 }
 
 // Tries each row over a case.

@@ -1,7 +1,7 @@
 //! The rows: what runs over a case leave, held against what they should.
-use crate::cases::Case;
-use crate::expected::Expected;
-use crate::machine::{RunResult, carry};
+use crate::system::case::Case;
+use crate::system::expected::Expected;
+use crate::system::machine::{RunResult, carry};
 use pt_memory::MemDest;
 use pt_memory::texts::{add, path};
 use pt_memory_system::Faults;

@@ -1,5 +1,5 @@
 //! What a run over a case must tell, by the root that it finds.
-use crate::cases::{Case, Met};
+use crate::system::case::{Case, Met};
 use pt_memory::MemDest;
 use std::alloc::{AllocError, Global};
 

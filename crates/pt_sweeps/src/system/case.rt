@@ -1,5 +1,5 @@
 //! What a case is: a store, and what runs over it must tell and leave.
-use crate::texts::{DECLARATION, OF_ROOT};
+use crate::system::texts::{DECLARATION, OF_ROOT};
 use pt_memory::MemDest;
 use pt_memory::texts::{add, path, tree};
 use std::alloc::Global;
