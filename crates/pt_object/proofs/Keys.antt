@@ -78,13 +78,13 @@ front_lower (suc n) (x ∷ xs) (y ∷ ys) in_x in_y is = by_first (nat_cmp x y) 
     by_first Equal is later = later is
     by_first Greater is later = absurd (cc)
 
-key_lower : (a b : List ℕ) → 8 ≤ length a → 8 ≤ length b → IsBytes a → IsBytes b → key_of a < key_of b → digest_cmp a b ≡ Less
+key_lower : (a b : List ℕ) → 4 ≤ length a → 4 ≤ length b → IsBytes a → IsBytes b → key_of a < key_of b → digest_cmp a b ≡ Less
 key_lower a b long_a long_b are_a are_b below =
-    let as_long : length (take 8 a) ≡ length (take 8 b) = omega (arith, length-take 8 a, length-take 8 b) in
-    front_lower 8 a b long_a long_b (lower (take 8 a) (take 8 b) as_long (bytes_taken 8 a are_a) (bytes_taken 8 b are_b) below)
+    let as_long : length (take 4 a) ≡ length (take 4 b) = omega (arith, length-take 4 a, length-take 4 b) in
+    front_lower 4 a b long_a long_b (lower (take 4 a) (take 4 b) as_long (bytes_taken 4 a are_a) (bytes_taken 4 b are_b) below)
 
 -- different keys tell the order
-pub by_keys : (a b : List ℕ) (o : Ordering) → 8 ≤ length a → 8 ≤ length b → IsBytes a → IsBytes b → nat_cmp (key_of a) (key_of b) ≡ o → (o ≡ Equal → ⊥) → o ≡ digest_cmp a b
+pub by_keys : (a b : List ℕ) (o : Ordering) → 4 ≤ length a → 4 ≤ length b → IsBytes a → IsBytes b → nat_cmp (key_of a) (key_of b) ≡ o → (o ≡ Equal → ⊥) → o ≡ digest_cmp a b
 by_keys a b o long_a long_b are_a are_b is unequal = elim (cases_lt (key_of a) (key_of b)) [
   | inl below ↦ sym is ∙ less _ _ below ∙ sym (key_lower a b long_a long_b are_a are_b below)
   | inr from ↦ elim (cases_lt (key_of b) (key_of a)) [

@@ -1,4 +1,4 @@
--- The keys of digests: the numbers that their first eight bytes are, which are compared before the digests.
+-- The keys of digests: the numbers that their first four bytes are, which are compared before the digests.
 use Rattle.std.specs.Prelude.{◌≡◌, ◌+◌, ◌*◌, ◌^◌, ℕ, List, [], ◌∷◌, length, map, take}
 use Rattle.pt_object.specs.Index.{IsIndex}
 use Rattle.pt_object.specs.declared.table.contents.Content.{Content}
@@ -8,9 +8,9 @@ abbrev pub number_of : List ℕ → ℕ
 number_of [] = 0
 number_of (b ∷ bytes) = b * 256 ^ length bytes + number_of bytes
 
--- the number that the first eight bytes of a digest are, the first the highest
+-- the number that the first four bytes of a digest are, the first the highest
 abbrev pub key_of : List ℕ → ℕ
-key_of digest = number_of (take 8 digest)
+key_of digest = number_of (take 4 digest)
 
 -- the keys of these contents
 abbrev pub keys_of : List Content → List ℕ

@@ -70,14 +70,12 @@ impl Digest {
         }
     }
 
-    // Its first eight bytes as a number, by which digests come in the order of their bytes where they have different ones.
-    pub(crate) fn key(&self) -> u64
+    // Its first four bytes as a number, by which digests come in the order of their bytes where they have different ones.
+    pub(crate) fn key(&self) -> u32
         ensures { result ≡ key_of self.now }
     {
         let bytes = self.bytes();
-        u64::from_be_bytes([
-            bytes[0], bytes[1], bytes[2], bytes[3], bytes[4], bytes[5], bytes[6], bytes[7],
-        ])
+        u32::from_be_bytes([bytes[0], bytes[1], bytes[2], bytes[3]])
     }
 
     /// The bytes in lower-case hex, as an inventory has them; `Memory` where a growth was refused.

@@ -23,7 +23,7 @@ pub struct Content {
 pub struct Contents {
     items: Vec<Content>,
     // The keys of the items' digests, in the order of the items.
-    keys: Vec<u64>,
+    keys: Vec<u32>,
     // The positions of the items, in the order of their digests.
     index: SortedIndex,
 }

@@ -22,7 +22,7 @@ pub(crate) struct Searched {
 // lie side by side, and most comparisons need no more than them.
 pub(crate) fn search(
     items: &[Content],
-    keys: &[u64],
+    keys: &[u32],
     index: &SortedIndex,
     digest: &Digest,
 ) -> Searched
@@ -66,7 +66,7 @@ pub(crate) fn search(
 
 // The one comparison of two digests, with their keys, which it counts: `cmp` of the digests, which are looked at only where they
 // have one key.
-fn compare(a_key: u64, a: &Digest, b_key: u64, b: &Digest, comparisons: &mut u32) -> Ordering
+fn compare(a_key: u32, a: &Digest, b_key: u32, b: &Digest, comparisons: &mut u32) -> Ordering
     requires a { a_key ≡ key_of a.now }
     requires b { b_key ≡ key_of b.now }
     requires fits { comparisons.old + 1 < 2 ^ 32 }

@@ -9,8 +9,8 @@ pub returns-in_default : goal.returns-in_default
 returns-in_default c =
     let a = c.args.a.now in
     let b = c.args.b.now in
-    let long_a : 8 ≤ length a = omega (arith, c.bytes.ensures.size) in
-    let long_b : 8 ≤ length b = omega (arith, c.bytes-2.ensures.size) in
+    let long_a : 4 ≤ length a = omega (arith, c.bytes.ensures.size) in
+    let long_b : 4 ≤ length b = omega (arith, c.bytes-2.ensures.size) in
     let keys : nat_cmp (key_of a) (key_of b) ≡ c.cmp.result = (λ i. nat_cmp (sym c.requires.a i) (sym c.requires.b i)) ∙ sym c.cmp.ensures in
     let are_a : IsBytes a = subst IsBytes c.bytes.ensures.bytes c.tell_bytes.ensures in
     let are_b : IsBytes b = subst IsBytes c.bytes-2.ensures.bytes c.tell_bytes-2.ensures in
