@@ -1,3 +1,4 @@
+pub mod Asked
 pub mod Audits
 pub mod Devices
 pub mod Durable

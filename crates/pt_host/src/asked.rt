@@ -1,19 +1,51 @@
-//! What a run or an audit was asked for, as its event records it.
+//! What was asked for, a run or an audit: which lock that wants, what is told of it, and what its event records.
+ghost use Rattle.std.specs.Prelude.{◌≡◌, option_map};
+ghost use Rattle.pt_host.specs.Asked.{claim_of, event_of};
+
 use crate::{AuditOptions, Feedback, RunOptions};
+use pt_guard::Claim;
 use pt_messages::{Members, Progress};
 use pt_move::Job;
 use std::alloc::{AllocError, Global};
 
 /// What is asked for.
 #[derive(Drop)]
-pub(crate) enum Asked<'a> {
+pub(crate) enum Asked {
     /// A run, or its rehearsal.
-    Run(&'a RunOptions),
+    Run(RunOptions),
     /// An audit.
-    Audit(&'a AuditOptions),
+    Audit(AuditOptions),
 }
 
-impl<'a> Asked<'a> {
+impl Asked {
+    /// The lock that it asks for.
+    pub(crate) fn claim(&self) -> Claim
+        ensures { result ≡ claim_of self.now }
+    {
+        match self {
+            Asked::Run(_) => Claim::Alone,
+            Asked::Audit(_) => Claim::Shared,
+        }
+    }
+
+    /// The path of its event's file, if one is named.
+    pub(crate) fn event(&self) -> Option<&str>
+        ensures { option_map (λ path. path.now) result ≡ event_of self.now }
+    {
+        match self {
+            Asked::Run(options) => options.feedback.event(),
+            Asked::Audit(options) => options.feedback.event(),
+        }
+    }
+
+    /// Whether more is told of it than its log and a fault.
+    pub(crate) fn is_verbose(&self) -> bool {
+        match self {
+            Asked::Run(options) => options.feedback.verbose,
+            Asked::Audit(options) => options.feedback.verbose,
+        }
+    }
+
     /// What is done, in a word: `run`, `rehearsal` or `audit`.
     pub(crate) fn word(&self) -> &'static str {
         match self {

@@ -4,6 +4,7 @@ ghost use Rattle.pt_host.specs.Devices.{ReadsFrom, WritesInto};
 ghost use Rattle.pt_host.specs.Room.{place_overhead};
 
 use crate::RunOptions;
+use crate::folders::Folders;
 use crate::host::HostIo;
 use crate::log::{DurableLog, SyncsOutput};
 use crate::room::longest_made;
@@ -11,6 +12,13 @@ use pt_folder::{HostDest, HostSource, System};
 use pt_tree::{Ignored, Ignoring};
 use std::alloc::Global;
 use std::io::Write;
+
+/// What devices are made of: what a machine lends, and the file that the log goes to, where that is to be put onto its disk.
+#[derive(Drop)]
+pub(crate) struct Lent<S, D, W, F> {
+    pub ground: HostIo<S, D, W>,
+    pub file: Option<F>,
+}
 
 /// The source, the destination and the log of a run.
 #[derive(Drop)]
@@ -27,24 +35,23 @@ pub(crate) struct Devices<'a, S: System, D: System, W: Write, F: SyncsOutput<W> 
 /// are put onto the disk where the options say so, as the log is where its file is given.
 pub(crate) fn open_devices<'a, S: System, D: System, W: Write, F: SyncsOutput<W> + Drop>(
     alloc: Global,
-    ground: HostIo<S, D, W>,
-    file: Option<F>,
+    lent: Lent<S, D, W, F>,
     options: &RunOptions,
-    store: &'a str,
-    folder: &'a str,
+    folders: Folders<'a>,
 ) -> Devices<'a, S, D, W, F>
-    ensures store { ReadsFrom result.source ground.store store.now }
+    ensures store { ReadsFrom result.source lent.ground.store folders.entry.store.now }
     ensures unread { (result.source.reading ≡ None) × (result.source.failures ≡ 0) }
-    ensures folder { WritesInto result.dest ground.folder folder.now }
+    ensures folder { WritesInto result.dest lent.ground.folder folders.entry.folder.now }
     ensures unwritten { (result.dest.writing ≡ None) × (result.dest.failures ≡ 0) }
     ensures longest { result.dest.longest + place_overhead options.now.job.layout ≡ 4095 }
     ensures synced { (result.dest.synced ≡ options.now.sync) × (result.dest.stuck ≡ None) }
-    ensures log { (result.log.writer ≡ ground.output) × (result.log.failures ≡ 0) }
-    ensures log_synced { result.log.file ≡ file }
+    ensures log { (result.log.writer ≡ lent.ground.output) × (result.log.failures ≡ 0) }
+    ensures log_synced { result.log.file ≡ lent.file }
 {
+    let Lent { ground, file } = lent;
     Devices {
-        source: HostSource::new(ground.store, alloc, store),
-        dest: HostDest::new(ground.folder, alloc, folder)
+        source: HostSource::new(ground.store, alloc, folders.store),
+        dest: HostDest::new(ground.folder, alloc, folders.folder)
             .with_longest(longest_made(&options.job.layout))
             .with_sync(options.sync),
         log: DurableLog::new(ground.output, file),
@@ -65,20 +72,19 @@ pub(crate) struct Sides<'a, S: System, D: System, W: Write, F: SyncsOutput<W> + 
 /// The sides of an audit over these, of a store and of the root in a folder. The entries of the store that have these names are left out.
 pub(crate) fn both_sides<'a, S: System, D: System, W: Write, F: SyncsOutput<W> + Drop>(
     alloc: Global,
-    ground: HostIo<S, D, W>,
-    file: Option<F>,
+    lent: Lent<S, D, W, F>,
     ignored: Ignored,
-    store: &'a str,
-    folder: &'a str,
+    folders: Folders<'a>,
 ) -> Sides<'a, S, D, W, F>
-    ensures store { ReadsFrom result.source.source ground.store store.now }
+    ensures store { ReadsFrom result.source.source lent.ground.store folders.entry.store.now }
     ensures left_out { result.source.names ≡ ignored }
-    ensures folder { ReadsFrom result.root ground.folder folder.now }
-    ensures log { result.log.writer ≡ ground.output }
+    ensures folder { ReadsFrom result.root lent.ground.folder folders.entry.folder.now }
+    ensures log { result.log.writer ≡ lent.ground.output }
 {
+    let Lent { ground, file } = lent;
     Sides {
-        source: Ignoring::new(HostSource::new(ground.store, alloc, store), ignored),
-        root: HostSource::new(ground.folder, alloc, folder),
+        source: Ignoring::new(HostSource::new(ground.store, alloc, folders.store), ignored),
+        root: HostSource::new(ground.folder, alloc, folders.folder),
         log: DurableLog::new(ground.output, file),
     }
 }

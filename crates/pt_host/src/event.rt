@@ -5,6 +5,7 @@ ghost use Rattle.pt_host.specs.Events.{BeginsEvent, EndsEvent, EndsFile, MakesEv
 ghost use Rattle.pt_host.specs.Events.{MakesUnlessLeft, MovesOver, Replaces, event_status};
 
 use crate::asked::Asked;
+use crate::folders::Folders;
 use crate::saying::end_with_fault;
 use crate::status::{FAILED, REFUSED};
 use crate::{Host, Machine, Text};
@@ -100,15 +101,15 @@ impl EventFile {
     fn of<R: Reads + Clock + AllocGlobal>(
         rt: &R,
         path: &str,
-        asked: &Asked<'_>,
-        at: (&str, &str),
+        asked: &Asked,
+        folders: Folders<'_>,
     ) -> Result<EventFile, MemoryFault>
         ensures path { IfOk result (λ file. file.path ≡ path.now) }
         ensures part { IfOk result (λ file. file.part ≡ path.now ++ codes ".part") }
     {
         let mut event = Event::begin(rt, asked.word(), asked.options(rt.alloc())?)?;
-        event.put_folder(rt, "source", at.0)?;
-        event.put_folder(rt, "dest", at.1)?;
+        event.put_folder(rt, "source", folders.store)?;
+        event.put_folder(rt, "dest", folders.folder)?;
         let text = event.line()?;
         let part = Text::joined(rt.alloc(), path, PART)?;
         let path = Text::of(rt.alloc(), path)?;
@@ -170,13 +171,14 @@ impl<'a> EventPaths<'a> {
         self,
         rt: &R,
         host: &mut H,
-        at: (&str, &str),
+        folders: Folders<'_>,
         text: &str,
     ) -> Result<(), EventFault>
-        ensures { MakesEvent ⟦<H as Machine>⟧.words (at.entry.0.now, at.entry.1.now)
+        ensures { MakesEvent ⟦<H as Machine>⟧.words
+            (folders.entry.store.now, folders.entry.folder.now)
             (self.entry.file.now, self.entry.part.now) host.old host.new result }
     {
-        judge_file(host, rt.alloc(), self.file, at.0, at.1)?;
+        judge_file(host, rt.alloc(), self.file, folders.store, folders.folder)?;
         self.make_unless_left(host, text)
     }
 
@@ -250,19 +252,20 @@ pub(crate) fn begin_event<R, H: Host>(
     rt: &R,
     host: &mut H,
     path: Option<&str>,
-    asked: &Asked<'_>,
-    at: (&str, &str),
+    asked: &Asked,
+    folders: Folders<'_>,
 ) -> Result<Option<EventFile>, EventFault>
 where
     R: Reads + Clock + AllocGlobal,
-    ensures { BeginsEvent ⟦<H as Machine>⟧.words (at.entry.0.now, at.entry.1.now)
+    ensures { BeginsEvent ⟦<H as Machine>⟧.words
+        (folders.entry.store.now, folders.entry.folder.now)
         (option_map (λ p. p.now) path.entry) host.old host.new result }
 {
     let Some(path) = path else {
         return Ok(None);
     };
-    let file = EventFile::of(rt, path, asked, at)?;
-    file.paths().make(rt, host, at, file.text.as_str())?;
+    let file = EventFile::of(rt, path, asked, folders)?;
+    file.paths().make(rt, host, folders, file.text.as_str())?;
     Ok(Some(file))
 }
 

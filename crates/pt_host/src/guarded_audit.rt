@@ -1,22 +1,21 @@
 //! An audit of the root in a folder against a store, on a machine.
 ghost use Rattle.std.specs.Prelude.{◌≡◌};
 ghost use Rattle.pt_messages.specs.Expected.{AsksEnd};
-ghost use Rattle.pt_host.specs.Audits.{Audits, AuditsOver, Compares, RecordsAudit, audit_call, audit_status};
+ghost use Rattle.pt_host.specs.Audits.{Audits, AuditsOver, Compares, audit_call, audit_status};
 ghost use Rattle.pt_host.specs.Machine.{host_io_words};
 
 use crate::asked::Asked;
-use crate::beginning::check_guard;
-use crate::devices::{Sides, both_sides};
-use crate::event::{begin_event, end_event, end_unbegun};
+use crate::devices::{Lent, Sides, both_sides};
+use crate::folders::Folders;
+use crate::guarded::make_guarded;
 use crate::log::SyncsOutput;
 use crate::options::Telling;
 use crate::running::{Ended, Ending};
-use crate::saying::{end_with_refusal, tell_fault, tell_why};
+use crate::saying::{tell_fault, tell_why};
 use crate::status::{DONE, FAILED, INCOMPLETE};
 use crate::{AuditOptions, Host, HostIo, Machine};
 use pt_audit::Counts;
 use pt_folder::{HostSource, System};
-use pt_guard::Claim;
 use pt_messages::{
     Counted, Outcome, Reads, Tally, Terminals, Watched, Why, Words, lines_expected, reason,
 };
@@ -47,62 +46,35 @@ where
     ensures { Audits ⟦<H as Machine>⟧.words (AsksEnd R.ends rt.now)
         (audit_call options source.now dest.now) host.old host.new result }
 {
-    match check_guard(
-        rt,
-        host,
-        options.feedback.verbose,
-        Claim::Shared,
-        source,
-        dest,
-    ) {
-        Ok(Ok(lock)) => {
-            let status = record(rt, host, options, source, dest);
-            host.release(lock);
-            status
-        }
-        Ok(Err(_)) => record(rt, host, options, source, dest),
-        Err(fault) => end_with_refusal(rt, fault),
-    }
+    let folders = Folders {
+        store: source,
+        folder: dest,
+    };
+    make_guarded(rt, host, Asked::Audit(options), folders)
 }
 
-// Holds the root against the store, and records that where a file is named for it.
-fn record<R, H: Host>(rt: &R, host: &mut H, options: AuditOptions, store: &str, folder: &str) -> u8
-where
-    R: Reads + Clock + Eprint + AllocGlobal + Terminals,
-    ensures { RecordsAudit ⟦<H as Machine>⟧.words (AsksEnd R.ends rt.now)
-        (audit_call options store.now folder.now) host.old host.new result }
-{
-    let path = options.feedback.event();
-    match begin_event(rt, host, path, &Asked::Audit(&options), (store, folder)) {
-        Ok(event) => {
-            let Ending { status, outcome } = hold(rt, host, options, store, folder);
-            end_event(rt, host, event, status, &outcome)
-        }
-        Err(fault) => end_unbegun(rt, &fault),
-    }
-}
-
-// Holds the root against the store over what the machine lends.
-fn hold<R, H: Host>(
+/// Holds the root against the store over what the machine lends.
+pub(crate) fn hold<R, H: Host>(
     rt: &R,
     host: &mut H,
     options: AuditOptions,
-    store: &str,
-    folder: &str,
+    folders: Folders<'_>,
 ) -> Ending
 where
     R: Reads + Clock + Eprint + AllocGlobal + Terminals,
     ensures { Compares ⟦<H as Machine>⟧.words (AsksEnd R.ends rt.now)
-        (audit_call options store.now folder.now) host.old host.new result.status }
+        (audit_call options folders.entry.store.now folders.entry.folder.now)
+        host.old host.new result.status }
 {
     let expected = lines_expected(rt, options.feedback.expected());
     let ground = host.lend();
     let file: Option<H::File> = None;
+    let lent = Lent { ground, file };
     let Ended {
         status,
         ground,
         outcome,
-    } = compare(rt, ground, file, options, expected, store, folder);
+    } = compare(rt, lent, options, expected, folders);
     host.take_back(ground);
     Ending { status, outcome }
 }
@@ -110,17 +82,16 @@ where
 // Holds the root in a folder against a store, watched as that is wanted, and tells standard error of a fault.
 fn compare<R, S: System, D: System, W: Write, F: SyncsOutput<W> + Drop>(
     rt: &R,
-    ground: HostIo<S, D, W>,
-    file: Option<F>,
+    lent: Lent<S, D, W, F>,
     options: AuditOptions,
     expected: Option<u64>,
-    store: &str,
-    folder: &str,
+    folders: Folders<'_>,
 ) -> Ended<S, D, W>
 where
     R: Reads + Clock + Eprint + AllocGlobal + Terminals,
     ensures { AuditsOver (host_io_words S.forest D.forest W.contents)
-        (audit_call options store.now folder.now) ground result.ground result.status }
+        (audit_call options folders.entry.store.now folders.entry.folder.now)
+        lent.ground result.ground result.status }
 {
     let alloc = rt.alloc();
     let tally = Tally::new();
@@ -131,7 +102,7 @@ where
         source,
         mut root,
         log,
-    } = both_sides(alloc, ground, file, options.ignored, store, folder);
+    } = both_sides(alloc, lent, options.ignored, folders);
     let mut source = Watched::new(source, rt, alloc, &tally, watching);
     let mut log = Counted::new(log, source.sums() | telling.records);
     let ran = pt_audit::audit(alloc, &mut source, &mut root, &mut log, options.job, &tally);
@@ -139,7 +110,7 @@ where
     let ignoring = source.into_source();
     reason::tell_left_out(rt, telling.verbose & ignores, ignoring.left_out());
     let source = ignoring.into_source();
-    let why = report_outcome(rt, &ran, telling, &source, &root, store);
+    let why = report_outcome(rt, &ran, telling, &source, &root, folders.store);
     let outcome = Outcome::new(Words::Audit, log.counts(), ran.as_ref().err(), why);
     let status = status_of(&ran, options.skips_ok);
     let ground = HostIo {

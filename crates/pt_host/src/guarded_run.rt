@@ -1,17 +1,16 @@
 //! A run from one folder to another, on a machine.
 ghost use Rattle.pt_messages.specs.Expected.{AsksEnd};
 ghost use Rattle.std.specs.Prelude.{◌≡◌};
-ghost use Rattle.pt_host.specs.Made.{Carries, FindsLog, RecordsRun, Runs, run_call};
+ghost use Rattle.pt_host.specs.Made.{Carries, FindsLog, Runs, run_call};
 
 use crate::asked::Asked;
-use crate::beginning::check_guard;
-use crate::devices::open_devices;
-use crate::event::{begin_event, end_event, end_unbegun};
+use crate::devices::{Lent, open_devices};
+use crate::folders::Folders;
+use crate::guarded::make_guarded;
 use crate::log::Syncs;
 use crate::running::{Ended, Ending, run};
-use crate::saying::{end_with_fault, end_with_refusal};
+use crate::saying::end_with_fault;
 use crate::{Host, Machine, RunOptions};
-use pt_guard::Claim;
 use pt_messages::{Outcome, Reads, Terminals, Words, lines_expected, reason};
 use pt_move::Fault;
 use std::alloc::AllocGlobal;
@@ -39,47 +38,25 @@ where
     ensures { Runs ⟦<H as Machine>⟧.words (AsksEnd R.ends rt.now)
         (run_call options source.now dest.now) host.old host.new result }
 {
-    match check_guard(
-        rt,
-        host,
-        options.feedback.verbose,
-        Claim::Alone,
-        source,
-        dest,
-    ) {
-        Ok(Ok(lock)) => {
-            let status = record(rt, host, options, source, dest);
-            host.release(lock);
-            status
-        }
-        Ok(Err(_)) => record(rt, host, options, source, dest),
-        Err(fault) => end_with_refusal(rt, fault),
-    }
+    let folders = Folders {
+        store: source,
+        folder: dest,
+    };
+    make_guarded(rt, host, Asked::Run(options), folders)
 }
 
-// Carries a store from folder to folder, or rehearses that, and records it where a file is named for that.
-fn record<R, H: Host>(rt: &R, host: &mut H, options: RunOptions, store: &str, folder: &str) -> u8
-where
-    R: Reads + Clock + Eprint + AllocGlobal + Terminals,
-    ensures { RecordsRun ⟦<H as Machine>⟧.words (AsksEnd R.ends rt.now)
-        (run_call options store.now folder.now) host.old host.new result }
-{
-    let path = options.feedback.event();
-    match begin_event(rt, host, path, &Asked::Run(&options), (store, folder)) {
-        Ok(event) => {
-            let Ending { status, outcome } = carry(rt, host, options, store, folder);
-            end_event(rt, host, event, status, &outcome)
-        }
-        Err(fault) => end_unbegun(rt, &fault),
-    }
-}
-
-// Carries a store from folder to folder, or rehearses that, over what the machine lends.
-fn carry<R, H: Host>(rt: &R, host: &mut H, options: RunOptions, store: &str, folder: &str) -> Ending
+/// Carries a store from folder to folder, or rehearses that, over what the machine lends.
+pub(crate) fn carry<R, H: Host>(
+    rt: &R,
+    host: &mut H,
+    options: RunOptions,
+    folders: Folders<'_>,
+) -> Ending
 where
     R: Reads + Clock + Eprint + AllocGlobal + Terminals,
     ensures { Carries ⟦<H as Machine>⟧.words (AsksEnd R.ends rt.now)
-        (run_call options store.now folder.now) host.old host.new result.status }
+        (run_call options folders.entry.store.now folders.entry.folder.now)
+        host.old host.new result.status }
 {
     let file = match synced_output(rt, host, options.sync) {
         Ok(file) => file,
@@ -87,12 +64,13 @@ where
     };
     let expected = lines_expected(rt, options.feedback.expected());
     let ground = host.lend();
-    let devices = open_devices(rt.alloc(), ground, file, &options, store, folder);
+    let lent = Lent { ground, file };
+    let devices = open_devices(rt.alloc(), lent, &options, folders);
     let Ended {
         status,
         ground,
         outcome,
-    } = run(rt, devices, options, expected, store);
+    } = run(rt, devices, options, expected, folders.store);
     host.take_back(ground);
     Ending { status, outcome }
 }

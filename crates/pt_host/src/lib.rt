@@ -18,6 +18,7 @@
 //! - Where the log has a file and no fault ended the run, all that the output then holds was put onto the disk by it, or nothing was
 //!   written (`IsLogged`). The system of DEST is left as calls left it of a destination that is set as wanted, to its end (`Serves`); of a
 //!   rehearsal, which makes nothing there, that isn't said.
+//! - `make_guarded` makes what is asked for, a run or an audit, behind the guard (`MakesGuarded`): `run_guarded` and `audit_guarded` are it of one of these.
 //! - `open_devices` and `both_sides` make the devices, each field by an equation. `longest_made`: exactly 4,095 less what the longest place is
 //!   longer than `staging`.
 //! - `run_or_rehearse`: a run is one over the destination's folder, and a rehearsal one over a destination that at first tells what the folder holds,
@@ -44,9 +45,10 @@
 #![tactic(auto)]
 
 mod asked;
-mod beginning;
 mod devices;
 mod event;
+mod folders;
+mod guarded;
 mod guarded_audit;
 mod guarded_run;
 mod host;

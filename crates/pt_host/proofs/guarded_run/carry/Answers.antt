@@ -9,7 +9,7 @@ pub returns : goal.returns
 returns g c =
     let made = c.open_devices-devices.ensures in
     let words = host_io_words g.H.Store.System.forest g.H.Folder.System.kept g.H.Output.Write.contents in
-    let call = run_call c.args.options c.args.store.now c.args.folder.now in (
+    let call = run_call c.args.options c.args.folders.store.now c.args.folders.folder.now in (
       Ok c.in-Ok.file,
       c.synced_output.new.host,
       c.in-Ok.ensures,

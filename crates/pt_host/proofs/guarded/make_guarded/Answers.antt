@@ -1,5 +1,5 @@
 use Rattle.std.proofs.Common.{Err, Ok, rules}
-use Rattle.pt_host.proofs.guarded_run.run_guarded.Goals as goal
+use Rattle.pt_host.proofs.guarded.make_guarded.Goals as goal
 
 pub returns-in-Ok-Ok : goal.returns-in-Ok-Ok
 returns-in-Ok-Ok g c = (

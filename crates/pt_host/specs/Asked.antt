@@ -1,0 +1,34 @@
+-- What is asked for on a machine, a run or an audit: guarded and recorded alike.
+use Rattle.std.specs.Prelude.{ℕ, List, Option}
+use Rattle.pt_guard.specs.declared.places.Claim.{Claim}
+use Rattle.pt_guard.specs.declared.places.Claim.TheVariants.{Alone, Shared}
+use Rattle.pt_host.specs.Audits.{Compares, audit_call}
+use Rattle.pt_host.specs.Events.{IsRecorded}
+use Rattle.pt_host.specs.Machine.{MachineWords}
+use Rattle.pt_host.specs.Made.{Carries, Guarded, run_call}
+use Rattle.pt_host.specs.declared.asked.Asked.{Asked}
+use Rattle.pt_host.specs.declared.asked.Asked.TheVariants.{Audit, Run}
+
+-- the lock that it asks for: for a run alone, or one that other audits may share
+abbrev pub claim_of : Asked → Claim
+claim_of (Run options) = Alone
+claim_of (Audit options) = Shared
+
+-- the path of its event's file, where one is named
+abbrev pub event_of : Asked → Option (List ℕ)
+event_of (Run options) = options.feedback.event
+event_of (Audit options) = options.feedback.event
+
+module _ {H : Type 0} (words : MachineWords H) (asks : Option (List ℕ) → Type 0) (folders : List ℕ × List ℕ) where
+  -- it is made between a store and a destination, once it may begin
+  abbrev pub Makes : Asked → H → H → ℕ → Type 0
+  Makes (Run options) = Carries words asks (run_call options folders.0 folders.1)
+  Makes (Audit options) = Compares words asks (audit_call options folders.0 folders.1)
+
+  -- the same, recorded where a file is named for its event
+  abbrev pub Records : Asked → H → H → ℕ → Type 0
+  Records asked = IsRecorded words folders (event_of asked) (Makes asked)
+
+  -- the guard, with the lock that it asks for, what is asked for, with its event, and the lock
+  abbrev pub MakesGuarded : Asked → H → H → ℕ → Type 0
+  MakesGuarded asked = Guarded words.places (claim_of asked) folders (Records asked)
