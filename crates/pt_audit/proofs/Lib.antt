@@ -17,3 +17,5 @@ mod Twins
 pub mod Working
 pub mod Steps
 mod SurveyRules
+mod Stopping
+mod ToldFront

@@ -80,7 +80,7 @@ told_store : (here : Phase) (count : ℕ) → sight_at here ≡ sight.Store → 
 told_store (phase.Carrying object stage.Line) count is = absurd (cc)
 told_store _ count is = refl
 
-looking_told : (here : Phase) (count : ℕ) → is_looking here ≡ true → told_at here count ≡ count
+pub looking_told : (here : Phase) (count : ℕ) → is_looking here ≡ true → told_at here count ≡ count
 looking_told (phase.Carrying object stage.Line) count is = absurd (cc)
 looking_told _ count is = refl
 
@@ -100,14 +100,14 @@ end_at _ is = absurd (cc)
 -- ---- what a step tells
 
 -- a text that is put behind the one that was told
-put_behind : (old text more : List ℕ) (now new : Option (List ℕ)) → now ≡ Some (old ++ text) → Appends now new more → new ≡ Some (old ++ (text ++ more))
+pub put_behind : (old text more : List ℕ) (now new : Option (List ℕ)) → now ≡ Some (old ++ text) → Appends now new more → new ≡ Some (old ++ (text ++ more))
 put_behind old text more now new told puts = by new (subst (λ o. Appends o new more) told puts)
   where
     by : (new : Option (List ℕ)) → Appends (Some (old ++ text)) new more → new ≡ Some (old ++ (text ++ more))
     by None puts = absurd puts
     by (Some bytes) puts = ap (λ b. Some b) (puts ∙ append_assoc old text more)
 
-abbrev HasTold : Job → Forest → Forest → List ℕ → Option (List ℕ) → ℕ → Counts → Type 0
+abbrev pub HasTold : Job → Forest → Forest → List ℕ → Option (List ℕ) → ℕ → Counts → Type 0
 HasTold job source root old now n counts = (text : List ℕ) × (now ≡ Some (old ++ text)) × Told job source root n text counts
 
 -- with what a step saw

@@ -1,5 +1,5 @@
 -- An audit: what it tells of the objects of a store and a storage root, and an audit under way.
-use Rattle.std.specs.Prelude.{◌≡◌, ℕ, suc, ◌+◌, ◌&&◌, All, Bool, true, false, List, [], ◌∷◌, ◌++◌, drop, map, min, Option, Some, slice_get}
+use Rattle.std.specs.Prelude.{◌≡◌, ℕ, suc, ◌+◌, ◌&&◌, All, Bool, true, false, List, [], ◌∷◌, ◌++◌, drop, map, min, Option, Some, Result, Ok, Err, slice_get, take}
 use Rattle.std.specs.Option.{ForSome}
 use Rattle.pt_audit.specs.Counting.{counts_with, no_counts}
 use Rattle.pt_audit.specs.Layout.{IsOfLayout}
@@ -18,6 +18,8 @@ use Rattle.pt_plan.specs.Items.{Holds, Item, Named, PairtreeObject, items, outco
 use Rattle.pt_plan.specs.Job.{Job}
 use Rattle.pt_plan.specs.Lines.{Done, Line, Skipped, line_by_verdict, line_text}
 use Rattle.pt_plan.specs.TurnWalk.{in_pairtree, in_root}
+use Rattle.pt_plan.specs.DeviceStates.{source_tree}
+use Rattle.pt_plan.specs.declared.fault.Fault.{Fault}
 use Rattle.pt_plan.specs.declared.phase.Phase.{Phase}
 use Rattle.pt_plan.specs.declared.phase.Phase.TheVariants as phase
 use Rattle.pt_plan.specs.declared.phase.Stage.TheVariants as stage
@@ -192,6 +194,37 @@ EndsAs job source root first now counts =
     (λ s. ForSome root
     (λ r. ForSome first
     (λ old. (text : List ℕ) × (now ≡ Some (old ++ text)) × IsAuditLog job s r text counts)))
+
+-- what is told of the first so many items; or of all, with the end line
+pub data IsLogSoFar (job : Job) (source root : Forest) (text : List ℕ) : Type 0 where
+  OfItems : {count : ℕ} {counts : Counts} → Told job source root count text counts
+      → IsLogSoFar job source root text
+  WithEnd : {counts : Counts} → IsAuditLog job source root text counts → IsLogSoFar job source root text
+
+-- where both trees are told, and the log told this at first, it has got a front of that
+abbrev pub StopsAs : Job → Option Forest → Option Forest → Option (List ℕ) → Option (List ℕ) → Type 0
+StopsAs job source root first now =
+    ForSome source
+    (λ s. ForSome root
+    (λ r. ForSome first
+    (λ old. (n : ℕ) × (text : List ℕ) × (now ≡ Some (old ++ take n text)) × IsLogSoFar job s r text)))
+
+-- by the answer it has got all that is told, with these counts, or a front of it
+abbrev pub LogsAs : Job → Option Forest → Option Forest → Option (List ℕ) → Option (List ℕ) → Result Counts Fault → Type 0
+LogsAs job source root first now (Ok counts) = EndsAs job source root first now counts
+LogsAs job source root first now (Err why) = StopsAs job source root first now
+
+-- where an audit was under way so, the log is left with a front of what is told
+abbrev pub StopsUnderWay : Option Reading → Option Forest → Option (List ℕ) → Counts → Running → Option (List ℕ) → Type 0
+StopsUnderWay told root now counts r new =
+    (first : Option (List ℕ)) → IsUnderWay told (start_over (source_tree told) root first) now counts r
+    → StopsAs (job_of r.state.job) (source_tree told) root first new
+
+-- and so where a step was made, and of nothing was told that it came to
+abbrev pub StopsSeen : Option Reading → Option Forest → Option (List ℕ) → Counts → Running → Option (List ℕ) → Type 0
+StopsSeen told root now counts r new =
+    (first : Option (List ℕ)) → IsSeen told (start_over (source_tree told) root first) now counts r
+    → StopsAs (job_of r.state.job) (source_tree told) root first new
 
 -- a step leaves the audit under way, or ended with these counts
 abbrev pub GoesOn : Bool → Option Reading → AuditStart → Option (List ℕ) → Counts → Running → Type 0

@@ -12,7 +12,7 @@ use Rattle.pt_object.specs.Object.{bytes_in, rows_of, stored_files}
 use Rattle.pt_plan.specs.Items.{Holds, Item, Named, PairtreeObject, items, outcome}
 use Rattle.pt_plan.specs.Carried.{Marked}
 use Rattle.pt_plan.specs.Job.{Job}
-use Rattle.pt_plan.specs.Lines.{Line, Skipped, is_skipped, line_by_verdict}
+use Rattle.pt_plan.specs.Lines.{Line, Skipped, is_skipped, line_by_verdict, line_text}
 use Rattle.pt_plan.specs.Run.{Held, Run}
 use Rattle.pt_plan.specs.TurnMake.{path_of_source}
 use Rattle.pt_plan.specs.TurnPlace.{done_line}
@@ -39,6 +39,7 @@ use Rattle.pt_audit.specs.declared.survey.AtHand.{AtHand}
 use Rattle.pt_audit.specs.declared.survey.SurveyEvent.{SurveyEvent}
 use Rattle.pt_audit.specs.declared.survey.SurveyEvent.TheVariants as sight
 use Rattle.pt_tree.specs.Forest.{Forest}
+use Rattle.pt_tree.specs.Log.{AppendsFront}
 use Rattle.pt_tree.specs.Path.{Path}
 use Rattle.pt_tree.specs.Source.{Reading}
 use Rattle.pt_tree.specs.declared.log.Log.{Ghosts as OfLog}
@@ -229,6 +230,12 @@ pub record Saw (source : Forest) (count next : ℕ) (before after : Running) (ol
   pub puts : Puts line old new
   pub skips : after.state.counts.skipped
       ≡ before.state.counts.skipped + count_by is_skipped (option_to_list line)
+
+-- a step from this phase that breaks off has put nothing in the log, or a front of the line of the item of this number, which is passed over
+pub data StopsAt (job : Job) (source : Forest) (count : ℕ) (here : Phase) (old new : Option (List ℕ)) : Type 0 where
+  Untold : new ≡ old → StopsAt job source count here old new
+  InSkip : is_looking here ≡ true → (at : Path) (why : Cause) → SeesItem job source count (Skipped at why ∷ [])
+      → AppendsFront old new (line_text (Skipped at why)) → StopsAt job source count here old new
 
 -- the survey goes on after a step, before and after which source and log tell this: so many items are seen, and, where the source tells, this was seen
 pub record GoesOn (old new : Option Reading × Option (List ℕ)) (count : ℕ)

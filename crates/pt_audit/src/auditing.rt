@@ -1,9 +1,12 @@
 //! A whole audit.
-ghost use Rattle.std.specs.Prelude.{◌≡◌, ◌≢◌, ℕ, IfErr, IfOk, List, OnOk, Option, Some, drop, length};
-ghost use Rattle.pt_audit.specs.Auditing.{EndsAs, GoesOn, IsFoundAtHand, IsSeen, IsTwinAtHand, IsUnderWay, counted, last_text, start_over};
+ghost use Rattle.std.specs.Prelude.{◌≡◌, ◌≢◌, ℕ, IfErr, IfOk, List, OnErr, OnOk, Option, Some, drop, length};
+ghost use Rattle.pt_audit.specs.Auditing.{EndsAs, GoesOn, IsFoundAtHand, IsSeen, IsTwinAtHand, IsUnderWay, LogsAs};
+ghost use Rattle.pt_audit.specs.Auditing.{StopsAs, StopsSeen, StopsUnderWay, counted, last_text, start_over};
+ghost use Rattle.pt_audit.specs.declared.counts.Counts.{Counts};
 ghost use Rattle.std.specs.Bool.{OnFalse, OnTrue};
 ghost use Rattle.std.specs.Option.{ForSome};
 ghost use Rattle.std.specs.Io.KnownBytes.{Appends};
+ghost use Rattle.pt_tree.specs.Log.{AppendsFront};
 ghost use Rattle.pt_audit.specs.RootReader.{Begins, Follows, FollowsOn, Saw};
 ghost use Rattle.pt_audit.specs.Bounds.{IsMade, IsMadeFrom};
 ghost use Rattle.pt_audit.specs.Failing.{AuditSays, BlamesRightly, FailsAs, TellFails, failures};
@@ -36,8 +39,8 @@ use std::alloc::Global;
 /// job's description of the version nothing is compared: moment, user and message may be whatever the inventory that stands
 /// gives. `Dest` is answered where the root can't be read, `Target` where it isn't one of this layout, once the store was found
 /// to be one with a good prefix, `Turns` only where the limit is less than a survey's work, and the other faults as by
-/// `migrate`; `StagingLeft` and `Ended` never. Nothing is made or changed, but that the log gets its lines; how many there are is told after
-/// each step.
+/// `migrate`; `StagingLeft` and `Ended` never. Nothing is made or changed, but that the log gets its lines: after a fault a front of what
+/// is told of the first items, or of all with the end line. How many there are is told after each step.
 ///
 /// It is made by steps of a survey (`made`), of which there are no more than the limit of turns, nor than a survey's work; after
 /// each of them the survey holds no more than a run's bound, and nothing but a run's fields. While a file of the store is read
@@ -51,8 +54,8 @@ pub fn audit<S: Source, R: Root, L: Log, O: Observer<Counts>>(
     job: Job,
     observer: &O,
 ) -> Result<Counts, Fault>
-    ensures ends { IfOk result (EndsAs (job_of job) (tree_in (S.told source.old))
-        (tree_in (R.told root.old)) (L.told log.old) (L.told log.new)) }
+    ensures ends { LogsAs (job_of job) (tree_in (S.told source.old))
+        (tree_in (R.told root.old)) (L.told log.old) (L.told log.new) result }
     ensures layout { OnOk result (ForSome (tree_in (R.told root.old)) (IsOfLayout (job_of job))) }
     ensures source { KeepsRoot S.told S.keeps source.old source.new }
     ensures root { KeepsRoot R.told R.keeps root.old root.new }
@@ -124,6 +127,9 @@ impl Auditor {
             (failures (S.failed source.new) (R.failed root.new) (L.failed log.new)) result }
         ensures says { IfErr result (AuditSays self.old.survey.state.job
             (source_tree (S.told source.old)) (tree_in (R.told root.old))) }
+        ensures stops { OnErr result (StopsAs (job_of self.old.survey.state.job)
+            (tree_in (S.told source.old)) (tree_in (R.told root.old))
+            (L.told log.old) (L.told log.new)) }
     {
         loop {
             let more = self.go_on(source, root, log)?;
@@ -170,6 +176,8 @@ impl Auditor {
             (failures (S.failed source.new) (R.failed root.new) (L.failed log.new)) result }
         ensures says { IfErr result (AuditSays self.old.survey.state.job
             (source_tree (S.told source.old)) (tree_in (R.told root.old))) }
+        ensures stops { OnErr result (StopsUnderWay (S.told source.old) (tree_in (R.told root.old))
+            (L.told log.old) self.old.counts self.old.survey (L.told log.new)) }
     {
         let sight = see(&mut self.survey, &mut self.beside, source, root, log)?;
         let told = self.tell(sight, source, root, log)?;
@@ -203,6 +211,8 @@ impl Auditor {
             (failures (S.failed source.new) (R.failed root.new) (L.failed log.new)) }
         ensures says { IfErr result (λ why. AuditSays self.now.survey.state.job
             (source_tree (S.told source.old)) (tree_in (R.told root.old)) why) }
+        ensures stops { OnErr result (StopsSeen (S.told source.old) (tree_in (R.told root.old))
+            (L.told log.old) self.now.counts self.now.survey (L.told log.new)) }
     {
         match sight {
             SurveyEvent::More | SurveyEvent::Scan | SurveyEvent::Opened | SurveyEvent::Block => {
@@ -255,6 +265,8 @@ impl Auditor {
         ensures fails { FailsAs result
             (failures (S.failed source.old) (R.failed root.old) (L.failed log.old))
             (failures (S.failed source.new) (R.failed root.new) (L.failed log.new)) }
+        ensures stops { OnErr result (StopsSeen (S.told source.old) (tree_in (R.told root.old))
+            (L.told log.old) self.now.counts self.now.survey (L.told log.new)) }
     {
         let Some(hand) = self.survey.at_hand()? else {
             unreachable!()
@@ -349,6 +361,8 @@ fn see<S: Source, R: Root, L: Log>(
         (failures (S.failed source.new) (R.failed root.new) (L.failed log.new)) result }
     ensures says { IfErr result (AuditSays survey.old.state.job
         (source_tree (S.told source.old)) (tree_in (R.told root.old))) }
+    ensures stops { OnErr result ((counts : Counts) → StopsUnderWay (S.told source.old)
+        (tree_in (R.told root.old)) (L.told log.old) counts survey.old (L.told log.new)) }
 {
     let sight = survey.step(source, log)?;
     beside.follow(root, survey, sight)?;
@@ -393,6 +407,8 @@ fn behind<'a>(text: &'a [u8], prefix: &[u8]) -> &'a [u8]
 // Tells the end, with the counts.
 fn tell_end<L: Log>(alloc: Global, counts: Counts, log: &mut L) -> Result<(), Fault>
     ensures told { OnOk result (Appends (L.told log.old) (L.told log.new) (last_text counts)) }
+    ensures part { OnErr result (AppendsFront (L.told log.old) (L.told log.new)
+        (last_text counts)) }
     ensures log { KeepsLog L.told L.keeps log.old log.new }
     ensures fails { FailsAs result (failures 0 0 (L.failed log.old))
         (failures 0 0 (L.failed log.new)) }

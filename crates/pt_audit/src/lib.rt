@@ -6,7 +6,8 @@
 //! - `audit`, where it answers Ok, and the trees of store and root and the log are told: the log has got just the audit's log (`IsAuditLog`).
 //!   That is of each item of the store, in the order of the walk, what is told of it, and the end line with the counts of these lines. Of what
 //!   is passed over that is a run's line; of an object what was found at its place, which is so (`IsFoundOf`). The object of each item is told
-//!   of, also a second one of an identifier.
+//!   of, also a second one of an identifier. After a fault the log has got a front of what is told of the first items, or of all with the
+//!   end line (`StopsAs`): what it tells is so, and nothing else is told.
 //! - An object that differs is told as a twin exactly where its site isn't the pairpath of its identifier without the prefix, and an object stands
 //!   at that, as a run judges what is listed there (`is_twin`).
 //! - Store and root are the same, with the same trees, and what stood in the log stands. A device is blamed exactly where it failed. A store is

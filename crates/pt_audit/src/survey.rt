@@ -3,7 +3,7 @@
 #![tactic(auto, using(crate::proofs::SurveyRules::survey_rules))]
 
 ghost use Rattle.std.specs.Option.{ForSome};
-ghost use Rattle.std.specs.Prelude.{◌≡◌, ◌≢◌, ℕ, true, length, Option, Some, None, IfErr, OnOk, IfOk};
+ghost use Rattle.std.specs.Prelude.{◌≡◌, ◌≢◌, ℕ, true, length, Option, Some, None, IfErr, OnErr, OnOk, IfOk};
 ghost use Rattle.std.specs.String.{string_bytes};
 ghost use Rattle.pt_move.specs.Bounds.{most_calls};
 ghost use Rattle.pt_move.specs.Running.{IsNew, TypeInvariant};
@@ -11,11 +11,12 @@ ghost use Rattle.pt_plan.specs.Answer.{phase_after};
 ghost use Rattle.pt_audit.specs.Growing.{BlamesRightly, KeepsLog, KeepsTree, Leaves};
 ghost use Rattle.pt_plan.specs.DeviceStates.{source_tree};
 ghost use Rattle.pt_state.specs.Counting.{AtMostCalls};
+ghost use Rattle.pt_state.specs.States.{job_of};
 ghost use Rattle.pt_move.specs.Turning.{CountedTurn};
 ghost use Rattle.pt_plan.specs.declared.phase.Phase.TheVariants as phase;
 ghost use Rattle.pt_scan.specs.Blocks.{ReadsNext};
 ghost use Rattle.pt_audit.specs.Files.{IsOpened, MakesStep};
-ghost use Rattle.pt_audit.specs.Surveying.{GoesOn, IsHand, IsReady, IsSurvey, SurveySays, Surveys, bare_states, is_at_hand as is_at_hand_there, is_looking, passed as passed_phase, sight_at, unlogged_states};
+ghost use Rattle.pt_audit.specs.Surveying.{GoesOn, IsHand, IsReady, IsSurvey, StopsAt, SurveySays, Surveys, bare_states, is_at_hand as is_at_hand_there, is_looking, passed as passed_phase, sight_at, unlogged_states};
 ghost use Rattle.pt_tree.specs.Forest.{is_proper};
 ghost use Rattle.pt_tree.specs.Source.{Reading};
 ghost use Rattle.pt_walk.specs.Trail.{trail_path};
@@ -117,7 +118,8 @@ impl Survey {
     }
 
     /// Makes one step, which is a turn of a run over a destination in which nothing stands, and calls the source no more often
-    /// than that. What is passed over is told in the log as a run tells it; of an object nothing is told.
+    /// than that. What is passed over is told in the log as a run tells it; of an object nothing is told. A step that breaks off leaves
+    /// no more of the log than a front of the line of what it passes over.
     pub fn step<S: Source, L: Log>(
         &mut self,
         source: &mut S,
@@ -138,6 +140,10 @@ impl Survey {
             (L.failed log.old) (L.failed log.new) result }
         ensures says { IfErr result (SurveySays self.old.state.job self.old.phase
             (source_tree (S.told source.old))) }
+        ensures stops { (count : ℕ) → IsSurvey (S.told source.old) count self.old
+            → OnErr result (ForSome (source_tree (S.told source.old))
+            (λ s. StopsAt (job_of self.old.state.job) s count self.old.phase
+            (L.told log.old) (L.told log.new))) }
     {
         let here = match mem::replace(&mut self.phase, Phase::Ended) {
             Phase::Ended | Phase::End => return Err(Fault::Ended),
@@ -245,6 +251,10 @@ fn stepped<S: Source, L: Log>(
     ensures source_stays { S.keeps source.old source.new
         × AtMostCalls (most_calls here) (S.called source.old) (S.called source.new) }
     ensures log_stays { L.keeps log.old log.new }
+    ensures stops { (count : ℕ)
+        → IsSurvey (S.told source.old) count (record { phase = here; state = state.old })
+        → OnErr result (ForSome (source_tree (S.told source.old))
+        (λ s. StopsAt (job_of state.old.job) s count here (L.told log.old) (L.told log.new))) }
 {
     if is_at_hand(&here) {
         Ok(pass_making(pass(state, here, source)?))

@@ -1,7 +1,7 @@
 -- What an audit on a machine comes to.
-use Rattle.std.specs.Prelude.{◌≡◌, ◌+◌, ◌==◌, ℕ, Bool, true, false, if◌then◌else◌, IfErr, IfOk, List, None, OnOk, Option, Result, Ok, Err}
+use Rattle.std.specs.Prelude.{◌≡◌, ◌+◌, ◌==◌, ℕ, Bool, true, false, if◌then◌else◌, IfErr, List, None, OnOk, Option, Result, Ok, Err}
 use Rattle.std.specs.Option.{ForSome}
-use Rattle.pt_audit.specs.Auditing.{EndsAs}
+use Rattle.pt_audit.specs.Auditing.{LogsAs}
 use Rattle.pt_audit.specs.Failing.{AuditSays}
 use Rattle.pt_audit.specs.Layout.{IsOfLayout}
 use Rattle.pt_audit.specs.declared.counts.Counts.{Counts}
@@ -59,12 +59,13 @@ abbrev pub root_seen : {S D W : Type 0} → HostIoWords S D W (Option Forest) �
 root_seen words call ground = root_tree (words.folder ground.folder call.folder)
 
 -- an audit was made over these folders of the systems, with what `audit` of pt_audit promises of it: where it ended well the
--- output got its log, of both trees as they stood, and the root is one that a run could go on with; and they stand
+-- output got its log, of both trees as they stood, and the root is one that a run could go on with; after a fault it got a front of what
+-- is told; and they stand
 pub record AuditsOver {S D W : Type 0} (words : HostIoWords S D W (Option Forest)) (call : AuditCall)
     (old new : HostIo S D W) (status : ℕ) : Type 0 where
   pub ran : Result Counts Fault
-  pub ends : IfOk ran (EndsAs (job_of call.options.job) (store_seen words call old)
-      (root_seen words call old) (words.output old.output) (words.output new.output))
+  pub ends : LogsAs (job_of call.options.job) (store_seen words call old)
+      (root_seen words call old) (words.output old.output) (words.output new.output) ran
   pub layout : OnOk ran (ForSome (root_seen words call old) (IsOfLayout (job_of call.options.job)))
   pub says : IfErr ran (AuditSays call.options.job (store_seen words call old)
       (root_seen words call old))

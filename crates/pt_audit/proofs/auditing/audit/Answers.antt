@@ -1,7 +1,7 @@
-use Rattle.std.proofs.Common.{refl, subst}
+use Rattle.std.proofs.Common.{subst}
 use Rattle.std.specs.Option.{ForSome}
-use Rattle.std.specs.Prelude.{IfOk, OnOk}
-use Rattle.pt_audit.specs.Auditing.{EndsAs}
+use Rattle.std.specs.Prelude.{OnOk}
+use Rattle.pt_audit.specs.Auditing.{LogsAs}
 use Rattle.pt_audit.specs.Layout.{IsOfLayout}
 use Rattle.pt_compare.specs.Root.{tree_in}
 use Rattle.pt_state.specs.States.{job_of}
@@ -10,6 +10,7 @@ use Rattle.pt_audit.proofs.Bounding.{first_of, made_within, second_of}
 use Rattle.pt_audit.proofs.Telling.{first_step, surveys_first}
 use Rattle.pt_audit.proofs.Pacing.{follows_first}
 use Rattle.pt_audit.proofs.Saying.{begun_is_not_over}
+use Rattle.pt_audit.proofs.ToldFront.{logs_by}
 use Rattle.pt_audit.proofs.auditing.audit.Goals as goal
 
 pub go_through-requires : goal.go_through-requires
@@ -24,8 +25,8 @@ go_through-requires g c =
 
 pub returns-clause-ends : goal.returns-clause-ends
 returns-clause-ends g c =
-    subst (λ (job : Job). IfOk c.go_through.result (EndsAs (job_of job) (tree_in (g.S.Source.told c.args.source.now)) (tree_in (g.R.Source.told c.args.root.now)) (g.L.Log.told c.args.log.now) (g.L.Log.told c.go_through.new.log)))
-    c.start.ensures.new.job_is (first_of _ _ _ c.go_through.ensures.ends)
+    subst (λ (job : Job). LogsAs (job_of job) (tree_in (g.S.Source.told c.args.source.now)) (tree_in (g.R.Source.told c.args.root.now)) (g.L.Log.told c.args.log.now) (g.L.Log.told c.go_through.new.log) c.go_through.result)
+    c.start.ensures.new.job_is (logs_by c.go_through.result _ _ _ _ _ (first_of _ _ _ c.go_through.ensures.ends) c.go_through.ensures.stops)
 
 pub returns-clause-layout : goal.returns-clause-layout
 returns-clause-layout g c =

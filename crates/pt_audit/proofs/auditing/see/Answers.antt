@@ -2,6 +2,7 @@ use Rattle.std.proofs.Common.{rules}
 use Rattle.pt_audit.proofs.Pacing.{behind, holds_its_fields}
 use Rattle.pt_audit.proofs.Saying.{says_fault, says_read, says_survey}
 use Rattle.pt_audit.proofs.Telling.{surveys_on}
+use Rattle.pt_audit.proofs.ToldFront.{at_err, follow_stops, step_stops}
 use Rattle.pt_audit.proofs.auditing.see.Goals as goal
 
 pub returns-in_err-follow-clause-says : goal.returns-in_err-follow-clause-says
@@ -26,3 +27,13 @@ returns-clause-saw g c =
         saw = c.in_ok-sight.ensures.sight;
       },
     )
+
+pub returns-in_err-sight-clause-stops : goal.returns-in_err-sight-clause-stops
+returns-in_err-sight-clause-stops g c =
+    at_err c.from_residual.result c.in_err-sight.field-0.0 (search rules)
+    (λ counts first it. step_stops _ _ first _ _ counts _ c.in_err-sight.ensures.stops it)
+
+pub returns-in_err-follow-clause-stops : goal.returns-in_err-follow-clause-stops
+returns-in_err-follow-clause-stops g c =
+    at_err c.from_residual-in_err-follow.result c.in_err-follow.field-0.0 (search rules)
+    (λ counts first it. follow_stops _ _ _ first _ _ counts _ _ c.in_ok-sight.ensures.source.0.1 c.in_ok-sight.ensures.made.steps.order c.in_ok-sight.ensures.on it)

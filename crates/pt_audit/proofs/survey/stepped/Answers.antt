@@ -3,6 +3,7 @@ use Rattle.std.specs.Prelude.{None}
 use Rattle.pt_audit.proofs.Stepping.{halt_leaves, halt_leaves_log, halt_well, looking_is, step_leaves, step_leaves_log, step_looks, step_passes, step_well}
 use Rattle.pt_audit.proofs.Files.{step_scans, step_scans_none}
 use Rattle.pt_audit.proofs.Steps.{step_steps}
+use Rattle.pt_audit.proofs.Stopping.{halt_stops, halt_untold}
 use Rattle.pt_audit.proofs.survey.stepped.Goals as goal
 
 pub returns-in_err-pass-clause-well : goal.returns-in_err-pass-clause-well
@@ -58,3 +59,11 @@ returns-in_ok-look-clause-made g c = record {
   scans = step_scans c.args.here c.in_ok-look.field-0 _ _ _ _ _ _ _ _ _ _ _ _ _ _ _ (search rules)
       (looking_is _ c.args.here _ c.requires.ready.under_way (search rules) c.requires.more) c.requires.ready.under_way c.in_ok-look.ensures.turn c.in_ok-look.ensures.block;
 }
+
+pub returns-in_err-pass-clause-stops : goal.returns-in_err-pass-clause-stops
+returns-in_err-pass-clause-stops g c = λ count it. halt_untold c.from_residual.result _ _ count c.args.here _
+
+pub returns-in_err-look-clause-stops : goal.returns-in_err-look-clause-stops
+returns-in_err-look-clause-stops g c = λ count it.
+    halt_stops c.args.here c.in_err-look.field-0.0 _ _ _ _ _ _ _ _ _ _ _ c.from_residual-in_err-look.result count (search rules)
+    (looking_is _ c.args.here _ c.requires.ready.under_way (search rules) c.requires.more) c.in_err-look.ensures.turn it

@@ -1,5 +1,6 @@
-use Rattle.std.proofs.Common.{◌∙◌}
+use Rattle.std.proofs.Common.{rules, ◌∙◌}
 use Rattle.pt_audit.proofs.Telling.{step_told}
+use Rattle.pt_audit.proofs.ToldFront.{at_err, tell_stops}
 use Rattle.pt_audit.specs.Growing.{grows_on}
 use Rattle.pt_audit.proofs.auditing.Auditor.go_on.Goals as goal
 
@@ -33,3 +34,12 @@ returns-clause-root g c = (
   g.met.R.Source.keeps_on _ _ _ c.in_ok-sight.ensures.root.0 c.in_ok-told.ensures.root.0,
   c.in_ok-told.ensures.root.1 ∙ c.in_ok-sight.ensures.root.1,
 )
+
+pub returns-in_err-sight-clause-stops : goal.returns-in_err-sight-clause-stops
+returns-in_err-sight-clause-stops g c =
+    at_err c.from_residual.result c.in_err-sight.field-0.0 (search rules) (c.in_err-sight.ensures.stops c.args.self.now.counts)
+
+pub returns-in_err-told-clause-stops : goal.returns-in_err-told-clause-stops
+returns-in_err-told-clause-stops g c =
+    at_err c.from_residual-in_err-told.result c.in_err-told.field-0.0 (search rules)
+    (λ first it. tell_stops _ _ _ _ first _ _ _ _ _ _ c.in_ok-sight.ensures.source.1 c.in_ok-sight.ensures.root.1 c.in_ok-sight.ensures.saw.0.order c.in_ok-sight.ensures.on c.in_err-told.ensures.stops it)

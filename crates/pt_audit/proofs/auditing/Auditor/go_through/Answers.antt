@@ -5,6 +5,7 @@ use Rattle.pt_audit.specs.Surveying.{Steps}
 use Rattle.pt_tree.specs.Forest.{Forest}
 use Rattle.pt_audit.proofs.Telling.{same_end, same_layout, same_trees}
 use Rattle.pt_audit.proofs.Saying.{same_failures}
+use Rattle.pt_audit.proofs.ToldFront.{same_stops}
 use Rattle.std.proofs.lemmas.Bool.{OnTrue_at}
 use Rattle.pt_audit.specs.Growing.{grows_none, grows_on}
 use Rattle.pt_audit.proofs.auditing.Auditor.go_through.Goals as goal
@@ -56,6 +57,11 @@ returns-then-not-more-clause-made g c =
       steps = OneMore was.7.1 (subst (λ (f : Option Forest). Steps f c.loop-more.self.survey c.go_on.new.self.survey) was.3.1 went.0);
       ended = (search rules, search rules);
     }
+
+pub returns-in_err-more-clause-stops : goal.returns-in_err-more-clause-stops
+returns-in_err-more-clause-stops g c =
+    let was = c.loop-more.invariant in
+    same_stops c.from_residual.result c.in_err-more.field-0.0 c.args.self.now.survey.state.job _ _ _ _ _ _ _ (search rules) was.2 was.3.1 was.4.1 (c.in_err-more.ensures.stops _ was.0)
 
 pub returns-in_err-more-clause-made : goal.returns-in_err-more-clause-made
 returns-in_err-more-clause-made g c = record { count = c.loop-more.invariant.7.0; last = c.loop-more.self.survey; steps = c.loop-more.invariant.7.1; ended = search rules }

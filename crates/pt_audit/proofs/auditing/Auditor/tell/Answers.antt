@@ -1,7 +1,8 @@
-use Rattle.std.proofs.Common.{ap, refl, rules, subst}
+use Rattle.std.proofs.Common.{ap, refl, rules, subst, sym, ◌∙◌}
 use Rattle.pt_audit.proofs.Saying.{has_layout, more_is_not_over, object_is_not_over, says_err, says_failed, says_layout, store_is_not_over}
 use Rattle.pt_audit.proofs.Pacing.{at_sight, follows_told}
 use Rattle.pt_audit.proofs.Telling.{not_told, on_end, on_more, on_store}
+use Rattle.pt_audit.proofs.ToldFront.{at_err, end_stops, seen_stops_any}
 use Rattle.pt_audit.specs.Auditing.{IsAt, is_told}
 use Rattle.pt_audit.specs.Growing.{grows_none}
 use Rattle.pt_compare.specs.Root.{tree_in}
@@ -50,6 +51,7 @@ returns-in-More g c = record {
   log = (g.met.L.Log.is_kept _, grows_none _);
   fails = refl;
   says = tt;
+  stops = tt;
 }
 
 pub returns-in_ok-counts-in-Object-clause-still : goal.returns-in_ok-counts-in-Object-clause-still
@@ -58,3 +60,16 @@ returns-in_ok-counts-in-Object-clause-still g c =
 
 pub returns-in_ok-check_layout-in-Store-clause-still : goal.returns-in_ok-check_layout-in-Store-clause-still
 returns-in_ok-check_layout-in-Store-clause-still g c = (search rules, tt, store_is_not_over c.args.self.now.survey c.requires.saw c.in-Store.is)
+
+pub returns-in_err-check_layout-in-Store-clause-stops : goal.returns-in_err-check_layout-in-Store-clause-stops
+returns-in_err-check_layout-in-Store-clause-stops g c =
+    seen_stops_any c.from_residual.result _ _ _ _ _
+
+pub returns-in_err-counts-in-Object-clause-stops : goal.returns-in_err-counts-in-Object-clause-stops
+returns-in_err-counts-in-Object-clause-stops g c =
+    at_err c.from_residual-in_err-counts-in-Object.result c.in_err-counts-in-Object.field-0.0 (search rules) c.in_err-counts-in-Object.ensures.stops
+
+pub returns-in_err-tell_end-in-End-clause-stops : goal.returns-in_err-tell_end-in-End-clause-stops
+returns-in_err-tell_end-in-End-clause-stops g c =
+    at_err c.from_residual-in_err-tell_end-in-End.result c.in_err-tell_end-in-End.field-0.0 (search rules)
+    (λ first it. end_stops _ _ first _ _ c.args.self.now.counts c.so_far.result c.args.self.now.survey (sym c.requires.saw ∙ c.in-End.is) (search rules) c.in_err-tell_end-in-End.ensures.part it)
