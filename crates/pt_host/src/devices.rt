@@ -80,6 +80,7 @@ pub(crate) fn both_sides<'a, S: System, D: System, W: Write, F: SyncsOutput<W> +
     ensures left_out { result.source.names ≡ ignored }
     ensures folder { ReadsFrom result.root lent.ground.folder folders.entry.folder.now }
     ensures log { result.log.writer ≡ lent.ground.output }
+    ensures log_synced { result.log.file ≡ lent.file }
 {
     let Lent { ground, file } = lent;
     Sides {

@@ -1,5 +1,5 @@
 //! What the options of a run and of an audit say, whoever asks for one: the command line, a test, or a program of its own.
-ghost use Rattle.std.specs.Prelude.{◌≡◌, option_map};
+ghost use Rattle.std.specs.Prelude.{◌≡◌, ◌||◌, is_some, option_map};
 
 use crate::Text;
 use pt_messages::{Progress, Watching, Words};
@@ -62,7 +62,9 @@ pub(crate) struct Telling {
 
 impl Telling {
     // Whether they are wanted at all.
-    pub(crate) fn wants_why(self) -> bool {
+    pub(crate) fn wants_why(self) -> bool
+        ensures { result ≡ (self.verbose || self.records) }
+    {
         self.verbose || self.records
     }
 }
@@ -89,7 +91,9 @@ impl Feedback {
     }
 
     // Which reasons it wants of a fault.
-    pub(crate) fn telling(&self) -> Telling {
+    pub(crate) fn telling(&self) -> Telling
+        ensures { result ≡ record { verbose = self.now.verbose; records = is_some self.now.event } }
+    {
         Telling {
             verbose: self.verbose,
             records: self.event.is_some(),
@@ -97,7 +101,16 @@ impl Feedback {
     }
 
     // How what has this feedback is watched: its log has lines of this kind, and so many, where that is known.
-    pub(crate) fn watching(&self, words: Words, expected: Option<u64>) -> Watching {
+    pub(crate) fn watching(&self, words: Words, expected: Option<u64>) -> Watching
+        ensures { result ≡ record {
+          when = self.now.progress;
+          interval = self.now.interval;
+          expected = expected;
+          words = words;
+          verbose = self.now.verbose;
+          quiet = self.now.quiet;
+        } }
+    {
         Watching {
             when: self.progress,
             interval: self.interval,

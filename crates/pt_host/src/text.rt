@@ -1,4 +1,5 @@
 ghost use Rattle.std.specs.Prelude.{◌≡◌, ◌++◌, IfOk};
+ghost use Rattle.std.specs.Option.{ForSome};
 
 use pt_tree::MemoryFault;
 use std::alloc::Global;
@@ -39,7 +40,9 @@ impl Text {
     }
 
     /// The text that a value is shown as. Refused as `Memory`, where a growth was.
-    pub fn shown(alloc: Global, value: &impl fmt::Display) -> Result<Text, MemoryFault> {
+    pub fn shown<T: fmt::Display>(alloc: Global, value: &T) -> Result<Text, MemoryFault>
+        ensures { IfOk result (λ shown. ForSome (T.output value.now) (λ text. shown ≡ text)) }
+    {
         Ok(Text {
             text: value.to_string(alloc)?,
         })
