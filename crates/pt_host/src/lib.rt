@@ -28,7 +28,8 @@
 //! - `rehearsal_tells_the_run`: where a rehearsal and a run of one job over the same store and the same tree of DEST both end well, and the
 //!   log tells, both logs get the same text, and the status is the same (`RehearsalTellsTheRun`).
 //! - `audit_guarded`: the guard, with a lock that others may share, the audit over what is lent, which is given back, and the lock
-//!   (`Audits`). Where it ends well the output has got its log, of the trees that both systems keep, and after a fault a front of it. After any answer both systems keep the
+//!   (`Audits`). Where it ends well the output has got its log, of the trees that both systems keep, and after a fault a front of it.
+//!   After any answer both systems keep the
 //!   same trees, what stood in the output stands, a refusal is true of the store and of the root, and the status follows from the answer
 //!   (`AuditsOver`). Where that was asked for, what was passed over counts as well (`others`).
 //! - `DurableLog` is a log. Where its `put` is answered Ok, and it has a file, that was asked after the writing to put onto the disk all
