@@ -1,0 +1,5 @@
+use Rattle.std.proofs.Common.{rules}
+use Rattle.pt_object.proofs.hasher.Hasher.feed.Goals as goal
+
+pub returns : goal.returns
+returns c = search rules
