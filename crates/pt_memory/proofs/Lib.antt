@@ -7,3 +7,4 @@ mod Opened
 mod Planted
 mod SourceCalls
 mod Swaps
+mod Taken

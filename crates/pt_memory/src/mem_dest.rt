@@ -1,4 +1,4 @@
-ghost use Rattle.std.specs.Prelude.{◌≡◌, ◌↔◌, [], true, None, Some, IsOk, IsTrue, IfOk, OnOk, OnErr, ⊤};
+ghost use Rattle.std.specs.Prelude.{◌≡◌, ◌↔◌, ◌≤◌, [], length, take, true, None, Some, IsOk, IsTrue, IfOk, OnOk, OnErr, ⊤};
 ghost use Rattle.std.specs.Option.{option_copied, option_map};
 ghost use Rattle.pt_memory.specs.Entries.{forest_of};
 ghost use Rattle.pt_tree.specs.Dest.{added_to, open_unless_below};
@@ -131,6 +131,24 @@ impl MemDest {
         ensures err { OnErr result (dest_state self.new ≡ dest_state self.old) }
     {
         append(&mut self.entries, path, piece)
+    }
+
+    /// Adds the first so many bytes of a piece, as `add_to` does: how many they are.
+    pub fn add_part(
+        &mut self,
+        path: &NamePath,
+        piece: &[u8],
+        count: usize,
+    ) -> Result<usize, MemoryFault>
+        requires { count ≤ length piece.now }
+        ensures added { IfOk result (λ n. dest_state self.new
+            ≡ with_tree (added (dest_tree self.old) path.now (take n piece.now))
+            (dest_state self.old)) }
+        ensures count { IfOk result (λ n. n ≡ count) }
+        ensures err { OnErr result (dest_state self.new ≡ dest_state self.old) }
+    {
+        self.add_to(path, &piece[..count])?;
+        Ok(count)
     }
 
     /// Whether the two trees are equal. Open files, fuses and counts aren't compared.

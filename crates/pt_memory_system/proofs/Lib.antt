@@ -3,4 +3,3 @@ mod Ended
 mod Fronts
 mod Looks
 mod Places
-mod Taken

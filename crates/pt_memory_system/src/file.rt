@@ -4,6 +4,7 @@ ghost use Rattle.std.specs.Option.{option_map};
 
 use crate::faults::{Faults, failed};
 use pt_folder::{Handle, Input};
+use pt_memory::pieces::take_next;
 use pt_tree::NamePath;
 use std::io;
 
@@ -65,10 +66,9 @@ impl<'a> Input for MemFile<'a> {
         if self.place >= self.bytes.len() {
             return Ok(0);
         }
-        let rest = &self.bytes[self.place..];
-        let count = self.faults.share(rest.len().min(buffer.len()));
-        buffer[..count].copy_from_slice(&rest[..count]);
-        self.place += count;
+        let left = self.bytes.len() - self.place;
+        let count = self.faults.share(left.min(buffer.len()));
+        take_next(self.bytes.as_slice(), &mut self.place, count, buffer);
         Ok(count)
     }
 }

@@ -1,11 +1,12 @@
 //! The names in a directory in memory.
-ghost use Rattle.std.specs.Prelude.{◌≡◌, ◌++◌, OnOk, ◌≤◌, ◌<◌, Some, IfOk, IfSome, drop, length, map, ⊤};
+ghost use Rattle.std.specs.Prelude.{◌≡◌, ◌≤◌, ◌<◌, Some, IfOk, IfSome, drop, length, map, ⊤};
 ghost use Rattle.std.specs.List.{flat_map};
 ghost use Rattle.pt_folder.specs.Names.{ended};
 
 use crate::faults::{Faults, failed};
 use pt_folder::Input;
-use pt_tree::{Listing, Name};
+use pt_memory::pieces::{add_name, take_next};
+use pt_tree::Listing;
 use std::alloc::{AllocError, Global};
 use std::io;
 
@@ -57,8 +58,7 @@ impl<'a> Input for MemNames<'a> {
         let Some(count) = whole(&rest[..rest.len().min(buffer.len())]) else {
             return Err(io::Error::from(io::ErrorKind::InvalidInput));
         };
-        buffer[..count].copy_from_slice(&rest[..count]);
-        self.place += count;
+        take_next(self.bytes.as_slice(), &mut self.place, count, buffer);
         Ok(count)
     }
 }
@@ -90,13 +90,4 @@ fn names_of(alloc: Global, listing: &Listing) -> Result<Vec<u8>, AllocError>
         add_name(&mut bytes, name)?;
     }
     Ok(bytes)
-}
-
-// Adds a name, and a NUL behind it.
-fn add_name(bytes: &mut Vec<u8>, name: &Name) -> Result<(), AllocError>
-    ensures { OnOk result (bytes.new.items ≡ bytes.old.items ++ ended name.now) }
-{
-    bytes.extend_from_slice(name.bytes())?;
-    bytes.push(0)?;
-    Ok(())
 }

@@ -285,8 +285,8 @@ impl<'a> System for MemorySystem<'a> {
         } else {
             self.faults.share(piece.len())
         };
-        match self.dest.add_to(path, &piece[..count]) {
-            Ok(()) => {
+        match self.dest.add_part(path, piece, count) {
+            Ok(count) => {
                 if fails {
                     return Err(failed());
                 }

@@ -10,32 +10,61 @@ use std::alloc::Global;
 /// with `pairtree_` stands at the top.
 pub fn store(alloc: Global, entries: &str) -> Result<MemSource, TreeFault> {
     let mut source = MemSource::new(alloc);
-    for entry in "pairtree_version0_1= pairtree_root/".split(' ') {
-        plant(alloc, &mut source, entry)?;
-    }
-    for entry in entries.split(' ') {
-        plant(alloc, &mut source, entry)?;
-    }
+    plant_each(alloc, &mut source, "pairtree_version0_1= pairtree_root/")?;
+    plant_each(alloc, &mut source, entries)?;
     Ok(source)
+}
+
+fn plant_each(alloc: Global, source: &mut MemSource, entries: &str) -> Result<(), TreeFault> {
+    for entry in entries.split(' ') {
+        plant(alloc, source, entry)?;
+    }
+    Ok(())
+}
+
+// What an entry is: a file of these bytes, one of so many letters, a directory, or neither.
+#[derive(Clone, Copy)]
+enum Planting<'a> {
+    File(&'a str),
+    Letters(&'a str),
+    Dir,
+    Other,
 }
 
 /// Plants one entry, with the directories on the way to it.
 pub fn plant(alloc: Global, source: &mut MemSource, entry: &str) -> Result<(), TreeFault> {
+    let (at, what) = parts(entry);
+    let at = way(alloc, source, top(alloc, at)?, at)?;
+    put(alloc, source, &at, what)
+}
+
+// Where an entry is, and what.
+fn parts(entry: &str) -> (&str, Planting<'_>) {
     if let Some((at, bytes)) = entry.split_once('=') {
-        let at = way(alloc, source, top(alloc, at)?, at)?;
-        planted(source.plant_file(&at, bytes.as_bytes()))
+        (at, Planting::File(bytes))
     } else if let Some((at, count)) = entry.split_once('*') {
-        let at = way(alloc, source, top(alloc, at)?, at)?;
-        let Ok(count) = count.parse::<usize>() else {
-            return Err(TreeFault::Device);
-        };
-        planted(source.plant_file(&at, "a".repeat(alloc, count)?.as_bytes()))
+        (at, Planting::Letters(count))
     } else if let Some(at) = entry.strip_suffix('?') {
-        let at = way(alloc, source, top(alloc, at)?, at)?;
-        planted(source.plant_other(&at))
+        (at, Planting::Other)
     } else {
-        way(alloc, source, top(alloc, entry)?, entry)?;
-        Ok(())
+        (entry, Planting::Dir)
+    }
+}
+
+fn put(
+    alloc: Global,
+    source: &mut MemSource,
+    at: &NamePath,
+    what: Planting<'_>,
+) -> Result<(), TreeFault> {
+    match what {
+        Planting::File(bytes) => planted(source.plant_file(at, bytes.as_bytes())),
+        Planting::Letters(count) => match count.parse::<usize>() {
+            Ok(count) => planted(source.plant_file(at, "a".repeat(alloc, count)?.as_bytes())),
+            Err(_) => Err(TreeFault::Device),
+        },
+        Planting::Other => planted(source.plant_other(at)),
+        Planting::Dir => Ok(()),
     }
 }
 
