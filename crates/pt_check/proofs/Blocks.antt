@@ -2,11 +2,12 @@
 use Rattle.std.proofs.Common.{◌≡◌, ◌≤◌, ◌+◌, ℕ, List, [], ◌∷◌, refl, sym, ap, ◌∙◌, subst, arith, length, take, drop, min}
 use Rattle.std.proofs.lemmas.List.{length-append, take-append-drop}
 use Rattle.std.specs.Option.{ForSome, option_map}
-use Rattle.std.specs.Prelude.{IsSome, Option, None, Some}
+use Rattle.std.specs.Prelude.{IsSome, Option, None, Some, unwrap_or}
 use Rattle.pt_check.specs.Visits.{tree_in}
 use Rattle.pt_tree.specs.Failures.{greatest_count}
 use Rattle.pt_tree.specs.Forest.{Forest, file_at, dir_at}
 use Rattle.pt_tree.specs.Path.{Path}
+use Rattle.pt_walk.specs.Left.{bytes_at}
 use Rattle.pt_tree.specs.Source.{Reading, CanList, CanOpen, CanRead, IsRead, after_next, after_open}
 
 -- a folder may be listed where it stands in the tree that is told
@@ -123,3 +124,21 @@ read_most total old now to most s told bytes has =
     let whole = part.whole in
     let counted = part.counted in
     omega (arith, whole, counted, most)
+
+-- the first block of a file that was just opened is its front
+pub front_read : (old opened : Option Reading) (path : Path) (block : List ℕ) → ForSome (tree_in old) (λ tree. IsSome (file_at tree path)) → opened ≡ option_map (after_open path) old
+    → IsRead opened block → ForSome (tree_in old) (λ tree. block ≡ take 8192 (bytes_at tree path))
+unfolding IsRead
+front_read None opened path block there is read tree told = absurd (cc)
+front_read (Some s) opened path block there is read tree told =
+    let same : s.tree ≡ tree = cc in
+    by (file_at tree path) refl (ap (λ (t : Forest). option_map (take 8192) (file_at t path)) (sym same) ∙ read (after_open path s) is) (there tree told)
+  where
+    by : (found : Option (List ℕ)) → file_at tree path ≡ found → option_map (take 8192) (file_at tree path) ≡ Some block → IsSome (file_at tree path) → block ≡ take 8192 (bytes_at tree path)
+    by None none front some =
+        let bad : IsSome {T = List ℕ} None = subst (λ (o : Option (List ℕ)). IsSome o) none some in
+        absurd (cc)
+    by (Some bytes) found front some =
+        let whole : Some (take 8192 bytes) ≡ Some block = sym (ap (option_map (take 8192)) found) ∙ front in
+        let is_front : take 8192 bytes ≡ block = cc in
+        sym is_front ∙ sym (ap (λ (o : Option (List ℕ)). take 8192 (unwrap_or o [])) found)

@@ -3,4 +3,6 @@ mod NamesRead
 pub mod LineTexts
 mod Blocks
 mod Stepping
+mod Others
+mod Quiet
 mod Visiting

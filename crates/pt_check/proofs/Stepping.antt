@@ -2,18 +2,21 @@
 use Rattle.std.proofs.Common.{◌≡◌, Bool, true, false, List, [], ◌∷◌, sym, ap, ◌∙◌, subst, cond, inl, inr}
 use Rattle.std.specs.Io.KnownBytes.{Appends}
 use Rattle.std.specs.Option.{ForSome}
-use Rattle.std.specs.Prelude.{Option, Some}
+use Rattle.std.specs.Prelude.{◌⊎◌, Option, Some, take}
 use Rattle.pt_check.specs.Lines.{End, Told, line_text}
-use Rattle.pt_check.specs.Visits.{Checks, Folder, Looks, Seen, Tells, TellsFailure, TellsIf, VisitsFolder, missing, root_folder}
+use Rattle.pt_check.specs.Prefix.{prefix_trouble}
+use Rattle.pt_check.specs.Visits.{Checks, Folder, Looks, LooksAll, ReadsPrefix, Seen, Tells, TellsFailure, TellsIf, VisitsFolder, missing, prefix_path, root_folder}
 use Rattle.pt_check.specs.declared.numbers.Numbers.{Numbers}
 use Rattle.pt_check.specs.declared.trouble.Trouble.TheVariants as trouble
 use Rattle.pt_check.specs.declared.within.Within.TheVariants as within
-use Rattle.pt_plan.specs.Store.{pairtree_root, version_file}
+use Rattle.pt_plan.specs.Store.{pairtree_root, prefix_file, version_file}
 use Rattle.pt_plan.specs.TurnStart.{is_dir_kind, is_file_kind, kind_in}
 use Rattle.pt_tree.specs.Forest.{Forest, listing_at, listing_of}
 use Rattle.pt_tree.specs.Listing.{Item}
 use Rattle.pt_tree.specs.Path.{Path}
-use Rattle.pt_walk.specs.Left.{inside_at}
+use Rattle.pt_tree.specs.declared.kind.Kind.{Kind}
+use Rattle.pt_tree.specs.declared.kind.Kind.TheVariants as kind
+use Rattle.pt_walk.specs.Left.{bytes_at, inside_at}
 use Rattle.pt_walk.specs.declared.site.At.TheVariants as at
 
 -- ---- a store
@@ -47,16 +50,38 @@ looked here there reads again items version root a m b lists version_is root_is 
     by true d whole = whole
     by false d whole = absurd (cc)
 
+-- the file of the prefix was read
+pub prefix_step : (here : Option Forest) (what : Option Kind) (path : Path) (a b : Seen) → what ≡ Some kind.File → path ≡ prefix_path
+    → ForSome here (λ t. TellsIf path (prefix_trouble (take 8192 (bytes_at t path))) a b ⊎ TellsFailure path a b)
+    → ForSome here (λ t. ReadsPrefix what (bytes_at t prefix_path) a b)
+prefix_step here what path a b is path_is reads t told =
+    let named : TellsIf prefix_path (prefix_trouble (take 8192 (bytes_at t prefix_path))) a b ⊎ TellsFailure prefix_path a b =
+    subst (λ (p : Path). TellsIf p (prefix_trouble (take 8192 (bytes_at t p))) a b ⊎ TellsFailure p a b) path_is (reads t told) in
+    subst (λ (k : Option Kind). ReadsPrefix k (bytes_at t prefix_path) a b) (sym is) named
+
+-- the prefix was looked at before
+pub looked_all : (here there : Option Forest) (reads again : Bool) (items : List Item) (a m n last : Seen) → ForSome here (λ t. listing_at t [] ≡ Some items)
+    → m ≡ a → there ≡ here → again ≡ reads
+    → ForSome here (λ t. ReadsPrefix (kind_in items prefix_file) (bytes_at t prefix_path) m n) → ForSome there (λ t. Looks again t n last)
+    → ForSome here (λ t. LooksAll reads t a last)
+looked_all here there reads again items a m n last lists begun same same_reads prefix looks t told =
+    let top = lists_top t items (lists t told) in
+    let bytes = bytes_at t prefix_path in
+    let first : ReadsPrefix (kind_in items prefix_file) bytes a n = subst (λ (s : Seen). ReadsPrefix (kind_in items prefix_file) bytes s n) begun (prefix t told) in (
+      n,
+      subst (λ (l : List Item). ReadsPrefix (kind_in l prefix_file) bytes a n) top first,
+      subst (λ (r : Bool). Looks r t n last) same_reads (looks t (same ∙ told)),
+    )
+
 -- then the numbers were told
-pub checked : (here there : Option Forest) (reads again : Bool) (numbers : Numbers) (a m last b : Seen) → m ≡ a → there ≡ here → again ≡ reads
-    → ForSome there (λ t. Looks again t m last) → numbers ≡ last.numbers → b.failed ≡ last.failed → b.numbers ≡ last.numbers
+pub checked : (here there : Option Forest) (reads again : Bool) (numbers : Numbers) (a last b : Seen) → there ≡ here → again ≡ reads
+    → ForSome there (λ t. LooksAll again t a last) → numbers ≡ last.numbers → b.failed ≡ last.failed → b.numbers ≡ last.numbers
     → Appends last.held b.held (line_text (End last.numbers)) → ForSome here (λ t. Checks reads t numbers a b)
-checked here there reads again numbers a m last b begun same same_reads looks is failed counted held t told =
-    let all : Looks again t m last = looks t (same ∙ told) in
-    let from : Looks again t a last = subst (λ (s : Seen). Looks again t s last) begun all in
+checked here there reads again numbers a last b same same_reads looks is failed counted held t told =
+    let all : LooksAll again t a last = looks t (same ∙ told) in
     record {
       last = last;
-      looks = inl (subst (λ (r : Bool). Looks r t a last) same_reads from);
+      looks = inl (subst (λ (r : Bool). LooksAll r t a last) same_reads all);
       numbers_are = is;
       failed = failed;
       counted = counted;

@@ -10,7 +10,7 @@ use Rattle.pt_check.specs.Visits.{Enters, Folder, Judges, Meets, Opens, OpensIf,
 use Rattle.pt_check.specs.Within.{below, starts_object}
 use Rattle.pt_check.specs.declared.trouble.Trouble.TheVariants as trouble
 use Rattle.pt_check.specs.declared.within.Within.{Within}
-use Rattle.pt_tree.specs.Forest.{Forest, none, file, other, dir, Node, File, Dir, Other, as_dir, dir_at, file_at, find, is_proper, kind_of, listing_at, listing_of, node_at}
+use Rattle.pt_tree.specs.Forest.{Forest, none, file, other, dir, Node, File, Dir, Other, as_dir, as_file, dir_at, file_at, find, is_proper, kind_of, listing_at, listing_of, node_at}
 use Rattle.pt_tree.specs.Listing.{Item}
 use Rattle.pt_tree.specs.Path.{Path, joined}
 use Rattle.pt_tree.specs.Source.{Reading, IsListed}
@@ -146,6 +146,20 @@ root_stands here there items name listed is same tree at =
     by None is = absurd (cc)
     by (Some (File bytes)) is = absurd (cc)
     by (Some (Dir inside)) is = refl
+    by (Some Other) is = absurd (cc)
+
+-- and so does a file
+pub file_at_top : (here : Option Forest) (items : List Item) (name : List ℕ) → ForSome here (λ tree. listing_at tree [] ≡ Some items) → kind_in items name ≡ Some kind.File
+    → ForSome here (λ tree. IsSome (file_at tree (name ∷ [])))
+file_at_top here items name listed is tree at =
+    let lists : Some (listing_of tree) ≡ Some items = listed tree at in
+    let items_are : items ≡ listing_of tree = cc in
+    by (find tree name) (sym (kind_found tree name) ∙ ap (λ (l : List Item). kind_in l name) (sym items_are) ∙ is)
+  where
+    by : (node : Option Node) → option_map kind_of node ≡ Some kind.File → is_some (option_and_then as_file (option_and_then (λ n. node_at n []) node)) ≡ true
+    by None is = absurd (cc)
+    by (Some (File bytes)) is = refl
+    by (Some (Dir inside)) is = absurd (cc)
     by (Some Other) is = absurd (cc)
 
 -- ---- the steps of a visit

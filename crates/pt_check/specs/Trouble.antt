@@ -11,6 +11,9 @@ trouble_number trouble.Desktop = 10
 trouble_number trouble.Long = 11
 trouble_number trouble.Deep = 12
 trouble_number trouble.Missing = 13
+trouble_number trouble.Spelling = 14
+trouble_number trouble.Prefix = 15
+trouble_number trouble.Doubtful = 16
 
 -- its word in a line
 abbrev pub trouble_word : Trouble → List ℕ
@@ -19,3 +22,6 @@ trouble_word trouble.Desktop = codes "desktop"
 trouble_word trouble.Long = codes "long"
 trouble_word trouble.Deep = codes "deep"
 trouble_word trouble.Missing = codes "missing"
+trouble_word trouble.Spelling = codes "spelling"
+trouble_word trouble.Prefix = codes "prefix"
+trouble_word trouble.Doubtful = codes "doubtful"

@@ -6,6 +6,7 @@ use Rattle.std.specs.Option.{option_map}
 use Rattle.std.specs.Str.{bytes_eq, is_utf8}
 use Rattle.pt_check.specs.Counting.{plus, with_bytes, with_entry, with_line, with_object, with_site}
 use Rattle.pt_check.specs.Lines.{Line, End, Told, Unreadable, line_text}
+use Rattle.pt_check.specs.Prefix.{prefix_trouble}
 use Rattle.pt_check.specs.Within.{below, starts_object}
 use Rattle.pt_check.specs.declared.checking.Check.{Check}
 use Rattle.pt_check.specs.declared.numbers.Numbers.{Numbers}
@@ -13,8 +14,9 @@ use Rattle.pt_check.specs.declared.trouble.Trouble.{Trouble}
 use Rattle.pt_check.specs.declared.trouble.Trouble.TheVariants as trouble
 use Rattle.pt_check.specs.declared.within.Within.{Within}
 use Rattle.pt_check.specs.declared.within.Within.TheVariants as within
+use Rattle.pt_name.specs.Clean.{cleaned}
 use Rattle.pt_name.specs.Reading.{reading_of}
-use Rattle.pt_plan.specs.Store.{pairtree_root, version_file}
+use Rattle.pt_plan.specs.Store.{pairtree_root, prefix_file, version_file}
 use Rattle.pt_plan.specs.TurnStart.{is_dir_kind, is_file_kind, kind_in}
 use Rattle.pt_tree.specs.Failures.{HasRisen}
 use Rattle.pt_tree.specs.Forest.{Forest, none, file, other, dir, listing_of}
@@ -23,7 +25,7 @@ use Rattle.pt_tree.specs.Path.{Path, joined}
 use Rattle.pt_tree.specs.Source.{Reading}
 use Rattle.pt_tree.specs.declared.kind.Kind.{Kind}
 use Rattle.pt_tree.specs.declared.kind.Kind.TheVariants as kind
-use Rattle.pt_walk.specs.Left.{inside_at}
+use Rattle.pt_walk.specs.Left.{bytes_at, inside_at}
 use Rattle.pt_walk.specs.Site.{found}
 use Rattle.pt_walk.specs.declared.site.At.TheVariants as at
 use Rattle.pt_walk.specs.declared.cause.Cause.TheVariants as cause
@@ -109,17 +111,26 @@ has_object (finding.Skip why) = false
 has_object (finding.Candidate i) = true
 has_object finding.Gathered = false
 
--- why the names of a site are no identifier, by what they read
-abbrev pub trouble_of_reading : Option (List ℕ) → Option Trouble
-trouble_of_reading None = Some (trouble.Skipped cause.Name)
-trouble_of_reading (Some read) = cond (is_utf8 read) None (Some (trouble.Skipped cause.Utf8))
+-- whether the names of a site, which join to this text, are those of this identifier's own pairpath
+abbrev pub spelling_trouble : List ℕ → List ℕ → Option Trouble
+spelling_trouble text id = cond (bytes_eq (cleaned id) text) None (Some trouble.Spelling)
+
+-- what is told of the names of a site, which join to this text, by what that reads
+abbrev pub trouble_of_reading : List ℕ → Option (List ℕ) → Option Trouble
+trouble_of_reading text None = Some (trouble.Skipped cause.Name)
+trouble_of_reading text (Some read) =
+    cond (is_utf8 read) (spelling_trouble text read) (Some (trouble.Skipped cause.Utf8))
+
+-- the same, by the text alone
+abbrev pub trouble_of_names : List ℕ → Option Trouble
+trouble_of_names text = trouble_of_reading text (reading_of text)
 
 -- what is told of a folder below `pairtree_root`, which is this, and found to be that: the names of a site with an object are read
 abbrev pub folder_trouble : Within → Finding → Path → Option Trouble
 folder_trouble within.Past found path = Some (trouble.Skipped cause.Past)
 folder_trouble _ finding.Interior path = None
 folder_trouble _ (finding.Skip why) path = Some (trouble.Skipped why)
-folder_trouble _ (finding.Candidate i) path = trouble_of_reading (reading_of (concat (drop 1 path)))
+folder_trouble _ (finding.Candidate i) path = trouble_of_names (concat (drop 1 path))
 folder_trouble _ finding.Gathered path = None
 
 -- a site is counted, with an object or without
@@ -246,11 +257,30 @@ Looks reads tree a b =
     (VisitsFolder reads root_folder (inside_at tree (pairtree_root ∷ [])) m b)
     (Tells (Told (pairtree_root ∷ []) trouble.Missing) m b)
 
+-- the path of the prefix file
+abbrev pub prefix_path : Path
+prefix_path = prefix_file ∷ []
+
+-- where a file stands at the name of the prefix, its front is read, and told by what it is; or it is told that it can't be. What is no
+-- file there is told too.
+abbrev pub ReadsPrefix : Option Kind → List ℕ → Seen → Seen → Type 0
+ReadsPrefix None bytes a b = b ≡ a
+ReadsPrefix (Some kind.File) bytes a b =
+    TellsIf prefix_path (prefix_trouble (take 8192 bytes)) a b ⊎ TellsFailure prefix_path a b
+ReadsPrefix (Some kind.Dir) bytes a b = Tells (Told prefix_path trouble.Prefix) a b
+ReadsPrefix (Some kind.Other) bytes a b = Tells (Told prefix_path trouble.Prefix) a b
+
+-- what the top lists is looked at: the prefix, and then what a store must have
+abbrev pub LooksAll : Bool → Forest → Seen → Seen → Type 0
+LooksAll reads tree a b =
+    (m : Seen) × ReadsPrefix (kind_in (listing_of tree) prefix_file) (bytes_at tree prefix_path) a m
+    × Looks reads tree m b
+
 -- a store is checked whole: what its top lists is looked at, or that can't be listed and is told; and at the end stands the line of
 -- these numbers
 pub record Checks (reads : Bool) (tree : Forest) (numbers : Numbers) (a b : Seen) : Type 0 where
   pub last : Seen
-  pub looks : Looks reads tree a last ⊎ TellsFailure [] a last
+  pub looks : LooksAll reads tree a last ⊎ TellsFailure [] a last
   pub numbers_are : numbers ≡ last.numbers
   pub failed : b.failed ≡ last.failed
   pub counted : b.numbers ≡ last.numbers

@@ -1,18 +1,23 @@
 //! The walk of a check over all that lies below a folder of a store.
 ghost use Rattle.std.specs.Io.KnownBytes.{Appends};
-ghost use Rattle.std.specs.Prelude.{◌≡◌, [], cond, length, IfOk, IsSome, OnOk, MatchOption, Some};
+ghost use Rattle.std.specs.Prelude.{◌≡◌, ◌⊎◌, [], cond, length, take, IfOk, IsSome, OnOk, MatchOption, Some};
 ghost use Rattle.std.specs.Option.{ForSome};
 ghost use Rattle.pt_check.specs.Counting.{no_numbers, with_object};
+ghost use Rattle.pt_check.specs.Faults.{LogFailsAs};
 ghost use Rattle.pt_check.specs.Lines.{End, Told, line_text};
+ghost use Rattle.pt_check.specs.Prefix.{prefix_trouble};
 ghost use Rattle.pt_check.specs.Within.{starts_object};
+ghost use Rattle.pt_plan.specs.Store.{prefix_file};
+ghost use Rattle.pt_plan.specs.TurnStart.{kind_in as kind_in_items};
 ghost use Rattle.pt_tree.specs.Path.{joined};
-ghost use Rattle.pt_check.specs.Visits.{Checks, Judges, Keeps, Looks, Meets, Opens, OpensIf, Puts, Tells, TellsFailure, TellsIf, TellsUnread, VisitsFolder, finding_of as finding_of_items, has_object as has_object_in, missing as missing_by, seen_by, tree_by};
+ghost use Rattle.pt_check.specs.Visits.{Checks, Judges, Keeps, Looks, Meets, Opens, OpensIf, Puts, ReadsPrefix, Tells, TellsFailure, TellsIf, TellsUnread, VisitsFolder, finding_of as finding_of_items, has_object as has_object_in, missing as missing_by, prefix_path, seen_by, tree_by};
 ghost use Rattle.pt_tree.specs.Forest.{dir_at, file_at, listing_at};
 ghost use Rattle.pt_tree.specs.declared.kind.Kind.TheVariants as kind;
 ghost use Rattle.pt_walk.specs.Left.{bytes_at, inside_at};
 
 use crate::judging::{entry_trouble, finding_of, folder_trouble};
 use crate::lines::{end_line, trouble_line, unreadable_line};
+use crate::prefix::open_prefix;
 use crate::reading::open_whole;
 use crate::{Numbers, Trouble, Within};
 use pt_object::WellKnownName;
@@ -79,10 +84,12 @@ impl<S: Source, L: Log, E: Explains<S> + Drop> Check<S, L, E> {
             (λ tree. Checks self.old.reads tree numbers
             (seen_by S.failed L.told self.old) (seen_by S.failed L.told self.new))) }
         ensures keeps { Keeps S.told S.keeps L.told self.old self.new }
+        ensures fault { LogFailsAs (L.failed self.old.log) (L.failed self.new.log) result }
     {
         let top = NamePath::new(self.alloc);
         match self.list(&top)? {
             Some(listing) => {
+                self.look_at_prefix(&listing)?;
                 self.look(&listing)?;
                 self.tell_numbers()
             }
@@ -98,6 +105,42 @@ impl<S: Source, L: Log, E: Explains<S> + Drop> Check<S, L, E> {
         (self.source, self.log)
     }
 
+    // Looks at the file of the prefix, where the top of a store lists one.
+    fn look_at_prefix(&mut self, listing: &Listing) -> Result<(), Fault>
+        requires { ForSome (tree_by S.told self.old)
+            (λ tree. listing_at tree [] ≡ Some listing.now) }
+        ensures looked { OnOk result (ForSome (tree_by S.told self.old)
+            (λ tree. ReadsPrefix (kind_in_items listing.now prefix_file) (bytes_at tree prefix_path)
+            (seen_by S.failed L.told self.old) (seen_by S.failed L.told self.new))) }
+        ensures keeps { Keeps S.told S.keeps L.told self.old self.new }
+        ensures fault { LogFailsAs (L.failed self.old.log) (L.failed self.new.log) result }
+    {
+        let path = NamePath::of_known(self.alloc, &[WellKnownName::PrefixFile])?;
+        match kind_in(listing, WellKnownName::PrefixFile.text().as_bytes()) {
+            None => Ok(()),
+            Some(Kind::File) => self.read_prefix(&path),
+            Some(_) => self.tell(&path, Trouble::Prefix),
+        }
+    }
+
+    // Reads the front of the prefix file, and tells what there is to tell of it, or that it can't be read.
+    fn read_prefix(&mut self, path: &NamePath) -> Result<(), Fault>
+        requires { ForSome (tree_by S.told self.old) (λ tree. IsSome (file_at tree path.now)) }
+        ensures read { OnOk result (ForSome (tree_by S.told self.old)
+            (λ tree. TellsIf path.now (prefix_trouble (take 8192 (bytes_at tree path.now)))
+            (seen_by S.failed L.told self.old) (seen_by S.failed L.told self.new)
+            ⊎ TellsFailure path.now (seen_by S.failed L.told self.old)
+            (seen_by S.failed L.told self.new))) }
+        ensures keeps { Keeps S.told S.keeps L.told self.old self.new }
+        ensures fault { LogFailsAs (L.failed self.old.log) (L.failed self.new.log) result }
+    {
+        match open_prefix(self.alloc, &mut self.source, path) {
+            Ok(trouble) => self.tell_if(path, trouble),
+            Err(TreeFault::Device) => self.tell_failure(path),
+            Err(TreeFault::Memory) => Err(Fault::Memory),
+        }
+    }
+
     // Looks at what the top of a store lists, and visits `pairtree_root`.
     fn look(&mut self, listing: &Listing) -> Result<(), Fault>
         requires { ForSome (tree_by S.told self.old)
@@ -106,6 +149,7 @@ impl<S: Source, L: Log, E: Explains<S> + Drop> Check<S, L, E> {
             (λ tree. Looks self.old.reads tree
             (seen_by S.failed L.told self.old) (seen_by S.failed L.told self.new))) }
         ensures keeps { Keeps S.told S.keeps L.told self.old self.new }
+        ensures fault { LogFailsAs (L.failed self.old.log) (L.failed self.new.log) result }
     {
         let version = NamePath::of_known(self.alloc, &[WellKnownName::VersionFile])?;
         let root = NamePath::of_known(self.alloc, &[WellKnownName::PairtreeRoot])?;
@@ -126,6 +170,7 @@ impl<S: Source, L: Log, E: Explains<S> + Drop> Check<S, L, E> {
         ensures counted { self.new.numbers ≡ self.old.numbers }
         ensures source { self.new.source ≡ self.old.source }
         ensures keeps { Keeps S.told S.keeps L.told self.old self.new }
+        ensures fault { LogFailsAs (L.failed self.old.log) (L.failed self.new.log) result }
     {
         let line = end_line(self.alloc, &self.numbers)?;
         match self.log.put(line.as_str().as_bytes()) {
@@ -143,6 +188,7 @@ impl<S: Source, L: Log, E: Explains<S> + Drop> Check<S, L, E> {
             (record { path = path.now; here = within; left = left }) (inside_at tree path.now)
             (seen_by S.failed L.told self.old) (seen_by S.failed L.told self.new))) }
         ensures keeps { Keeps S.told S.keeps L.told self.old self.new }
+        ensures fault { LogFailsAs (L.failed self.old.log) (L.failed self.new.log) result }
     {
         if left == 0 {
             return self.tell(path, Trouble::Deep);
@@ -177,6 +223,7 @@ impl<S: Source, L: Log, E: Explains<S> + Drop> Check<S, L, E> {
             (λ tree. OpensIf self.old.reads path.now here (bytes_at tree path.now)
             (seen_by S.failed L.told self.old) (seen_by S.failed L.told self.new))) }
         ensures keeps { Keeps S.told S.keeps L.told self.old self.new }
+        ensures fault { LogFailsAs (L.failed self.old.log) (L.failed self.new.log) result }
     {
         match here {
             Kind::File => self.open(path),
@@ -203,6 +250,7 @@ impl<S: Source, L: Log, E: Explains<S> + Drop> Check<S, L, E> {
         ensures object { IfOk result (λ holds. holds
             ≡ has_object_in (finding_of_items within listing.now)) }
         ensures keeps { Keeps S.told S.keeps L.told self.old self.new }
+        ensures fault { LogFailsAs (L.failed self.old.log) (L.failed self.new.log) result }
     {
         let finding = finding_of(within, listing);
         let has_object = matches!(finding, Finding::Candidate(_));
@@ -226,6 +274,7 @@ impl<S: Source, L: Log, E: Explains<S> + Drop> Check<S, L, E> {
             (seen_by S.failed L.told self.old) (seen_by S.failed L.told self.new)) }
         ensures length { IfOk result (λ bytes. bytes ≡ length (joined path.now)) }
         ensures keeps { Keeps S.told S.keeps L.told self.old self.new }
+        ensures fault { LogFailsAs (L.failed self.old.log) (L.failed self.new.log) result }
     {
         let bytes = path.join()?.len() as u64;
         self.numbers = self.numbers.with_entry(kind, bytes);
@@ -245,6 +294,7 @@ impl<S: Source, L: Log, E: Explains<S> + Drop> Check<S, L, E> {
         ensures same { IfOk result (λ found. IsSome found
             → seen_by S.failed L.told self.new ≡ seen_by S.failed L.told self.old) }
         ensures keeps { Keeps S.told S.keeps L.told self.old self.new }
+        ensures fault { LogFailsAs (L.failed self.old.log) (L.failed self.new.log) result }
     {
         match self.source.list(path) {
             Ok(listing) => Ok(Some(listing)),
@@ -263,6 +313,7 @@ impl<S: Source, L: Log, E: Explains<S> + Drop> Check<S, L, E> {
             (λ tree. Opens self.old.reads path.now (bytes_at tree path.now)
             (seen_by S.failed L.told self.old) (seen_by S.failed L.told self.new))) }
         ensures keeps { Keeps S.told S.keeps L.told self.old self.new }
+        ensures fault { LogFailsAs (L.failed self.old.log) (L.failed self.new.log) result }
     {
         match open_whole(&mut self.source, path, self.reads) {
             Ok(bytes) => {
@@ -280,6 +331,7 @@ impl<S: Source, L: Log, E: Explains<S> + Drop> Check<S, L, E> {
             (seen_by S.failed L.told self.old) (seen_by S.failed L.told self.new)) }
         ensures source { self.new.source ≡ self.old.source }
         ensures keeps { Keeps S.told S.keeps L.told self.old self.new }
+        ensures fault { LogFailsAs (L.failed self.old.log) (L.failed self.new.log) result }
     {
         match trouble {
             Some(trouble) => self.tell(path, trouble),
@@ -293,6 +345,7 @@ impl<S: Source, L: Log, E: Explains<S> + Drop> Check<S, L, E> {
             (seen_by S.failed L.told self.old) (seen_by S.failed L.told self.new)) }
         ensures source { self.new.source ≡ self.old.source }
         ensures keeps { Keeps S.told S.keeps L.told self.old self.new }
+        ensures fault { LogFailsAs (L.failed self.old.log) (L.failed self.new.log) result }
     {
         let line = trouble_line(self.alloc, path, trouble)?;
         self.put(line.as_str())
@@ -304,6 +357,7 @@ impl<S: Source, L: Log, E: Explains<S> + Drop> Check<S, L, E> {
             (seen_by S.failed L.told self.old) (seen_by S.failed L.told self.new)) }
         ensures source { self.new.source ≡ self.old.source }
         ensures keeps { Keeps S.told S.keeps L.told self.old self.new }
+        ensures fault { LogFailsAs (L.failed self.old.log) (L.failed self.new.log) result }
     {
         let reason = self.explains.reason(self.alloc, &self.source)?;
         let line = unreadable_line(self.alloc, path, reason.as_str())?;
@@ -316,6 +370,7 @@ impl<S: Source, L: Log, E: Explains<S> + Drop> Check<S, L, E> {
             (seen_by S.failed L.told self.old) (seen_by S.failed L.told self.new)) }
         ensures source { self.new.source ≡ self.old.source }
         ensures keeps { Keeps S.told S.keeps L.told self.old self.new }
+        ensures fault { LogFailsAs (L.failed self.old.log) (L.failed self.new.log) result }
     {
         match self.log.put(line.as_bytes()) {
             Ok(()) => {

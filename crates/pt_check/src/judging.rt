@@ -3,11 +3,10 @@
 
 ghost use Rattle.std.specs.Prelude.{◌≡◌, drop, IfOk};
 ghost use Rattle.std.specs.List.{concat};
-ghost use Rattle.pt_check.specs.Visits.{entry_trouble as entry_trouble_of, finding_of as finding_of_items, folder_trouble as folder_trouble_of, is_long as is_long_path, is_of_desktop as is_of_desktop_name, name_trouble as name_trouble_of, trouble_of_reading};
-ghost use Rattle.pt_name.specs.Reading.{reading_of};
+ghost use Rattle.pt_check.specs.Visits.{entry_trouble as entry_trouble_of, finding_of as finding_of_items, folder_trouble as folder_trouble_of, is_long as is_long_path, is_of_desktop as is_of_desktop_name, name_trouble as name_trouble_of, spelling_trouble as spelling_trouble_of, trouble_of_names};
 
 use crate::{Trouble, Within};
-use pt_name::{UncleanFault, concatenate, unclean};
+use pt_name::{UncleanFault, clean, concatenate, unclean};
 use pt_tree::{Kind, Listing, MemoryFault, Name, NamePath};
 use pt_walk::{Cause, Finding, Form, judge};
 use std::alloc::Global;
@@ -44,15 +43,27 @@ pub(crate) fn folder_trouble(
 // What is told of the names of a site, which are read with nothing between (Pairtree 0.1, "Identifier string cleaning").
 fn identifier_trouble(alloc: Global, path: &NamePath) -> Result<Option<Trouble>, MemoryFault>
     ensures { IfOk result (λ trouble. trouble
-        ≡ trouble_of_reading (reading_of (concat (drop 1 path.now)))) }
+        ≡ trouble_of_names (concat (drop 1 path.now))) }
 {
     let below = NamePath::new(alloc).followed_by(names_below(path))?;
     let text = concatenate(alloc, &below)?;
     match unclean(alloc, &text) {
-        Ok(_) => Ok(None),
+        Ok(id) => spelling_trouble(alloc, &text, id.as_str()),
         Err(UncleanFault::Malformed) => Ok(Some(Trouble::Skipped(Cause::Name))),
         Err(UncleanFault::NotUtf8) => Ok(Some(Trouble::Skipped(Cause::Utf8))),
         Err(UncleanFault::Memory) => Err(MemoryFault::Memory),
+    }
+}
+
+// What is told of an identifier, by the text that the names of its site join to (Pairtree 0.1: the one that cleaning gives).
+fn spelling_trouble(alloc: Global, text: &[u8], id: &str) -> Result<Option<Trouble>, MemoryFault>
+    ensures { IfOk result (λ trouble. trouble ≡ spelling_trouble_of text.now id.now) }
+{
+    let own = clean(alloc, id.as_bytes())?;
+    if own.as_slice() == text {
+        Ok(None)
+    } else {
+        Ok(Some(Trouble::Spelling))
     }
 }
 

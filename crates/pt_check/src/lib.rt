@@ -1,30 +1,38 @@
 //! A check of a store: one walk over all that lies below pairtree_root, which tells what would stop a run or surprise its owner, and
-//! goes on past what can't be read. Nothing calls it yet but its tests: the command `check` is to come.
+//! goes on past what can't be read.
 //!
 //! What it promises, over any source and any log:
 //!
-//! - `run`, where it ends well and the source tells (`Checks`): the top is listed, and what a store must have is told where it is missing. Then
+//! - `run`, where it ends well and the source tells (`Checks`): the top is listed, the file of the prefix is read, and told where it is none or
+//!   reads otherwise than it looks (`ReadsPrefix`), and what a store must have is told where it is missing. Then
 //!   pairtree_root and all that stands in it is visited (`Visits`): each entry of each folder that could be listed once, in the order of the
 //!   names, a folder before its entries. Each file is opened, and read whole where that is wanted. Where a folder can't be listed or a file
 //!   opened or read, its path is told with a reason, the source's count of failures rose, and the walk goes on with the next entry (`Enters`,
 //!   `Opens`). A folder more than 600 below pairtree_root is told, and not listed.
 //! - At each folder and entry exactly what `folder_trouble` and `entry_trouble` say of it is told, by a line of its own (`Tells`): the cause for
-//!   which a run without `--gather` passes a site over, names that desktops leave, links and special files, and too long paths in an object.
+//!   which a run without `--gather` passes a site over, names that aren't those of the identifier's own pairpath, names that desktops leave,
+//!   links and special files, and too long paths in an object.
 //! - The numbers are those of what was visited (`with_site`, `with_entry`, `with_bytes`, `with_object`); `told` is that of the lines. The last
 //!   line has them, and they are the answer.
+//! - Where it told nothing there is nothing to tell of the store, and no call of the source failed (`QuietCheckMeansCleanStore`). No run over
+//!   such a store passes an object over for `other` (`NoRunSkipsForOther`).
+//! - It answers `Log` only where the log's count of failures rose, `Memory` only where it stayed, and no other fault (`LogFailsAs`).
 //! - Whatever it answers, the source tells the same tree as before, and what stood in the log stands (`Keeps`).
 //!
-//! The code keeps, and no contract says yet: `Log` is answered where a line couldn't be put, `Memory` where a growth was refused, and nothing
-//! else is. Between two entries it holds the listings on the way to where it stands, and numbers: nothing grows with the objects.
+//! The code keeps, and no contract says: of two sites with one identifier at least one has other names than its own, and is told, since a site's
+//! names follow from the text that they join to. And between two entries a check holds the listings on the way to where it stands, and numbers:
+//! nothing grows with the objects.
 //!
-//! Not told are twins, a doubtful prefix, and paths that are too long at their place. Of a folder in which a name isn't UTF-8 the reason tells
-//! that, and not which name; its entries aren't visited.
+//! Not told are the number and the length of an object's files, the cause `reserved`, and paths that are too long at their place. Of a folder in
+//! which a name isn't UTF-8 the reason tells that, and not which name; its entries aren't visited.
 #![tactic(auto)]
 
 mod checking;
 mod judging;
+pub mod laws;
 mod lines;
 mod numbers;
+mod prefix;
 mod reading;
 mod trouble;
 mod within;

@@ -16,10 +16,17 @@ pub enum Trouble {
     Deep,
     /// What a store must have isn't there, or is of another kind.
     Missing,
+    /// The names of a site are others than its identifier's own, so that it may be the twin of the site with these.
+    Spelling,
+    /// `pairtree_prefix` is no file, or its bytes are no prefix.
+    Prefix,
+    /// The prefix has a control character, a byte order mark, or a blank at an end.
+    Doubtful,
 }
 
 impl Trouble {
-    /// The trouble's number: that of its cause, 1 to 9; 10 `Desktop`, 11 `Long`, 12 `Deep`, 13 `Missing`.
+    /// The trouble's number: that of its cause, 1 to 9; 10 `Desktop`, 11 `Long`, 12 `Deep`, 13 `Missing`, 14 `Spelling`, 15 `Prefix`,
+    /// 16 `Doubtful`.
     pub fn number(&self) -> u8
         ensures { result ≡ trouble_number self.now }
     {
@@ -29,10 +36,14 @@ impl Trouble {
             Trouble::Long => 11,
             Trouble::Deep => 12,
             Trouble::Missing => 13,
+            Trouble::Spelling => 14,
+            Trouble::Prefix => 15,
+            Trouble::Doubtful => 16,
         }
     }
 
-    /// The trouble's word in a line: that of its cause; `desktop`, `long`, `deep`, `missing`.
+    /// The trouble's word in a line: that of its cause; `desktop`, `long`, `deep`, `missing`, `spelling`,
+    /// `prefix`, `doubtful`.
     pub fn word(&self) -> &'static str
         ensures { result.now ≡ trouble_word self.now }
     {
@@ -42,6 +53,9 @@ impl Trouble {
             Trouble::Long => "long",
             Trouble::Deep => "deep",
             Trouble::Missing => "missing",
+            Trouble::Spelling => "spelling",
+            Trouble::Prefix => "prefix",
+            Trouble::Doubtful => "doubtful",
         }
     }
 }

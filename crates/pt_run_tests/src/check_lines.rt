@@ -54,6 +54,13 @@ const BAD_NAME: Row = Row {
     log: "{\"as\":\"name\",\"path\":\"pairtree_root/^z/c\"}\n{\"as\":\"end\",\"bytes\":0,\"files\":1,\"folders\":3,\"largest\":0,\"longest\":24,\"objects\":1,\"sites\":3,\"told\":1}\n",
 };
 
+// The site of `ab` is `ab`, and this one is its twin, if that is there.
+const SPELLING: Row = Row {
+    entries: " ^6/1b/obj/f=",
+    calls: None,
+    log: "{\"as\":\"spelling\",\"path\":\"pairtree_root/^6/1b\"}\n{\"as\":\"end\",\"bytes\":0,\"files\":1,\"folders\":3,\"largest\":0,\"longest\":25,\"objects\":1,\"sites\":3,\"told\":1}\n",
+};
+
 const PAST: Row = Row {
     entries: " a/bc/obj/f=",
     calls: None,
@@ -71,7 +78,16 @@ const FAILING: Row = Row {
 const EMPTY: &str =
     "{\"as\":\"missing\",\"path\":\"pairtree_version0_1\"}\n{\"as\":\"missing\",\"path\":\"pairtree_root\"}\n{\"as\":\"end\",\"bytes\":0,\"files\":0,\"folders\":0,\"largest\":0,\"longest\":0,\"objects\":0,\"sites\":0,\"told\":2}\n";
 
-const ROWS: [Row; 7] = [WHOLE, TWO_OBJECTS, STRAY, OTHER, BAD_NAME, PAST, FAILING];
+const ROWS: [Row; 8] = [
+    WHOLE,
+    TWO_OBJECTS,
+    STRAY,
+    OTHER,
+    BAD_NAME,
+    SPELLING,
+    PAST,
+    FAILING,
+];
 
 // Whether a check that reads each file whole ends well, and its log is this.
 fn tells(alloc: Global, source: MemSource, log: &str) -> bool {

@@ -34,6 +34,7 @@ loop-i-preserved-in-Dir g t c =
     record {
       keeps = keeps_on g.S.Source.told g.S.Source.keeps g.L.Log.told g.met.S.Source.keeps_on _ _ _ (keeps_on g.S.Source.told g.S.Source.keeps g.L.Log.told g.met.S.Source.keeps_on _ _ _ (keeps_on g.S.Source.told g.S.Source.keeps g.L.Log.told g.met.S.Source.keeps_on _ _ _ c.loop-i.invariant.keeps c.meet.ensures.keeps) c.visit.ensures.keeps)
           (ends_on g.S.Source.told g.S.Source.keeps g.L.Log.told g.met.S.Source.is_kept c.visit.new.self c.end.new.self _ c.end.ensures.rest);
+      unfailed = ap (λ s. g.L.Log.failed s.log) c.end.ensures.rest ∙ c.in_ok-visit.ensures.fault ∙ c.in_ok-bytes.ensures.fault ∙ c.loop-i.invariant.unfailed;
       visited = dir_step here (g.met.S.Source.proper c.args.self.now.source) c.args.self.now.reads c.meet.new.self.reads folder c.in_ok-has_object.has_object c.in-Some.listing c.loop-i.i
           c.in-Some-get.name.now c.in-Some-get.kind c.in_ok-entry.entry c.below-inside.result (seen_by g.S.Source.failed g.L.Log.told c.judge.new.self) (seen_by g.S.Source.failed g.L.Log.told c.loop-i.self) (seen_by g.S.Source.failed g.L.Log.told c.meet.new.self)
           (seen_by g.S.Source.failed g.L.Log.told c.visit.new.self) (seen_by g.S.Source.failed g.L.Log.told c.end.new.self) (tree_by g.S.Source.told c.meet.new.self)
@@ -62,6 +63,7 @@ loop-i-preserved g t c =
     let folder : Folder = record { path = c.args.path.now; here = c.args.within; left = c.args.left } in
     record {
       keeps = keeps_on g.S.Source.told g.S.Source.keeps g.L.Log.told g.met.S.Source.keeps_on _ _ _ (keeps_on g.S.Source.told g.S.Source.keeps g.L.Log.told g.met.S.Source.keeps_on _ _ _ c.loop-i.invariant.keeps c.meet.ensures.keeps) c.visit_leaf.ensures.keeps;
+      unfailed = c.in_ok-visit_leaf.ensures.fault ∙ c.in_ok-bytes.ensures.fault ∙ c.loop-i.invariant.unfailed;
       visited = leaf_step here (g.met.S.Source.proper c.args.self.now.source) c.args.self.now.reads c.meet.new.self.reads folder c.in_ok-has_object.has_object c.in-Some.listing c.loop-i.i
           c.in-Some-get.name.now c.in-Some-get.kind c.in_ok-entry.entry (seen_by g.S.Source.failed g.L.Log.told c.judge.new.self) (seen_by g.S.Source.failed g.L.Log.told c.loop-i.self) (seen_by g.S.Source.failed g.L.Log.told c.meet.new.self)
           (seen_by g.S.Source.failed g.L.Log.told c.visit_leaf.new.self) (tree_by g.S.Source.told c.meet.new.self) listed (sym c.in-Some-get.ensures) c.in_default-kind.not-Dir c.in_ok-entry.ensures

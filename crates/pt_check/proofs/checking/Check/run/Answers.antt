@@ -1,11 +1,11 @@
-use Rattle.std.proofs.Common.{ap, subst, is_some, ◌≡◌, [], Some}
+use Rattle.std.proofs.Common.{ap, subst, is_some, ◌≡◌, ◌∙◌, [], Some}
 use Rattle.std.specs.Option.{ForSome}
 use Rattle.std.specs.Prelude.{IfOk, OnOk, Result, Ok, Err}
 use Rattle.pt_check.specs.Visits.{TellsFailure, seen_by, tree_by}
 use Rattle.pt_tree.specs.Forest.{Forest, listing_at}
 use Rattle.pt_tree.specs.Path.{Path}
 use Rattle.pt_check.proofs.Keeping.{keeps_on}
-use Rattle.pt_check.proofs.Stepping.{checked, checked_nothing}
+use Rattle.pt_check.proofs.Stepping.{checked, checked_nothing, looked_all}
 use Rattle.pt_check.proofs.Visiting.{in_same}
 use Rattle.pt_check.proofs.checking.Check.run.Goals as goal
 
@@ -14,25 +14,47 @@ of_answer : {T E : Type 0} (r : Result T E) (P R : T → Type 0) (Q : Type 0) �
 of_answer (Ok x) P R Q p q f = f x p q
 of_answer (Err e) P R Q p q f = tt
 
-pub look-requires : goal.look-requires
-look-requires g c =
+pub look_at_prefix-requires : goal.look_at_prefix-requires
+look_at_prefix-requires g c =
     let there = rw c.in-Some.is at c.in_ok-listing.ensures.listed in
     let listed : ForSome (tree_by g.S.Source.told c.args.self.now) (λ t. listing_at t [] ≡ Some c.in-Some.listing) =
     subst (λ (p : Path). ForSome (tree_by g.S.Source.told c.args.self.now) (λ t. listing_at t p ≡ Some c.in-Some.listing)) c.new-top.ensures there in
     in_same (λ (t : Forest). listing_at t [] ≡ Some c.in-Some.listing) (tree_by g.S.Source.told c.args.self.now) (tree_by g.S.Source.told c.list.new.self) c.list.ensures.keeps.tree listed
 
+pub look-requires : goal.look-requires
+look-requires g c =
+    let there = rw c.in-Some.is at c.in_ok-listing.ensures.listed in
+    let listed : ForSome (tree_by g.S.Source.told c.args.self.now) (λ t. listing_at t [] ≡ Some c.in-Some.listing) =
+    subst (λ (p : Path). ForSome (tree_by g.S.Source.told c.args.self.now) (λ t. listing_at t p ≡ Some c.in-Some.listing)) c.new-top.ensures there in
+    in_same (λ (t : Forest). listing_at t [] ≡ Some c.in-Some.listing) (tree_by g.S.Source.told c.args.self.now) (tree_by g.S.Source.told c.look_at_prefix.new.self)
+    (c.look_at_prefix.ensures.keeps.tree ∙ c.list.ensures.keeps.tree) listed
+
+pub returns-in_err-look-in-Some-clause-keeps : goal.returns-in_err-look-in-Some-clause-keeps
+returns-in_err-look-in-Some-clause-keeps g c =
+    let on = keeps_on g.S.Source.told g.S.Source.keeps g.L.Log.told g.met.S.Source.keeps_on in
+    on _ _ _ (on _ _ _ c.list.ensures.keeps c.look_at_prefix.ensures.keeps) c.look.ensures.keeps
+
 pub returns-in-Some-clause-checked : goal.returns-in-Some-clause-checked
 returns-in-Some-clause-checked g c =
+    let there = rw c.in-Some.is at c.in_ok-listing.ensures.listed in
+    let first : ForSome (tree_by g.S.Source.told c.args.self.now) (λ t. listing_at t [] ≡ Some c.in-Some.listing) =
+    subst (λ (p : Path). ForSome (tree_by g.S.Source.told c.args.self.now) (λ t. listing_at t p ≡ Some c.in-Some.listing)) c.new-top.ensures there in
+    let listed = in_same (λ (t : Forest). listing_at t [] ≡ Some c.in-Some.listing) (tree_by g.S.Source.told c.args.self.now) (tree_by g.S.Source.told c.list.new.self) c.list.ensures.keeps.tree first in
     of_answer c.tell_numbers.result _ _ _ c.tell_numbers.ensures.numbers c.tell_numbers.ensures.told
     (λ numbers is held. checked (tree_by g.S.Source.told c.args.self.now) (tree_by g.S.Source.told c.list.new.self) c.args.self.now.reads c.list.new.self.reads numbers
-    (seen_by g.S.Source.failed g.L.Log.told c.args.self.now) (seen_by g.S.Source.failed g.L.Log.told c.list.new.self)
+    (seen_by g.S.Source.failed g.L.Log.told c.args.self.now)
     (seen_by g.S.Source.failed g.L.Log.told c.look.new.self) (seen_by g.S.Source.failed g.L.Log.told c.tell_numbers.new.self)
-    (c.in_ok-listing.ensures.same (ap is_some c.in-Some.is)) c.list.ensures.keeps.tree c.list.ensures.keeps.reads c.in_ok-look-in-Some.ensures.looked is
+    c.list.ensures.keeps.tree c.list.ensures.keeps.reads
+    (looked_all (tree_by g.S.Source.told c.list.new.self) (tree_by g.S.Source.told c.look_at_prefix.new.self) c.list.new.self.reads c.look_at_prefix.new.self.reads c.in-Some.listing
+    (seen_by g.S.Source.failed g.L.Log.told c.args.self.now) (seen_by g.S.Source.failed g.L.Log.told c.list.new.self) (seen_by g.S.Source.failed g.L.Log.told c.look_at_prefix.new.self)
+    (seen_by g.S.Source.failed g.L.Log.told c.look.new.self) listed (c.in_ok-listing.ensures.same (ap is_some c.in-Some.is))
+    c.look_at_prefix.ensures.keeps.tree c.look_at_prefix.ensures.keeps.reads c.in_ok-look_at_prefix-in-Some.ensures.looked c.in_ok-look-in-Some.ensures.looked) is
     (ap g.S.Source.failed c.tell_numbers.ensures.source) c.tell_numbers.ensures.counted held)
 
 pub returns-in-Some-clause-keeps : goal.returns-in-Some-clause-keeps
 returns-in-Some-clause-keeps g c =
-    keeps_on g.S.Source.told g.S.Source.keeps g.L.Log.told g.met.S.Source.keeps_on _ _ _ (keeps_on g.S.Source.told g.S.Source.keeps g.L.Log.told g.met.S.Source.keeps_on _ _ _ c.list.ensures.keeps c.look.ensures.keeps) c.tell_numbers.ensures.keeps
+    let on = keeps_on g.S.Source.told g.S.Source.keeps g.L.Log.told g.met.S.Source.keeps_on in
+    on _ _ _ (on _ _ _ (on _ _ _ c.list.ensures.keeps c.look_at_prefix.ensures.keeps) c.look.ensures.keeps) c.tell_numbers.ensures.keeps
 
 pub returns-clause-checked : goal.returns-clause-checked
 returns-clause-checked g c =

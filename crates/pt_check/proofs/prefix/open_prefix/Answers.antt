@@ -1,0 +1,15 @@
+use Rattle.std.proofs.Common.{ap, ◌∙◌}
+use Rattle.pt_check.specs.Prefix.{prefix_trouble}
+use Rattle.pt_check.proofs.Blocks.{front_read, is_opened, may_open}
+use Rattle.pt_check.proofs.prefix.open_prefix.Goals as goal
+
+pub open-requires : goal.open-requires
+open-requires g c = may_open (g.S.Source.told c.args.source.now) c.args.path.now c.requires
+
+pub next-requires : goal.next-requires
+next-requires g c = is_opened (g.S.Source.told c.args.source.now) (g.S.Source.told c.open.new.self) c.args.path.now c.requires c.in_ok-open.ensures.opened
+
+pub returns-clause-trouble : goal.returns-clause-trouble
+returns-clause-trouble g c =
+    let front = front_read (g.S.Source.told c.args.source.now) (g.S.Source.told c.open.new.self) c.args.path.now c.next.new.block.items c.requires c.in_ok-open.ensures.opened c.in_ok-next.ensures.block in
+    λ tree told. c.in_ok-prefix_trouble.ensures ∙ ap prefix_trouble (c.as_slice.ensures.value ∙ front tree told)

@@ -1,0 +1,12 @@
+//! What follows of a check from its promises. Each law is the contract of a function that does nothing.
+ghost use Rattle.pt_check.specs.Clean.{NoRunSkipsForOther, QuietCheckMeansCleanStore};
+
+/// Where a check ended well and told nothing there is nothing to tell of its store, as its source told it; and no call of that failed.
+pub fn quiet_check_means_clean_store()
+    ensures { QuietCheckMeansCleanStore }
+{}
+
+/// No run over a store of which there is nothing to tell passes an object over for `other`.
+pub fn no_run_skips_for_other()
+    ensures { NoRunSkipsForOther }
+{}
