@@ -168,6 +168,14 @@ class Looking(Case):
         return stores.differences(stores.read_tree(f"{folder}/d"), self.was)
 
 
+class Checking(Looking):
+    """A check, which has no destination."""
+
+    def __init__(self):
+        super().__init__("a check", ["check", "--read", "--ignore", "loose.txt"], None, ())
+        self.words.remove("d")
+
+
 class Writing(Looking):
     """A run, after which another carries the rest."""
 
@@ -262,6 +270,8 @@ CASES = [
     Case("names of a long identifier", ["names", "--prefix", "uc1.", "--tuple-size", "2", IDENTIFIER * 9]),
     Case("help", ["migrate", "--help"]),
     Case("the version", ["--version"]),
+    Case("a check of what isn't there", ["check", "none"]),
+    Checking(),
     *cases_over(None),
     *cases_over("small"),
 ]

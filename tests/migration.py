@@ -1,4 +1,4 @@
-"""The built program's tests over real folders. tests/cases has the cases: carrying, refusing and options those of `migrate`, auditing and twins those of `audit`, watching of progress, events of the records beside the log, sharing of shares,
+"""The built program's tests over real folders. tests/cases has the cases: carrying, refusing and options those of `migrate`, auditing and twins those of `audit`, checking those of `check`, watching of progress, events of the records beside the log, sharing of shares,
 peers beside plain Rust, surroundings of what is around a run, packages of what is shipped, anywhere of its programs, guide of the guide's commands,
 joining of tools/roots.py, report of examples/report.py, documents of what the documents name, gate of the gate itself. tests/harness has how they
 are run, and what must stand.
@@ -17,6 +17,7 @@ sys.dont_write_bytecode = True
 import anywhere
 import auditing
 import carrying
+import checking
 import documents
 import events
 import gate
@@ -35,7 +36,7 @@ import twins
 import watching
 from tally import Tally
 
-FILES = (carrying, auditing, twins, refusing, options, events, watching, surroundings, sharing, peers, guide, joining, report, packages, anywhere, documents, gate)
+FILES = (carrying, auditing, twins, checking, refusing, options, events, watching, surroundings, sharing, peers, guide, joining, report, packages, anywhere, documents, gate)
 CASES = [case for file in FILES for case in file.CASES]
 
 

@@ -69,6 +69,12 @@ def is_help_on_audit(text):
     return b"Usage: pairtree2ocfl audit" in text and all(one in options for one in said) and not re.search(rb"[Cc]arr|the run\b|staging", options)
 
 
+def is_help_on_check(text):
+    """The help of `check`, whose line on each trouble says what it is, and nothing of a destination."""
+    words = (b"unreadable", b"missing", b"prefix", b"doubtful", b"spelling", b"deep", b"long", b"desktop", b"root, empty, split, past, name, utf8, other", b"end")
+    return b"Usage: pairtree2ocfl check [OPTIONS] <SOURCE>" in text and all(b"\n  " + word in text for word in words) and b"DEST" not in text
+
+
 def is_version(text):
     """The name, the version, and on a line of its own the toolchain's."""
     return re.fullmatch(rb"pairtree2ocfl \d+\.\d+\.\d+\nrattle-kit-\S+ logic [0-9a-f]{16}\n", text) is not None
@@ -176,6 +182,11 @@ def of_input():
 
 
 EMPTY = b"pairtree2ocfl: the identifier is empty\n"
+NOT_A_NAME = b"pairtree2ocfl: --ignore is not the name of a file or folder\n"
+ABSENT = (
+    b'{"as":"unreadable","path":"","reason":"No such file or directory (os error 2)"}\n'
+    b'{"as":"end","bytes":0,"files":0,"folders":0,"largest":0,"longest":0,"objects":0,"sites":0,"told":1}\n'
+)
 CASES = [
     names("abc", "ab/c", "ba7/816/bf8/abc"),
     names("ark:/13030/xt12t3", "ar/k+/=1/30/30/=x/t1/2t/3", "4b8/4fe/385/ark%3a%2f13030%2fxt12t3"),
@@ -200,6 +211,13 @@ CASES = [
     Case("help on standard output", ["--help"], 0, is_help),
     Case("help on one command", ["names", "--help"], 0, is_help),
     Case("help on audit", ["audit", "--help"], 0, is_help_on_audit),
+    Case("help on check", ["check", "--help"], 0, is_help_on_check),
+    Case("a check of nothing that is named", ["check"], 2, b"", is_refusal),
+    Case("a check of two stores", ["check", "s", "d"], 2, b"", is_refusal),
+    Case("a check with an option of a run", ["check", "--gather", "s"], 2, b"", is_refusal),
+    Case("a check that ignores what is no name", ["check", "--ignore", "a/b", "s"], 2, b"", NOT_A_NAME),
+    Case("a check of what isn't there", ["check", "/none"], 1, ABSENT),
+    Case("a check to an output that is full", ["check", "/none"], 3, b"", FULL, "/dev/full"),
     Case("the empty identifier", ["names", ""], 2, b"", b"pairtree2ocfl: the identifier is empty\n"),
     Case("no words at all", [], 2, b"", is_refusal),
     Case("names without an identifier", ["names"], 2, b"", is_refusal),

@@ -233,17 +233,21 @@ STORE = {
 }
 SKIPS = ["other\tot/he", "root\t", "split\tsp/li"]
 TWIN = "ark:/\\x"
+CHECKED = [
+    '{"as":"root","path":"pairtree_root"}',
+    '{"as":"spelling","path":"pairtree_root/^5/Cx"}',
+    '{"as":"other","path":"pairtree_root/ot/he/obj/link"}',
+    '{"as":"split","path":"pairtree_root/sp/li"}',
+    '{"as":"desktop","path":"pairtree_root/sp/li/.DS_Store"}',
+    '{"as":"end","bytes":6,"files":6,"folders":15,"largest":1,"longest":29,"objects":4,"sites":10,"told":5}',
+]
 
 # Of each block of the guide that the walk runs: a text in it, what `AT` is there, and the lines that it prints, sorted; None for any.
 WALK = [
-    ("ls -l", None, None),
-    ("od -c", None, sorted(["0000000   a   r   k   :   /  \\n", "0000006"])),
-    ("-name .DS_Store", None, ["s/pairtree_root/sp/li/.DS_Store"]),
-    ("! -readable", None, []),
+    ("check --read", None, CHECKED),
     ("created=", None, []),
     ("--dry-run", None, ['{"as":"skip","at":"","cause":"root"}']),
     ("names - ", None, []),
-    ("uniq -d", None, [TWIN]),
     ("sort -rn", None, ["11 ab/ce/obj/f", "11 sp/li/obj/f", "15 sp/li/.DS_Store"]),
     ("run-1.log\n    echo", None, ["1"]),
     ("tail -n 1", None, ['{"as":"end","done":2,"present":1,"skip":3}']),

@@ -23,7 +23,7 @@ sys.path.append(f"{TOP}/tools")
 
 import fill
 
-COMMANDS = ("migrate", "audit", "names")
+COMMANDS = ("migrate", "audit", "check", "names")
 INSTALLED = {
     "bin/pairtree2ocfl",
     "share/man/man1/pairtree2ocfl.1",
@@ -158,7 +158,7 @@ def completed(*words):
 def in_bash(program, folder):
     """What bash completes values, commands and folders to."""
     return differs(
-        commands=(completed(""), ["names", "migrate", "audit", "help", "--help", "-h", "--version", "-V"]),
+        commands=(completed(""), ["names", "migrate", "audit", "check", "help", "--help", "-h", "--version", "-V"]),
         digests=(completed("migrate", "--digest", ""), ["sha512", "sha256"]),
         behind=(completed("migrate", "--digest", "="), ["sha512", "sha256"]),
         begun=(completed("migrate", "--digest", "=", "sha2"), ["sha256"]),

@@ -27,10 +27,10 @@ use Rattle.pt_object.specs.declared.algorithm.Algorithm.{Algorithm}
 use Rattle.pt_object.specs.declared.algorithm.Algorithm.TheVariants.{Sha512, Sha256}
 use Rattle.pt_messages.specs.declared.watch.Progress.{Progress}
 use Rattle.pt_messages.specs.declared.watch.Progress.TheVariants.{Auto, Always, Never}
-use Rattle.pt_cli.specs.Grammar.{Spelled, SpellsAlgorithms, SpellsTimes, audit_app, migrate_app, names_app, program, u32_parser}
+use Rattle.pt_cli.specs.Grammar.{Spelled, SpellsAlgorithms, SpellsTimes, audit_app, check_app, migrate_app, names_app, program, u32_parser}
 use Rattle.pt_cli.specs.Arguments.{◌>>=◌, IsThere, algorithm_of, judged, number_of, progress_of}
 use Rattle.pt_cli.specs.Ignore.{are_names, ignored_in, names_of, names_only}
-use Rattle.pt_cli.specs.Options.{answer_to, audit_in, audit_meta, audit_options_in, command_in, cut, described_by, feedback_in, folders_in, id_only, job_in, layout_in, meta_in, migration_in, names_in, run_options_in}
+use Rattle.pt_cli.specs.Options.{answer_to, audit_in, audit_meta, audit_options_in, check_in, command_in, cut, described_by, feedback_in, folders_in, id_only, job_in, layout_in, meta_in, migration_in, names_in, run_options_in}
 use Rattle.pt_cli.specs.Share.{share_asked}
 use Rattle.pt_cli.specs.declared.faults.Unread.{Unread}
 use Rattle.pt_cli.specs.declared.faults.Unread.TheVariants as unread
@@ -166,38 +166,43 @@ module _ (rows : List Row) where
       (then_there audit_meta _ audit_meta_there (λ m. then_there (job_in m rows) _ (job m) (λ j. then_there (ignored_in rows) _ (ignored_there (all_of (codes "ignore") rows)) (λ i. then_there (feedback_in rows) _ feedback (λ f. tt)))))
       (λ o. then_there (folders_in rows) _ folders (λ f. tt))
 
+  check_there : (source : Text) → first_of (codes "SOURCE") rows ≡ Some source → IsThere (check_in rows)
+  check_there source e1 = then_there (ignored_in rows) _ (ignored_there (all_of (codes "ignore") rows)) (λ i. rw e1 tt)
+
   names_there : (id : Text) → first_of (codes "ID") rows ≡ Some id → IsThere (layout_in rows) → IsThere (names_in rows)
   names_there id e1 cuts = rw e1 (then_there (id_only id) _ (id_there id) (λ x. then_there (layout_in rows) _ cuts (λ l. tt)))
 
 -- ---- the program
 
--- a command with four commands below it
-abbrev four : Shape → Shape → Shape → Shape → Shape → App
-four top x y w z = record { top = top; subs = x ∷ y ∷ w ∷ z ∷ [] }
+-- a command with five commands below it
+abbrev five : Shape → Shape → Shape → Shape → Shape → Shape → App
+five top x y w v z = record { top = top; subs = x ∷ y ∷ w ∷ v ∷ z ∷ [] }
 
 -- a level that passes has an answer
 abbrev Answered : Shape → Type 0
 Answered s = (words : List Text) → level_fault s [] nothing_held words false [] ≡ [] → IsThere (command_in (rows_at s words))
 
-module _ (top x y w z : Shape) (names_answered : Answered x) (migrate_answered : Answered y) (audit_answered : Answered w)
+module _ (top x y w v z : Shape) (names_answered : Answered x) (migrate_answered : Answered y) (audit_answered : Answered w) (check_answered : Answered v)
     (is_help : (word : Text) → answers_to word (label_of z) ≡ true → bytes_eq word (codes "help") ≡ true) where
-  dispatched : (stop : Option (Text × List Text)) → NotHelp stop → entered_fault (four top x y w z) stop ≡ [] → is_some (entered (four top x y w z) stop) ≡ true
-      → IsThere (answer_to (entered (four top x y w z) stop))
+  dispatched : (stop : Option (Text × List Text)) → NotHelp stop → entered_fault (five top x y w v z) stop ≡ [] → is_some (entered (five top x y w v z) stop) ≡ true
+      → IsThere (answer_to (entered (five top x y w v z) stop))
   dispatched None not passes some = absurd (cc)
-  dispatched (Some p) not passes some = go (answers_to p.0 (label_of x)) (answers_to p.0 (label_of y)) (answers_to p.0 (label_of w)) (answers_to p.0 (label_of z)) refl passes some
+  dispatched (Some p) not passes some =
+      go (answers_to p.0 (label_of x)) (answers_to p.0 (label_of y)) (answers_to p.0 (label_of w)) (answers_to p.0 (label_of v)) (answers_to p.0 (label_of z)) refl passes some
     where
-      found : Bool → Bool → Bool → Bool → Option Shape
-      found a b d c = cond a (Some x) (cond b (Some y) (cond d (Some w) (cond c (Some z) None)))
+      found : Bool → Bool → Bool → Bool → Bool → Option Shape
+      found a b d f c = cond a (Some x) (cond b (Some y) (cond d (Some w) (cond f (Some v) (cond c (Some z) None))))
 
-      go : (a b d c : Bool) → answers_to p.0 (label_of z) ≡ c
-          → Rattle.std.specs.Option.option_map_or (λ s. level_fault s [] nothing_held p.1 false []) (found a b d c) [] ≡ []
-          → is_some (option_map (λ s. rows_at s p.1) (found a b d c)) ≡ true
-          → IsThere (answer_to (option_map (λ s. rows_at s p.1) (found a b d c)))
-      go true b d c is k there = names_answered p.1 k
-      go false true d c is k there = migrate_answered p.1 k
-      go false false true c is k there = audit_answered p.1 k
-      go false false false true is k there = absurd (true≢false (sym (is_help p.0 is) ∙ not))
-      go false false false false is k there = absurd (true≢false (sym there))
+      go : (a b d f c : Bool) → answers_to p.0 (label_of z) ≡ c
+          → Rattle.std.specs.Option.option_map_or (λ s. level_fault s [] nothing_held p.1 false []) (found a b d f c) [] ≡ []
+          → is_some (option_map (λ s. rows_at s p.1) (found a b d f c)) ≡ true
+          → IsThere (answer_to (option_map (λ s. rows_at s p.1) (found a b d f c)))
+      go true b d f c is k there = names_answered p.1 k
+      go false true d f c is k there = migrate_answered p.1 k
+      go false false true f c is k there = audit_answered p.1 k
+      go false false false true c is k there = check_answered p.1 k
+      go false false false false true is k there = absurd (true≢false (sym (is_help p.0 is) ∙ not))
+      go false false false false false is k there = absurd (true≢false (sym there))
 
   some_command : (ask : Bool) (rows : List Row) → top.arg_required_else_help ≡ false → top.subcommand_required ≡ true → check_fault top rows ask ≡ [] → ask ≡ true
   some_command true rows quiet wants e = refl
@@ -206,13 +211,13 @@ module _ (top x y w z : Shape) (names_answered : Answered x) (migrate_answered :
       absurd (cc)
 
   answered : top.args_override_self ≡ false → Every (Fits top.rules) top.rules → top.disable_help_subcommand ≡ false → top.arg_required_else_help ≡ false
-      → top.subcommand_required ≡ true → (words : List Text) → built_fault (four top x y w z) nothing_held words ≡ []
-      → IsThere (answer_to (entered (four top x y w z) (stop_after top.rules (commands_of (four top x y w z)) words)))
+      → top.subcommand_required ≡ true → (words : List Text) → built_fault (five top x y w v z) nothing_held words ≡ []
+      → IsThere (answer_to (entered (five top x y w v z) (stop_after top.rules (commands_of (five top x y w v z)) words)))
   answered once fit helps quiet wants words e =
-      let names = commands_of (four top x y w z) in
+      let names = commands_of (five top x y w v z) in
       let stop = stop_after top.rules names words in
-      let walks = walk_passed top once fit names words (is_some (entered (four top x y w z) stop)) (entered_fault (four top x y w z) stop) e in
-      let checks = check_passed top once fit names words (is_some (entered (four top x y w z) stop)) (entered_fault (four top x y w z) stop) e in
+      let walks = walk_passed top once fit names words (is_some (entered (five top x y w v z) stop)) (entered_fault (five top x y w v z) stop) e in
+      let checks = check_passed top once fit names words (is_some (entered (five top x y w v z) stop)) (entered_fault (five top x y w v z) stop) e in
       dispatched stop (walk_goes top helps names (walk_from nothing_held) words tt walks.0) walks.1 (some_command _ (rows_after top.rules names words) quiet wants checks)
 
 module _ (spelled others : Spelled) where
@@ -229,6 +234,9 @@ module _ (spelled others : Spelled) where
   abbrev built_audit : Shape
   built_audit = built_leaf (inherited above (audit_app others).top)
 
+  abbrev built_check : Shape
+  built_check = built_leaf (inherited above check_app.top)
+
   abbrev built_help : Shape
   built_help = built_leaf help_shape
 
@@ -243,6 +251,14 @@ module _ (spelled others : Spelled) where
 
   fit_audit : Every (Fits built_audit.rules) built_audit.rules
   fit_audit = ((refl, refl, refl), ((refl, refl, refl), ((refl, refl, refl), ((refl, refl, refl), ((refl, refl, refl), ((refl, refl, refl), ((refl, refl, refl), ((refl, refl, refl), ((refl, refl, refl), ((refl, refl, refl), ((refl, refl, refl), ((refl, refl, refl), ((refl, refl, refl), ((refl, refl, refl), ((refl, refl, refl), ((refl, refl, refl), ((refl, refl, refl), tt)))))))))))))))))
+
+  fit_check : Every (Fits built_check.rules) built_check.rules
+  fit_check = ((refl, refl, refl), ((refl, refl, refl), ((refl, refl, refl), ((refl, refl, refl), tt))))
+
+  check_is_answered : Answered built_check
+  check_is_answered words e =
+      let source = required_value built_check refl fit_check [] words false [] e (codes "SOURCE") _ refl refl refl in
+      check_there (rows_after built_check.rules [] words) source.0 source.1
 
   audit_is_answered : Answered built_audit
   audit_is_answered words e =
@@ -307,5 +323,5 @@ module _ (spelled others : Spelled) where
   pub program_answered : (words : List Text) → fault_of (program spelled others) words ≡ []
       → IsThere (answer_to (subcommand_of (program spelled others) words))
   program_answered words e =
-      answered (built (program spelled others)).top built_names built_migrate built_audit built_help names_is_answered migrate_is_answered audit_is_answered help_is_help refl fit_top refl refl refl
+      answered (built (program spelled others)).top built_names built_migrate built_audit built_check built_help names_is_answered migrate_is_answered audit_is_answered check_is_answered help_is_help refl fit_top refl refl refl
       (argument_words (program spelled others) words) e

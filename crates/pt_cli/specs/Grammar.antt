@@ -127,6 +127,10 @@ present_rule = flag_rule (codes "present-ok")
 abbrev pub skips_rule : Rule
 skips_rule = flag_rule (codes "skips-ok")
 
+-- `--read`
+abbrev pub read_rule : Rule
+read_rule = flag_rule (codes "read")
+
 -- `--verbose`, `-v`
 abbrev pub verbose_rule : Rule
 verbose_rule = record (flag_rule (codes "verbose")) { short = Some 118 }
@@ -181,6 +185,10 @@ audit_app words = on_top (λ s. record s { rules = audit_rules words }) (new_app
 abbrev pub IsAuditApp : App → Type 0
 IsAuditApp app = (words : Spelled) × (app ≡ audit_app words)
 
+-- `check [OPTIONS] SOURCE`
+abbrev pub check_app : App
+check_app = on_top (λ s. record s { rules = read_rule ∷ ignore_rule ∷ source_rule ∷ [] }) (new_app (codes "check"))
+
 -- `pairtree2ocfl` with a command behind it, or `--version`
 abbrev pub top_app : App
 top_app = on_top (λ s. record s { has_version = true; subcommand_required = true })
@@ -189,8 +197,8 @@ top_app = on_top (λ s. record s { has_version = true; subcommand_required = tru
 -- the program, whose parser reads the values of `migrate` and of `audit` from these words
 abbrev pub program : Spelled → Spelled → App
 program words others =
-    with_subcommand (with_subcommand (with_subcommand top_app names_app.top) (migrate_app words).top)
-    (audit_app others).top
+    with_subcommand (with_subcommand (with_subcommand (with_subcommand top_app names_app.top) (migrate_app words).top)
+    (audit_app others).top) check_app.top
 
 -- the program, whose values are spelled somewhere
 abbrev pub IsProgram : App → Type 0

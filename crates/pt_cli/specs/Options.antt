@@ -19,7 +19,7 @@ use Rattle.pt_cli.specs.Arguments.{◌>>=◌, algorithm_in, is_set_in, judged, n
 use Rattle.pt_cli.specs.Ignore.{ignored_in}
 use Rattle.pt_cli.specs.Share.{share_asked, with_only}
 use Rattle.pt_cli.specs.declared.command.Command.{Command}
-use Rattle.pt_cli.specs.declared.command.Command.TheVariants.{Audit, Migrate, Names}
+use Rattle.pt_cli.specs.declared.command.Command.TheVariants.{Audit, Check, Migrate, Names}
 use Rattle.pt_cli.specs.declared.faults.Unread.{Unread}
 use Rattle.pt_cli.specs.declared.faults.Unread.TheVariants as unread
 
@@ -137,6 +137,16 @@ audit_in rows = do
   folders ← folders_in rows
   Ok (Audit (record { options = options; source = folders.0; dest = folders.1 }))
 
+-- what `check` is asked for
+abbrev pub check_in : List Row → Result Command Unread
+check_in rows = do
+  ignored ← ignored_in rows
+  source ← needed (first_of (codes "SOURCE") rows)
+  Ok (Check (record {
+    options = record { reads = is_set_in (codes "read") rows; ignored = ignored };
+    source = source;
+  }))
+
 -- the identifier, which isn't empty
 abbrev pub id_only : Text → Result Text Unread
 id_only [] = Err unread.EmptyId
@@ -156,6 +166,7 @@ command_in found =
     if bytes_eq found.0 (codes "names") then names_in found.1
     else if bytes_eq found.0 (codes "migrate") then migration_in found.1
     else if bytes_eq found.0 (codes "audit") then audit_in found.1
+    else if bytes_eq found.0 (codes "check") then check_in found.1
     else Err unread.Missing
 
 -- the same of the command that the parser found, if there is one

@@ -5,13 +5,14 @@ use Rattle.std.specs.declared.io.Error.{Error}
 use Rattle.std.specs.declared.io.ErrorKind.TheVariants.{OutOfMemory}
 use Rattle.clap.specs.Words.{Text}
 use Rattle.pt_host.specs.Audits.{Audits, audit_call}
+use Rattle.pt_host.specs.Checking.{ChecksStore, check_call}
 use Rattle.pt_host.specs.Machine.{MachineWords}
 use Rattle.pt_host.specs.Made.{Runs, run_call}
 use Rattle.pt_cli.specs.Calls.{TellsAsked, TellsText}
 use Rattle.pt_cli.specs.Inputs.{Beside}
 use Rattle.pt_cli.specs.Words.{ReadsWords}
 use Rattle.pt_cli.specs.declared.command.Command.{Command}
-use Rattle.pt_cli.specs.declared.command.Command.TheVariants.{Audit, Names, Migrate}
+use Rattle.pt_cli.specs.declared.command.Command.TheVariants.{Audit, Check, Names, Migrate}
 use Rattle.pt_cli.specs.declared.faults.WordsFault.{WordsFault}
 use Rattle.pt_cli.specs.declared.faults.WordsFault.TheVariants as words
 
@@ -38,6 +39,7 @@ abbrev pub Obeys : {H : Type 0} → MachineWords H → Beside H → Command
 Obeys machine beside (Names asked) = TellsAsked machine beside.input asked
 Obeys machine beside (Migrate asked) = Runs machine beside.asks (run_call asked.options asked.source asked.dest)
 Obeys machine beside (Audit asked) = Audits machine beside.asks (audit_call asked.options asked.source asked.dest)
+Obeys machine beside (Check asked) = ChecksStore machine (check_call asked.options asked.source)
 
 -- what is done where the words were answered so
 abbrev pub Does : {H : Type 0} → MachineWords H → Beside H

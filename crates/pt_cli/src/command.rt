@@ -1,5 +1,5 @@
 use crate::Text;
-use pt_host::{AuditOptions, RunOptions};
+use pt_host::{AuditOptions, CheckOptions, RunOptions};
 use pt_name::Layout;
 
 /// What the words ask the program to do.
@@ -11,6 +11,8 @@ pub enum Command {
     Migrate(Migrate),
     /// Hold a storage root against a Pairtree store.
     Audit(Audit),
+    /// Tell of a Pairtree store all that would stop a run or surprise its owner.
+    Check(Check),
 }
 
 /// An identifier whose names are asked for.
@@ -44,4 +46,13 @@ pub struct Audit {
     pub source: Text,
     /// The folder in which `ocfl` is.
     pub dest: Text,
+}
+
+/// A check, as the words ask for it.
+#[derive(Debug, Drop)]
+pub struct Check {
+    /// What the options say, or mean where they aren't given.
+    pub options: CheckOptions,
+    /// The folder that holds `pairtree_root`.
+    pub source: Text,
 }

@@ -2,12 +2,12 @@ ghost use Rattle.std.specs.Prelude.{◌≡◌, false, IfOk, map};
 ghost use Rattle.std.specs.Result.{IsOkAnd};
 ghost use Rattle.clap.specs.Words.{AddsSubcommand, app_of};
 ghost use Rattle.clap.specs.declared.builder.command.Command.TheViews.{out-Command};
-ghost use Rattle.pt_cli.specs.Grammar.{IsAuditApp, IsMigrateApp, IsProgram, names_app, top_app};
+ghost use Rattle.pt_cli.specs.Grammar.{IsAuditApp, IsMigrateApp, IsProgram, check_app, names_app, top_app};
 ghost use Rattle.pt_cli.specs.Grammar.{flag_rule, number_rule, option_rule};
 ghost use Rattle.pt_cli.specs.ArgSpec.{IsLocal, IsTaker, TakesToo, defaulted_rule, needed_rule, place_rule};
 ghost use Rattle.pt_cli.specs.ArgSpec.{repeated_rule, repeated_text_rule, rule_of_taken, word_rule};
 
-use crate::help::{AUDIT_AND_STATUS, LOG_AND_STATUS};
+use crate::help::{AUDIT_AND_STATUS, LOG_AND_STATUS, TROUBLES_AND_STATUS};
 use clap::builder::ValueParser;
 use clap::{Arg, ArgAction, Command as Parser, value_parser};
 use pt_host::VERSION;
@@ -20,6 +20,8 @@ pub(crate) const ID: &str = "ID";
 pub(crate) const MIGRATE: &str = "migrate";
 
 pub(crate) const AUDIT: &str = "audit";
+
+pub(crate) const CHECK: &str = "check";
 
 pub(crate) const CREATED: &str = "created";
 
@@ -62,6 +64,8 @@ pub(crate) const INTERVAL: &str = "interval";
 pub(crate) const EXPECT: &str = "expect";
 
 pub(crate) const EVENT: &str = "event";
+
+pub(crate) const READ: &str = "read";
 
 pub(crate) const PREFIX: &str = "prefix";
 
@@ -294,13 +298,25 @@ const AUDIT_TAKES: &[ArgSpec] = &[
     },
 ];
 
+// What `check` takes.
+const CHECK_TAKES: &[ArgSpec] = &[
+    ArgSpec {
+        id: READ,
+        form: Form::Flag,
+        help: "Read each file whole, and count its bytes [default: open it]",
+    },
+    TAKES_IGNORE,
+    TAKES_SOURCE,
+];
+
 // The parser of the program's words.
 pub(crate) fn parser<'a>(alloc: Global) -> Result<Parser<'a>, AllocError>
     ensures { IfOk result (λ parser. IsProgram (app_of parser)) }
 {
     let with_names = with_command(top(alloc), names_parser(alloc))?;
     let with_migrate = with_command(with_names, migrate_parser(alloc))?;
-    with_command(with_migrate, audit_parser(alloc))
+    let with_audit = with_command(with_migrate, audit_parser(alloc))?;
+    with_command(with_audit, check_parser(alloc))
 }
 
 // The parser with no command.
@@ -348,6 +364,14 @@ fn audit_parser<'a>(alloc: Global) -> Result<Parser<'a>, AllocError>
 {
     let about = "Holds an OCFL storage root against the Pairtree store that it was made of";
     with_help(alloc, AUDIT, about, AUDIT_AND_STATUS, AUDIT_TAKES)
+}
+
+fn check_parser<'a>(alloc: Global) -> Result<Parser<'a>, AllocError>
+    ensures { IfOk result (λ parser. (app_of parser ≡ check_app)
+        × ((out-Command parser).has_globals ≡ false)) }
+{
+    let about = "Tells of a Pairtree store all that would stop a run or surprise its owner";
+    with_help(alloc, CHECK, about, TROUBLES_AND_STATUS, CHECK_TAKES)
 }
 
 // The parser of a command that takes these, with what its help says before and after them.

@@ -45,3 +45,26 @@ Exit status:
   1  the log has other lines (with --skips-ok, lines of absent or differs)
   2  the words were refused, and nothing was done
   3  a fault ended the audit, and standard error says which"#;
+
+// Of `check`.
+pub(crate) const TROUBLES_AND_STATUS: &str =
+    r#"Every folder is listed and every file opened, in one pass that goes on past what can't be read.
+Nothing is made or changed. Standard output gets a line of JSON for each trouble.
+Each line says under "as" what is at "path" in the source:
+  unreadable  it can't be listed, opened or read, for the "reason"
+  missing     a store must have it, and it isn't there
+  prefix      pairtree_prefix is no file of a prefix
+  doubtful    the prefix holds a character that isn't seen, or a blank at an end
+  spelling    its names are others than its identifier's, so that it may be a twin
+  deep        it lies more than 600 folders deep, and isn't listed
+  long        its path in its object is longer than 4,000 bytes
+  desktop     it is one of what desktops leave: .DS_Store, Thumbs.db, desktop.ini, ._*
+  root, empty, split, past, name, utf8, other
+              a run doesn't carry it, for the cause that migrate gives
+  end         the last line: how much there is of all that was met
+
+Exit status:
+  0  nothing was told
+  1  something was told
+  2  the words were refused, and nothing was done
+  3  a fault ended the check, and standard error says which"#;

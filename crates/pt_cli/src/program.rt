@@ -5,16 +5,19 @@ ghost use Rattle.pt_cli.specs.Calls.{IsToldAs, TellsAsked, TellsNames, TellsText
 ghost use Rattle.pt_cli.specs.Inputs.{beside};
 ghost use Rattle.pt_cli.specs.Statuses.{Declines, Ends, EndsWith, IsWordless, Obeys};
 ghost use Rattle.pt_host.specs.Audits.{Audits, audit_call};
+ghost use Rattle.pt_host.specs.Checking.{ChecksStore, check_call};
 ghost use Rattle.pt_host.specs.Made.{Runs, run_call};
 
 use crate::input::{HasInput, InputMachine};
 use crate::names_of_input::{is_of_input, write_names_of_input};
 use crate::started::Started;
 use crate::{
-    Audit, Command, Migrate, NamesArgs, NamesFault, Text, WordsFault, names_to, read_words,
+    Audit, Check, Command, Migrate, NamesArgs, NamesFault, Text, WordsFault, names_to, read_words,
 };
 use pt_host::status::{DONE, REFUSED};
-use pt_host::{Host, Machine, Reads, Terminals, audit_guarded, end_with_fault, run_guarded};
+use pt_host::{
+    Host, Machine, Reads, Terminals, audit_guarded, check_store, end_with_fault, run_guarded,
+};
 use pt_move::Fault;
 use pt_tree::write_out;
 use std::alloc::AllocGlobal;
@@ -23,7 +26,7 @@ use std::process::ExitCode;
 use std::rt::Clock;
 
 /// Runs the program on the words that it was started with, on a machine, and gives its exit status: 0 the names were written, all was
-/// carried, each object stands, or help or the version was asked for; 1 a run or an audit ended whose log has other lines; 2 the words or a
+/// carried, each object stands, nothing was told of a store, or help or the version was asked for; 1 a run, an audit or a check ended whose log has other lines; 2 the words or a
 /// line of the input were refused, or the folders lie in one another, or the destination is a storage root itself, or the file of an event may not be made
 /// there; 3 a fault of the run, a destination that another run has, an output or an event's file that failed, or want of memory.
 ///
@@ -66,7 +69,7 @@ fn wordless(rt: &impl Eprint, error: &io::Error) -> u8
 ///
 /// The words of `names` lead to the call that writes the two names to the machine's output, or, with `-` for the identifier, to the one that
 /// writes the names of the identifiers on the machine's input; those of `migrate` to the run that they
-/// ask for; those of `audit` to the audit; those that ask for help or the version to the writing of that; and all others ask nothing of
+/// ask for; those of `audit` to the audit; those of `check` to the check; those that ask for help or the version to the writing of that; and all others ask nothing of
 /// the machine.
 pub fn answer<R, H: Host + HasInput>(rt: &R, host: &mut H, words: &[String]) -> u8
 where
@@ -93,6 +96,7 @@ where
         Command::Names(asked) => write_asked(rt, host, &asked),
         Command::Migrate(asked) => make_run(rt, host, asked),
         Command::Audit(asked) => make_audit(rt, host, asked),
+        Command::Check(asked) => make_check(rt, host, asked),
     }
 }
 
@@ -164,6 +168,15 @@ where
         dest,
     } = asked;
     audit_guarded(rt, host, options, source.as_str(), dest.as_str())
+}
+
+// Makes the check that the words ask for, and gives its status.
+fn make_check<R: Eprint + AllocGlobal, H: Host>(rt: &R, host: &mut H, asked: Check) -> u8
+    ensures { ChecksStore ⟦<H as Machine>⟧.words (check_call asked.options asked.source)
+        host.old host.new result }
+{
+    let Check { options, source } = asked;
+    check_store(rt, host, options, source.as_str())
 }
 
 // Writes the names that are asked for, of an identifier or of those on the input.

@@ -1,5 +1,5 @@
 //! Words of a command line: the commands that are read of them, the fault as which they are refused, and help.
-use pt_cli::{Audit, Command, Migrate, NamesArgs, Text, WordsFault, read_words};
+use pt_cli::{Audit, Check, Command, Migrate, NamesArgs, Text, WordsFault, read_words};
 use pt_name::Layout;
 use pt_object::{Algorithm, Meta};
 use std::alloc::Global;
@@ -14,6 +14,8 @@ enum Reading {
     Migration(&'static Row),
     // An audit of what was gathered, by SHA-256 and two tuples of three digits, with its event.
     Audit,
+    // A check that reads each file, of all entries but those with one name.
+    Check,
     // The fault of this number; 0 where it is a migration.
     Fault(u8),
     // Help with this part.
@@ -32,6 +34,7 @@ fn is_command(command: &Command, reading: Reading) -> bool {
         (Command::Names(asked), Reading::Names) => are_of_abc(asked),
         (Command::Migrate(asked), Reading::Migration(row)) => is_migration(asked, row),
         (Command::Audit(asked), Reading::Audit) => is_gathering(asked),
+        (Command::Check(asked), Reading::Check) => is_reading(asked),
         (Command::Migrate(_), Reading::Fault(number)) => number == 0,
         _ => false,
     }
@@ -80,6 +83,10 @@ fn is_gathering(asked: &Audit) -> bool {
         && (job.algorithm, job.gather) == (Algorithm::Sha256, true)
         && (asked.source.as_str(), asked.dest.as_str()) == ("S", "D")
         && is_event(&asked.options.feedback.event, Some("E"))
+}
+
+fn is_reading(asked: &Check) -> bool {
+    asked.options.reads && asked.options.ignored.names().len() == 1 && asked.source.as_str() == "S"
 }
 
 // Whether a layout has tuples of so many digits, and so many of them.
@@ -221,6 +228,19 @@ fn the_words_of_audit_are_read(rt: HostRuntime) {
     assert!(rt; are_read(rt.alloc(), AUDIT, Reading::Audit));
 }
 
+const CHECK: Words = &[
+    "pairtree2ocfl",
+    "check",
+    "--ignore=.DS_Store",
+    "--read",
+    "S",
+];
+
+#[test]
+fn the_words_of_check_are_read(rt: HostRuntime) {
+    assert!(rt; are_read(rt.alloc(), CHECK, Reading::Check));
+}
+
 // Words, each with the number of the fault that they are refused as; 0 of those of a migration.
 type Readings = &'static [(Words, u8)];
 
@@ -231,6 +251,7 @@ const REFUSED: Readings = &[
     (&["pairtree2ocfl", "names", "--help"], 1),
     (&["pairtree2ocfl", "migrate", "--help"], 1),
     (&["pairtree2ocfl", "audit", "--help"], 1),
+    (&["pairtree2ocfl", "check", "--help"], 1),
     (&["pairtree2ocfl", "help"], 1),
     (&["pairtree2ocfl", "--version"], 8),
     (&["pairtree2ocfl"], 2),
@@ -238,6 +259,10 @@ const REFUSED: Readings = &[
     (&["pairtree2ocfl", "names", "a", "b"], 2),
     (&["pairtree2ocfl", "migrate"], 2),
     (&["pairtree2ocfl", "audit", "S"], 2),
+    (&["pairtree2ocfl", "check"], 2),
+    (&["pairtree2ocfl", "check", "S", "D"], 2),
+    (&["pairtree2ocfl", "check", "--gather", "S"], 2),
+    (&["pairtree2ocfl", "check", "--ignore=a/b", "S"], 10),
     (&["pairtree2ocfl", "carry"], 2),
     (&["pairtree2ocfl", "names", ""], 5),
 ];

@@ -1,5 +1,6 @@
 mod Audited
 mod Begun
+mod Checked
 mod Logged
 mod Recorded
 mod Rehearsed

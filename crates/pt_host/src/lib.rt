@@ -1,5 +1,5 @@
-//! A migration from folder to folder as the command asks for it, and an audit: what is seen to before it, what it is made over, and
-//! what it ends with.
+//! A migration from folder to folder as the command asks for it, an audit, and a check: what is seen to before it, what it is made over,
+//! and what it ends with.
 //!
 //! What it promises of a migration on a machine (`Host`): a system with places and locks, which lends what a run is made over and takes it
 //! back. One ghost word says of each call of a machine what it may come to, so that a contract says which calls are made and in which
@@ -32,6 +32,10 @@
 //!   After any answer both systems keep the
 //!   same trees, what stood in the output stands, a refusal is true of the store and of the root, and the status follows from the answer
 //!   (`AuditsOver`). Where that was asked for, what was passed over counts as well (`others`).
+//! - `check_store`: what is lent is asked for, and nothing else; the check of pt_check is made over SOURCE and the output, and what was lent is
+//!   given back (`ChecksStore`). Where it ends well the output has got its lines, of the tree that the store's system keeps, without the
+//!   entries that are left out; else the output failed, or memory was wanting. After any answer that system keeps the same tree, what stood in the output stands, the destination's
+//!   system is as it was, and the status follows from the answer (`ChecksOver`).
 //! - `DurableLog` is a log. Where its `put` is answered Ok, and it has a file, that was asked after the writing to put onto the disk all
 //!   that its writer has written, and answered Ok (`IsPutBehind`). It has its file to its end, and unless it failed all that it wrote was
 //!   put onto the disk (`LogStays`). That is proved whatever `puts`, the word for it, means of a file and a writer (`SyncsOutput`). What a
@@ -46,6 +50,7 @@
 #![tactic(auto)]
 
 mod asked;
+mod checking;
 mod devices;
 mod event;
 mod folders;
@@ -63,13 +68,14 @@ mod saying;
 pub mod status;
 mod text;
 
+pub use checking::check_store;
 pub use event::EventFault;
 pub use guarded_audit::audit_guarded;
 pub use guarded_run::run_guarded;
 pub use host::{Host, HostIo, OutputFile};
 pub use log::{DurableLog, Syncs, SyncsOutput};
 pub use machine::Machine;
-pub use options::{AuditOptions, Feedback, RunOptions};
+pub use options::{AuditOptions, CheckOptions, Feedback, RunOptions};
 pub use pt_messages::{Progress, Reads, Terminals, VERSION};
 pub use room::longest_made;
 pub use saying::end_with_fault;

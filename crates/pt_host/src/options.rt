@@ -1,4 +1,4 @@
-//! What the options of a run and of an audit say, whoever asks for one: the command line, a test, or a program of its own.
+//! What the options of a run, an audit and a check say, whoever asks for one: the command line, a test, or a program of its own.
 ghost use Rattle.std.specs.Prelude.{◌≡◌, ◌||◌, is_some, option_map};
 
 use crate::Text;
@@ -34,6 +34,15 @@ pub struct AuditOptions {
     pub skips_ok: bool,
     /// What is shown of it beside its log.
     pub feedback: Feedback,
+}
+
+/// All that the options of a check say.
+#[derive(Debug, Drop)]
+pub struct CheckOptions {
+    /// Whether each file is read whole.
+    pub reads: bool,
+    /// The names of the entries of the store that are left out.
+    pub ignored: Ignored,
 }
 
 /// What is told of a run or an audit beside its log: what standard error shows, and the file of its event.

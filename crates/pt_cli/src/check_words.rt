@@ -1,0 +1,27 @@
+//! The words of the command `check`.
+ghost use Rattle.clap.specs.Words.{found_of, rows_of};
+ghost use Rattle.pt_cli.specs.Arguments.{ReadsAs};
+ghost use Rattle.pt_cli.specs.Options.{check_in};
+
+use crate::arguments::{is_set, needed, text};
+use crate::faults::Unread;
+use crate::grammar::{READ, SOURCE};
+use crate::ignore_words::ignored;
+use crate::{Check, Command, Text};
+use clap::ArgMatches;
+use pt_host::CheckOptions;
+use std::alloc::Global;
+
+// The check that is asked for: refused as `Ignored`.
+pub(crate) fn check_command(alloc: Global, matches: &ArgMatches<'_>) -> Result<Command, Unread>
+    ensures { ReadsAs (check_in (rows_of (found_of matches.now))) result }
+{
+    let ignored = ignored(alloc, matches)?;
+    let source = needed(text(matches, SOURCE))?;
+    let options = CheckOptions {
+        reads: is_set(matches, READ),
+        ignored,
+    };
+    let source = Text::of(alloc, source)?;
+    Ok(Command::Check(Check { options, source }))
+}

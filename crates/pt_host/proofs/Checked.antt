@@ -1,0 +1,39 @@
+-- What a check over a store's folder says of what its system keeps.
+use Rattle.std.proofs.Common.{◌≡◌, ◌∙◌, ℕ, Bool, List, subst}
+use Rattle.std.specs.Prelude.{IfErr, IfOk, Option, Result, Ok, Err}
+use Rattle.std.specs.Option.{ForSome}
+use Rattle.pt_check.specs.Faults.{LogFailsAs}
+use Rattle.pt_check.specs.Visits.{Checks, Seen}
+use Rattle.pt_check.specs.declared.numbers.Numbers.{Numbers}
+use Rattle.pt_plan.specs.declared.fault.Fault.{Fault}
+use Rattle.pt_plan.specs.declared.fault.Fault.TheVariants as fault
+use Rattle.pt_tree.specs.Forest.{Forest}
+use Rattle.pt_host.specs.Checking.{CheckCall, ChecksTree, IsFaultOfCheck, unbegun}
+
+-- a check is one of a call, whatever its tree and how far it is are called
+pub checks_as : (ran : Result Numbers Fault) (call : CheckCall) (b : Seen) {reads : Bool} {tree store : Option Forest} {a : Seen} {was held : Option (List ℕ)}
+    → reads ≡ call.options.reads → tree ≡ store → a ≡ unbegun was → b.held ≡ held
+    → IfOk ran (λ numbers. ForSome tree (λ t. Checks reads t numbers a b))
+    → IfOk ran (λ numbers. ForSome store (ChecksTree call was held numbers))
+checks_as (Err why) call b reads_are same begun held_is checks = tt
+checks_as (Ok numbers) call b {reads} {a = a} reads_are same begun held_is checks =
+    λ t is. (
+      b,
+      held_is,
+      subst (λ (s : Seen). Checks call.options.reads t numbers s b) begun (subst (λ (r : Bool). Checks r t numbers a b) reads_are (checks t (same ∙ is))),
+    )
+
+-- whichever fault it answers, it is one of a check
+pub answers : (ran : Result Numbers Fault) (old new : ℕ) → LogFailsAs old new ran → IfErr ran IsFaultOfCheck
+answers (Ok numbers) old new fails = tt
+answers (Err fault.Source) old new fails = absurd fails
+answers (Err fault.Dest) old new fails = absurd fails
+answers (Err fault.Log) old new fails = tt
+answers (Err fault.Memory) old new fails = tt
+answers (Err fault.NotPairtree) old new fails = absurd fails
+answers (Err fault.Prefix) old new fails = absurd fails
+answers (Err fault.StagingLeft) old new fails = absurd fails
+answers (Err fault.Target) old new fails = absurd fails
+answers (Err fault.Changed) old new fails = absurd fails
+answers (Err fault.Turns) old new fails = absurd fails
+answers (Err fault.Ended) old new fails = absurd fails

@@ -1,0 +1,69 @@
+-- What a check of a store on a machine comes to.
+use Rattle.std.specs.Prelude.{◌≡◌, ◌==◌, ⊤, ℕ, if◌then◌else◌, IfErr, IfOk, List, Option, Result, Ok, Err}
+use Rattle.std.specs.Option.{ForSome}
+use Rattle.pt_check.specs.Counting.{no_numbers}
+use Rattle.pt_check.specs.Visits.{Checks, Grows, Seen}
+use Rattle.pt_check.specs.declared.numbers.Numbers.{Numbers}
+use Rattle.pt_plan.specs.declared.fault.Fault.{Fault}
+use Rattle.pt_plan.specs.declared.fault.Fault.TheVariants as fault
+use Rattle.pt_tree.specs.Forest.{Forest}
+use Rattle.pt_host.specs.Audits.{store_tree}
+use Rattle.pt_host.specs.HostCall.{Lend, TakeBack}
+use Rattle.pt_host.specs.Machine.{HostIoOf, HostIoWords, MachineWords}
+use Rattle.pt_host.specs.declared.host.HostIo.{HostIo}
+use Rattle.pt_host.specs.declared.options.CheckOptions.{CheckOptions}
+
+-- of a check: 0 where it told nothing, 1 where it told something, 3 after a fault
+abbrev pub check_status : Result Numbers Fault → ℕ
+check_status (Ok numbers) = if numbers.told == 0 then 0 else 1
+check_status (Err fault) = 3
+
+-- a fault that a check answers: the output's, or want of memory
+abbrev pub IsFaultOfCheck : Fault → Type 0
+IsFaultOfCheck fault.Log = ⊤
+IsFaultOfCheck fault.Memory = ⊤
+IsFaultOfCheck _ = ⊥
+
+-- a check that is asked for: its options, and the folder of its store
+pub record CheckCall : Type 0 where
+  pub options : CheckOptions
+  pub store : List ℕ
+
+-- the check of these options, over this folder
+abbrev pub check_call : CheckOptions → List ℕ → CheckCall
+check_call options store = record { options = options; store = store }
+
+-- the tree that a check sees of its store, over what is lent
+abbrev pub store_checked : {S D W : Type 0} → HostIoWords S D W (Option Forest) → CheckCall → HostIo S D W
+    → Option Forest
+store_checked words call ground = store_tree call.options.ignored (words.store ground.store call.store)
+
+-- a check that has not begun, over an output that holds this: its source didn't fail, and nothing is counted
+abbrev pub unbegun : Option (List ℕ) → Seen
+unbegun held = record { failed = 0; held = held; numbers = no_numbers }
+
+-- a check went over this tree from an output to what that then holds, with what `run` of pt_check promises of it
+abbrev pub ChecksTree : CheckCall → Option (List ℕ) → Option (List ℕ) → Numbers → Forest → Type 0
+ChecksTree call was held numbers tree =
+    (end : Seen) × (end.held ≡ held) × Checks call.options.reads tree numbers (unbegun was) end
+
+-- a check was made over this folder of the system that keeps the store: where it ended well the output got its lines, of the
+-- tree that the system keeps, and else the output failed, or memory was wanting; whatever it came to, that tree stands, what
+-- stood in the output stands, and the other system is as it was
+pub record ChecksOver {S D W : Type 0} (words : HostIoWords S D W (Option Forest)) (call : CheckCall)
+    (old new : HostIo S D W) (status : ℕ) : Type 0 where
+  pub ran : Result Numbers Fault
+  pub checks : IfOk ran (λ numbers. ForSome (store_checked words call old)
+      (ChecksTree call (words.output old.output) (words.output new.output) numbers))
+  pub fault : IfErr ran IsFaultOfCheck
+  pub store_stays : store_checked words call new ≡ store_checked words call old
+  pub grows : Grows (words.output old.output) (words.output new.output)
+  pub folder_stays : new.folder ≡ old.folder
+  pub status_is : status ≡ check_status ran
+
+-- what `check_store` does on a machine, by the words of that: it is asked for what a run is made over, and for nothing else; the
+-- check is made over that, and it is given back
+abbrev pub ChecksStore : {H : Type 0} → MachineWords H → CheckCall → H → H → ℕ → Type 0
+ChecksStore {H} words call old new status =
+    (ground : HostIoOf words) × (lent : H) × words.host old (Lend ground) lent × (after : HostIoOf words)
+    × ChecksOver words.read call ground after status × words.host lent (TakeBack after) new

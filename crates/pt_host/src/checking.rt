@@ -1,0 +1,105 @@
+//! A check of the store in a folder, on a machine.
+ghost use Rattle.std.specs.Prelude.{◌≡◌};
+ghost use Rattle.pt_host.specs.Checking.{ChecksOver, ChecksStore, check_call, check_status};
+ghost use Rattle.pt_host.specs.Machine.{host_io_words};
+
+use crate::log::{DurableLog, SyncsOutput};
+use crate::saying::tell_fault;
+use crate::status::{DONE, FAILED, INCOMPLETE};
+use crate::{CheckOptions, Host, HostIo, Machine};
+use pt_check::{Check, Explains, Numbers};
+use pt_folder::{HostSource, System};
+use pt_move::Fault;
+use pt_tree::{Ignoring, MemoryFault};
+use std::alloc::{AllocGlobal, Global};
+use std::io::Write;
+
+/// Checks the store in a folder on a machine, and gives the exit status: 0 nothing was told; 1 the output has lines that tell of something;
+/// 3 a fault, of which standard error tells.
+///
+/// The machine is asked for no lock and no file. What it lends is given back, that of a destination as it was. What the source fails at is
+/// told on the output, and passed; so a fault is the output's, or want of memory.
+pub fn check_store<R, H: Host>(rt: &R, host: &mut H, options: CheckOptions, store: &str) -> u8
+where
+    R: Eprint + AllocGlobal,
+    ensures { ChecksStore ⟦<H as Machine>⟧.words (check_call options store.now)
+        host.old host.new result }
+{
+    let ground = host.lend();
+    let file: Option<H::File> = None;
+    let Checked { status, ground } = check(rt, ground, file, options, store);
+    host.take_back(ground);
+    status
+}
+
+// A check that has ended: its status, and what it was made over.
+#[derive(Drop)]
+struct Checked<S, D, W> {
+    status: u8,
+    ground: HostIo<S, D, W>,
+}
+
+// Checks a store over what is lent, and tells standard error of a fault.
+fn check<R, S: System, D: System, W: Write, F: SyncsOutput<W> + Drop>(
+    rt: &R,
+    ground: HostIo<S, D, W>,
+    file: Option<F>,
+    options: CheckOptions,
+    store: &str,
+) -> Checked<S, D, W>
+where
+    R: Eprint + AllocGlobal,
+    ensures { ChecksOver (host_io_words S.forest D.forest W.contents)
+        (check_call options store.now) ground result.ground result.status }
+{
+    let alloc = rt.alloc();
+    let HostIo {
+        store: system,
+        folder,
+        output,
+    } = ground;
+    let source = Ignoring::new(HostSource::new(system, alloc, store), options.ignored);
+    let log = DurableLog::new(output, file);
+    let mut check = Check::new(alloc, source, log, LastFailure, options.reads);
+    let ran = check.run();
+    let (source, log) = check.into_devices();
+    if let Err(fault) = &ran {
+        tell_fault(rt, fault);
+    }
+    let status = status_of(&ran);
+    let ground = HostIo {
+        store: source.into_source().into_system(),
+        folder,
+        output: log.into_writer(),
+    };
+    Checked { status, ground }
+}
+
+// Why a folder failed: the reason of its last failure.
+#[derive(Drop)]
+struct LastFailure;
+
+impl<'a, S: System> Explains<Ignoring<HostSource<'a, S>>> for LastFailure {
+    // Where none was kept there was no memory for its path.
+    fn reason(
+        &self,
+        alloc: Global,
+        source: &Ignoring<HostSource<'a, S>>,
+    ) -> Result<String, MemoryFault> {
+        match source.source().last_failure() {
+            Some(failure) => Ok(failure.cause().to_string(alloc)?),
+            None => Err(MemoryFault::Memory),
+        }
+    }
+}
+
+// The exit status of a check.
+fn status_of(ran: &Result<Numbers, Fault>) -> u8
+    ensures { result ≡ check_status ran.now }
+{
+    match ran {
+        Ok(numbers) if numbers.told > 0 => INCOMPLETE,
+        Ok(_) => DONE,
+        Err(_) => FAILED,
+    }
+}

@@ -1,0 +1,342 @@
+"""Cases of `check`: stores with each kind of trouble, as root and as another user, which it tells and passes; what it counts; and what it leaves alone."""
+
+import contextlib
+import fcntl
+import os
+import subprocess
+import sys
+
+from alone import Alone, differs
+from running import as_nobody
+from stores import DECLARATION, DIR, FIFO, SOCKET, Link, build, lines, read_tree, store, text_of
+from tally import needs
+
+DENIED = "Permission denied (os error 13)"
+TOO_LONG = "File name too long (os error 36)"
+NAME = "a name in it is not UTF-8"
+
+
+def of_path(kind, path="", **beside):
+    """The line of a trouble at a path below `pairtree_root`, or at one from the store's folder on."""
+    return {"as": kind, "path": f"pairtree_root/{path}" if path else "pairtree_root", **beside}
+
+
+def unread(path, reason):
+    """The line of a path that can't be listed, opened or read."""
+    return of_path("unreadable", path, reason=reason)
+
+
+def paths_of(tree):
+    """The entries of a tree below `pairtree_root`, with the folders above them."""
+    whole = {}
+    for path, content in tree.items():
+        names = path.split("/")
+        for count in range(1, len(names)):
+            whole["/".join(names[:count])] = DIR
+        whole[path] = content
+    return {path: content for path, content in whole.items() if path.startswith("pairtree_root/")}
+
+
+def end(tree, told, sites, objects=0, **numbers):
+    """The last line of a check that met all of a tree and read nothing of it: what isn't given is counted here."""
+    met = paths_of(tree)
+    counts = {
+        "bytes": 0,
+        "files": sum(isinstance(content, bytes) for content in met.values()),
+        "folders": sum(content == DIR for content in met.values()),
+        "largest": 0,
+        "longest": max((len(path.encode()) for path in met), default=0),
+    }
+    return {"as": "end", **counts, "objects": objects, "sites": sites, "told": told, **numbers}
+
+
+def checked(program, folder, *words, before=(), source="s", **options):
+    """A check of the store of a test: its status and both streams."""
+    done = subprocess.run([*before, program, "check", *words, source], cwd=folder, capture_output=True, stdin=subprocess.DEVNULL, timeout=300, **options)
+    return done.returncode, done.stdout, done.stderr
+
+
+def answer(*entries):
+    """The answer of a check whose output has these lines, the last of them that of the numbers."""
+    return int(len(entries) > 1), lines(*entries), b""
+
+
+# Stores with each kind of trouble: what lies in `pairtree_root`, the lines without the last one, and how many sites and objects there are.
+TROUBLES = {
+    "a store with nothing in it": ({}, [], 1, 0),
+    "one object": ({"ab/c/obj/f": b"abc"}, [], 3, 1),
+    "objects and a folder that leads on": ({"ab/c/obj/f": b"1", "ab/cd/e/obj/d/f": b"2", "ab/cd/obj/f": b"3"}, [], 5, 3),
+    "an object with empty folders": ({"ab/c/obj/d": DIR}, [], 3, 1),
+    "a file in pairtree_root": ({"f": b""}, [of_path("root")], 1, 0),
+    "an empty folder of an identifier": ({"ab/c": DIR}, [of_path("empty", "ab/c")], 3, 0),
+    "a file beside an object": ({"ab/c/f": b"", "ab/c/obj/f": b""}, [of_path("split", "ab/c")], 3, 0),
+    "two folders of one identifier": ({"ab/c/one/f": b"", "ab/c/two/f": b""}, [of_path("split", "ab/c")], 3, 0),
+    "a folder past the end": ({"a/bc/obj/f": b""}, [of_path("past", "a/bc")], 2, 0),
+    "names that read as no identifier": ({"^z/c/obj/f": b""}, [of_path("name", "^z/c")], 3, 1),
+    "an identifier that isn't UTF-8": ({"^f/f/obj/f": b""}, [of_path("utf8", "^f/f")], 3, 1),
+    "a link in an object": ({"ab/c/obj/l": Link("none")}, [of_path("other", "ab/c/obj/l")], 3, 1),
+    "a link to a folder": ({"ab/c/obj/f": b"", "ab/d/obj/l": Link("../../c")}, [of_path("other", "ab/d/obj/l")], 4, 2),
+    "a pipe and a socket": ({"ab/c/obj/p": FIFO, "ab/c/obj/s": SOCKET}, [of_path("other", "ab/c/obj/p"), of_path("other", "ab/c/obj/s")], 3, 1),
+    "a link for a folder": ({"ab/c/obj/f": b"", "ad": Link("ab")}, [of_path("root"), of_path("other", "ad")], 3, 1),
+    "what desktops leave in an object": (
+        {"ab/c/obj/.DS_Store": b"1", "ab/c/obj/._f": b"", "ab/c/obj/Thumbs.db": b"", "ab/c/obj/desktop.ini": b"", "ab/c/obj/f._": b""},
+        [of_path("desktop", f"ab/c/obj/{name}") for name in (".DS_Store", "._f", "Thumbs.db", "desktop.ini")],
+        3,
+        1,
+    ),
+    "what desktops leave beside an object": (
+        {"ab/c/.DS_Store": b"1", "ab/c/obj/f": b""},
+        [of_path("split", "ab/c"), of_path("desktop", "ab/c/.DS_Store")],
+        3,
+        0,
+    ),
+    "other names than the identifier's own": (
+        {"^6/1b/obj/f": b"", "^5/Cx/obj/f": b"", "^5/cx/obj/f": b"", "a=/obj/f": b""},
+        [of_path("spelling", "^5/Cx"), of_path("spelling", "^6/1b")],
+        7,
+        4,
+    ),
+    "characters that JSON escapes": ({'ab/c/obj/"\n\\é': Link("x")}, [of_path("other", 'ab/c/obj/"\n\\é')], 3, 1),
+}
+
+
+def each_trouble(program, folder):
+    """Each kind of trouble is told where it lies, and nothing else is."""
+    faults = []
+    for number, (name, (tree, told, sites, objects)) in enumerate(TROUBLES.items()):
+        build(folder, {f"t{number}": DIR})
+        build(f"{folder}/t{number}", store(tree))
+        before = read_tree(folder)
+        faults += differs(**{name: (checked(program, folder, source=f"t{number}"), answer(*told, end(store(tree), len(told), sites, objects)))})
+        faults += differs(**{f"what stands after {name}": (read_tree(folder), before)})
+    return faults
+
+
+# Bytes of a file of the prefix, and what is told of it.
+PREFIXES = {
+    b"": None,
+    b"ark:/13030/\r\n\n": None,
+    "é 日".encode(): None,
+    b"p" * 1024: None,
+    b"p" * 1025: "prefix",
+    b"\n" * 9000: "prefix",
+    b"a\xff": "prefix",
+    b" a": "doubtful",
+    b"a \n": "doubtful",
+    b"a\nb\n": "doubtful",
+    b"\xef\xbb\xbfark:/": "doubtful",
+    "a\u0085b".encode(): "doubtful",
+    b"a\x7f": "doubtful",
+    DIR: "prefix",
+    Link("pairtree_version0_1"): "prefix",
+    FIFO: "prefix",
+}
+
+
+def prefixes(program, folder):
+    """A file of the prefix that is none is told, and so is a prefix that reads otherwise than it looks."""
+    faults = []
+    for number, (prefix, kind) in enumerate(PREFIXES.items()):
+        build(folder, {f"t{number}": DIR})
+        build(f"{folder}/t{number}", store({}, prefix))
+        told = [{"as": kind, "path": "pairtree_prefix"}] if kind else []
+        faults += differs(**{f"{prefix!r:.40}": (checked(program, folder, source=f"t{number}"), answer(*told, end({}, len(told), 1)))})
+    return faults
+
+
+def a_top_that_lacks(program, folder):
+    """What a store must have is told where it is missing, or is of another kind."""
+    version, root = {"as": "missing", "path": "pairtree_version0_1"}, {"as": "missing", "path": "pairtree_root"}
+    tops = {
+        "nothing": ({}, [version, root], 0),
+        "no version's file": ({"pairtree_root": DIR}, [version], 1),
+        "no pairtree_root": ({"pairtree_version0_1": DECLARATION}, [root], 0),
+        "a folder for the version's file": ({"pairtree_version0_1": DIR, "pairtree_root": DIR}, [version], 1),
+        "a link to pairtree_root": ({"pairtree_version0_1": b"", "tree/ab/c/obj/f": b"", "pairtree_root": Link("tree")}, [root], 0),
+    }
+    faults = []
+    for name, (top, told, sites) in tops.items():
+        build(folder, {f"{name}": DIR})
+        build(f"{folder}/{name}", top)
+        faults += differs(**{name: (checked(program, folder, source=name), answer(*told, end({}, len(told), sites)))})
+    for name, source, reason in (
+        ("no folder", "none", "No such file or directory (os error 2)"),
+        ("a file", "s/pairtree_version0_1", "Not a directory (os error 20)"),
+        ("an empty word", "", "the path is empty"),
+    ):
+        told = {"as": "unreadable", "path": "", "reason": reason}
+        faults += differs(**{name: (checked(program, folder, source=source), answer(told, end({}, 1, 0)))})
+    return faults
+
+
+@contextlib.contextmanager
+def closed(folder, *modes):
+    """These entries with these modes, and with their own again at the end."""
+    try:
+        for path, mode in modes:
+            os.chmod(f"{folder}/{path}", mode)
+        yield
+    finally:
+        for path, _ in modes:
+            os.chmod(f"{folder}/{path}", 0o755)
+
+
+def closed_to_others(program, folder):
+    """What another user can't list, search or read is told, each once, and the rest is met; to root nothing of it is closed."""
+    nobody = as_nobody()
+    tree = {"ab/c/obj/f": b"abc", "ab/c/obj/g": b"de", "ad/e/obj/f": b"", "af/g/obj/d/f": b"", "ah/i/obj/f": b"1"}
+    os.chmod(folder, 0o755)
+    build(f"{folder}/t", store(tree))
+    root = "t/pairtree_root"
+    with closed(folder, (f"{root}/ab/c/obj/f", 0), (f"{root}/ad", 0), (f"{root}/af/g/obj/d", 0o444)):
+        told = [unread("ab/c/obj/f", DENIED), unread("ad", DENIED), unread("af/g/obj/d", DENIED)]
+        met = {**store(tree), **store({"ad": DIR, "af/g/obj/d": DIR})}
+        met = {path: content for path, content in met.items() if "/ad/" not in path and "/d/" not in path}
+        faults = differs(nobody=(checked(program, folder, before=nobody, source="t"), answer(*told, end(met, 3, 7, 3))))
+        faults += differs(read=(checked(program, folder, "--read", before=nobody, source="t"), answer(*told, end(met, 3, 7, 3, bytes=3, largest=2))))
+        faults += differs(root=(checked(program, folder, source="t"), answer(end(store(tree), 0, 9, 4))))
+    build(f"{folder}/t", {"pairtree_prefix": b"p"})
+    with closed(folder, ("t/pairtree_prefix", 0), (root, 0)):
+        told = [{"as": "unreadable", "path": "pairtree_prefix", "reason": DENIED}, unread("", DENIED)]
+        faults += differs(prefix=(checked(program, folder, before=nobody, source="t"), answer(*told, end({}, 2, 0))))
+    with closed(folder, ("t", 0o311)):
+        faults += differs(top=(checked(program, folder, before=nobody, source="t"), answer({"as": "unreadable", "path": "", "reason": DENIED}, end({}, 1, 0))))
+    return faults
+
+
+def names_that_are_no_text(program, folder):
+    """A folder with a name that isn't UTF-8 is told, and what lies in it isn't met; all other folders are."""
+    tree = {"ab/c/obj/d/g": b"", "ab/c/obj/f": b"", "ad/e/obj/f": b"1"}
+    build(f"{folder}/t", store(tree))
+    for path in ("ab/c/obj/d", "ad/e"):
+        with open(f"{folder}/t/pairtree_root/{path}/".encode() + b"\xe9\xff", "wb"):
+            pass
+    met = store({"ab/c/obj/d": DIR, "ab/c/obj/f": b"", "ad/e": DIR})
+    told = [unread("ab/c/obj/d", NAME), unread("ad/e", NAME)]
+    return differs(answer=(checked(program, folder, "--read", source="t"), answer(*told, end(met, 2, 4, 1))))
+
+
+# Makes a folder in the working folder by steps, in each of which the path is short enough for the system, and in it a file.
+BY_STEPS = """
+import os, sys
+*names, last = sys.argv[1:]
+for name in names:
+    os.makedirs(name, exist_ok=True)
+    os.chdir(name)
+open(last, "w").close()
+"""
+
+
+def made_by_steps(folder, path):
+    """Makes a file at a path that may be longer than the system takes."""
+    subprocess.run([sys.executable, "-c", BY_STEPS, *path.split("/")], cwd=folder, check=True)
+
+
+def long_paths(program, folder):
+    """A file whose path in its object has more than 4,000 bytes is told; so is a folder in which a path is longer than the system takes."""
+    build(f"{folder}/t", store({}))
+    deep, top = "/".join(letter * 199 for letter in "abcdefghijklmnopqrst"), "t/pairtree_root"
+    made_by_steps(folder, f"{top}/ab/c/obj/{deep[:-1]}/f")
+    made_by_steps(folder, f"{top}/ab/d/obj/{deep}/f")
+    made_by_steps(folder, f"{top}/ab/e/obj/{deep}/{'u' * 90}/f")
+    told = [of_path("long", f"ab/d/obj/{deep}/f"), unread(f"ab/e/obj/{deep}", TOO_LONG)]
+    longest = len(f"pairtree_root/ab/d/obj/{deep}/f")
+    last = {"as": "end", "bytes": 0, "files": 2, "folders": 67, "largest": 0, "longest": longest, "objects": 3, "sites": 5, "told": 2}
+    return differs(answer=(checked(program, folder, source="t"), answer(*told, last)))
+
+
+def deep_folders(program, folder):
+    """A folder more than 600 below pairtree_root is told, and not listed."""
+    chain = {count: "/".join(["ab"] * count) for count in (600, 601)}
+    faults = []
+    for count, told, sites in ((600, [], 601), (601, [of_path("deep", chain[601])], 601)):
+        source = f"t{count}"
+        build(f"{folder}/{source}", store({}))
+        os.makedirs(f"{folder}/{source}/pairtree_root/{chain[count]}")
+        told = told or [of_path("empty", chain[600])]
+        last = end({}, len(told), sites, folders=count, longest=len("pairtree_root") + 3 * count)
+        faults += differs(**{source: (checked(program, folder, source=source), answer(*told, last))})
+    return faults
+
+
+def counting(program, folder):
+    """With --read each file is read whole and its bytes are counted, also those of the largest object; --ignore leaves entries out."""
+    tree = {"ab/c/obj/big": b"x" * 20_000, "ab/c/obj/d/f": b"y" * 300, "ab/c/obj/.DS_Store": b"z" * 7, "ab/d/obj/f": b"w" * 20_306}
+    build(f"{folder}/t", store(tree))
+    desktop = of_path("desktop", "ab/c/obj/.DS_Store")
+    whole = end(store(tree), 1, 4, 2)
+    read = {**whole, "bytes": 40_613, "largest": 20_307}
+    left = {**end(store({path: content for path, content in tree.items() if ".DS" not in path}), 0, 4, 2), "bytes": 40_606, "largest": 20_306}
+    return differs(
+        opened=(checked(program, folder, source="t"), answer(desktop, whole)),
+        read=(checked(program, folder, "--read", source="t"), answer(desktop, read)),
+        ignored=(checked(program, folder, "--read", "--ignore", ".DS_Store", source="t"), answer(left)),
+        left_out=(checked(program, folder, "--ignore", "ab", "--ignore", "x", source="t"), answer(end({}, 0, 1))),
+    )
+
+
+def failing_reads(program, folder):
+    """A file that can be opened and not read is told with --read alone, and the files behind it are read."""
+    needs("strace")
+    tree = {"ab/c/obj/f": b"1", "ab/c/obj/g": b"23", "ab/c/obj/h": b"456"}
+    build(f"{folder}/t", store(tree))
+    path = f"{folder}/t/pairtree_root/ab/c/obj/g"
+    before = ("strace", "-o", "/dev/null", "-P", path, "-e", "trace=read", "-e", "inject=read:error=EIO")
+    told = unread("ab/c/obj/g", "Input/output error (os error 5)")
+    return differs(
+        read=(checked(program, folder, "--read", before=before, source=f"{folder}/t"), answer(told, end(store(tree), 1, 3, 1, bytes=4, largest=4))),
+        opened=(checked(program, folder, before=before, source=f"{folder}/t"), answer(end(store(tree), 0, 3, 1))),
+    )
+
+
+def beside_a_run(program, folder):
+    """No lock is asked for: a check ends though the store's folder is locked. And it says why its output failed."""
+    source = os.open(f"{folder}/s", os.O_RDONLY)
+    try:
+        fcntl.flock(source, fcntl.LOCK_EX)
+        faults = differs(locked=(checked(program, folder), answer(end(store({"ab/c/obj/a.txt": b"abc"}), 0, 3, 1))))
+    finally:
+        os.close(source)
+    with open("/dev/full", "wb") as full:
+        done = subprocess.run([program, "check", "s"], cwd=folder, stdout=full, stderr=subprocess.PIPE, timeout=120)
+    return faults + differs(full=((done.returncode, done.stderr), (3, b"pairtree2ocfl: fault 3: cannot write the output\n")))
+
+
+def ends_within(program, folder, source, room):
+    """Whether a check of a store ends, and tells nothing, where it may have so many KiB."""
+    before = ("sh", "-c", f'ulimit -c 0; ulimit -v {room}; exec "$@"', "sh")
+    return checked(program, folder, before=before, source=source)[0] == 0
+
+
+def many_objects(program, folder):
+    """What a check holds doesn't grow with the store: one of some 20,000 objects ends where one of a single object does, with 512 KiB more."""
+    letters = "abcdefghijkl"
+    tree = {f"{a}{b}/{c}{d}/obj/f": b"" for a in letters for b in letters for c in letters for d in letters}
+    build(folder, {"t": DIR, "one": DIR})
+    build(f"{folder}/t", store(tree))
+    build(f"{folder}/one", store({"aa/aa/obj/f": b""}))
+    last = end(store(tree), 0, 1 + 144 + 144 * 144, 144 * 144)
+    faults = differs(answer=(checked(program, folder, source="t"), (0, text_of(last) + b"\n", b"")))
+    low, high = 0, 1 << 20
+    while high - low > 64:
+        room = (low + high) // 2
+        low, high = (low, room) if ends_within(program, folder, "one", room) else (room, high)
+    return faults + differs(room=(ends_within(program, folder, "t", high + 512), True))
+
+
+CASES = [
+    Alone(f"check: {name}", test)
+    for name, test in (
+        ("each kind of trouble", each_trouble),
+        ("prefixes", prefixes),
+        ("a top that lacks what a store must have", a_top_that_lacks),
+        ("what is closed to another user", closed_to_others),
+        ("names that aren't UTF-8", names_that_are_no_text),
+        ("long paths", long_paths),
+        ("deep folders", deep_folders),
+        ("what is counted", counting),
+        ("files that can't be read", failing_reads),
+        ("no lock, and an output that fails", beside_a_run),
+        ("many objects", many_objects),
+    )
+]
