@@ -13,7 +13,7 @@ mod Files
 pub mod Alone
 pub mod Seen
 pub mod Stepping
-mod Twins
+pub mod Twins
 pub mod Working
 pub mod Steps
 mod SurveyRules

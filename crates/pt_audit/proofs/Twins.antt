@@ -190,7 +190,7 @@ either_kind true node o e = refl
 either_kind false node o e = e
 
 -- the kind that is listed is that of what stands there
-kind_listed : (f : Forest) (n : List ℕ) → kind_in (listing_of f) n ≡ option_map kind_of (find f n)
+pub kind_listed : (f : Forest) (n : List ℕ) → kind_in (listing_of f) n ≡ option_map kind_of (find f n)
 kind_listed none n = refl
 kind_listed (file m bytes after) n = either_kind (bytes_eq m n) (File bytes) (find after n) (kind_listed after n)
 kind_listed (other m after) n = either_kind (bytes_eq m n) Other (find after n) (kind_listed after n)
@@ -254,7 +254,7 @@ stands_there (Some s) way path is stands = λ f told.
 
 -- ---- whether an object stands there
 
-none_of : (b : Bool) → false ≡ (b && false)
+pub none_of : (b : Bool) → false ≡ (b && false)
 none_of true = refl
 none_of false = refl
 
@@ -264,44 +264,34 @@ no_forest (Some (File b)) is = refl
 no_forest (Some (Dir d)) is = absurd (cc)
 no_forest (Some Other) is = refl
 
-module _ (job : Job) (site p : Path) (id : List ℕ) (is : p ≡ proper_site id) where
-  abbrev Answers : Bool → Forest → Type 0
-  Answers b s = b ≡ is_second job s site id
+-- a site where the identifier doesn't belong is the second one where an object stands at the proper one
+pub second_of : (job : Job) (site p : Path) (id : List ℕ) (tree : Option Forest) (b : Bool) → p ≡ proper_site id → same_path site p ≡ false → ForSome tree (λ s. b ≡ object_stands job s p) → ForSome tree (λ s. b ≡ is_second job s site id)
+second_of job site p id tree b is apart stands = λ s told.
+    stands s told
+    ∙ ap (λ (x : Bool). x && object_stands job s p) (ap not (sym apart))
+    ∙ ap (λ (q : Path). not (same_path site q) && object_stands job s q) is
 
-  abbrev is_apart : Bool
-  is_apart = not (same_path site p)
+module _ (job : Job) (p : Path) where
+  abbrev Tells : Bool → Forest → Type 0
+  Tells b s = b ≡ object_stands job s p
 
   abbrev is_shallow : Bool
   is_shallow = not (nat_lt job.limits.depth (length p))
 
-  by_path : (b : Bool) (s : Forest) → b ≡ (is_apart && (is_shallow && has_object_in job p (dir_at s (in_pairtree p)))) → Answers b s
-  by_path b s e = e ∙ ap (λ (q : Path). not (same_path site q) && object_stands job s q) is
-
-  pub no_second : (tree : Option Forest) → same_path site p ≡ true → ForSome tree (Answers false)
-  no_second tree same = λ s told. by_path false s (ap (λ (b : Bool). not b && (is_shallow && has_object_in job p (dir_at s (in_pairtree p)))) (sym same))
-
-  pub too_deep : (tree : Option Forest) → nat_lt job.limits.depth (length p) ≡ true → ForSome tree (Answers false)
-  too_deep tree deep = λ s told. by_path false s (none_of is_apart ∙ ap (λ (b : Bool). is_apart && (not b && has_object_in job p (dir_at s (in_pairtree p)))) (sym deep))
-
-  pub none_there : (tree : Option Forest) → ForSome tree (λ s. false ≡ is_dir_kind (kind_at s (in_pairtree p))) → ForSome tree (Answers false)
+  pub none_there : (tree : Option Forest) → ForSome tree (λ s. false ≡ is_dir_kind (kind_at s (in_pairtree p))) → ForSome tree (Tells false)
   none_there tree lacks = λ s told.
-      by_path false s
-      (none_of is_apart
-      ∙ ap (λ (b : Bool). is_apart && b) (none_of is_shallow)
-      ∙ ap (λ (o : Option Forest). is_apart && (is_shallow && has_object_in job p o)) (no_forest (node_at (Dir s) (in_pairtree p)) (lacks s told)))
+      none_of is_shallow ∙ ap (λ (o : Option Forest). is_shallow && has_object_in job p o) (no_forest (node_at (Dir s) (in_pairtree p)) (lacks s told))
 
   -- what is listed there is judged
-  pub judged_there : (told : Option Reading) (listing : List Item) (b : Bool) → same_path site p ≡ false → nat_lt job.limits.depth (length p) ≡ false → IsListed told (in_pairtree p) listing → b ≡ has_object (found listing (at_of p) (form_of job)) → ForSome (tree_in told) (Answers b)
+  pub judged_there : (told : Option Reading) (listing : List Item) (b : Bool) → nat_lt job.limits.depth (length p) ≡ false → IsListed told (in_pairtree p) listing → b ≡ has_object (found listing (at_of p) (form_of job)) → ForSome (tree_in told) (Tells b)
   unfolding IsListed
-  judged_there None listing b apart shallow listed judged = λ s told. absurd (cc)
-  judged_there (Some r) listing b apart shallow listed judged = λ s told.
+  judged_there None listing b shallow listed judged = λ s told. absurd (cc)
+  judged_there (Some r) listing b shallow listed judged = λ s told.
       let same : r.tree ≡ s = cc in
-      subst (Answers b) same
-      (by_path b r.tree
+      subst (Tells b) same
       (judged
       ∙ on (dir_at r.tree (in_pairtree p)) (listed r refl)
-      ∙ ap (λ (x : Bool). x && has_object_in job p (dir_at r.tree (in_pairtree p))) (ap not (sym shallow))
-      ∙ ap (λ (x : Bool). x && (is_shallow && has_object_in job p (dir_at r.tree (in_pairtree p)))) (ap not (sym apart))))
+      ∙ ap (λ (x : Bool). x && has_object_in job p (dir_at r.tree (in_pairtree p))) (ap not (sym shallow)))
     where
       on : (o : Option Forest) → option_map listing_of o ≡ Some listing → has_object (found listing (at_of p) (form_of job)) ≡ has_object_in job p o
       on None is = absurd (cc)

@@ -58,3 +58,4 @@ pub use auditing::audit;
 pub use counts::Counts;
 pub use pt_compare::{Comparison, Difference, Root, Why};
 pub use survey::{AtHand, Opened, Survey, SurveyEvent};
+pub use twin::{object_stands, proper_site};

@@ -3,7 +3,7 @@
 
 ghost use Rattle.std.specs.Prelude.{◌≡◌, IfOk};
 ghost use Rattle.std.specs.Option.{ForSome};
-ghost use Rattle.pt_audit.specs.Twin.{has_object as has_object_finding, is_second as is_second_site, proper_site as proper_site_of};
+ghost use Rattle.pt_audit.specs.Twin.{has_object as has_object_finding, is_second as is_second_site, object_stands as object_stands_in, proper_site as proper_site_of};
 ghost use Rattle.pt_compare.specs.Root.{Stands, kind_at as kind_there, tree_in};
 ghost use Rattle.pt_plan.specs.TurnStart.{is_dir_kind};
 ghost use Rattle.pt_plan.specs.TurnWalk.{in_pairtree as in_pairtree_of};
@@ -23,10 +23,7 @@ use pt_walk::{At, Finding, judge};
 use std::alloc::Global;
 
 /// Whether a site isn't where an identifier belongs, which is given without the store's prefix, and an object stands there, as a
-/// run judges a site.
-///
-/// Of what leads there each folder is listed, one after another, from the last that leads to the site too, up to the first that
-/// lacks the next one. `Device` where one can't be listed, `Memory` where a growth was refused.
+/// run judges a site. `Device` where a folder can't be listed, `Memory` where a growth was refused.
 pub(crate) fn is_second<S: Source>(
     source: &mut S,
     job: &Job,
@@ -41,21 +38,46 @@ pub(crate) fn is_second<S: Source>(
     ensures keeps { S.keeps source.old source.new }
 {
     let proper = proper_site(site.allocator(), id)?;
-    if *site == proper || proper.len() as u64 > job.limits.depth() {
+    if *site == proper {
         return Ok(false);
     }
-    let stands = leads_to(source, site, &proper)?;
+    object_stands(source, job, site, proper)
+}
+
+/// Whether an object stands at a site, as a run judges a site. Both paths are from below `pairtree_root` on; at the first a
+/// directory stands.
+///
+/// Of what leads there each folder is listed, one after another, from the last that leads to the first path too, up to the first
+/// that lacks the next one. `Device` where one can't be listed, `Memory` where a growth was refused.
+pub fn object_stands<S: Source>(
+    source: &mut S,
+    job: &Job,
+    standing: &NamePath,
+    site: NamePath,
+) -> Result<bool, TreeFault>
+    requires { Stands (tree_in (S.told source.old)) (in_pairtree_of standing.now, kind.Dir) }
+    ensures stands { IfOk result (λ stands. ForSome (tree_in (S.told source.old))
+        (λ s. stands ≡ object_stands_in (job_of job.now) s site)) }
+    ensures same { S.told source.new ≡ S.told source.old }
+    ensures failures { IsCounted (S.failed source.old) (S.failed source.new) result }
+    ensures keeps { S.keeps source.old source.new }
+{
+    if site.len() as u64 > job.limits.depth() {
+        return Ok(false);
+    }
+    let stands = leads_to(source, standing, &site)?;
     if !stands {
         return Ok(false);
     }
-    let at = at_of(&proper);
-    let path = in_pairtree(proper)?;
+    let at = at_of(&site);
+    let path = in_pairtree(site)?;
     let listing = source.list(&path)?;
     Ok(has_object(judge(&listing, at, form_of(job.gather))))
 }
 
-// The site where an identifier belongs: its pairpath.
-fn proper_site(alloc: Global, id: &[u8]) -> Result<NamePath, MemoryFault>
+/// The site where an identifier belongs, which is given without the store's prefix: its pairpath (Pairtree 0.1), from below
+/// `pairtree_root` on. Takes any bytes. `Memory` where a growth was refused.
+pub fn proper_site(alloc: Global, id: &[u8]) -> Result<NamePath, MemoryFault>
     ensures { IfOk result (λ site. site ≡ proper_site_of id.now) }
 {
     let text = pairpath(alloc, id)?;

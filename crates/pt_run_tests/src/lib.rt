@@ -1,6 +1,6 @@
 //! Tests of runs by the libraries' public calls: the definitions of a run over worked stores, and whole runs over trees
-//! in memory: their lines, what they leave, and how they end; and the lines and numbers of a check of a store. No code of the
-//! program stands on this crate.
+//! in memory: their lines, what they leave, and how they end; and the lines and numbers of a check of a store, and of what a
+//! root has more. No code of the program stands on this crate.
 #![tactic(auto)]
 
 #[cfg(test)]
@@ -9,6 +9,8 @@ mod broken_runs;
 mod check_lines;
 #[cfg(test)]
 mod expected_roots;
+#[cfg(test)]
+mod extras;
 #[cfg(test)]
 mod jobs;
 #[cfg(test)]

@@ -1,0 +1,9 @@
+mod ExtraRules
+mod Keeping
+mod LineTexts
+mod Objects
+mod Reading
+mod Roots
+mod Telling
+mod Tops
+mod Visiting

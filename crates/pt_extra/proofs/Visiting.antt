@@ -1,0 +1,212 @@
+-- The steps of a walk through a folder.
+use Rattle.std.proofs.Common.{◌≡◌, ◌≤◌, ◌<◌, ◌+◌, ◌-◌, ◌==◌, ℕ, Bool, true, false, suc, zero, List, [], ◌∷◌, ◌++◌, refl, sym, ap, ◌∙◌, subst, arith, length, cond, append-nil, append_assoc}
+use Rattle.std.specs.Option.{ForSome, option_map}
+use Rattle.std.specs.Prelude.{IsSome, Option, None, Some, ◌||◌, slice_get, unwrap_or}
+use Rattle.pt_compare.specs.Root.{tree_in}
+use Rattle.pt_extra.proofs.Telling.{puts_none, puts_on}
+use Rattle.pt_extra.specs.Findings.{Against, found_at, is_object, is_part, of_entries, of_leaf, of_object}
+use Rattle.pt_extra.specs.Inventories.{id_of}
+use Rattle.pt_extra.specs.Lines.{Finding, Stray}
+use Rattle.pt_extra.specs.Walk.{Puts, Seen}
+use Rattle.pt_plan.specs.TurnWalk.{in_root}
+use Rattle.pt_tree.specs.Forest.{Forest, none, dir_at, is_proper, listing_at, listing_of}
+use Rattle.pt_tree.specs.Listing.{Item}
+use Rattle.pt_tree.specs.Path.{Path}
+use Rattle.pt_tree.specs.Source.{CanList, IsListed, Reading}
+use Rattle.pt_tree.specs.declared.kind.Kind.{Kind}
+use Rattle.pt_tree.specs.declared.kind.Kind.TheVariants as kind
+use Rattle.pt_walk.proofs.Ahead.{dir_ahead, file_ahead, nothing_ahead, other_ahead}
+use Rattle.pt_walk.specs.Left.{entries_from, inside_at}
+
+-- a folder may be listed where it stands in the tree that is told
+pub may_list : (told : Option Reading) (path : Path) → ForSome (tree_in told) (λ tree. IsSome (dir_at tree path)) → CanList told path
+unfolding CanList
+may_list told path there s is = there s.tree (ap tree_in is)
+
+-- its listing is that of the tree
+pub listed_in : (told : Option Reading) (path : Path) (items : List Item) → IsListed told path items → ForSome (tree_in told) (λ tree. listing_at tree path ≡ Some items)
+unfolding IsListed
+listed_in None path items listed tree is = absurd (cc)
+listed_in (Some s) path items listed tree is = let same : s.tree ≡ tree = cc in subst (λ (t : Forest). listing_at t path ≡ Some items) same (listed s refl)
+
+-- which is proper
+pub proper_in : (told : Option Reading) → ForSome told (λ s. is_proper s.tree ≡ true) → ForSome (tree_in told) (λ tree. is_proper tree ≡ true)
+proper_in None proper tree is = absurd (cc)
+proper_in (Some s) proper tree is = let same : s.tree ≡ tree = cc in subst (λ (t : Forest). is_proper t ≡ true) same (proper s refl)
+
+-- what the folder lists is what it holds
+pub inside_lists : (top : Forest) (path : Path) (items : List Item) → listing_at top path ≡ Some items → listing_of (inside_at top path) ≡ items
+inside_lists top path items listed = by (dir_at top path) listed
+  where
+    by : (found : Option Forest) → option_map listing_of found ≡ Some items → listing_of (unwrap_or found none) ≡ items
+    by None is = absurd (cc)
+    by (Some inside) is = cc
+
+-- a folder that is listed stands there
+pub dir_stands : (top : Forest) (path : Path) (items : List Item) (place : ℕ) (name : List ℕ) → is_proper top ≡ true → listing_at top path ≡ Some items
+    → slice_get items place ≡ Some (name, kind.Dir) → IsSome (dir_at top (path ++ name ∷ []))
+dir_stands top path items place name proper listed at =
+    let ahead = dir_ahead top path items place name proper listed at in
+    subst (λ (o : Option Forest). IsSome o) (sym ahead.dir_is) refl
+
+-- the next folder stands there
+pub next_stands : (told : Option Reading) (path entry : Path) (items : List Item) (place : ℕ) (name : List ℕ) (what : Kind) (there : Option Forest) → ForSome told (λ s. is_proper s.tree ≡ true)
+    → ForSome (tree_in told) (λ t. listing_at t (in_root path) ≡ Some items) → slice_get items place ≡ Some (name, what) → what ≡ kind.Dir → entry ≡ path ++ name ∷ [] → there ≡ tree_in told
+    → ForSome there (λ t. IsSome (dir_at t (in_root entry)))
+next_stands told path entry items place name what there proper listed at is_dir entry_is there_is tree is =
+    let here = sym there_is ∙ is in
+    let at_dir : slice_get items place ≡ Some (name, kind.Dir) = at ∙ ap (λ (k : Kind). Some (name, k)) is_dir in
+    subst (λ (q : Path). IsSome (dir_at tree (in_root q))) (sym entry_is) (dir_stands tree (in_root path) items place name (proper_in told proper tree here) (listed tree here) at_dir)
+
+-- ---- the entries of a folder
+
+-- what is found of an entry
+abbrev of_entry : Against → Forest → Path → ℕ → List ℕ → Kind → List Finding
+of_entry c top path left name kind.File = of_leaf path name kind.File
+of_entry c top path left name kind.Other = of_leaf path name kind.Other
+of_entry c top path left name kind.Dir =
+    cond (is_part path name kind.Dir) [] (found_at c (path ++ name ∷ []) (left - 1) (inside_at top (in_root (path ++ name ∷ []))))
+
+-- what is found of the rest begins with it
+splits : (c : Against) (top : Forest) (path : Path) (left : ℕ) (items : List Item) (place : ℕ) (name : List ℕ) (here : Kind) → is_proper top ≡ true → listing_at top (in_root path) ≡ Some items
+    → slice_get items place ≡ Some (name, here)
+    → of_entries c path left (entries_from place (inside_at top (in_root path))) ≡ of_entry c top path left name here ++ of_entries c path left (entries_from (place + 1) (inside_at top (in_root path)))
+splits c top path left items place name kind.File proper listed at =
+    ap (of_entries c path left) ((file_ahead top (in_root path) items place name proper listed at).rest_is)
+splits c top path left items place name kind.Other proper listed at =
+    ap (of_entries c path left) (other_ahead top (in_root path) items place name proper listed at)
+splits c top path left items place name kind.Dir proper listed at =
+    ap (of_entries c path left) ((dir_ahead top (in_root path) items place name proper listed at).rest_is)
+
+-- so many entries of a folder were met, and what is found of them is told
+pub record FoundTo (c : Against) (path : Path) (left : ℕ) (inside : Forest) (place : ℕ) (a b : Seen) : Type 0 where
+  findings : List Finding
+  puts : Puts findings a b
+  rest : findings ++ of_entries c path left (entries_from place inside) ≡ of_entries c path left inside
+
+pub found_none : (c : Against) (path : Path) (left : ℕ) (inside : Forest) (a : Seen) → FoundTo c path left inside 0 a a
+found_none c path left inside a = record { findings = []; puts = puts_none a; rest = refl }
+
+-- and of one more
+found_more : (c : Against) (top : Forest) (path : Path) (left : ℕ) (items : List Item) (place : ℕ) (name : List ℕ) (here : Kind) (a b d : Seen) → is_proper top ≡ true → listing_at top (in_root path) ≡ Some items
+    → slice_get items place ≡ Some (name, here) → FoundTo c path left (inside_at top (in_root path)) place a b → Puts (of_entry c top path left name here) b d
+    → FoundTo c path left (inside_at top (in_root path)) (place + 1) a d
+found_more c top path left items place name here a b d proper listed at to puts =
+    let e = of_entry c top path left name here in
+    let rest = of_entries c path left (entries_from (place + 1) (inside_at top (in_root path))) in
+    record {
+      findings = to.findings ++ e;
+      puts = puts_on to.findings e a b d to.puts puts;
+      rest = append_assoc to.findings e rest ∙ ap (λ (l : List Finding). to.findings ++ l) (sym (splits c top path left items place name here proper listed at)) ∙ to.rest;
+    }
+
+-- where it is the root's own
+pub found_part : (c : Against) (top : Forest) (path : Path) (left : ℕ) (items : List Item) (place : ℕ) (name : List ℕ) (here : Kind) (a b : Seen) → is_proper top ≡ true → listing_at top (in_root path) ≡ Some items
+    → slice_get items place ≡ Some (name, here) → is_part path name here ≡ true → FoundTo c path left (inside_at top (in_root path)) place a b
+    → FoundTo c path left (inside_at top (in_root path)) (place + 1) a b
+found_part c top path left items place name here a b proper listed at part to =
+    found_more c top path left items place name here a b b proper listed at to (subst (λ (l : List Finding). Puts l b b) (sym (by here part)) (puts_none b))
+  where
+    by : (here : Kind) → is_part path name here ≡ true → of_entry c top path left name here ≡ []
+    by kind.File part = ap (λ (t : Bool). cond t [] (Stray (path ++ name ∷ []) ∷ [])) part
+    by kind.Other part = ap (λ (t : Bool). cond t [] (Stray (path ++ name ∷ []) ∷ [])) part
+    by kind.Dir part = ap (λ (t : Bool). cond t [] (found_at c (path ++ name ∷ []) (left - 1) (inside_at top (in_root (path ++ name ∷ []))))) part
+
+-- where it is a folder
+pub found_dir : (c : Against) (top : Forest) (path : Path) (left : ℕ) (items : List Item) (place : ℕ) (name : List ℕ) (here : Kind) (entry : Path) (a b d : Seen) → is_proper top ≡ true → listing_at top (in_root path) ≡ Some items
+    → slice_get items place ≡ Some (name, here) → here ≡ kind.Dir → is_part path name here ≡ false → entry ≡ path ++ name ∷ [] → FoundTo c path left (inside_at top (in_root path)) place a b
+    → Puts (found_at c entry (left - 1) (inside_at top (in_root entry))) b d
+    → FoundTo c path left (inside_at top (in_root path)) (place + 1) a d
+found_dir c top path left items place name here entry a b d proper listed at is part entry_is to puts =
+    found_more c top path left items place name here a b d proper listed at to
+    (subst (λ (l : List Finding). Puts l b d) (sym (by here is part))
+    (subst (λ (p : Path). Puts (found_at c p (left - 1) (inside_at top (in_root p))) b d) entry_is puts))
+  where
+    by : (here : Kind) → here ≡ kind.Dir → is_part path name here ≡ false → of_entry c top path left name here ≡ found_at c (path ++ name ∷ []) (left - 1) (inside_at top (in_root (path ++ name ∷ [])))
+    by kind.File is part = absurd (cc)
+    by kind.Other is part = absurd (cc)
+    by kind.Dir is part = ap (λ (t : Bool). cond t [] (found_at c (path ++ name ∷ []) (left - 1) (inside_at top (in_root (path ++ name ∷ []))))) part
+
+-- where it is none
+pub found_leaf : (c : Against) (top : Forest) (path : Path) (left : ℕ) (items : List Item) (place : ℕ) (name : List ℕ) (here : Kind) (entry : Path) (a b d : Seen) → is_proper top ≡ true → listing_at top (in_root path) ≡ Some items
+    → slice_get items place ≡ Some (name, here) → (here ≡ kind.Dir → ⊥) → is_part path name here ≡ false → entry ≡ path ++ name ∷ [] → FoundTo c path left (inside_at top (in_root path)) place a b
+    → Puts (Stray entry ∷ []) b d
+    → FoundTo c path left (inside_at top (in_root path)) (place + 1) a d
+found_leaf c top path left items place name here entry a b d proper listed at leaf part entry_is to puts =
+    found_more c top path left items place name here a b d proper listed at to
+    (subst (λ (l : List Finding). Puts l b d) (sym (by here leaf part))
+    (subst (λ (p : Path). Puts (Stray p ∷ []) b d) entry_is puts))
+  where
+    by : (here : Kind) → (here ≡ kind.Dir → ⊥) → is_part path name here ≡ false → of_entry c top path left name here ≡ Stray (path ++ name ∷ []) ∷ []
+    by kind.File leaf part = ap (λ (t : Bool). cond t [] (Stray (path ++ name ∷ []) ∷ [])) part
+    by kind.Other leaf part = ap (λ (t : Bool). cond t [] (Stray (path ++ name ∷ []) ∷ [])) part
+    by kind.Dir leaf part = absurd (leaf refl)
+
+-- behind the last entry there is none
+past_end : (items : List Item) (place : ℕ) → length items ≤ place → slice_get items place ≡ None
+past_end [] place past = refl
+past_end (x ∷ items) zero past = absurd (omega (arith, past))
+past_end (x ∷ items) (suc place) past = past_end items place (omega (arith, past))
+
+-- at the end all is told
+found_all : (c : Against) (top : Forest) (path : Path) (left : ℕ) (items : List Item) (place : ℕ) (a b : Seen) → listing_at top (in_root path) ≡ Some items → length items ≤ place
+    → FoundTo c path left (inside_at top (in_root path)) place a b → Puts (of_entries c path left (inside_at top (in_root path))) a b
+found_all c top path left items place a b listed past to =
+    let nothing = nothing_ahead top (in_root path) items place listed (past_end items place past) in
+    let whole : to.findings ≡ of_entries c path left (inside_at top (in_root path)) =
+    sym (append-nil to.findings) ∙ ap (λ (f : Forest). to.findings ++ of_entries c path left f) (sym nothing) ∙ to.rest in
+    subst (λ (l : List Finding). Puts l a b) whole to.puts
+
+-- ---- a folder
+
+-- what is found of a folder that isn't an object, isn't too deep, and isn't empty
+pub found_folder : (c : Against) (top : Forest) (path : Path) (left : ℕ) (items : List Item) (place : ℕ) (a b : Seen) → listing_at top (in_root path) ≡ Some items → is_object items ≡ false
+    → (left == 0) ≡ false → (length items == 0) ≡ false → length items ≤ place
+    → FoundTo c path left (inside_at top (in_root path)) place a b → Puts (found_at c path left (inside_at top (in_root path))) a b
+found_folder c top path left items place a b listed object deep empty past to =
+    let lists = inside_lists top (in_root path) items listed in
+    let entries = of_entries c path left (inside_at top (in_root path)) in
+    let first : is_object (listing_of (inside_at top (in_root path))) ≡ false = ap is_object lists ∙ object in
+    let none : (length (listing_of (inside_at top (in_root path))) == 0) ≡ false = ap (λ (l : List Item). length l == 0) lists ∙ empty in
+    let is : found_at c path left (inside_at top (in_root path)) ≡ entries =
+    ap (λ (t : Bool). cond t (of_object c path (id_of (inside_at top (in_root path)))) (cond (left == 0 || length (listing_of (inside_at top (in_root path))) == 0) (Stray path ∷ []) entries)) first
+    ∙ ap (λ (t : Bool). cond (t || length (listing_of (inside_at top (in_root path))) == 0) (Stray path ∷ []) entries) deep
+    ∙ ap (λ (t : Bool). cond t (Stray path ∷ []) entries) none in
+    subst (λ (l : List Finding). Puts l a b) (sym is) (found_all c top path left items place a b listed past to)
+
+-- of an object
+pub found_object : (c : Against) (top : Forest) (path : Path) (left : ℕ) (items : List Item) → listing_at top (in_root path) ≡ Some items → is_object items ≡ true
+    → found_at c path left (inside_at top (in_root path)) ≡ of_object c path (id_of (inside_at top (in_root path)))
+found_object c top path left items listed object =
+    let lists = inside_lists top (in_root path) items listed in
+    ap (λ (t : Bool). cond t (of_object c path (id_of (inside_at top (in_root path))))
+    (cond (left == 0 || length (listing_of (inside_at top (in_root path))) == 0) (Stray path ∷ []) (of_entries c path left (inside_at top (in_root path)))))
+    (ap is_object lists ∙ object)
+
+-- of one that is too deep or empty
+pub found_bare : (c : Against) (top : Forest) (path : Path) (left : ℕ) (items : List Item) → listing_at top (in_root path) ≡ Some items → is_object items ≡ false
+    → (left == 0 || length items == 0) ≡ true → found_at c path left (inside_at top (in_root path)) ≡ Stray path ∷ []
+found_bare c top path left items listed object bare =
+    let lists = inside_lists top (in_root path) items listed in
+    let entries = of_entries c path left (inside_at top (in_root path)) in
+    ap (λ (t : Bool). cond t (of_object c path (id_of (inside_at top (in_root path)))) (cond (left == 0 || length (listing_of (inside_at top (in_root path))) == 0) (Stray path ∷ []) entries)) (ap is_object lists ∙ object)
+    ∙ ap (λ (l : List Item). cond (left == 0 || length l == 0) (Stray path ∷ []) entries) lists
+    ∙ ap (λ (t : Bool). cond t (Stray path ∷ []) entries) bare
+
+-- it is too deep
+pub bare_deep : (left n : ℕ) → left ≡ 0 → (left == 0 || n == 0) ≡ true
+bare_deep left n is = ap (λ (k : ℕ). k == 0 || n == 0) is
+
+-- or empty
+pub bare_empty : (left n : ℕ) → true ≡ (n == 0) → (left == 0 || n == 0) ≡ true
+bare_empty left n is = by (left == 0) (n == 0) is
+  where
+    by : (b e : Bool) → true ≡ e → (b || e) ≡ true
+    by true e is = refl
+    by false e is = sym is
+
+-- each place before the end has an entry
+pub some_entry : (items : List Item) (place : ℕ) → place < length items → slice_get items place ≡ None → ⊥
+some_entry [] place within is = omega (arith, within)
+some_entry (x ∷ items) zero within is = absurd (cc)
+some_entry (x ∷ items) (suc place) within is = some_entry items place (omega (arith, within)) is

@@ -1,0 +1,5 @@
+use Rattle.pt_extra.proofs.Visiting.{may_list}
+use Rattle.pt_extra.proofs.walking.Extras.list.Goals as goal
+
+pub list-requires : goal.list-requires
+list-requires g c = may_list (g.R.Source.told c.args.self.now.root) c.args.folder.now c.requires

@@ -1,0 +1,85 @@
+-- What a root has and its store lacks.
+use Rattle.std.specs.Prelude.{ℕ, ◌-◌, ◌==◌, ◌&&◌, ◌||◌, Bool, false, not, cond, codes, List, [], ◌∷◌, ◌++◌, drop, length, take, Option, None, Some}
+use Rattle.std.specs.Str.{bytes_eq}
+use Rattle.pt_audit.specs.Twin.{object_stands, proper_site}
+use Rattle.pt_extra.specs.Inventories.{id_of}
+use Rattle.pt_extra.specs.Lines.{Finding, Extra, Stray}
+use Rattle.pt_name.specs.Place.{place_of}
+use Rattle.pt_name.specs.Share.{begins_with, holds}
+use Rattle.pt_object.specs.WellKnown.{known_text}
+use Rattle.pt_object.specs.declared.well_known.WellKnownName.TheVariants as known
+use Rattle.pt_plan.specs.Job.{Job}
+use Rattle.pt_plan.specs.TurnStart.{is_file_kind, kind_in}
+use Rattle.pt_tree.specs.Forest.{Forest, none, file, other, dir, listing_of}
+use Rattle.pt_tree.specs.Listing.{Item}
+use Rattle.pt_tree.specs.Path.{Path, same_path}
+use Rattle.pt_tree.specs.declared.kind.Kind.{Kind}
+use Rattle.pt_tree.specs.declared.kind.Kind.TheVariants as kind
+
+-- against what a root is held: what a run has to do, what each identifier of the store begins with, and the store
+pub record Against : Type 0 where
+  pub job : Job
+  pub prefix : List ℕ
+  pub store : Forest
+
+-- ---- an object
+
+-- an object stands in the store where this identifier belongs, as a run judges the site
+abbrev pub is_held : Against → List ℕ → Bool
+is_held c id =
+    begins_with c.prefix id && object_stands c.job c.store (proper_site (drop (length c.prefix) id))
+
+-- of an object at its place: nothing, where it isn't chosen, or the store has one
+abbrev pub of_placed : Against → Path → List ℕ → List Finding
+of_placed c path id = cond (holds c.job.share id && not (is_held c id)) (Extra id path ∷ []) []
+
+-- of an object at this path with this identifier, if one could be read
+abbrev pub of_object : Against → Path → Option (List ℕ) → List Finding
+of_object c path None = Stray path ∷ []
+of_object c path (Some id) = cond (same_path path (place_of c.job.tuples id)) (of_placed c path id) (Stray path ∷ [])
+
+-- a folder that lists these is an object's root: it has a declaration (OCFL 1.1 and 1.0, "Object Structure")
+abbrev pub is_object : List Item → Bool
+is_object items = is_file_kind (kind_in items (known_text known.Declaration))
+    || is_file_kind (kind_in items (codes "0=ocfl_object_1.0"))
+
+-- ---- the root
+
+-- a file of this name says what a root is: its layout, or the specification (OCFL 1.1, "Root Structure")
+abbrev pub is_text : List ℕ → Bool
+is_text name = bytes_eq name (known_text known.LayoutFile) || bytes_eq (take 9 name) (codes "ocfl_1.1.")
+
+-- an entry of the top is the root's own: its declaration, a file that says what it is, or the extensions
+abbrev pub is_own : List ℕ → Kind → Bool
+is_own name kind.File = bytes_eq name (known_text known.RootDeclaration) || is_text name
+is_own name kind.Dir = bytes_eq name (known_text known.Extensions)
+is_own name kind.Other = false
+
+-- so is an entry of the folder at this path
+abbrev pub is_part : Path → List ℕ → Kind → Bool
+is_part [] name here = is_own name here
+is_part (n ∷ path) name here = false
+
+-- what is found of an entry that is no folder
+abbrev pub of_leaf : Path → List ℕ → Kind → List Finding
+of_leaf path name here = cond (is_part path name here) [] (Stray (path ++ name ∷ []) ∷ [])
+
+-- what is found of a folder, by what is found of its entries: it is an object, or is stray where it is empty, or lies as deep as objects do
+abbrev pub of_folder : Against → Path → ℕ → Forest → List Finding → List Finding
+of_folder c path left inside entries = cond (is_object (listing_of inside)) (of_object c path (id_of inside))
+    (cond (left == 0 || length (listing_of inside) == 0) (Stray path ∷ []) entries)
+
+-- what is found of the entries of a folder at this path, below which so many names lead to an object, and of all that stands in them
+abbrev pub of_entries : Against → Path → ℕ → Forest → List Finding
+of_entries c path left none = []
+of_entries c path left (file name bytes after) = of_leaf path name kind.File ++ of_entries c path left after
+of_entries c path left (other name after) = of_leaf path name kind.Other ++ of_entries c path left after
+of_entries c path left (dir name inside after) =
+    let it = path ++ name ∷ [] in
+    cond (is_part path name kind.Dir) []
+    (of_folder c it (left - 1) inside (of_entries c it (left - 1) inside))
+    ++ of_entries c path left after
+
+-- of a folder, and of all that stands in it
+abbrev pub found_at : Against → Path → ℕ → Forest → List Finding
+found_at c path left inside = of_folder c path left inside (of_entries c path left inside)

@@ -1,0 +1,5 @@
+pub mod Counting
+pub mod Findings
+pub mod Inventories
+pub mod Lines
+pub mod Walk

@@ -1,0 +1,31 @@
+-- The lines that tell what a root has and its store lacks: each one compact JSON object with its keys in byte order, and LF.
+use Rattle.std.specs.Prelude.{ℕ, List, [], ◌∷◌, ◌++◌, codes}
+use Rattle.pt_plan.specs.Lines.{text_member}
+use Rattle.pt_tree.specs.Path.{Path, joined}
+use Rattle.serde_json.specs.Data.{Data, no_members}
+use Rattle.serde_json.specs.Data as json
+use Rattle.serde_json.specs.Written.{compact_text}
+
+-- what is told of a path from the storage root on: it is no part of the root or of an object, or of an object that doesn't stand at its place; or an object stands there which the store doesn't have
+pub data Finding : Type 0 where
+  Stray : (to : Path) → Finding
+  Extra : (id : List ℕ) → (to : Path) → Finding
+
+-- the line as a tree of JSON
+abbrev pub line_tree : Finding → Data
+line_tree (Stray to) = json.object
+    (text_member (codes "as") (codes "stray")
+    (text_member (codes "to") (joined to) no_members))
+line_tree (Extra id to) = json.object
+    (text_member (codes "as") (codes "extra")
+    (text_member (codes "id") id
+    (text_member (codes "to") (joined to) no_members)))
+
+-- the compact text of the line, and LF
+abbrev pub line_text : Finding → List ℕ
+line_text finding = compact_text (line_tree finding) ++ 10 ∷ []
+
+-- the lines of findings, one after another
+abbrev pub texts : List Finding → List ℕ
+texts [] = []
+texts (finding ∷ findings) = line_text finding ++ texts findings

@@ -1,0 +1,70 @@
+-- What a walk over a root tells, and what it keeps.
+use Rattle.std.specs.Prelude.{◌≡◌, ◌+◌, ℕ, cond, List, [], Option, Result}
+use Rattle.std.specs.Io.KnownBytes.{Appends}
+use Rattle.std.specs.Option.{ForSome}
+use Rattle.std.specs.String.{string_bytes}
+use Rattle.pt_audit.specs.Failing.{FailsAs, failures}
+use Rattle.pt_audit.specs.Growing.{KeepsLog}
+use Rattle.pt_compare.specs.Root.{KeepsRoot, tree_in}
+use Rattle.pt_extra.specs.Counting.{with_findings}
+use Rattle.pt_extra.specs.Findings.{Against, found_at}
+use Rattle.pt_extra.specs.Lines.{Finding, texts}
+use Rattle.pt_extra.specs.declared.numbers.Numbers.{Numbers}
+use Rattle.pt_extra.specs.declared.walking.Extras.{Extras}
+use Rattle.pt_object.specs.WellKnown.{known_text}
+use Rattle.pt_object.specs.declared.well_known.WellKnownName.TheVariants as known
+use Rattle.pt_plan.specs.Roots.{storage_root}
+use Rattle.pt_plan.specs.TurnStart.{is_dir_kind, kind_in}
+use Rattle.pt_plan.specs.declared.fault.Fault.{Fault}
+use Rattle.pt_state.specs.States.{job_of}
+use Rattle.pt_tree.specs.Forest.{Forest, listing_of}
+use Rattle.pt_tree.specs.declared.log.Log.{Ghosts as OfLog}
+use Rattle.pt_tree.specs.declared.source.Source.{Ghosts as OfSource}
+use Rattle.pt_walk.specs.Left.{inside_at}
+
+-- how far a walk is: what its log holds, and what it has counted
+pub record Seen : Type 0 where
+  pub held : Option (List ℕ)
+  pub numbers : Numbers
+
+-- how far this one is
+abbrev pub seen_by : {S R L : Type 0} → OfLog L → Extras S R L → Seen
+seen_by log walk = record { held = log.told walk.log; numbers = walk.numbers }
+
+-- the lines of these findings are put into the log and counted
+pub record Puts (findings : List Finding) (a b : Seen) : Type 0 where
+  pub held : Appends a.held b.held (texts findings)
+  pub numbers : b.numbers ≡ with_findings findings a.numbers
+
+-- against what its root is held, where its store is this
+abbrev pub against : {S R L : Type 0} → Extras S R L → Forest → Against
+against walk store = record { job = job_of walk.job; prefix = string_bytes walk.prefix; store = store }
+
+-- where store and root tell, what is found of them is told
+abbrev pub Tells : {S R L : Type 0} → OfSource S → OfSource R → OfLog L → (Against → Forest → List Finding)
+    → Extras S R L → Extras S R L → Type 0
+Tells store root log findings old new =
+    ForSome (tree_in (store.told old.store))
+    (λ s. ForSome (tree_in (root.told old.root))
+    (λ r. Puts (findings (against old s) r) (seen_by log old) (seen_by log new)))
+
+-- store and root are the same ones still, with their trees; what stood in the log stands; and it is held against the same
+pub record Keeps {S R L : Type 0} (store : OfSource S) (root : OfSource R) (log : OfLog L)
+    (old new : Extras S R L) : Type 0 where
+  pub store_stays : KeepsRoot store.told store.keeps old.store new.store
+  pub root_stays : KeepsRoot root.told root.keeps old.root new.root
+  pub log_grows : KeepsLog log.told log.keeps old.log new.log
+  pub job : new.job ≡ old.job
+  pub prefix : new.prefix ≡ old.prefix
+
+-- the device that is blamed has failed, and no other; else memory was wanting, and none has
+abbrev pub Fails : {S R L T : Type 0} → OfSource S → OfSource R → OfLog L → Extras S R L → Extras S R L
+    → Result T Fault → Type 0
+Fails store root log old new result =
+    FailsAs result (failures (store.failed old.store) (root.failed old.root) (log.failed old.log))
+    (failures (store.failed new.store) (root.failed new.root) (log.failed new.log))
+
+-- what is found of a destination: of its storage root, if it has one
+abbrev pub found_in : Against → Forest → List Finding
+found_in c standing = cond (is_dir_kind (kind_in (listing_of standing) (known_text known.StorageRoot)))
+    (found_at c [] (c.job.tuples.count + 1) (inside_at standing storage_root)) []

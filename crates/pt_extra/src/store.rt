@@ -1,0 +1,69 @@
+//! Whether the store has an object where an identifier belongs.
+ghost use Rattle.std.specs.Prelude.{◌≡◌, IfOk, drop, length};
+ghost use Rattle.std.specs.Option.{ForSome};
+ghost use Rattle.pt_compare.specs.Root.{tree_in};
+ghost use Rattle.pt_extra.specs.Findings.{is_held};
+ghost use Rattle.pt_object.specs.WellKnown.{known_text};
+ghost use Rattle.pt_plan.specs.TurnStart.{is_dir_kind, kind_in as kind_listed};
+ghost use Rattle.pt_state.specs.States.{job_of};
+ghost use Rattle.pt_tree.specs.Failures.{IsCounted};
+ghost use Rattle.pt_tree.specs.Forest.{listing_of};
+
+use pt_audit::{object_stands, proper_site};
+use pt_move::Job;
+use pt_object::WellKnownName;
+use pt_plan::kinds::{is_dir, kind_in};
+use pt_tree::{KnownName, NamePath, Source, TreeFault};
+use std::alloc::Global;
+
+/// Whether an object stands in a store, each of whose identifiers begins with this prefix, where this identifier belongs.
+///
+/// `Device` where a folder on the way can't be listed, `Memory` where a growth was refused.
+pub(crate) fn has_object<S: Source>(
+    alloc: Global,
+    store: &mut S,
+    job: &Job,
+    prefix: &str,
+    id: &str,
+) -> Result<bool, TreeFault>
+    ensures has { IfOk result (λ has. ForSome (tree_in (S.told store.old))
+        (λ s. has ≡ is_held
+        (record { job = job_of job.now; prefix = prefix.now; store = s }) id.now)) }
+    ensures same { S.told store.new ≡ S.told store.old }
+    ensures failures { IsCounted (S.failed store.old) (S.failed store.new) result }
+    ensures keeps { S.keeps store.old store.new }
+{
+    if !id.as_bytes().starts_with(prefix.as_bytes()) {
+        return Ok(false);
+    }
+    if !has_folder(alloc, store, WellKnownName::PairtreeRoot)? {
+        return Ok(false);
+    }
+    let site = proper_site(alloc, behind(id.as_bytes(), prefix.as_bytes()))?;
+    object_stands(store, job, &NamePath::new(alloc), site)
+}
+
+/// Whether the top of a tree lists a folder of this name.
+pub(crate) fn has_folder<S: Source>(
+    alloc: Global,
+    source: &mut S,
+    name: WellKnownName,
+) -> Result<bool, TreeFault>
+    ensures has { IfOk result (λ has. ForSome (tree_in (S.told source.old))
+        (λ tree. has ≡ is_dir_kind (kind_listed (listing_of tree) (known_text name)))) }
+    ensures same { S.told source.new ≡ S.told source.old }
+    ensures failures { IsCounted (S.failed source.old) (S.failed source.new) result }
+    ensures keeps { S.keeps source.old source.new }
+{
+    let top = NamePath::new(alloc);
+    let listing = source.list(&top)?;
+    Ok(is_dir(kind_in(&listing, name.text().as_bytes())))
+}
+
+// What is behind so many bytes as a prefix has.
+fn behind<'a>(text: &'a [u8], prefix: &[u8]) -> &'a [u8]
+    ensures { result.now ≡ drop (length prefix.now) text.now }
+{
+    let (_, rest) = text.split_at(prefix.len().min(text.len()));
+    rest
+}

@@ -1,0 +1,252 @@
+//! The walk over a root.
+ghost use Rattle.std.specs.Prelude.{◌≡◌, ◌<◌, ◌∷◌, [], IfOk, IsSome, OnOk, Some, length};
+ghost use Rattle.std.specs.Option.{ForSome};
+ghost use Rattle.pt_compare.specs.Root.{tree_in};
+ghost use Rattle.pt_extra.specs.Counting.{no_numbers, with_finding};
+ghost use Rattle.pt_extra.specs.Findings.{found_at, is_held, of_object, of_placed};
+ghost use Rattle.pt_extra.specs.Inventories.{id_of};
+ghost use Rattle.pt_extra.specs.Lines.{Extra, Finding, Stray, line_text};
+ghost use Rattle.pt_extra.specs.Walk.{Fails, Keeps, Puts, Tells, against, found_in, seen_by};
+ghost use Rattle.pt_object.specs.WellKnown.{known_text};
+ghost use Rattle.pt_object.specs.declared.well_known.WellKnownName.TheVariants as known;
+ghost use Rattle.pt_plan.specs.TurnStart.{is_dir_kind, kind_in};
+ghost use Rattle.pt_plan.specs.TurnWalk.{in_root};
+ghost use Rattle.pt_tree.specs.Forest.{dir_at, listing_at, listing_of};
+ghost use Rattle.pt_walk.specs.Left.{inside_at};
+
+use crate::Numbers;
+use crate::identifier::identifier_at;
+use crate::lines::{extra_line, stray_line};
+use crate::parts::{is_object, is_part};
+use crate::store::{has_folder, has_object};
+use pt_move::Job;
+use pt_object::WellKnownName;
+use pt_plan::Fault;
+use pt_state::paths::in_storage_root;
+use pt_tree::{Kind, Listing, Log, NamePath, Source};
+use std::alloc::Global;
+
+/// A walk over the storage root that stands: against what it is held, and what it has told.
+#[derive(Drop)]
+pub struct Extras<S, R, L> {
+    pub(crate) store: S,
+    pub(crate) root: R,
+    pub(crate) log: L,
+    pub(crate) job: Job,
+    pub(crate) prefix: String,
+    pub(crate) numbers: Numbers,
+    pub(crate) alloc: Global,
+}
+
+impl<S: Source, R: Source, L: Log> Extras<S, R, L> {
+    /// A walk over the root in a destination, held against a store, each of whose identifiers begins with this prefix, as a run with this
+    /// job sees it. Nothing is told yet.
+    pub fn new(
+        alloc: Global,
+        store: S,
+        root: R,
+        log: L,
+        job: Job,
+        prefix: String,
+    ) -> Extras<S, R, L>
+        ensures devices { (result.store ≡ store) × (result.root ≡ root) × (result.log ≡ log) }
+        ensures against { (result.job ≡ job) × (result.prefix ≡ prefix) }
+        ensures numbers { result.numbers ≡ no_numbers }
+    {
+        Extras {
+            store,
+            root,
+            log,
+            job,
+            prefix,
+            numbers: Numbers::none(),
+            alloc,
+        }
+    }
+
+    /// Walks the root, and tells what the store lacks. Gives how many lines there are.
+    ///
+    /// `Source` where the store can't be listed, `Dest` where the root can't be listed or read, `Log` where a line couldn't be put, and
+    /// `Memory` where a growth was refused.
+    pub fn run(&mut self) -> Result<Numbers, Fault>
+        ensures told { OnOk result
+            (Tells S.Source R.Source L.Log found_in self.old self.new) }
+        ensures numbers { IfOk result (λ numbers. numbers ≡ self.new.numbers) }
+        ensures keeps { Keeps S.Source R.Source L.Log self.old self.new }
+        ensures fails { Fails S.Source R.Source L.Log self.old self.new result }
+    {
+        if !self.has_root()? {
+            return Ok(self.numbers);
+        }
+        let names = self.job.layout.count() as usize + 1;
+        let top = NamePath::new(self.alloc);
+        self.visit(&top, names)?;
+        Ok(self.numbers)
+    }
+
+    /// Store, root and log, as the walk left them.
+    pub fn into_devices(self) -> (S, R, L)
+        ensures { (result.0 ≡ self.store) × (result.1 ≡ self.root) × (result.2 ≡ self.log) }
+    {
+        (self.store, self.root, self.log)
+    }
+
+    // A folder at a path of the root, below which so many names lead to an object, and all that stands in it.
+    fn visit(&mut self, path: &NamePath, left: usize) -> Result<(), Fault>
+        requires { ForSome (tree_in (R.told self.old.root))
+            (λ tree. IsSome (dir_at tree (in_root path.now))) }
+        ensures told { OnOk result (Tells S.Source R.Source L.Log
+            (λ c tree. found_at c path.now left (inside_at tree (in_root path.now)))
+            self.old self.new) }
+        ensures keeps { Keeps S.Source R.Source L.Log self.old self.new }
+        ensures fails { Fails S.Source R.Source L.Log self.old self.new result }
+    {
+        let folder = in_storage_root(self.alloc, path)?;
+        let listing = self.list(&folder)?;
+        if is_object(&listing) {
+            return self.judge(path, &folder, &listing);
+        }
+        if left == 0 {
+            return self.tell_stray(path);
+        }
+        if listing.is_empty() {
+            return self.tell_stray(path);
+        }
+        for i in 0..listing.len() {
+            let Some((name, kind)) = listing.get(i) else {
+                continue;
+            };
+            if is_part(path, name, kind) {
+                continue;
+            }
+            let entry = path.child(name)?;
+            if let Kind::Dir = kind {
+                self.visit(&entry, left - 1)?;
+                continue;
+            }
+            self.tell_stray(&entry)?;
+        }
+        Ok(())
+    }
+
+    // Whether the destination has a storage root.
+    fn has_root(&mut self) -> Result<bool, Fault>
+        ensures has { IfOk result (λ has. ForSome (tree_in (R.told self.old.root))
+            (λ t. has ≡ is_dir_kind (kind_in (listing_of t) (known_text known.StorageRoot)))) }
+        ensures rest { self.new ≡ record self.old { root = self.new.root } }
+        ensures keeps { Keeps S.Source R.Source L.Log self.old self.new }
+        ensures fails { Fails S.Source R.Source L.Log self.old self.new result }
+    {
+        has_folder(self.alloc, &mut self.root, WellKnownName::StorageRoot).map_err(Fault::of_dest)
+    }
+
+    // The listing of a folder of the destination.
+    #[tactic(auto, using(crate::proofs::Visiting::listed_in))]
+    fn list(&mut self, folder: &NamePath) -> Result<Listing, Fault>
+        requires { ForSome (tree_in (R.told self.old.root))
+            (λ tree. IsSome (dir_at tree folder.now)) }
+        ensures listed { IfOk result (λ listing. ForSome (tree_in (R.told self.old.root))
+            (λ tree. listing_at tree folder.now ≡ Some listing)) }
+        ensures rest { self.new ≡ record self.old { root = self.new.root } }
+        ensures keeps { Keeps S.Source R.Source L.Log self.old self.new }
+        ensures fails { Fails S.Source R.Source L.Log self.old self.new result }
+    {
+        match self.root.list(folder) {
+            Ok(listing) => Ok(listing),
+            Err(fault) => Err(Fault::of_dest(fault)),
+        }
+    }
+
+    // Judges the object at a path, whose folder in the destination lists these.
+    fn judge(&mut self, path: &NamePath, folder: &NamePath, listing: &Listing) -> Result<(), Fault>
+        requires { ForSome (tree_in (R.told self.old.root))
+            (λ tree. listing_at tree folder.now ≡ Some listing.now) }
+        ensures told { OnOk result (Tells S.Source R.Source L.Log
+            (λ c tree. of_object c path.now (id_of (inside_at tree folder.now)))
+            self.old self.new) }
+        ensures keeps { Keeps S.Source R.Source L.Log self.old self.new }
+        ensures fails { Fails S.Source R.Source L.Log self.old self.new result }
+    {
+        let id = identifier_at(self.alloc, &mut self.root, folder, listing).map_err(
+            Fault::of_dest,
+        )?;
+        match id {
+            Some(id) => self.judge_named(path, id.as_str()),
+            None => self.tell_stray(path),
+        }
+    }
+
+    // Judges the object at a path, which has this identifier.
+    fn judge_named(&mut self, path: &NamePath, id: &str) -> Result<(), Fault>
+        requires { 0 < length id.now }
+        ensures told { OnOk result (Tells S.Source R.Source L.Log
+            (λ c tree. of_object c path.now (Some id.now)) self.old self.new) }
+        ensures keeps { Keeps S.Source R.Source L.Log self.old self.new }
+        ensures fails { Fails S.Source R.Source L.Log self.old self.new result }
+    {
+        let place = self.job.layout.place(self.alloc, id.as_bytes())?;
+        if *path != place {
+            return self.tell_stray(path);
+        }
+        if !self.job.share.holds(id.as_bytes()) {
+            return Ok(());
+        }
+        if self.store_has(id)? {
+            return Ok(());
+        }
+        self.tell_extra(path, id)
+    }
+
+    // Whether the store has an object where an identifier belongs.
+    fn store_has(&mut self, id: &str) -> Result<bool, Fault>
+        ensures has { IfOk result (λ has. ForSome (tree_in (S.told self.old.store))
+            (λ s. has ≡ is_held (against self.old s) id.now)) }
+        ensures rest { self.new ≡ record self.old { store = self.new.store } }
+        ensures keeps { Keeps S.Source R.Source L.Log self.old self.new }
+        ensures fails { Fails S.Source R.Source L.Log self.old self.new result }
+    {
+        has_object(
+            self.alloc,
+            &mut self.store,
+            &self.job,
+            self.prefix.as_str(),
+            id,
+        )
+        .map_err(Fault::of_source)
+    }
+
+    // Tells that what stands at a path is stray.
+    fn tell_stray(&mut self, path: &NamePath) -> Result<(), Fault>
+        ensures told { OnOk result (Tells S.Source R.Source L.Log
+            (λ c tree. Stray path.now ∷ []) self.old self.new) }
+        ensures keeps { Keeps S.Source R.Source L.Log self.old self.new }
+        ensures fails { Fails S.Source R.Source L.Log self.old self.new result }
+    {
+        let line = stray_line(self.alloc, path)?;
+        self.put(line.as_str(), self.numbers.with_stray())
+    }
+
+    // Tells that the store doesn't have the object at a path, which has this identifier.
+    fn tell_extra(&mut self, path: &NamePath, id: &str) -> Result<(), Fault>
+        ensures told { OnOk result (Tells S.Source R.Source L.Log
+            (λ c tree. Extra id.now path.now ∷ []) self.old self.new) }
+        ensures keeps { Keeps S.Source R.Source L.Log self.old self.new }
+        ensures fails { Fails S.Source R.Source L.Log self.old self.new result }
+    {
+        let line = extra_line(self.alloc, id, path)?;
+        self.put(line.as_str(), self.numbers.with_extra())
+    }
+
+    // Puts the line of a finding, with which these are the numbers.
+    fn put(&mut self, line: &str, numbers: Numbers) -> Result<(), Fault>
+        ensures put { (finding : Finding) → line.now ≡ line_text finding
+            → numbers ≡ with_finding finding self.old.numbers → OnOk result
+            (Puts (finding ∷ []) (seen_by L.Log self.old) (seen_by L.Log self.new)) }
+        ensures keeps { Keeps S.Source R.Source L.Log self.old self.new }
+        ensures fails { Fails S.Source R.Source L.Log self.old self.new result }
+    {
+        self.log.put(line.as_bytes()).map_err(Fault::of_log)?;
+        self.numbers = numbers;
+        Ok(())
+    }
+}

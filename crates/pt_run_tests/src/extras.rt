@@ -1,0 +1,188 @@
+//! What a root has and its store lacks, over trees in memory.
+#![tactic(auto)]
+
+use crate::expected_roots::Files;
+use crate::jobs::{Settings, make_job};
+use pt_extra::{Extras, Numbers};
+use pt_memory::texts::{add, store};
+use pt_memory::{MemLog, MemSource};
+use pt_move::Fault;
+use std::alloc::Global;
+
+// A walk: the store's entries, what its identifiers begin with, what is asked for, what stands in the destination, and the log.
+struct Row {
+    entries: &'static str,
+    prefix: &'static str,
+    settings: Settings,
+    root: Files,
+    log: &'static str,
+    numbers: Numbers,
+}
+
+const NONE: Numbers = Numbers { extra: 0, stray: 0 };
+
+const ABC: (&str, &str) = (
+    "ocfl/ba7/816/bf8/abc/0=ocfl_object_1.1",
+    "ocfl_object_1.1\n",
+);
+
+const ABC_ID: (&str, &str) = ("ocfl/ba7/816/bf8/abc/inventory.json", r#"{"id":"abc"}"#);
+
+// The store has the object, and the root has files of its own.
+const SAME: Row = Row {
+    entries: " ab/c/obj/f=abc",
+    prefix: "",
+    settings: Settings::Usual,
+    root: &[
+        ("ocfl/0=ocfl_1.1", ""),
+        ("ocfl/ocfl_1.1.md", ""),
+        ("ocfl/ocfl_layout.json", ""),
+        ("ocfl/extensions/a/b", ""),
+        ABC,
+        ABC_ID,
+        ("ocfl/ba7/816/bf8/abc/more/f", ""),
+        ("staging/f", ""),
+    ],
+    log: "",
+    numbers: NONE,
+};
+
+// At each level; a file has the name of the extensions' folder, and a folder that of a file of the root.
+const STRAY: Row = Row {
+    entries: " ab/c/obj/f=abc",
+    prefix: "",
+    settings: Settings::Usual,
+    root: &[
+        ("ocfl/0=ocfl_1.1/", ""),
+        ("ocfl/a", ""),
+        ("ocfl/b/", ""),
+        ABC,
+        ABC_ID,
+        ("ocfl/ba7/816/bf8/f/g", ""),
+        ("ocfl/ba7/816/ocfl_layout.json", ""),
+        ("ocfl/extensions", ""),
+    ],
+    log: r#"{"as":"stray","to":"0=ocfl_1.1"}
+{"as":"stray","to":"a"}
+{"as":"stray","to":"b"}
+{"as":"stray","to":"ba7/816/bf8/f"}
+{"as":"stray","to":"ba7/816/ocfl_layout.json"}
+{"as":"stray","to":"extensions"}
+"#,
+    numbers: Numbers { extra: 0, stray: 6 },
+};
+
+// One isn't in the store; of the others one is at another place, one has no identifier, and one no inventory.
+const EXTRA: Row = Row {
+    entries: " ab/d/obj/f=abc",
+    prefix: "",
+    settings: Settings::Usual,
+    root: &[
+        ("ocfl/a/0=ocfl_object_1.0", ""),
+        ("ocfl/a/inventory.json", r#"{"id":"abc"}"#),
+        ABC,
+        ABC_ID,
+        ("ocfl/c/0=ocfl_object_1.1", ""),
+        ("ocfl/c/inventory.json", r#"{"id":""}"#),
+        ("ocfl/d/0=ocfl_object_1.1", ""),
+    ],
+    log: r#"{"as":"stray","to":"a"}
+{"as":"extra","id":"abc","to":"ba7/816/bf8/abc"}
+{"as":"stray","to":"c"}
+{"as":"stray","to":"d"}
+"#,
+    numbers: Numbers { extra: 1, stray: 3 },
+};
+
+// An identifier that doesn't begin as the store's do.
+const PREFIX: Row = Row {
+    entries: " ab/c/obj/f=abc",
+    prefix: "ark:/",
+    settings: Settings::Usual,
+    root: &[ABC, ABC_ID],
+    log: "{\"as\":\"extra\",\"id\":\"abc\",\"to\":\"ba7/816/bf8/abc\"}\n",
+    numbers: Numbers { extra: 1, stray: 0 },
+};
+
+// The site has an object only where what lies in it is gathered.
+const SPLIT: Row = Row {
+    entries: " ab/c/obj/f=abc ab/c/g=",
+    prefix: "",
+    settings: Settings::Usual,
+    root: &[ABC, ABC_ID],
+    log: "{\"as\":\"extra\",\"id\":\"abc\",\"to\":\"ba7/816/bf8/abc\"}\n",
+    numbers: Numbers { extra: 1, stray: 0 },
+};
+
+const GATHERED: Row = Row {
+    entries: " ab/c/obj/f=abc ab/c/g=",
+    prefix: "",
+    settings: Settings::Gather,
+    root: &[ABC, ABC_ID],
+    log: "",
+    numbers: NONE,
+};
+
+// It is of the second share of two.
+const OTHER_SHARE: Row = Row {
+    entries: "",
+    prefix: "",
+    settings: Settings::Share(1, 2),
+    root: &[ABC, ABC_ID],
+    log: "",
+    numbers: NONE,
+};
+
+const ROWS: [Row; 7] = [SAME, STRAY, EXTRA, PREFIX, SPLIT, GATHERED, OTHER_SHARE];
+
+// What a walk comes to, and its log.
+fn walked(
+    alloc: Global,
+    row: &Row,
+    calls: Option<u64>,
+) -> Option<(Result<Numbers, Fault>, MemLog)> {
+    let Ok(mut store) = store(alloc, row.entries) else {
+        return None;
+    };
+    store.fuse(calls);
+    let mut root = MemSource::new(alloc);
+    let planted = add(alloc, &mut root, row.root);
+    let job = make_job(alloc, row.settings)?;
+    let Ok(prefix) = String::from_str(alloc, row.prefix) else {
+        return None;
+    };
+    let mut walk = Extras::new(alloc, store, root, MemLog::new(alloc), job, prefix);
+    let ran = walk.run();
+    let (_, _, log) = walk.into_devices();
+    if planted.is_ok() {
+        Some((ran, log))
+    } else {
+        None
+    }
+}
+
+fn holds(alloc: Global, row: &Row) -> bool {
+    match walked(alloc, row, None) {
+        Some((ran, log)) => ran == Ok(row.numbers) && log.bytes() == row.log.as_bytes(),
+        None => false,
+    }
+}
+
+// Whether a store that fails at its first call ends the walk over this.
+fn fails(alloc: Global, row: &Row) -> bool {
+    match walked(alloc, row, Some(0)) {
+        Some((ran, log)) => ran == Err(Fault::Source) && log.bytes().is_empty(),
+        None => false,
+    }
+}
+
+#[test]
+fn what_the_store_lacks_is_told(rt: HostRuntime) {
+    let wrong = ROWS.iter().position(|row| !holds(rt.alloc(), row));
+    assert!(rt; wrong.is_none(), "row {wrong:?}");
+}
+
+#[test]
+fn store_that_fails_ends_the_walk(rt: HostRuntime) {
+    assert!(rt; fails(rt.alloc(), &SAME));
+}
