@@ -76,8 +76,11 @@ def args_of(table, shared, constants):
 
 def about_of(name, grammar):
     """What the help of a command says first."""
-    parser = re.search(rf"\nfn {name}_parser\b.*?\n\}}\n", grammar, re.DOTALL)[0]
-    return re.search(rf"\babout(?:\(| =)\s*{STRING}", parser)[1]
+    parser = re.search(rf"\nfn {name}_parser\b.*?\n\}}\n", grammar, re.DOTALL)
+    about = parser and re.search(rf"\babout(?:\(| =)\s*{STRING}", parser[0])
+    if not about:
+        sys.exit(f"{GRAMMAR}: no {name}_parser says what {name} does")
+    return about[1]
 
 
 def commands_of(grammar):

@@ -9,7 +9,7 @@ program=$1
 prefix=${2:?name the folder to install to}
 documents=$prefix/${3:-share/doc/pairtree2ocfl}
 top=$(dirname "$0")/..
-made=$(mktemp -d)
+made=
 trap 'rm -rf "$made"' EXIT
 
 put() {
@@ -21,7 +21,10 @@ put() {
     fi
 }
 
-[ "$program" = --remove ] || "${PYTHON:-python3}" "$top/tools/fill.py" "$made"
+if [ "$program" != --remove ]; then
+    made=$(mktemp -d)
+    "${PYTHON:-python3}" "$top/tools/fill.py" "$made"
+fi
 if [ -d "$program" ]; then
     for name in README libos_c.a liblibc_c.a x86-64-v2/pairtree2ocfl.o x86-64-v3/pairtree2ocfl.o; do
         put 644 "$program/$name" "lib/pairtree2ocfl/$name"

@@ -11,7 +11,7 @@ pub enum Command {
     Migrate(Migrate),
     /// Hold a storage root against a Pairtree store.
     Audit(Audit),
-    /// Tell of a Pairtree store all that would stop a run or surprise its owner.
+    /// Tell what in a Pairtree store would stop a run or surprise its owner.
     Check(Check),
 }
 

@@ -370,7 +370,7 @@ fn check_parser<'a>(alloc: Global) -> Result<Parser<'a>, AllocError>
     ensures { IfOk result (λ parser. (app_of parser ≡ check_app)
         × ((out-Command parser).has_globals ≡ false)) }
 {
-    let about = "Tells of a Pairtree store all that would stop a run or surprise its owner";
+    let about = "Tells what in a Pairtree store would stop a run or surprise its owner";
     with_help(alloc, CHECK, about, TROUBLES_AND_STATUS, CHECK_TAKES)
 }
 

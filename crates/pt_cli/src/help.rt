@@ -48,7 +48,7 @@ Exit status:
 
 // Of `check`.
 pub(crate) const TROUBLES_AND_STATUS: &str =
-    r#"Every folder is listed and every file opened, in one pass that goes on past what can't be read.
+    r#"Below pairtree_root every folder is listed and every file opened, in one pass that goes on past what can't be read.
 Nothing is made or changed. Standard output gets a line of JSON for each trouble.
 Each line says under "as" what is at "path" in the source:
   unreadable  it can't be listed, opened or read, for the "reason"

@@ -5,9 +5,10 @@
 //! - `answer` says what words lead to, of which the first is the program's name (`EndsWith`). They are answered as `read_words` has it, and
 //!   that is done (`Obeys`, `Declines`). `names` writes the two names, by `names_to`, to the output that the machine lends, and the status
 //!   is by the answer (`TellsNames`). `names -` asks for the machine's input, which no other command does, and writes the names of the identifiers
-//!   in its lines, by `list_names` (`TellsAll`). `migrate` makes the run of pt_host from SOURCE to DEST, with all that its options say, and the status
-//!   is its status; `audit` makes the audit likewise, and `check` the check of SOURCE. Help and the version are written to the machine's output: 0 where they were, or
-//!   nobody may read them any more, and else 3 (`TellsText`). Refused words (2) and want of memory (3) ask nothing of the machine.
+//!   in its lines, by `list_names` (`TellsAll`). `migrate` makes the run of pt_host from SOURCE to DEST, with all that its options say, and
+//!   the status is its status; `audit` makes the audit likewise, and `check` the check of SOURCE. Help and the version are written to the
+//!   machine's output: 0 where they were, or nobody may read them any more, and else 3 (`TellsText`). Refused words (2) and want of
+//!   memory (3) ask nothing of the machine.
 //! - The options that have a part in what is said of a run or an audit: those of the job, `--ignore`, `--sync`, `--dry-run`,
 //!   `--present-ok`, `--skips-ok`, `--read` of a check, and `--expect`, whose log is asked for its end. `--verbose`, `--progress`, `--interval` and `--quiet`
 //!   are taken from the words too; what they then show is tested.

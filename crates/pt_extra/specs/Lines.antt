@@ -6,7 +6,8 @@ use Rattle.serde_json.specs.Data.{Data, no_members}
 use Rattle.serde_json.specs.Data as json
 use Rattle.serde_json.specs.Written.{compact_text}
 
--- what is told of a path from the storage root on: it is no part of the root or of an object, or of an object that doesn't stand at its place; or an object stands there which the store doesn't have
+-- what is told of a path from the storage root on: it is no part of the root or of an object, or of an object that doesn't stand at its
+-- place; or an object stands there which the store doesn't have
 pub data Finding : Type 0 where
   Stray : (to : Path) → Finding
   Extra : (id : List ℕ) → (to : Path) → Finding

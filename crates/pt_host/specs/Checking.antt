@@ -48,7 +48,7 @@ ChecksTree call was held numbers tree =
     (end : Seen) × (end.held ≡ held) × Checks call.options.reads tree numbers (unbegun was) end
 
 -- a check was made over this folder of the system that keeps the store: where it ended well the output got its lines, of the
--- tree that the system keeps, and else the output failed, or memory was wanting; whatever it came to, that tree stands, what
+-- tree that the system keeps, and else its fault is the output's or want of memory; whatever it came to, that tree stands, what
 -- stood in the output stands, and the other system is as it was
 pub record ChecksOver {S D W : Type 0} (words : HostIoWords S D W (Option Forest)) (call : CheckCall)
     (old new : HostIo S D W) (status : ℕ) : Type 0 where

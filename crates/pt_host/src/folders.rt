@@ -1,5 +1,3 @@
-//! The two folders of a run or an audit.
-
 /// The two folders of a run or an audit, by their paths: the store, and the one in which the storage root is.
 #[derive(Clone, Copy)]
 pub(crate) struct Folders<'a> {

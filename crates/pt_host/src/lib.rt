@@ -29,13 +29,12 @@
 //!   log tells, both logs get the same text, and the status is the same (`RehearsalTellsTheRun`).
 //! - `audit_guarded`: the guard, with a lock that others may share, the audit over what is lent, which is given back, and the lock
 //!   (`Audits`). Where it ends well the output has got its log, of the trees that both systems keep, and after a fault a front of it.
-//!   After any answer both systems keep the
-//!   same trees, what stood in the output stands, a refusal is true of the store and of the root, and the status follows from the answer
-//!   (`AuditsOver`). Where that was asked for, what was passed over counts as well (`others`).
+//!   After any answer both systems keep the same trees, what stood in the output stands, a refusal is true of the store and of the
+//!   root, and the status follows from the answer (`AuditsOver`). Where that was asked for, what was passed over counts as well (`others`).
 //! - `check_store`: what is lent is asked for, and nothing else; the check of pt_check is made over SOURCE and the output, and what was lent is
 //!   given back (`ChecksStore`). Where it ends well the output has got its lines, of the tree that the store's system keeps, without the
-//!   entries that are left out; else the output failed, or memory was wanting. After any answer that system keeps the same tree, what stood in the output stands, the destination's
-//!   system is as it was, and the status follows from the answer (`ChecksOver`).
+//!   entries that are left out; else its fault is the output's, or want of memory. After any answer that system keeps the same tree, what
+//!   stood in the output stands, the destination's system is as it was, and the status follows from the answer (`ChecksOver`).
 //! - `DurableLog` is a log. Where its `put` is answered Ok, and it has a file, that was asked after the writing to put onto the disk all
 //!   that its writer has written, and answered Ok (`IsPutBehind`). It has its file to its end, and unless it failed all that it wrote was
 //!   put onto the disk (`LogStays`). That is proved whatever `puts`, the word for it, means of a file and a writer (`SyncsOutput`). What a
