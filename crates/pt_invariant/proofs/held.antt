@@ -1,4 +1,5 @@
 pub mod BehindRows
+pub mod DigestsTell
 pub mod DistinctRows
 pub mod EitherPhase
 pub mod Feeding

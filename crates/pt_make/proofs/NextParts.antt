@@ -1,23 +1,37 @@
 -- The turns that make an object's contents, from their calls.
-use Rattle.std.proofs.Common.{◌≡◌, ◌<◌, ◌≤◌, ◌-◌, ◌^◌, ℕ, [], ◌++◌, refl, sym, ap, ◌∙◌, true, false, take, length, arith}
+use Rattle.std.proofs.Common.{◌≡◌, ◌<◌, ◌≤◌, ◌-◌, ◌^◌, ℕ, List, [], ◌++◌, refl, sym, ap, ◌∙◌, true, false, take, length, arith}
 use Rattle.std.specs.Prelude.{Option, None, Some, Ok, IsErrAnd, slice_get}
-use Rattle.std.specs.Option.{option_map}
+use Rattle.std.specs.Option.{option_map, option_map_or}
+use Rattle.std.specs.Str.{bytes_eq}
 use Rattle.std.proofs.lemmas.Bool.{le-ltb, lt-ltb}
 use Rattle.std.proofs.lemmas.List.{take_all}
-use Rattle.pt_state.proofs.Words.{HasBeenFed, MakeFolder, Row, Writing, MayMake, Path, Reading, CanOpen, after_open, Answer, Did, FailsPartway, Make, FailsUnchanged, content_at, in_pairtree, Answers, Calls, Changes, Creates, Makes, NewFile, Opens, Puts, DeviceStates, asks, dest_tree, does, source_tree, Fault, Object, Part, Position, KeepsAll, held_of, Turned}
+use Rattle.pt_state.proofs.Words.{Content, HasBeenFed, MakeFolder, Row, Writing, MayMake, Path, Reading, CanOpen, after_open, Answer, Did, FailsPartway, Make, FailsUnchanged, content_at, in_pairtree, Answers, Calls, Changes, Creates, Makes, NewFile, Opens, Puts, DeviceStates, asks, dest_tree, does, source_tree, Fault, Object, Part, Position, KeepsAll, held_of, Turned}
 use Rattle.pt_state.proofs.Words.part
 use Rattle.pt_state.proofs.Words.phase
 use Rattle.pt_state.proofs.Words.stage
 use Rattle.pt_state.specs.declared.state.State.{State}
+use Rattle.pt_object.specs.Contents.{has_digest}
 use Rattle.pt_plan.specs.Enabled.{MayMakeContent, MayOpenRow}
 use Rattle.pt_plan.specs.TurnMake.{MakesFolder, OpensCopy, PassesRow, behind, staged_content, is_stored, path_of_source, with_folder}
 use Rattle.pt_state.proofs.Together.{did_nothing, none_of_file}
 use Rattle.pt_state.proofs.Turns.{keeps_same, left_some, went}
-use Rattle.pt_make.specs.Making.{IsNextCopy, IsNextFolder, IsPassed, content_phase, copy_phase}
+use Rattle.pt_make.specs.Making.{DigestTells, IsNextCopy, IsNextFolder, IsPassed, content_phase, copy_phase}
 use Rattle.pt_make.specs.declared.contents.Copied.{Copied}
 use Rattle.pt_make.specs.declared.contents.ObjectContent.{ObjectContent}
 
 -- ---- what is next
+
+-- the content's digest tells whether the row is stored there
+pub told_stored : (rows : List Row) (contents : List Content) (position : Position) (row : Row) (content : Content) → DigestTells rows contents position → slice_get rows position.row ≡ Some row → Some content ≡ slice_get contents position.stored
+    → bytes_eq content.digest row.digest ≡ is_stored contents position.stored row.path
+unfolding DigestTells
+told_stored rows contents position row content tells at is = ap (λ (o : Option Content). option_map_or (has_digest row.digest) o false) is ∙ tells row at
+
+-- so does there being none
+pub told_absent : (rows : List Row) (contents : List Content) (position : Position) (row : Row) → DigestTells rows contents position → slice_get rows position.row ≡ Some row → None ≡ slice_get contents position.stored
+    → false ≡ is_stored contents position.stored row.path
+unfolding DigestTells
+told_absent rows contents position row tells at is = ap (λ (o : Option Content). option_map_or (has_digest row.digest) o false) is ∙ tells row at
 
 pub is_passed : (s : State) (position : Position) (row : Row) (next : Part) → Some row ≡ slice_get s.rows position.row → false ≡ is_stored s.contents position.stored row.path → next ≡ content_at s.rows (behind position) → IsPassed s position next
 unfolding IsPassed
@@ -119,4 +133,4 @@ pub may_open_copy : (s : State) (w : DeviceStates) (content : ObjectContent) (co
 unfolding MayMakeContent MayOpenRow IsNextCopy
 may_open_copy s w content copied may (row, (at, stored, most, there, here, same)) = rw here ((may row at stored).1 most).1
 
-pub ruleset next_parts = (is_passed, is_next_folder, is_next_copy, passed_row, few_folders, may_folder, made_folder, may_create, may_open_copy, can_open_still, copy_opened, copy_unopened)
+pub ruleset next_parts = (told_stored, told_absent, is_passed, is_next_folder, is_next_copy, passed_row, few_folders, may_folder, made_folder, may_create, may_open_copy, can_open_still, copy_opened, copy_unopened)

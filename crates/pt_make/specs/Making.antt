@@ -1,9 +1,11 @@
 -- What the turns that make an object ask of what is held, beside what their calls need of the devices.
 use Rattle.std.specs.Prelude.{◌≡◌, ◌<◌, ◌==◌, ◌&&◌, ◌++◌, ◌-◌, ◌^◌, ℕ, List, None, Option, Some, false, length, map, nat_lt, slice_get, take, true, ⊤}
+use Rattle.std.specs.Option.{option_map_or}
 use Rattle.std.specs.Str.{bytes_eq}
 use Rattle.pt_object.specs.declared.algorithm.Algorithm.{Algorithm}
 use Rattle.pt_object.specs.declared.table.contents.Content.{Content}
 use Rattle.pt_object.specs.declared.hasher.Hasher.{Hasher}
+use Rattle.pt_object.specs.Contents.{has_digest}
 use Rattle.pt_object.specs.Distinct.{content_of_row, distinct}
 use Rattle.pt_object.specs.Hasher.{HasBeenFed}
 use Rattle.pt_object.specs.Script.{MakeFile}
@@ -42,6 +44,18 @@ copy_phase content left = phase.Carrying content.object (stage.Copy content.posi
 pub record IsAt (position : Position) (rows : List Row) (contents : List Content) : Type 0 where
   pub row : position.row < length rows
   pub stored : position.stored < length contents
+
+-- whether the row at the position is stored is told by the digest of its content as by the path
+unfoldable pub DigestTells : List Row → List Content → Position → Type 0
+DigestTells rows contents position =
+    (row : Row) → slice_get rows position.row ≡ Some row
+    → option_map_or (has_digest row.digest) (slice_get contents position.stored) false
+    ≡ is_stored contents position.stored row.path
+
+-- the row at the position is there, and its digest tells whether it is stored
+pub record IsAtContent (rows : List Row) (contents : List Content) (position : Position) : Type 0 where
+  pub row : position.row < length rows
+  pub tells : DigestTells rows contents position
 
 -- the row at the position is passed, and this is next
 unfoldable pub IsPassed : State → Position → Part → Type 0
@@ -154,7 +168,7 @@ abbrev pub IsReadyFor : Part → Object → State → Type 0
 IsReadyFor part.Staging object s = ⊤
 IsReadyFor part.Declaration object s = ⊤
 IsReadyFor part.Version object s = ⊤
-IsReadyFor (part.Content position) object s = position.row < length s.rows
+IsReadyFor (part.Content position) object s = IsAtContent s.rows s.contents position
 IsReadyFor part.VersionInventory object s = HasContentsOfRows s
 IsReadyFor part.VersionSidecar object s = HasFedInventory s object
 IsReadyFor part.Inventory object s = HasContentsOfRows s × HasFedInventory s object

@@ -1,15 +1,15 @@
 //! The turns that make an object's contents: a row whose content is stored is passed; of any other the folders on the
 //! way are made, one a turn, and then its file, for which the source's is opened.
-ghost use Rattle.std.specs.Prelude.{◌≡◌, ◌<◌, [], IfOk, length};
+ghost use Rattle.std.specs.Prelude.{◌≡◌, [], IfOk, Some, slice_get};
 ghost use Rattle.pt_plan.specs.Enabled.{MayMakeContent};
 ghost use Rattle.pt_plan.specs.TurnMake.{content_at, is_stored as is_stored_of};
 ghost use Rattle.pt_state.specs.States.{held_of};
 ghost use Rattle.pt_state.specs.Turns.{TakesTurn};
 ghost use Rattle.pt_tree.specs.Dest.{MayMake};
 ghost use Rattle.pt_tree.specs.Source.{CanOpen};
-ghost use Rattle.pt_make.specs.Making.{IsNextCopy, IsNextFolder, IsStep, content_phase};
+ghost use Rattle.pt_make.specs.Making.{DigestTells, IsAtContent, IsNextCopy, IsNextFolder, IsStep, content_phase};
 
-use pt_object::{Contents, Hasher, Rows};
+use pt_object::{Hasher, Row, Rows};
 use pt_plan::{Fault, Object, Part, Phase, Position, Stage};
 use pt_state::paths::{source_path, staged_content_path};
 use pt_state::{Io, State};
@@ -49,7 +49,7 @@ pub(crate) fn make_content<O: Io>(
     content: ObjectContent,
     out: &mut O,
 ) -> Result<Phase, Fault>
-    requires row { content.position.row < length state.old.rows }
+    requires at { IsAtContent state.old.rows state.old.contents content.position }
     requires may { MayMakeContent (O.states out.old).source (O.states out.old).dest content.object
         (held_of state.old []) content.position }
     ensures turn { TakesTurn O.Io (1, 0) (content_phase content)
@@ -64,7 +64,7 @@ pub(crate) fn make_content<O: Io>(
 
 // What is next of a content.
 fn next_step(state: &State, content: &ObjectContent) -> Result<Step, MemoryFault>
-    requires { content.now.position.row < length state.now.rows }
+    requires { IsAtContent state.now.rows state.now.contents content.now.position }
     ensures { IfOk result (IsStep state.now content.now) }
 {
     let position = content.position;
@@ -72,7 +72,7 @@ fn next_step(state: &State, content: &ObjectContent) -> Result<Step, MemoryFault
     let Some(row) = state.rows.get(position.row) else {
         unreachable!()
     };
-    if !is_stored(&state.contents, position.stored, &row.path) {
+    if !is_stored(state, position, row) {
         let row = position.row + 1;
         let next = next_content(&state.rows, Position { row, ..position });
         return Ok(Step::Pass(next));
@@ -99,12 +99,15 @@ pub(crate) fn next_content(rows: &Rows, position: Position) -> Part
     }
 }
 
-// Whether a row's content is the one of this number, so that it is stored at the row's path.
-fn is_stored(contents: &Contents, stored: usize, path: &NamePath) -> bool
-    ensures { result ≡ is_stored_of contents.now stored path.now }
+// Whether the content of a row is the one at its position, so that it is stored at the row's path. Their digests tell what their paths would,
+// which may be long.
+fn is_stored(state: &State, position: Position, row: &Row) -> bool
+    requires row { slice_get state.now.rows position.row ≡ Some row.now }
+    requires tells { DigestTells state.now.rows state.now.contents position }
+    ensures { result ≡ is_stored_of state.now.contents position.stored row.now.path }
 {
-    match contents.get(stored) {
-        Some(content) => content.path == *path,
+    match state.contents.get(position.stored) {
+        Some(content) => content.digest == row.digest,
         None => false,
     }
 }

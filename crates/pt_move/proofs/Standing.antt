@@ -9,10 +9,11 @@ use Rattle.pt_state.proofs.Words.opening
 use Rattle.pt_state.proofs.Words.phase
 use Rattle.pt_state.proofs.Words.stage
 use Rattle.pt_state.specs.declared.state.State.{State}
+use Rattle.pt_invariant.proofs.held.DigestsTell.{digest_tells}
 use Rattle.pt_invariant.specs.HeldInvariant.{HeldAt}
 use Rattle.pt_invariant.specs.History.{History}
 use Rattle.pt_invariant.specs.PartsMade.{IsAtStoredRow}
-use Rattle.pt_make.specs.Making.{HasContentsOfRows, HasFedInventory, IsReadyFor}
+use Rattle.pt_make.specs.Making.{DigestTells, HasContentsOfRows, HasFedInventory, IsReadyFor}
 use Rattle.pt_scan.specs.Scanning.{IsSite}
 use Rattle.pt_move.specs.Stands.{Stands}
 
@@ -30,11 +31,14 @@ unfolding IsSite
 in_object object trail some within = (some, within)
 
 ready : (here : Part) {object : Object} (s : State) {fed : List ℕ} {past : History} → HasBeenFed s.job.algorithm s.hasher fed → HeldAt (job_of s.job) past (phase.Carrying object (stage.Make here)) (held_of s fed) → IsReadyFor here object s
-unfolding HasContentsOfRows HasFedInventory
+unfolding HasContentsOfRows HasFedInventory DigestTells
 ready part.Staging s was held = tt
 ready part.Declaration s was held = tt
 ready part.Version s was held = tt
-ready (part.Content position) s was held = held.numbers.within
+ready (part.Content position) s was held = record {
+  row = held.numbers.within;
+  tells = λ row is. digest_tells s.rows s.contents position.row position.stored row held.rows.contents held.numbers.stored held.rows.order is;
+}
 ready part.VersionInventory s was held = held.rows.contents
 ready part.VersionSidecar s was held = rw held.fed at was
 ready part.Inventory s was held = (held.rows.contents, rw held.fed at was)
