@@ -11,8 +11,8 @@ import subprocess
 import sys
 import tempfile
 
+import completions
 import lanes
-import packages
 import system
 from alone import Alone, differs
 from tally import Skipped, Tally, faults_of, needs
@@ -137,7 +137,7 @@ def installed(program, folder):
     """Each program that a case needs is one that .ci/run installs."""
     with open(f"{TOP}/.ci/run", encoding="utf-8") as file:
         brought = set(re.findall(r"([\w.-]+):[\w.-]+", file.read()))
-    wanted = set(packages.READERS)
+    wanted = set(completions.READERS)
     for path in glob.glob(f"{TOP}/tests/cases/*.py"):
         if path != os.path.abspath(__file__):
             with open(path, encoding="utf-8") as file:
