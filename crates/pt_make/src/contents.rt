@@ -83,7 +83,7 @@ fn next_step(state: &State, content: &ObjectContent) -> Result<Step, MemoryFault
         return Ok(Step::Folder(path));
     }
     let to = staged_content_path(state.alloc, &row.path, names)?;
-    let from = source_path(&content.object, &state.trail, &row.path)?;
+    let from = source_path(state.alloc, &content.object, &state.trail, &row.path)?;
     let length = row.length;
     Ok(Step::File(Copied { to, from, length }))
 }

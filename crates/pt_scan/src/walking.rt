@@ -13,7 +13,7 @@ ghost use Rattle.pt_scan.specs.Walking.{CanPassShorty, EntersSite, IsAtShorty, P
 use pt_object::WellKnownName;
 use pt_plan::{Fault, Phase};
 use pt_state::lines::put_skip;
-use pt_state::paths::{entry_path, in_pairtree};
+use pt_state::paths::{entry_in_pairtree, entry_path};
 use pt_state::{Io, State};
 use pt_tree::{MemoryFault, NamePath};
 use pt_walk::{At, Cause, Trail, is_shorty};
@@ -115,7 +115,7 @@ fn enter_site<O: Io>(state: &mut State, out: &mut O) -> Result<Phase, Fault>
 pub(crate) fn listed_path(state: &State) -> Result<NamePath, MemoryFault>
     ensures { IfOk result (λ path. path ≡ in_pairtree_of (names_to state.now.trail)) }
 {
-    in_pairtree(entry_path(&state.trail)?)
+    entry_in_pairtree(state.alloc, &state.trail, 0)
 }
 
 // Whether the site that was entered is of a name of one byte, below which no site is.

@@ -1,4 +1,4 @@
-ghost use Rattle.std.specs.Prelude.{◌≡◌, ◌==◌, ◌<◌, ◌≤◌, ◌*◌, ◌-◌, ◌^◌, [], Some, IfOk, IsTrue, OnOk, OnErr, IsSome, cond, length};
+ghost use Rattle.std.specs.Prelude.{◌≡◌, ◌==◌, ◌++◌, ◌<◌, ◌≤◌, ◌*◌, ◌-◌, ◌^◌, [], Some, IfOk, IsTrue, OnOk, OnErr, IsSome, cond, length};
 ghost use Rattle.std.specs.Option.{option_copied};
 ghost use Rattle.pt_tree.specs.Listing.{items_lent};
 ghost use Rattle.pt_walk.specs.Sites.{at_of};
@@ -110,10 +110,17 @@ impl Trail {
     pub fn path(&self) -> Result<NamePath, MemoryFault>
         ensures { IfOk result (λ path. path ≡ trail_path self.now) }
     {
-        let outer = self.frames.len().saturating_sub(1);
         // There is room for the entry and for what stands above the trail too.
-        let room = outer.saturating_add(2);
-        let mut path = NamePath::with_room(*self.frames.allocator(), room)?;
+        let room = self.frames.len().saturating_add(1);
+        self.path_below(NamePath::with_room(*self.frames.allocator(), room)?)
+    }
+
+    /// That path behind another, for which there is no room to be made at its front then.
+    pub fn path_below(&self, above: NamePath) -> Result<NamePath, MemoryFault>
+        ensures { IfOk result (λ path. path ≡ above ++ trail_path self.now) }
+    {
+        let outer = self.frames.len().saturating_sub(1);
+        let mut path = above;
         for frame in &self.frames[..outer] {
             frame.add_name(&mut path)?;
         }
