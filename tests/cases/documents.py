@@ -253,9 +253,9 @@ def crates(program, folder):
     for place, name in enumerate(rows):
         faults += [f"docs/DESIGN.md has {name} before {below}, on which it stands" for below in stands.get(name, ()) if below in rows[place:]]
     tests = text_of("CONTRIBUTING.md").split("\n## Tests\n", 1)[1].split("\n## ", 1)[0]
-    faults += [f"CONTRIBUTING.md doesn't say what is tested by {name}" for name in rows[rows.index("pt_clients") :] if f"`{name}`" not in tests]
+    faults += [f"CONTRIBUTING.md doesn't say what is tested by {name}" for name in rows[rows.index("pt_base_tests") :] if f"`{name}`" not in tests]
     on = {below for belows in stands.values() for below in belows}
-    return faults + [f"docs/DESIGN.md says that no code stands on {name}" for name in rows[rows.index("pt_clients") :] if name in on]
+    return faults + [f"docs/DESIGN.md says that no code stands on {name}" for name in rows[rows.index("pt_base_tests") :] if name in on]
 
 
 def proofs(program, folder):

@@ -14,3 +14,5 @@ pub mod WholeLog
 pub mod Ran
 pub mod Told
 mod MoveRules
+mod Holding
+mod Rerun

@@ -1,14 +1,16 @@
 pub mod Bounds
 pub mod Counting
 pub mod Held
+pub mod Holding
 pub mod Leaving
 pub mod Lines
+pub mod Mending
 pub mod Migrates
 pub mod Movers
 pub mod Outcome
 pub mod Promises
 pub mod Running
 pub mod Runs
-pub mod Stepping
 pub mod Stands
+pub mod Stepping
 pub mod Turning

@@ -19,8 +19,10 @@
 //!   `Ended`.
 //! - `records`: the entries of the trail's listings, the rows and the contents, together. `report`: the counts; each turn is counted, a faulty
 //!   one too, and they never overflow.
+//! - `clients`: what follows from these for who calls a run, each by a short function. No code of the program stands on it.
 #![tactic(auto, using(crate::proofs::MoveRules::move_rules))]
 
+pub mod clients;
 mod migration;
 mod mover;
 mod observer;

@@ -1,7 +1,7 @@
 use Rattle.std.proofs.Common.{rules, ◌∙◌, refl}
 use Rattle.pt_state.specs.Outside.{states_of}
-use Rattle.pt_clients.proofs.Rerun.{again_as, ended_as, told_tree}
-use Rattle.pt_clients.proofs.anew.carry_through.Goals as goal
+use Rattle.pt_move.proofs.Rerun.{again_as, ended_as, told_tree}
+use Rattle.pt_move.proofs.clients.anew.carry_through.Goals as goal
 
 pub returns-in-Ok : goal.returns-in-Ok
 returns-in-Ok g c s start is _ =

@@ -1,6 +1,4 @@
-//! Clients of a run, by its public contracts alone: examples of what follows from them. No code of the program stands on this crate.
-//!
-//! What follows from the public contracts of pt_move, each by a short function: examples for who calls a run.
+//! What follows from the public contracts of this crate, each by a short function: examples for who calls a run. No code stands on them.
 //!
 //! - `carries_all`: where it answers true, and all three tell, the root holds all objects that are carried, each whole, nothing else is
 //!   changed, and the log has all lines.
@@ -12,8 +10,6 @@
 //! - `carry_through` makes a run, and after each fault takes the staging folder away and makes another, so many in all, over any devices. Where
 //!   all three tell and a run could end well, it answers true only where the destination holds what one undisturbed run leaves: whatever faults
 //!   there were, and wherever they came.
-#![tactic(auto)]
-
 mod anew;
 mod ending;
 mod owning;

@@ -6,7 +6,7 @@ ghost use Rattle.pt_plan.specs.DeviceStates.{source_tree};
 ghost use Rattle.pt_state.specs.Outside.{states_of};
 ghost use Rattle.pt_state.specs.declared.job.Report.{Report};
 
-use pt_move::{Fault, Job, migrate};
+use crate::{Fault, Job, migrate};
 use pt_tree::{Dest, Log, Source};
 use std::alloc::Global;
 

@@ -1,6 +1,6 @@
 //! A run that is made anew after each fault.
 ghost use Rattle.std.specs.Prelude.{◌≡◌, true, IfSome, Some};
-ghost use Rattle.pt_clients.specs.Mending.{MayEndAs, TakesStaging, undisturbed};
+ghost use Rattle.pt_move.specs.Mending.{MayEndAs, TakesStaging, undisturbed};
 ghost use Rattle.pt_plan.specs.Job.{Job as Plan};
 ghost use Rattle.pt_plan.specs.DeviceStates.{dest_tree};
 ghost use Rattle.pt_state.specs.Outside.{states_of};
@@ -8,7 +8,7 @@ ghost use Rattle.pt_state.specs.States.{job_of};
 ghost use Rattle.pt_tree.specs.Forest.{Forest};
 ghost use Rattle.pt_tree.specs.Tree.{Tree};
 
-use pt_move::{Job, migrate};
+use crate::{Job, migrate};
 use pt_tree::{Dest, Log, Source};
 use std::alloc::Global;
 

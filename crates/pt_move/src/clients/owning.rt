@@ -1,13 +1,13 @@
 //! A run that owns its devices.
 ghost use Rattle.std.specs.Prelude.{◌≡◌, None};
 ghost use Rattle.pt_invariant.specs.RunInvariant.{Start};
-ghost use Rattle.pt_clients.specs.Holding.{GoesOn, IsMost};
+ghost use Rattle.pt_move.specs.Holding.{GoesOn, IsMost};
 ghost use Rattle.pt_move.specs.Promises.{TakesStep};
 ghost use Rattle.pt_move.specs.Running.{HasBegun, IsNew};
 ghost use Rattle.pt_state.specs.Outside.{states_of};
 ghost use Rattle.pt_tree.specs.Forest.{Forest};
 
-use pt_move::{Fault, Job, Mover, Turn};
+use crate::{Fault, Job, Mover, Turn};
 use pt_tree::{Dest, Log, Source};
 use std::alloc::Global;
 

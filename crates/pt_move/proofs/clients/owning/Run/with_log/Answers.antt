@@ -1,5 +1,5 @@
 use Rattle.pt_move.specs.Running.{HasBegun, IsBegun}
-use Rattle.pt_clients.proofs.owning.Run.with_log.Goals as goal
+use Rattle.pt_move.proofs.clients.owning.Run.with_log.Goals as goal
 
 pub returns : goal.returns
 unfolding HasBegun IsBegun

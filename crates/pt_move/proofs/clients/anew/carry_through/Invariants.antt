@@ -1,9 +1,9 @@
 use Rattle.std.specs.Prelude.{◌≡◌}
-use Rattle.pt_clients.specs.Mending.{MayEndAs}
+use Rattle.pt_move.specs.Mending.{MayEndAs}
 use Rattle.pt_state.specs.Outside.{states_of}
 use Rattle.pt_tree.specs.Forest.{Forest}
 use Rattle.pt_tree.specs.Tree.{Tree}
-use Rattle.pt_clients.proofs.anew.carry_through.Given as goal
+use Rattle.pt_move.proofs.clients.anew.carry_through.Given as goal
 
 -- the job stays, and what a run may leave is what it may have left at first
 abbrev pub invariant-loop : goal.invariant-loop

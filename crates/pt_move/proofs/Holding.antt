@@ -16,7 +16,7 @@ use Rattle.pt_state.specs.declared.job.Report.{Report}
 use Rattle.pt_tree.specs.Forest.{Forest}
 use Rattle.pt_tree.specs.Tree.{Tree}
 use Rattle.pt_walk.specs.Trail.{entries_held}
-use Rattle.pt_clients.specs.Holding.{GoesOn, IsMost}
+use Rattle.pt_move.specs.Holding.{GoesOn, IsMost}
 
 -- it goes on, and holds no more than the bound
 pub goes_on : (start : Start) (source : Forest) (job : Job) (old new : DeviceStates) (a b : Running) (t : Turn) → GoesOn start source job old a → Keeps start old new a b (Ok t) → StepLeaves old new a b (Ok t) → GoesOn start source job new b

@@ -24,7 +24,7 @@ use Rattle.pt_move.specs.Migrates.{Migrates}
 use Rattle.pt_move.specs.Outcome.{EndsWhole, FaultStateTold}
 use Rattle.pt_move.specs.Running.{DestFaultStateTold}
 use Rattle.pt_plan.specs.declared.fault.Fault.{Fault}
-use Rattle.pt_clients.specs.Mending.{MayEndAs, TakesStaging, undisturbed}
+use Rattle.pt_move.specs.Mending.{MayEndAs, TakesStaging, undisturbed}
 
 -- ---- taking away where nothing stands
 

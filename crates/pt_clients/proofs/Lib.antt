@@ -1,2 +1,0 @@
-mod Holding
-mod Rerun
