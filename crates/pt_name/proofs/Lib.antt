@@ -4,6 +4,7 @@ pub mod Digits
 pub mod Identified
 pub mod NamesJoined
 pub mod LineEnds
+pub mod Lists
 pub mod Pieces
 pub mod PlaceNames
 pub mod Places

@@ -1,5 +1,5 @@
--- What a run takes of a store: its share, and of that what begins with the texts that are asked for.
-use Rattle.std.specs.Prelude.{ℕ, ◌≤◌, ◌+◌, ◌*◌, ◌/◌, ◌^◌, ◌==◌, ◌&&◌, ◌||◌, Bool, true, nat_lt, if◌then◌else◌, List, [], ◌∷◌, length, map, take, Option, None, Some, String, Vec, Result, Ok, Err}
+-- What a run takes of a store: its share, and of that what begins with the texts that are asked for, or stands in a list.
+use Rattle.std.specs.Prelude.{ℕ, ◌≡◌, ◌≤◌, ◌+◌, ◌*◌, ◌/◌, ◌^◌, ◌==◌, ◌&&◌, ◌||◌, Bool, true, nat_lt, if◌then◌else◌, List, [], ◌∷◌, length, map, take, Option, None, Some, String, Vec, Result, Ok, Err}
 use Rattle.std.specs.Global.{Global}
 use Rattle.std.specs.Int.{from_be_bytes, w32}
 use Rattle.std.specs.List.{list_any}
@@ -9,15 +9,17 @@ use Rattle.sha2.specs.Sha256.{sha256}
 use Rattle.pt_name.specs.declared.share.ShareFault.{ShareFault}
 use Rattle.pt_name.specs.declared.share.ShareFault.TheVariants as fault
 
--- the share of this number, of so many, and of it what begins with one of these texts; all of it, where there is no text
+-- the share of this number, of so many, and of it what begins with one of these texts, or is one of those of a list; all of it, where
+-- there is neither text nor list
 pub record Portion : Type 0 where
   pub index : ℕ
   pub count : ℕ
   pub only : List (List ℕ)
+  pub list : Option (List (List ℕ))
 
--- the share of this number, of so many, whatever its identifiers begin with
+-- the share of this number, of so many, with all its identifiers
 abbrev pub numbered : ℕ → ℕ → Portion
-numbered index count = record { index = index; count = count; only = [] }
+numbered index count = record { index = index; count = count; only = []; list = None }
 
 -- the texts that are asked for, where any are
 abbrev pub texts_of : Option (Vec (String Global) Global) → List (List ℕ)
@@ -65,9 +67,22 @@ abbrev pub begins_so : List (List ℕ) → List ℕ → Bool
 begins_so [] id = true
 begins_so (text ∷ texts) id = list_any (λ t. begins_with t id) (text ∷ texts)
 
--- the identifier is of the share, and begins as it is asked for
+-- the identifier is one of these
+abbrev pub is_listed : List (List ℕ) → List ℕ → Bool
+is_listed ids id = list_any (λ listed. bytes_eq listed id) ids
+
+-- two lists have the same identifiers
+abbrev pub ListsAs : List (List ℕ) → List (List ℕ) → Type 0
+ListsAs ids others = (id : List ℕ) → is_listed ids id ≡ is_listed others id
+
+-- the identifier stands in the list, or begins with one of these texts; without a list it begins so, where there are texts
+abbrev pub chosen : List (List ℕ) → Option (List (List ℕ)) → List ℕ → Bool
+chosen texts (Some ids) id = is_listed ids id || list_any (λ t. begins_with t id) texts
+chosen texts None id = begins_so texts id
+
+-- the identifier is of the share, and chosen
 abbrev pub holds : Portion → List ℕ → Bool
-holds share id = begins_so share.only id && share_number share.count id == share.index
+holds share id = chosen share.only share.list id && share_number share.count id == share.index
 
 -- it is the first
 abbrev pub is_first : Portion → Bool

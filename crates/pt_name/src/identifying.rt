@@ -49,7 +49,7 @@ pub enum Identification {
 ///
 /// Asked in this order: whether the names read something (`Malformed`), whether that is UTF-8 (`NotUtf8`), whether the place
 /// is the storage root's own (`Reserved`), and whether the object is of this share. The path isn't empty. `Memory` where a
-/// growth was refused.
+/// growth was refused. An identifier of the share is noted in its list, if there is one and it stands there.
 pub fn identify(
     site: &NamePath,
     prefix: &str,
@@ -95,7 +95,8 @@ fn with_prefix(alloc: Global, prefix: &str, text: &str) -> Result<Identifier, Me
     Ok(Identifier::of(id))
 }
 
-// The object of this identifier with its place, unless that is the storage root's own, or the object of another share.
+// The object of this identifier with its place, unless that is the storage root's own, or the object of another share. An identifier of
+// this share is noted in its list, whatever becomes of the object.
 fn with_place(
     alloc: Global,
     id: Identifier,
@@ -106,11 +107,16 @@ fn with_place(
     ensures { IfOk result (λ answer. answer
         ≡ identification_by layout share.now (unless_reserved layout id)) }
 {
-    let place = layout.place(alloc, id.as_str().as_bytes())?;
+    let text = id.as_str().as_bytes();
+    let place = layout.place(alloc, text)?;
+    let held = share.holds(text);
+    if held {
+        share.note_met(text);
+    }
     if is_reserved(layout, &place) {
         return Ok(Identification::Refused(Refusal::Reserved));
     }
-    if !share.holds(id.as_str().as_bytes()) {
+    if !held {
         return Ok(Identification::OtherShare);
     }
     Ok(Identification::Candidate(Candidate { id, place }))

@@ -11,14 +11,18 @@
 //! - `Layout::place`: exactly the place of the identifier, as a path: the tuples from the front of its SHA-256, then its last name.
 //!   `Layout::place_text`: its names with `/` between.
 //! - `Share::of`: accepts exactly the shares 1 to N of up to 4,096, and refuses each other pair by the first rule that it breaks. `whole`: the
-//!   one share of one. `only`: of a share what begins with some texts. `holds`: exactly whether the number of the share that the identifier's
-//!   SHA-256 gives (`share_number`) is its own, and it begins with one of the texts, where there are any; `is_first`: whether it is 1.
+//!   one share of one. `only`: of a share what begins with some texts; `listed`: what stands in a list. `holds`: exactly whether the number of
+//!   the share that the identifier's SHA-256 gives (`share_number`) is its own, and it is `chosen`: it stands in the list or begins with one of the
+//!   texts, or there is neither; `is_first`: whether it is 1.
+//! - `IdentifierList::of`: the list of just these identifiers (`ListsAs`). `contains`: exactly whether one stands in it. Which were met, and what
+//!   `Sought` says of that, has no clause: no contract can say what a cell holds.
 //! - `Identifier`: a text, seen as its bytes.
 //! - `unclean`: reads a cleaned text back: gives an identifier exactly where the text reads it and it is UTF-8, and says of each other text
 //!   exactly whether it reads nothing or bytes that aren't UTF-8. `concatenate`: joins the names of a pairpath for it.
 //! - `read_prefix`: exactly the prefix of a store, refused exactly where it is too long or not UTF-8.
 //! - `identify`: exactly what the names of a site say of its object (`Identification`): why it has no identifier that can be carried
-//!   (`Refusal`), that it is of another share, or its identifier, behind the store's prefix, and its place. Asked in that order.
+//!   (`Refusal`), that it is of another share, or its identifier, behind the store's prefix, and its place. Asked in that order. What it notes
+//!   in a list changes no answer.
 //! - Laws: a text reads at most one list of bytes (`one_reading`); what was cleaned reads back (`cleaned_reads_back`); reading as a relation
 //!   and as a function say the same (`reading_is_computed`); two different identifiers share a place only where both encodings are shortened,
 //!   agree in their first 100 characters, and have one SHA-256 (`one_place`).
@@ -28,6 +32,7 @@ mod cleaning;
 mod encoding;
 mod hex_pair;
 mod identifier;
+mod identifier_list;
 mod identifying;
 mod joining;
 pub mod laws;
@@ -35,13 +40,16 @@ mod layout;
 mod prefix;
 mod reading;
 mod share;
+mod sought;
 
 pub use cleaning::{clean, pairpath};
 pub use encoding::{encoded, last_name};
 pub use identifier::Identifier;
+pub use identifier_list::IdentifierList;
 pub use identifying::{Candidate, Identification, Refusal, identify};
 pub use joining::concatenate;
 pub use layout::{Layout, LayoutFault};
 pub use prefix::{PrefixFault, read_prefix};
 pub use reading::{UncleanFault, unclean};
 pub use share::{Share, ShareFault};
+pub use sought::Sought;

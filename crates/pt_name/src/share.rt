@@ -1,11 +1,15 @@
-ghost use Rattle.std.specs.Prelude.{◌≡◌, ◌≤◌, ◌<◌, ◌^◌};
-ghost use Rattle.std.specs.Prelude.{map};
+ghost use Rattle.std.specs.Prelude.{◌≡◌, ◌≤◌, ◌<◌, ◌^◌, ◌==◌, ◌⊎◌, IfOk, map};
 ghost use Rattle.std.specs.List.{list_any};
 ghost use Rattle.std.specs.String.{string_bytes};
-ghost use Rattle.pt_name.specs.Share.{begins_so, begins_with, digest_number, share_number};
+ghost use Rattle.std.specs.Option.{IsSome, option_map};
+ghost use Rattle.pt_name.specs.Share.{begins_so, begins_with, chosen, digest_number, share_number};
 
+use crate::{IdentifierList, Sought};
+use pt_tree::MemoryFault;
 use sha2::{Digest, Sha256};
+use std::alloc::{AllocError, Global};
 use std::marker::Model;
+use std::rc::Rc;
 use thiserror::Error;
 
 const MOST: u32 = 4096;
@@ -40,21 +44,28 @@ impl ShareFault {
 }
 
 /// What a run takes of a store: one of the shares in which it is carried, each by a run of its own, by the share's number,
-/// from 1 on, and how many there are; and of that the objects whose identifiers begin with one of some texts, where there
-/// are any. An object is of the share that its identifier's SHA-256 gives.
+/// from 1 on, and how many there are; and of that the objects that are chosen, whose identifiers begin with one of some texts
+/// or stand in a list, where there are texts or a list. An object is of the share that its identifier's SHA-256 gives.
 #[derive(Debug, Drop)]
 pub struct Share {
     index: u32,
     count: u32,
     only: Option<Vec<String>>,
+    list: Option<Rc<IdentifierList>>,
 }
 
 impl Model for Share {
+    ghost use Rattle.std.specs.Option.{option_map};
     ghost use Rattle.pt_name.specs.Share.{Portion, IsPortion, numbered, texts_of};
 
     ghost Value = { Portion };
 
-    ghost view = { λ s. record { index = s.index; count = s.count; only = texts_of s.only } };
+    ghost view = { λ s. record {
+      index = s.index;
+      count = s.count;
+      only = texts_of s.only;
+      list = option_map (λ list. list.value) s.list;
+    } };
 
     ghost invariant = { λ s. IsPortion (numbered s.index s.count) };
 }
@@ -70,6 +81,7 @@ impl Share {
             index: 1,
             count: 1,
             only: None,
+            list: None,
         }
     }
 
@@ -93,6 +105,7 @@ impl Share {
             index,
             count,
             only: None,
+            list: None,
         })
     }
 
@@ -105,6 +118,18 @@ impl Share {
             only: Some(texts),
             ..self
         }
+    }
+
+    /// Of the share, only the objects whose identifiers stand in this list, beside those that begin with one of its texts. `Memory`
+    /// where a growth was refused.
+    pub fn listed(self, alloc: Global, list: IdentifierList) -> Result<Share, MemoryFault>
+        ensures { IfOk result (λ share. share ≡ record self { list = Some list }) }
+    {
+        let list = Rc::new(alloc, list)?;
+        Ok(Share {
+            list: Some(list),
+            ..self
+        })
     }
 
     /// The number of the share, from 1 on.
@@ -133,6 +158,29 @@ impl Share {
         }
     }
 
+    /// The list in which an identifier may stand, if there is one.
+    pub fn list(&self) -> Option<&Rc<IdentifierList>>
+        ensures { option_map (λ list. list.now.value) result ≡ self.now.list }
+    {
+        self.list.as_ref()
+    }
+
+    /// The identifiers of its list that it is to meet, if it has a list. `AllocError` where the list can't have one more owner.
+    pub fn sought(&self) -> Result<Option<Sought>, AllocError>
+        ensures { IsSome self.now.list ⊎ (result ≡ Ok None) }
+    {
+        let Some(list) = &self.list else {
+            return Ok(None);
+        };
+        let numbered = Share {
+            index: self.index,
+            count: self.count,
+            only: None,
+            list: None,
+        };
+        Ok(Some(Sought::of(list.clone()?, numbered)))
+    }
+
     /// Whether it is the first: what is passed over before an identifier is read is told by the first share alone.
     pub fn is_first(&self) -> bool
         ensures { result ≡ is_first self.now }
@@ -140,24 +188,38 @@ impl Share {
         self.index == 1
     }
 
-    /// Whether the object with this identifier is of this share, and begins as it is asked for. The first four bytes of the
-    /// identifier's SHA-256, as a number whose first byte is the highest, times the count and divided by 2^32, are the share's
-    /// number less one.
+    /// Whether the object with this identifier is of this share, and chosen. The first four bytes of the identifier's SHA-256, as
+    /// a number whose first byte is the highest, times the count and divided by 2^32, are the share's number less one. It is
+    /// chosen where it begins with one of the texts, or stands in the list, or there is neither.
     ///
     /// Takes any bytes. Of the whole store each object is, and no digest is made.
     pub fn holds(&self, id: &[u8]) -> bool
         ensures { result ≡ holds self.now id.now }
     {
-        self.chooses(id) && (self.count == 1 || number_of(self.count, id) == self.index)
+        self.chooses(id) && self.numbers(id)
     }
 
-    // Whether an identifier begins with one of the texts, or there is none.
-    fn chooses(&self, id: &[u8]) -> bool
-        ensures { result ≡ begins_so self.now.only id.now }
+    // Whether the number of the share that an identifier is of is this one's.
+    pub(crate) fn numbers(&self, id: &[u8]) -> bool
+        ensures { result ≡ share_number self.now.count id.now == self.now.index }
     {
-        match &self.only {
-            Some(texts) => begins_so(texts, id),
-            None => true,
+        self.count == 1 || number_of(self.count, id) == self.index
+    }
+
+    // Notes in the list that an identifier was met, if there is a list and it stands there.
+    pub(crate) fn note_met(&self, id: &[u8]) {
+        if let Some(list) = &self.list {
+            list.note_met(id);
+        }
+    }
+
+    // Whether an identifier begins with one of the texts, or stands in the list, or there is neither.
+    fn chooses(&self, id: &[u8]) -> bool
+        ensures { result ≡ chosen self.now.only self.now.list id.now }
+    {
+        match &self.list {
+            Some(list) => list.contains(id) || begins_with_one(self.texts(), id),
+            None => begins_so(self.texts(), id),
         }
     }
 }

@@ -1,7 +1,7 @@
-use Rattle.std.proofs.Common.{◌≡◌, ◌&&◌, ◌==◌, Bool, true, ap, arith, eq-eqb, sym, ◌∙◌}
+use Rattle.std.proofs.Common.{◌≡◌, ◌==◌, ap, arith, eq-eqb, sym, ◌∙◌}
 use Rattle.pt_name.proofs.Shares.{whole_number}
-use Rattle.pt_name.specs.Share.{Portion, begins_so, share_number}
-use Rattle.pt_name.proofs.share.Share.holds.Goals as goal
+use Rattle.pt_name.specs.Share.{Portion, share_number}
+use Rattle.pt_name.proofs.share.Share.numbers.Goals as goal
 
 pub returns-then-self-eq1 : goal.returns-then-self-eq1
 returns-then-self-eq1 c =
@@ -11,6 +11,4 @@ returns-then-self-eq1 c =
     let one = c.if-self-eq1.true in
     let index : 1 ≡ c.self.inside.index = omega (arith, first, last, one) in
     let number : share_number c.self.inside.count id ≡ c.self.inside.index = ap (λ n. share_number n id) one ∙ whole_number id ∙ index in
-    let chosen : true ≡ begins_so c.args.self.now.only id = sym c.if-chooses.true ∙ c.chooses.ensures in
     eq-eqb _ _ one ∙ sym (eq-eqb _ _ number) ∙ ap (λ (s : Portion). share_number s.count id == s.index) c.self.view_is
-    ∙ ap (λ (b : Bool). b && (share_number c.args.self.now.count id == c.args.self.now.index)) chosen

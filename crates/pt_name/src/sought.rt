@@ -1,0 +1,29 @@
+//! The identifiers that a run is to meet.
+
+use crate::{IdentifierList, Share};
+use std::rc::Rc;
+
+/// The identifiers of a list that are of a share. What a run of that share notes in the list is seen here.
+#[derive(Drop)]
+pub struct Sought {
+    list: Rc<IdentifierList>,
+    share: Share,
+}
+
+impl Sought {
+    // Those of this list that the share's number takes.
+    pub(crate) fn of(list: Rc<IdentifierList>, share: Share) -> Sought {
+        Sought { list, share }
+    }
+
+    /// How many identifiers the list has.
+    pub fn len(&self) -> usize {
+        self.list.len()
+    }
+
+    /// The identifier at a position of the list, where it is of the share and was met nowhere.
+    pub fn unmet_at(&self, at: usize) -> Option<&str> {
+        let id = self.list.unmet_at(at)?;
+        self.share.numbers(id.as_bytes()).then_some(id)
+    }
+}
