@@ -245,6 +245,21 @@ def long_paths(program, folder):
     return differs(answer=(checked(program, folder, source="t"), answer(*told, last)))
 
 
+def many_files(program, folder):
+    """Of an object with more than 1,000,000 files the first that is over it is told, and no other; of the next object none is."""
+    top = f"{folder}/t/pairtree_root"
+    build(f"{folder}/t", store({"ab/d/obj/f": b"", **{f"x{number:02}": b"" for number in range(20)}}))
+    for number in range(1_000_002):
+        if number % 10_000 == 0:
+            os.makedirs(f"{top}/ab/c/obj/{number // 10_000:03}")
+        os.link(f"{top}/x{number % 20:02}", f"{top}/ab/c/obj/{number // 10_000:03}/{number % 10_000:04}")
+    for number in range(20):
+        os.remove(f"{top}/x{number:02}")
+    last = {"as": "end", "bytes": 0, "files": 1_000_003, "folders": 106, "largest": 0, "longest": len("pairtree_root/ab/c/obj/000/0000"), "objects": 2}
+    told = of_path("many", "ab/c/obj/100/0000")
+    return differs(answer=(checked(program, folder, source="t"), answer(told, {**last, "sites": 4, "told": 1})))
+
+
 def deep_folders(program, folder):
     """A folder more than 600 below pairtree_root is told, and not listed."""
     chain = {count: "/".join(["ab"] * count) for count in (600, 601)}
@@ -333,6 +348,7 @@ CASES = [
         ("what is closed to another user", closed_to_others),
         ("names that aren't UTF-8", names_that_are_no_text),
         ("long paths", long_paths),
+        ("many files", many_files),
         ("deep folders", deep_folders),
         ("what is counted", counting),
         ("files that can't be read", failing_reads),

@@ -1,9 +1,13 @@
 -- Opening a file, and reading it to its end.
-use Rattle.std.proofs.Common.{◌≡◌, ◌≤◌, ◌+◌, ℕ, List, [], ◌∷◌, refl, sym, ap, ◌∙◌, subst, arith, length, take, drop, min}
+use Rattle.std.proofs.Common.{◌≡◌, ◌<◌, ◌≤◌, ◌+◌, ◌^◌, ℕ, Bool, true, false, cond, nat_lt, inl, List, [], ◌∷◌, refl, sym, ap, ◌∙◌, subst, arith, length, take, drop, min}
+use Rattle.std.proofs.lemmas.Bool.{le-ltb, lt-ltb, ltb-false, ltb-true}
 use Rattle.std.proofs.lemmas.List.{length-append, take-append-drop}
 use Rattle.std.specs.Option.{ForSome, option_map}
 use Rattle.std.specs.Prelude.{IsSome, Option, None, Some, unwrap_or}
-use Rattle.pt_check.specs.Visits.{tree_in}
+use Rattle.pt_check.specs.Counting.{plus, with_bytes}
+use Rattle.pt_check.specs.Visits.{Opens, Seen, TellsIf, counting, size_trouble, tree_in}
+use Rattle.pt_check.specs.declared.trouble.Trouble.{Trouble}
+use Rattle.pt_check.specs.declared.trouble.Trouble.TheVariants as trouble
 use Rattle.pt_tree.specs.Failures.{greatest_count}
 use Rattle.pt_tree.specs.Forest.{Forest, file_at, dir_at}
 use Rattle.pt_tree.specs.Path.{Path}
@@ -142,3 +146,39 @@ front_read (Some s) opened path block there is read tree told =
         let whole : Some (take 8192 bytes) ≡ Some block = sym (ap (option_map (take 8192)) found) ∙ front in
         let is_front : take 8192 bytes ≡ block = cc in
         sym is_front ∙ sym (ap (λ (o : Option (List ℕ)). take 8192 (unwrap_or o [])) found)
+
+-- ---- what is told of the bytes that were read
+
+min_below : (m most n : ℕ) → m < most → nat_lt m (min n most) ≡ nat_lt m n
+min_below m most n less = by (nat_lt m n) refl
+  where
+    by : (t : Bool) → nat_lt m n ≡ t → nat_lt m (min n most) ≡ t
+    by true is = let over = ltb-true m n is in lt-ltb m (min n most) (omega (arith, over, less))
+    by false is = let under = ltb-false m n is in le-ltb m (min n most) (omega (arith, under))
+
+same_size : (n : ℕ) → size_trouble (min n greatest_count) ≡ size_trouble n
+same_size n = ap (λ t. cond t (Some trouble.Large) None) (min_below (2 ^ 43) greatest_count n (ltb-true (2 ^ 43) greatest_count refl))
+
+same_sum : (total n : ℕ) → plus total (min n greatest_count) ≡ plus total n
+same_sum total n = omega arith
+
+-- a file was opened, its bytes counted up to the greatest number, and told if they are too many
+pub opens_step : (here : Option Forest) (reads : Bool) (path : Path) (n : ℕ) (told : Option Trouble) (a m b : Seen)
+    → ForSome here (λ tree. n ≡ cond reads (min (length (bytes_at tree path)) greatest_count) 0) → told ≡ size_trouble n → m ≡ counting (with_bytes n) a
+    → TellsIf path told m b → ForSome here (λ tree. Opens reads path (bytes_at tree path) a b)
+opens_step here reads path n told a m b bytes told_is counted tells tree is =
+    let start : TellsIf path told (counting (with_bytes n) a) b = subst (λ (s : Seen). TellsIf path told s b) counted tells in
+    let named : TellsIf path (size_trouble n) (counting (with_bytes n) a) b = subst (λ (o : Option Trouble). TellsIf path o (counting (with_bytes n) a) b) told_is start in
+    by reads (bytes tree is) named
+  where
+    all : ℕ
+    all = length (bytes_at tree path)
+
+    by : (r : Bool) → n ≡ cond r (min all greatest_count) 0 → TellsIf path (size_trouble n) (counting (with_bytes n) a) b → Opens r path (bytes_at tree path) a b
+    by true e it =
+        let read : TellsIf path (size_trouble (min all greatest_count)) (counting (with_bytes (min all greatest_count)) a) b =
+        subst (λ (k : ℕ). TellsIf path (size_trouble k) (counting (with_bytes k) a) b) e it in
+        let sized : TellsIf path (size_trouble all) (counting (with_bytes (min all greatest_count)) a) b =
+        subst (λ (o : Option Trouble). TellsIf path o (counting (with_bytes (min all greatest_count)) a) b) (same_size all) read in
+        inl (subst (λ (k : ℕ). TellsIf path (size_trouble all) (record a { numbers = record a.numbers { bytes = k } }) b) (same_sum a.numbers.bytes all) sized)
+    by false e it = inl (subst (λ (k : ℕ). TellsIf path (size_trouble k) (counting (with_bytes k) a) b) e it)

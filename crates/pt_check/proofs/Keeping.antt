@@ -25,28 +25,38 @@ pub keeps_on : {S L E : Type 0} (told : S → Option Reading) (keeps : S → S �
 keeps_on told keeps held on a b c first second = record {
   tree = second.tree ∙ first.tree;
   source = on a.source b.source c.source first.source second.source;
-  reads = second.reads ∙ first.reads;
+  wants = second.wants ∙ first.wants;
   log = grows_on (held a.log) (held b.log) (held c.log) first.log second.log;
 }
 
 -- where its numbers alone are changed, it is the same
 pub counts_on : {S L E : Type 0} (told : S → Option Reading) (keeps : S → S → Type 0) (held : L → Option (List ℕ)) → ((a : S) → keeps a a)
-    → (a b : Check S L E) → b.source ≡ a.source → b.log ≡ a.log → b.reads ≡ a.reads → Keeps told keeps held a b
-counts_on {S} {L} told keeps held is_kept a b source log reads = record {
+    → (a b : Check S L E) → b.source ≡ a.source → b.log ≡ a.log → b.wants ≡ a.wants → Keeps told keeps held a b
+counts_on {S} {L} told keeps held is_kept a b source log wants = record {
   tree = ap (λ (s : S). tree_in (told s)) source;
   source = subst (λ (s : S). keeps a.source s) (sym source) (is_kept a.source);
-  reads = reads;
+  wants = wants;
   log = subst (λ (l : L). Grows (held a.log) (held l)) (sym log) (grows_none (held a.log));
+}
+
+-- and where it began with other numbers
+pub keeps_counted : {S L E : Type 0} (told : S → Option Reading) (keeps : S → S → Type 0) (held : L → Option (List ℕ)) → (a b : Check S L E) (n : Numbers)
+    → Keeps told keeps held (record a { numbers = n }) b → Keeps told keeps held a b
+keeps_counted told keeps held a b n kept = record {
+  tree = kept.tree;
+  source = kept.source;
+  wants = kept.wants;
+  log = kept.log;
 }
 
 -- as at the end of an object
 pub ends_on : {S L E : Type 0} (told : S → Option Reading) (keeps : S → S → Type 0) (held : L → Option (List ℕ)) → ((a : S) → keeps a a)
     → (a b : Check S L E) (n : Numbers) → b ≡ record a { numbers = n } → Keeps told keeps held a b
 ends_on {S} {L} {E} told keeps held is_kept a b n is =
-    counts_on told keeps held is_kept a b (ap (λ (s : Check S L E). s.source) is) (ap (λ (s : Check S L E). s.log) is) (ap (λ (s : Check S L E). s.reads) is)
+    counts_on told keeps held is_kept a b (ap (λ (s : Check S L E). s.source) is) (ap (λ (s : Check S L E). s.log) is) (ap (λ (s : Check S L E). s.wants) is)
 
 -- and that is how far it is then
-pub ended : {S L E : Type 0} (failed : S → ℕ) (held : L → Option (List ℕ)) (a b : Check S L E) (n : Numbers) → b ≡ record a { numbers = b.numbers } → b.numbers ≡ n
+pub recounted : {S L E : Type 0} (failed : S → ℕ) (held : L → Option (List ℕ)) (a b : Check S L E) (n : Numbers) → b ≡ record a { numbers = b.numbers } → b.numbers ≡ n
     → seen_by failed held b ≡ record (seen_by failed held a) { numbers = n }
-ended {S} {L} {E} failed held a b n rest is =
+recounted {S} {L} {E} failed held a b n rest is =
     ap (λ (s : Check S L E). seen_by failed held s) rest ∙ ap (λ (m : Numbers). record (seen_by failed held a) { numbers = m }) is

@@ -6,3 +6,4 @@ mod Stepping
 mod Others
 mod Quiet
 mod Visiting
+mod WithinLimits

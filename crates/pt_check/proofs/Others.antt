@@ -4,6 +4,7 @@ use Rattle.std.specs.Prelude.{◌≢◌, ⊤, option_map, map, unwrap_or}
 use Rattle.pt_check.specs.Clean.{Each, IsClean, IsNotSkippedForOther, NoRunSkipsForOther, has_other}
 use Rattle.pt_check.specs.Visits.{Folder, finding_of, folder_in, has_object}
 use Rattle.pt_check.specs.declared.trouble.Trouble.TheVariants as trouble
+use Rattle.pt_check.specs.declared.wants.Wants.{Wants}
 use Rattle.pt_name.specs.Identifying.{identifier_at}
 use Rattle.pt_name.specs.declared.identifying.Refusal.{Refusal}
 use Rattle.pt_plan.specs.Items.{Named, PairtreeObject, Verdict, Interior, Skip, bad_entry, cause_of, encapsulated, gathered_from, is_ours, is_too_deep, item_of, verdict_by_finding, verdict_by_identifier, verdict_by_visit, verdict_of, verdict_on_candidate}
@@ -21,7 +22,7 @@ use Rattle.pt_walk.specs.declared.cause.Cause.TheVariants as cause
 use Rattle.pt_walk.specs.declared.site.Finding.{Finding}
 use Rattle.pt_walk.specs.declared.site.Finding.TheVariants as finding
 
-each_both : {X : Type 0} (P : X → Type 0) (xs ys : List X) → Each P xs → Each P ys → Each P (xs ++ ys)
+pub each_both : {X : Type 0} (P : X → Type 0) (xs ys : List X) → Each P xs → Each P ys → Each P (xs ++ ys)
 each_both P [] ys first second = second
 each_both P (x ∷ xs) ys first second = (first.0, each_both P xs ys first.1 second)
 
@@ -35,15 +36,15 @@ both_not true b first second = absurd (cc)
 
 -- ---- a tree
 
-no_other : (folder : Folder) (holds : Bool) (tree : Forest) → IsClean folder holds tree → has_other tree ≡ false
-no_other folder holds none clean = refl
-no_other folder holds (file name bytes after) clean = no_other folder holds after clean.1
-no_other folder holds (other name after) clean =
-    let bad : Some (trouble.Skipped cause.Other) ≡ None = clean.0 in
+no_other : (wants : Wants) (folder : Folder) (holds : Bool) (tree : Forest) → IsClean wants folder holds tree → has_other tree ≡ false
+no_other wants folder holds none clean = refl
+no_other wants folder holds (file name bytes after) clean = no_other wants folder holds after clean.2
+no_other wants folder holds (other name after) clean =
+    let bad : Some (trouble.Skipped cause.Other) ≡ None = clean.0.0 in
     absurd (cc)
-no_other folder holds (dir name inside after) clean =
+no_other wants folder holds (dir name inside after) clean =
     let it = folder_in folder holds name in
-    both_not (has_other inside) (has_other after) (no_other it (has_object (finding_of it.here (listing_of inside))) inside clean.2) (no_other folder holds after clean.3)
+    both_not (has_other inside) (has_other after) (no_other wants it (has_object (finding_of it.here (listing_of inside))) inside clean.3) (no_other wants folder holds after clean.4)
 
 none_from : (i : ℕ) (tree : Forest) → has_other tree ≡ false → has_other (entries_from i tree) ≡ false
 none_from zero tree plain = plain
@@ -211,6 +212,6 @@ items_plain job prefix [] plain = tt
 items_plain job prefix (site ∷ rest) plain = (item_plain job prefix site plain.0, items_plain job prefix rest plain.1)
 
 pub none_for_other : NoRunSkipsForOther
-none_for_other job tree clean =
+none_for_other wants job tree clean =
     items_plain job (prefix_of tree) (sites_in_root job.limits.depth (dir_at tree (pairtree_root ∷ [])))
-    (plain_in_root job.limits.depth (dir_at tree (pairtree_root ∷ [])) (no_other _ _ _ clean.inside))
+    (plain_in_root job.limits.depth (dir_at tree (pairtree_root ∷ [])) (no_other wants _ _ _ clean.inside))

@@ -1,15 +1,17 @@
 -- What a check that told nothing has met.
-use Rattle.std.proofs.Common.{◌≡◌, ◌∙◌, ◌==◌, ◌+◌, ℕ, Bool, true, false, cond, min, length, List, [], ◌∷◌, ◌++◌, Option, None, Some, inl, inr, refl, sym, ap, arith}
-use Rattle.std.specs.Prelude.{◌⊎◌, take}
-use Rattle.pt_check.specs.Clean.{IsClean, IsCleanEntry, IsCleanFolder, IsCleanPrefix, IsCleanStore, QuietCheckMeansCleanStore, below_root}
-use Rattle.pt_check.specs.Counting.{with_bytes, with_entry, with_object}
+use Rattle.std.proofs.Common.{◌≡◌, ◌≤◌, ◌∙◌, ◌==◌, ◌+◌, ℕ, suc, Bool, true, false, cond, min, length, List, [], ◌∷◌, ◌++◌, Option, None, Some, inl, inr, refl, sym, ap, subst, arith}
+use Rattle.std.proofs.lemmas.Bool.{eqb-false}
+use Rattle.std.specs.Prelude.{◌⊎◌, ⊤, take}
+use Rattle.pt_check.specs.Clean.{AreCleanBytes, IsClean, IsCleanEntry, IsCleanFolder, IsCleanPrefix, IsCleanStore, QuietCheckMeansCleanStore, below_root, file_count}
+use Rattle.pt_check.specs.Counting.{with_bytes, with_entry, with_object, with_object_begun}
 use Rattle.pt_check.specs.Lines.{Told}
 use Rattle.pt_check.specs.Prefix.{prefix_trouble}
-use Rattle.pt_check.specs.Visits.{Enters, Folder, Judges, LooksAll, Meets, Opens, Puts, ReadsPrefix, Seen, Tells, TellsFailure, TellsIf, Visits, VisitsFolder, counting, ends, entry_trouble, finding_of, folder_in, folder_trouble, has_object, missing, prefix_path, root_folder, with_folder}
-use Rattle.pt_check.specs.Within.{starts_object}
+use Rattle.pt_check.specs.Visits.{Enters, Folder, Judges, LooksAll, Meets, Opens, Puts, ReadsPrefix, Seen, Tells, TellsFailure, TellsIf, Visits, VisitsFolder, begun, count_trouble, counting, ended, entry_trouble, finding_of, folder_in, folder_trouble, has_object, missing, prefix_path, room_trouble, root_folder, size_trouble, with_folder}
+use Rattle.pt_check.specs.Within.{below, starts_object}
 use Rattle.pt_check.specs.declared.numbers.Numbers.{Numbers}
 use Rattle.pt_check.specs.declared.trouble.Trouble.{Trouble}
 use Rattle.pt_check.specs.declared.trouble.Trouble.TheVariants as trouble
+use Rattle.pt_check.specs.declared.wants.Wants.{Wants}
 use Rattle.pt_check.specs.declared.within.Within.{Within}
 use Rattle.pt_check.specs.declared.within.Within.TheVariants as within
 use Rattle.pt_plan.specs.Store.{pairtree_root, prefix_file, version_file}
@@ -25,6 +27,10 @@ use Rattle.pt_walk.specs.Left.{bytes_at}
 -- how many lines told of something
 abbrev pub told_by : Seen → ℕ
 told_by s = s.numbers.told
+
+-- how many files the object at hand has
+abbrev pub held_by : Seen → ℕ
+held_by s = s.numbers.held
 
 -- a line is counted
 line_told : (n : ℕ) → min (n + 1) greatest_count ≡ 0 → ⊥
@@ -54,14 +60,80 @@ entry_told kind.File bytes n = refl
 entry_told kind.Dir bytes n = refl
 entry_told kind.Other bytes n = refl
 
-met : (folder : Folder) (name : List ℕ) (k : Kind) (a m : Seen) → Meets (folder.path ++ name ∷ []) folder.here (name, k) a m → told_by m ≡ 0 → IsCleanEntry folder name k × Quiet a m
-met folder name k a m meets nothing =
-    let bytes = length (joined (folder.path ++ name ∷ [])) in
-    let clean = tells_if (folder.path ++ name ∷ []) (entry_trouble folder.here name k bytes) (counting (with_entry k bytes) a) m meets nothing in
-    (clean.0, counted (with_entry k bytes) a m (entry_told k bytes) clean.1 nothing)
+-- files came to an object so far: there were so many more, if there had been room for those before
+abbrev pub Fills : Within → ℕ → Seen → Seen → Type 0
+Fills (within.Object before) n a b =
+    a.numbers.held ≤ 1000000 → (b.numbers.held ≡ n + a.numbers.held) × (b.numbers.held ≤ 1000000)
+Fills (within.Site at) n a b = ⊤
+Fills within.Past n a b = ⊤
+Fills within.Beside n a b = ⊤
 
-opened : (reads : Bool) (path : Path) (bytes : List ℕ) (a b : Seen) → Opens reads path bytes a b → told_by b ≡ 0 → Quiet a b
-opened reads path bytes a b (inl same) nothing = counted (with_bytes (cond reads (length bytes) 0)) a b (λ n. refl) same nothing
+no_fill : (here : Within) (a b : Seen) → b.numbers.held ≡ a.numbers.held → Fills here 0 a b
+no_fill (within.Object before) a b same = λ few. (omega (arith, same), omega (arith, same, few))
+no_fill (within.Site at) a b same = tt
+no_fill within.Past a b same = tt
+no_fill within.Beside a b same = tt
+
+fill_on : (here : Within) (n k : ℕ) (a b c : Seen) → Fills here n a b → Fills here k b c → Fills here (n + k) a c
+fill_on (within.Object before) n k a b c first second = λ few.
+    let one = first few in
+    let two = second one.1 in
+    let here = one.0 in
+    let there = two.0 in
+    (omega (arith, here, there), two.1)
+fill_on (within.Site at) n k a b c first second = tt
+fill_on within.Past n k a b c first second = tt
+fill_on within.Beside n k a b c first second = tt
+
+-- the same of a number that is as great
+fill_as : (here : Within) (n k : ℕ) (a b : Seen) → n ≡ k → Fills here n a b → Fills here k a b
+fill_as here n k a b same fills = subst (λ (m : ℕ). Fills here m a b) same fills
+
+-- an entry of this kind is so many files
+abbrev one_of : Kind → ℕ
+one_of kind.File = 1
+one_of kind.Dir = 0
+one_of kind.Other = 0
+
+one_more : (t : Bool) (held now : ℕ) → (held == 1000000) ≡ t → cond t (Some trouble.Many) None ≡ None → now ≡ min (held + 1) greatest_count
+    → held ≤ 1000000 → (now ≡ 1 + held) × (now ≤ 1000000)
+one_more true held now is quiet_of more few = absurd (cc)
+one_more false held now is quiet_of more few =
+    let apart : held ≡ 1000000 → ⊥ = eqb-false held 1000000 is in
+    let less : suc held ≤ 1000000 = omega (arith, few, apart) in
+    (omega (arith, more, less), omega (arith, more, less))
+
+met_fills : (here : Within) (k : Kind) (bytes : ℕ) (a m : Seen) → count_trouble here k a.numbers.held ≡ None → m ≡ counting (with_entry k bytes) a → Fills here (one_of k) a m
+met_fills (within.Object before) kind.File bytes a m quiet_of same = λ few.
+    one_more (a.numbers.held == 1000000) a.numbers.held m.numbers.held refl quiet_of (ap held_by same) few
+met_fills (within.Object before) kind.Dir bytes a m quiet_of same = no_fill (within.Object before) a m (ap held_by same)
+met_fills (within.Object before) kind.Other bytes a m quiet_of same = no_fill (within.Object before) a m (ap held_by same)
+met_fills (within.Site at) k bytes a m quiet_of same = tt
+met_fills within.Past k bytes a m quiet_of same = tt
+met_fills within.Beside k bytes a m quiet_of same = tt
+
+met : (wants : Wants) (folder : Folder) (name : List ℕ) (k : Kind) (a m : Seen) → Meets wants (folder.path ++ name ∷ []) folder.here (name, k) a m → told_by m ≡ 0
+    → IsCleanEntry wants folder name k × Quiet a m × Fills folder.here (one_of k) a m
+met wants folder name k a m (s, crowds, n, tells, fits) nothing =
+    let path = folder.path ++ name ∷ [] in
+    let bytes = length (joined path) in
+    let room = tells_if path (room_trouble wants.room folder.here k bytes) n m fits nothing in
+    let last : told_by n ≡ 0 = ap told_by (sym room.1) ∙ nothing in
+    let clean = tells_if path (entry_trouble folder.here name k bytes) s n tells last in
+    let before : told_by s ≡ 0 = ap told_by (sym clean.1) ∙ last in
+    let few = tells_if path (count_trouble folder.here k a.numbers.held) (counting (with_entry k bytes) a) s crowds before in
+    let same = room.1 ∙ clean.1 ∙ few.1 in
+    ((clean.0, room.0), counted (with_entry k bytes) a m (entry_told k bytes) same nothing, met_fills folder.here k bytes a m few.0 same)
+
+-- of a file that was opened
+abbrev Opened : Bool → List ℕ → Seen → Seen → Type 0
+Opened reads bytes a b = AreCleanBytes reads bytes × Quiet a b × (b.numbers.held ≡ a.numbers.held)
+
+opened : (reads : Bool) (path : Path) (bytes : List ℕ) (a b : Seen) → Opens reads path bytes a b → told_by b ≡ 0 → Opened reads bytes a b
+opened reads path bytes a b (inl tells) nothing =
+    let count = cond reads (length bytes) 0 in
+    let clean = tells_if path (size_trouble count) (counting (with_bytes count) a) b tells nothing in
+    (clean.0, counted (with_bytes count) a b (λ n. refl) clean.1 nothing, ap held_by clean.1)
 opened reads path bytes a b (inr fails) nothing = absurd (fails_told path a b fails nothing)
 
 folder_told : (here : Within) (holds : Bool) (n : Numbers) → (with_folder here holds n).told ≡ n.told
@@ -70,50 +142,122 @@ folder_told within.Past holds n = refl
 folder_told (within.Object before) holds n = refl
 folder_told within.Beside holds n = refl
 
+folder_held : (here : Within) (holds : Bool) (n : Numbers) → (with_folder here holds n).held ≡ n.held
+folder_held (within.Site at) holds n = refl
+folder_held within.Past holds n = refl
+folder_held (within.Object before) holds n = refl
+folder_held within.Beside holds n = refl
+
 judged : (folder : Folder) (items : List Item) (a m : Seen) → Judges folder.path folder.here items a m → told_by m ≡ 0
-    → (folder_trouble folder.here (finding_of folder.here items) folder.path ≡ None) × Quiet a m
+    → (folder_trouble folder.here (finding_of folder.here items) folder.path ≡ None) × Quiet a m × (m.numbers.held ≡ a.numbers.held)
 judged folder items a m judges nothing =
     let what = finding_of folder.here items in
-    let clean = tells_if folder.path (folder_trouble folder.here what folder.path) (counting (with_folder folder.here (has_object what)) a) m judges nothing in
-    (clean.0, counted (with_folder folder.here (has_object what)) a m (folder_told folder.here (has_object what)) clean.1 nothing)
+    let clean = tells_if folder.path (folder_trouble folder.here what folder.path) (counting (with_folder folder.here (has_object what)) a) m judges nothing in (
+      clean.0,
+      counted (with_folder folder.here (has_object what)) a m (folder_told folder.here (has_object what)) clean.1 nothing,
+      ap held_by clean.1 ∙ folder_held folder.here (has_object what) a.numbers,
+    )
 
-entered : (folder : Folder) (items : List Item) (visits : Seen → Seen → Type 0) (P : Type 0) (a b : Seen) → ((m : Seen) → visits m b → Quiet m b × P)
-    → Enters folder items visits a b → told_by b ≡ 0 → IsCleanFolder folder items × Quiet a b × P
+-- of a folder that was entered
+abbrev Entered : Folder → List Item → (Seen → Type 0) → Seen → Seen → Type 0
+Entered folder items P a b = IsCleanFolder folder items × Quiet a b × ((m : Seen) × (m.numbers.held ≡ a.numbers.held) × P m)
+
+entered : (folder : Folder) (items : List Item) (visits : Seen → Seen → Type 0) (P : Seen → Type 0) (a b : Seen) → ((m : Seen) → visits m b → Quiet m b × P m)
+    → Enters folder items visits a b → told_by b ≡ 0 → Entered folder items P a b
 entered folder items visits P a b on enters nothing = by (folder.left == 0) refl enters
   where
     by : (t : Bool) → (folder.left == 0) ≡ t → cond t (Tells (Told folder.path trouble.Deep) a b) (TellsFailure folder.path a b ⊎ ((m : Seen) × Judges folder.path folder.here items a m × visits m b))
-        → IsCleanFolder folder items × Quiet a b × P
+        → Entered folder items P a b
     by true is tells = absurd (puts_told _ a b tells nothing)
     by false is (inl fails) = absurd (fails_told folder.path a b fails nothing)
     by false is (inr (m, judges, visited)) =
         let rest = on m visited in
         let first = judged folder items a m judges rest.0.0 in
-        ((is, first.0), (first.1.0, rest.0.1 ∙ first.1.1), rest.1)
+        ((is, first.0), (first.1.0, rest.0.1 ∙ first.1.1), (m, first.2, rest.1))
 
-ends_told : (t : Bool) (before : ℕ) (n : Numbers) → (cond t (with_object before n) n).told ≡ n.told
-ends_told true before n = refl
-ends_told false before n = refl
+begun_told : (t : Bool) (n : Numbers) → (cond t (with_object_begun n) n).told ≡ n.told
+begun_told true n = refl
+begun_told false n = refl
 
-quiet : (reads : Bool) (folder : Folder) (holds : Bool) (tree : Forest) (a b : Seen) → Visits reads folder holds tree a b → told_by b ≡ 0 → Quiet a b × IsClean folder holds tree
-quiet reads folder holds none a b same nothing = ((ap told_by (sym same) ∙ nothing, ap (λ (s : Seen). s.failed) same), tt)
-quiet reads folder holds (file name bytes after) a b (m, meets, n, opens, rest) nothing =
-    let later = quiet reads folder holds after n b rest nothing in
-    let opening = opened reads (folder.path ++ name ∷ []) bytes m n opens later.0.0 in
-    let meeting = met folder name kind.File a m meets opening.0 in
-    ((meeting.1.0, later.0.1 ∙ opening.1 ∙ meeting.1.1), (meeting.0, later.1))
-quiet reads folder holds (other name after) a b (m, meets, rest) nothing =
-    let later = quiet reads folder holds after m b rest nothing in
-    let meeting = met folder name kind.Other a m meets later.0.0 in
-    ((meeting.1.0, later.0.1 ∙ meeting.1.1), (meeting.0, later.1))
-quiet reads folder holds (dir name inside after) a b (m, meets, n, enters, rest) nothing =
+ended_told : (t : Bool) (before : ℕ) (n : Numbers) → (cond t (with_object before n) n).told ≡ n.told
+ended_told true before n = refl
+ended_told false before n = refl
+
+-- a folder in an object begins none and ends none
+dir_fills : (here : Within) (holds : Bool) (name : List ℕ) (bytes before x y : ℕ) (a m n b : Seen) → Fills here 0 a m
+    → Fills (below here holds name bytes) x (counting (begun (below here holds name bytes) here) m) n
+    → Fills here y (counting (ended (below here holds name bytes) here before) n) b → Fills here (x + y) a b
+dir_fills (within.Object before) holds name bytes first x y a m n b met entered rest =
+    fill_on (within.Object before) x y a n b
+    (fill_as (within.Object before) (0 + x) x a n (omega arith) (fill_on (within.Object before) 0 x a m n met entered)) rest
+dir_fills (within.Site at) holds name bytes first x y a m n b met entered rest = tt
+dir_fills within.Past holds name bytes first x y a m n b met entered rest = tt
+dir_fills within.Beside holds name bytes first x y a m n b met entered rest = tt
+
+fills_from : (here : Within) (x : ℕ) (a m b : Seen) → m.numbers.held ≡ a.numbers.held → Fills here x m b → Fills here x a b
+fills_from (within.Object before) x a m b same fills = λ few.
+    let all = fills (omega (arith, same, few)) in
+    let whole = all.0 in
+    (omega (arith, whole, same), all.1)
+fills_from (within.Site at) x a m b same fills = tt
+fills_from within.Past x a m b same fills = tt
+fills_from within.Beside x a m b same fills = tt
+
+-- where an object begins it has no files, so there is room for all of its own
+has_room : (here above : Within) (x : ℕ) (m n : Seen) → Fills here x (counting (begun here above) m) n → starts_object here above ≡ true → x ≤ 1000000
+has_room (within.Object before) (within.Site at) x m n fills starts =
+    let empty : 0 ≤ 1000000 = omega arith in
+    let all = fills empty in
+    let whole : n.numbers.held ≡ x + 0 = all.0 in
+    let most : n.numbers.held ≤ 1000000 = all.1 in
+    omega (arith, whole, most)
+has_room (within.Object before) within.Past x m n fills starts = absurd (cc)
+has_room (within.Object before) (within.Object later) x m n fills starts = absurd (cc)
+has_room (within.Object before) within.Beside x m n fills starts = absurd (cc)
+has_room (within.Site at) above x m n fills starts = absurd (cc)
+has_room within.Past above x m n fills starts = absurd (cc)
+has_room within.Beside above x m n fills starts = absurd (cc)
+
+-- of the entries that were visited
+abbrev Visited : Wants → Folder → Bool → Forest → Seen → Seen → Type 0
+Visited wants folder holds tree a b = Quiet a b × IsClean wants folder holds tree × Fills folder.here (file_count tree) a b
+
+quiet : (wants : Wants) (folder : Folder) (holds : Bool) (tree : Forest) (a b : Seen) → Visits wants folder holds tree a b → told_by b ≡ 0 → Visited wants folder holds tree a b
+quiet wants folder holds none a b same nothing =
+    ((ap told_by (sym same) ∙ nothing, ap (λ (s : Seen). s.failed) same), tt, no_fill folder.here a b (ap held_by same))
+quiet wants folder holds (file name bytes after) a b (m, meets, n, opens, rest) nothing =
+    let later = quiet wants folder holds after n b rest nothing in
+    let opening = opened wants.reads (folder.path ++ name ∷ []) bytes m n opens later.0.0 in
+    let meeting = met wants folder name kind.File a m meets opening.1.0 in (
+      (meeting.1.0, later.0.1 ∙ opening.1.1 ∙ meeting.1.1),
+      (meeting.0, opening.0, later.1),
+      fill_as folder.here (1 + file_count after) (suc (file_count after)) a b (omega arith)
+          (fill_on folder.here 1 (file_count after) a m b meeting.2 (fills_from folder.here (file_count after) m n b opening.2 later.2)),
+    )
+quiet wants folder holds (other name after) a b (m, meets, rest) nothing =
+    let later = quiet wants folder holds after m b rest nothing in
+    let meeting = met wants folder name kind.Other a m meets later.0.0 in (
+      (meeting.1.0, later.0.1 ∙ meeting.1.1),
+      (meeting.0, later.1),
+      fill_as folder.here (0 + file_count after) (file_count after) a b (omega arith) (fill_on folder.here 0 (file_count after) a m b meeting.2 later.2),
+    )
+quiet wants folder holds (dir name inside after) a b (m, meets, n, enters, rest) nothing =
     let it = folder_in folder holds name in
     let items = listing_of inside in
     let holds_it = has_object (finding_of it.here items) in
-    let later = quiet reads folder holds after (counting (ends it folder.here m.numbers) n) b rest nothing in
-    let ended : told_by n ≡ 0 = sym (ends_told (starts_object it.here folder.here) m.numbers.bytes n.numbers) ∙ later.0.0 in
-    let entering = entered it items (Visits reads it holds_it inside) (IsClean it holds_it inside) m n (λ s visited. quiet reads it holds_it inside s n visited ended) enters ended in
-    let meeting = met folder name kind.Dir a m meets entering.1.0 in
-    ((meeting.1.0, later.0.1 ∙ entering.1.1 ∙ meeting.1.1), (meeting.0, entering.0, entering.2, later.1))
+    let count = file_count inside in
+    let start = counting (begun it.here folder.here) m in
+    let later = quiet wants folder holds after (counting (ended it.here folder.here m.numbers.bytes) n) b rest nothing in
+    let ends : told_by n ≡ 0 = sym (ended_told (starts_object it.here folder.here) m.numbers.bytes n.numbers) ∙ later.0.0 in
+    let entering = entered it items (Visits wants it holds_it inside) (λ s. IsClean wants it holds_it inside × Fills it.here count s n) start n (λ s visited. let all = quiet wants it holds_it inside s n visited ends in (all.0, (all.1, all.2))) enters ends in
+    let begins : told_by m ≡ 0 = sym (begun_told (starts_object it.here folder.here) m.numbers) ∙ entering.1.0 in
+    let meeting = met wants folder name kind.Dir a m meets begins in
+    let within_it = entering.2 in
+    let fills = fills_from it.here count start within_it.0 n within_it.1 within_it.2.1 in (
+      (meeting.1.0, later.0.1 ∙ entering.1.1 ∙ meeting.1.1),
+      (meeting.0, entering.0, (λ starts. has_room it.here folder.here count m n fills starts), within_it.2.0, later.1),
+      dir_fills folder.here holds name (length (joined it.path)) m.numbers.bytes count (file_count after) a m n b meeting.2 fills later.2,
+    )
 
 prefix_read : (k : Option Kind) (bytes : List ℕ) (a b : Seen) → ReadsPrefix k bytes a b → told_by b ≡ 0 → IsCleanPrefix k bytes × Quiet a b
 prefix_read None bytes a b same nothing = (tt, (ap told_by (sym same) ∙ nothing, ap (λ (s : Seen). s.failed) same))
@@ -129,7 +273,7 @@ is_there true e = refl
 is_there false e = absurd (cc)
 
 pub clean_store : QuietCheckMeansCleanStore
-clean_store reads tree numbers a b checks nothing = by checks.looks
+clean_store wants tree numbers a b checks nothing = by checks.looks
   where
     last : Seen
     last = checks.last
@@ -143,14 +287,14 @@ clean_store reads tree numbers a b checks nothing = by checks.looks
     holds : Bool
     holds = has_object (finding_of root_folder.here (listing_of inside))
 
-    visited : (m : Seen) (t : Bool) → cond t (VisitsFolder reads root_folder inside m last) (Tells (Told (pairtree_root ∷ []) trouble.Missing) m last)
-        → (t ≡ true) × IsCleanFolder root_folder (listing_of inside) × Quiet m last × IsClean root_folder holds inside
+    visited : (m : Seen) (t : Bool) → cond t (VisitsFolder wants root_folder inside m last) (Tells (Told (pairtree_root ∷ []) trouble.Missing) m last)
+        → (t ≡ true) × IsCleanFolder root_folder (listing_of inside) × Quiet m last × IsClean wants root_folder holds inside
     visited m true enters =
-        let all = entered root_folder (listing_of inside) (Visits reads root_folder holds inside) (IsClean root_folder holds inside) m last (λ s visits. quiet reads root_folder holds inside s last visits quiet_last) enters quiet_last in
-        (refl, all.0, all.1, all.2)
+        let all = entered root_folder (listing_of inside) (Visits wants root_folder holds inside) (λ s. IsClean wants root_folder holds inside) m last (λ s visits. let it = quiet wants root_folder holds inside s last visits quiet_last in (it.0, it.1)) enters quiet_last in
+        (refl, all.0, all.1, all.2.2)
     visited m false tells = absurd (puts_told _ m last tells quiet_last)
 
-    by : LooksAll reads tree a last ⊎ TellsFailure [] a last → IsCleanStore tree × (b.failed ≡ a.failed)
+    by : LooksAll wants tree a last ⊎ TellsFailure [] a last → IsCleanStore wants tree × (b.failed ≡ a.failed)
     by (inr fails) = absurd (fails_told [] a last fails quiet_last)
     by (inl (n, prefix, (m, version, rest))) =
         let root = visited m (is_dir_kind (kind_in (listing_of tree) pairtree_root)) rest in

@@ -1,5 +1,5 @@
 -- The steps of a check outside of a folder's entries.
-use Rattle.std.proofs.Common.{◌≡◌, Bool, true, false, List, [], ◌∷◌, sym, ap, ◌∙◌, subst, cond, inl, inr}
+use Rattle.std.proofs.Common.{◌≡◌, ℕ, Bool, true, false, List, [], ◌∷◌, sym, ap, ◌∙◌, subst, cond, inl, inr}
 use Rattle.std.specs.Io.KnownBytes.{Appends}
 use Rattle.std.specs.Option.{ForSome}
 use Rattle.std.specs.Prelude.{◌⊎◌, Option, Some, take}
@@ -8,6 +8,7 @@ use Rattle.pt_check.specs.Prefix.{prefix_trouble}
 use Rattle.pt_check.specs.Visits.{Checks, Folder, Looks, LooksAll, ReadsPrefix, Seen, Tells, TellsFailure, TellsIf, VisitsFolder, missing, prefix_path, root_folder}
 use Rattle.pt_check.specs.declared.numbers.Numbers.{Numbers}
 use Rattle.pt_check.specs.declared.trouble.Trouble.TheVariants as trouble
+use Rattle.pt_check.specs.declared.wants.Wants.{Wants}
 use Rattle.pt_check.specs.declared.within.Within.TheVariants as within
 use Rattle.pt_plan.specs.Store.{pairtree_root, prefix_file, version_file}
 use Rattle.pt_plan.specs.TurnStart.{is_dir_kind, is_file_kind, kind_in}
@@ -25,19 +26,20 @@ lists_top : (t : Forest) (items : List Item) → listing_at t [] ≡ Some items 
 lists_top t items lists = let same : Some (listing_of t) ≡ Some items = lists in cc
 
 -- what a store must have was looked for, and `pairtree_root` visited
-pub looked : (here there : Option Forest) (reads again : Bool) (items : List Item) (version root : Path) (a m b : Seen)
-    → ForSome here (λ t. listing_at t [] ≡ Some items) → version ≡ version_file ∷ [] → root ≡ pairtree_root ∷ []
-    → TellsIf version (missing (is_file_kind (kind_in items version_file))) a m → is_dir_kind (kind_in items pairtree_root) ≡ true → there ≡ here → again ≡ reads
-    → ForSome there (λ t. VisitsFolder again (record { path = root; here = within.Site at.Root; left = 601 }) (inside_at t root) m b)
-    → ForSome here (λ t. Looks reads t a b)
-looked here there reads again items version root a m b lists version_is root_is tells is same same_reads visits t told =
+pub looked : (here there : Option Forest) (wants again : Wants) (items : List Item) (version root : Path) (left : ℕ) (a m b : Seen)
+    → ForSome here (λ t. listing_at t [] ≡ Some items) → version ≡ version_file ∷ [] → root ≡ pairtree_root ∷ [] → left ≡ 601
+    → TellsIf version (missing (is_file_kind (kind_in items version_file))) a m → is_dir_kind (kind_in items pairtree_root) ≡ true → there ≡ here → again ≡ wants
+    → ForSome there (λ t. VisitsFolder again (record { path = root; here = within.Site at.Root; left = left }) (inside_at t root) m b)
+    → ForSome here (λ t. Looks wants t a b)
+looked here there wants again items version root left a m b lists version_is root_is left_is tells is same same_wants visits t told =
     let top = lists_top t items (lists t told) in
     let folder : Path → Folder = λ p. record { path = p; here = within.Site at.Root; left = 601 } in
-    let visited : VisitsFolder again (folder root) (inside_at t root) m b = visits t (same ∙ told) in
+    let visited : VisitsFolder again (folder root) (inside_at t root) m b =
+    subst (λ (n : ℕ). VisitsFolder again (record { path = root; here = within.Site at.Root; left = n }) (inside_at t root) m b) left_is (visits t (same ∙ told)) in
     let named : VisitsFolder again root_folder (inside_at t (pairtree_root ∷ [])) m b =
     subst (λ (p : Path). VisitsFolder again (folder p) (inside_at t p) m b) root_is visited in
-    let whole : VisitsFolder reads root_folder (inside_at t (pairtree_root ∷ [])) m b =
-    subst (λ (r : Bool). VisitsFolder r root_folder (inside_at t (pairtree_root ∷ [])) m b) same_reads named in
+    let whole : VisitsFolder wants root_folder (inside_at t (pairtree_root ∷ [])) m b =
+    subst (λ (r : Wants). VisitsFolder r root_folder (inside_at t (pairtree_root ∷ [])) m b) same_wants named in
     let first : TellsIf (version_file ∷ []) (missing (is_file_kind (kind_in items version_file))) a m =
     subst (λ (p : Path). TellsIf p (missing (is_file_kind (kind_in items version_file))) a m) version_is tells in (
       m,
@@ -45,8 +47,8 @@ looked here there reads again items version root a m b lists version_is root_is 
       by (is_dir_kind (kind_in (listing_of t) pairtree_root)) (ap (λ (l : List Item). is_dir_kind (kind_in l pairtree_root)) (sym top) ∙ is) whole,
     )
   where
-    by : (d : Bool) → d ≡ true → VisitsFolder reads root_folder (inside_at t (pairtree_root ∷ [])) m b
-        → cond d (VisitsFolder reads root_folder (inside_at t (pairtree_root ∷ [])) m b) (Tells (Told (pairtree_root ∷ []) trouble.Missing) m b)
+    by : (d : Bool) → d ≡ true → VisitsFolder wants root_folder (inside_at t (pairtree_root ∷ [])) m b
+        → cond d (VisitsFolder wants root_folder (inside_at t (pairtree_root ∷ [])) m b) (Tells (Told (pairtree_root ∷ []) trouble.Missing) m b)
     by true d whole = whole
     by false d whole = absurd (cc)
 
@@ -60,28 +62,28 @@ prefix_step here what path a b is path_is reads t told =
     subst (λ (k : Option Kind). ReadsPrefix k (bytes_at t prefix_path) a b) (sym is) named
 
 -- the prefix was looked at before
-pub looked_all : (here there : Option Forest) (reads again : Bool) (items : List Item) (a m n last : Seen) → ForSome here (λ t. listing_at t [] ≡ Some items)
-    → m ≡ a → there ≡ here → again ≡ reads
+pub looked_all : (here there : Option Forest) (wants again : Wants) (items : List Item) (a m n last : Seen) → ForSome here (λ t. listing_at t [] ≡ Some items)
+    → m ≡ a → there ≡ here → again ≡ wants
     → ForSome here (λ t. ReadsPrefix (kind_in items prefix_file) (bytes_at t prefix_path) m n) → ForSome there (λ t. Looks again t n last)
-    → ForSome here (λ t. LooksAll reads t a last)
-looked_all here there reads again items a m n last lists begun same same_reads prefix looks t told =
+    → ForSome here (λ t. LooksAll wants t a last)
+looked_all here there wants again items a m n last lists begun same same_wants prefix looks t told =
     let top = lists_top t items (lists t told) in
     let bytes = bytes_at t prefix_path in
     let first : ReadsPrefix (kind_in items prefix_file) bytes a n = subst (λ (s : Seen). ReadsPrefix (kind_in items prefix_file) bytes s n) begun (prefix t told) in (
       n,
       subst (λ (l : List Item). ReadsPrefix (kind_in l prefix_file) bytes a n) top first,
-      subst (λ (r : Bool). Looks r t n last) same_reads (looks t (same ∙ told)),
+      subst (λ (r : Wants). Looks r t n last) same_wants (looks t (same ∙ told)),
     )
 
 -- then the numbers were told
-pub checked : (here there : Option Forest) (reads again : Bool) (numbers : Numbers) (a last b : Seen) → there ≡ here → again ≡ reads
+pub checked : (here there : Option Forest) (wants again : Wants) (numbers : Numbers) (a last b : Seen) → there ≡ here → again ≡ wants
     → ForSome there (λ t. LooksAll again t a last) → numbers ≡ last.numbers → b.failed ≡ last.failed → b.numbers ≡ last.numbers
-    → Appends last.held b.held (line_text (End last.numbers)) → ForSome here (λ t. Checks reads t numbers a b)
-checked here there reads again numbers a last b same same_reads looks is failed counted held t told =
+    → Appends last.held b.held (line_text (End last.numbers)) → ForSome here (λ t. Checks wants t numbers a b)
+checked here there wants again numbers a last b same same_wants looks is failed counted held t told =
     let all : LooksAll again t a last = looks t (same ∙ told) in
     record {
       last = last;
-      looks = inl (subst (λ (r : Bool). LooksAll r t a last) same_reads all);
+      looks = inl (subst (λ (r : Wants). LooksAll r t a last) same_wants all);
       numbers_are = is;
       failed = failed;
       counted = counted;
@@ -89,9 +91,9 @@ checked here there reads again numbers a last b same same_reads looks is failed 
     }
 
 -- and so they were where the top couldn't be listed
-pub checked_nothing : (here : Option Forest) (reads : Bool) (numbers : Numbers) (a last b : Seen) → TellsFailure [] a last → numbers ≡ last.numbers → b.failed ≡ last.failed
-    → b.numbers ≡ last.numbers → Appends last.held b.held (line_text (End last.numbers)) → ForSome here (λ t. Checks reads t numbers a b)
-checked_nothing here reads numbers a last b fails is failed counted held t told = record {
+pub checked_nothing : (here : Option Forest) (wants : Wants) (numbers : Numbers) (a last b : Seen) → TellsFailure [] a last → numbers ≡ last.numbers → b.failed ≡ last.failed
+    → b.numbers ≡ last.numbers → Appends last.held b.held (line_text (End last.numbers)) → ForSome here (λ t. Checks wants t numbers a b)
+checked_nothing here wants numbers a last b fails is failed counted held t told = record {
   last = last;
   looks = inr fails;
   numbers_are = is;

@@ -1,9 +1,12 @@
 -- A store of which a check has nothing to tell.
-use Rattle.std.specs.Prelude.{◌≡◌, ◌≢◌, ◌==◌, ◌||◌, ⊤, ℕ, Bool, true, false, length, take, List, [], ◌∷◌, ◌++◌, Option, None, Some}
+use Rattle.std.specs.Prelude.{◌≡◌, ◌≢◌, ◌≤◌, ◌+◌, ◌==◌, ◌||◌, ⊤, ℕ, suc, Bool, true, false, cond, length, take, List, [], ◌∷◌, ◌++◌, Option, None, Some}
 use Rattle.pt_check.specs.Prefix.{prefix_trouble}
-use Rattle.pt_check.specs.Visits.{Checks, Folder, Seen, entry_trouble, finding_of, folder_in, folder_trouble, has_object, prefix_path, root_folder}
+use Rattle.pt_check.specs.Visits.{Checks, Folder, Seen, entry_trouble, finding_of, folder_in, folder_trouble, has_object, prefix_path, room_trouble, root_folder, size_trouble}
+use Rattle.pt_check.specs.Within.{starts_object}
 use Rattle.pt_check.specs.declared.numbers.Numbers.{Numbers}
-use Rattle.pt_plan.specs.Items.{Item as WalkItem, Named, PairtreeObject, cause_of, items}
+use Rattle.pt_check.specs.declared.wants.Wants.{Wants}
+use Rattle.pt_check.specs.declared.within.Within.{Within}
+use Rattle.pt_plan.specs.Items.{Item as WalkItem, Named, PairtreeObject, Skip, cause_of, items}
 use Rattle.pt_plan.specs.Job.{Job}
 use Rattle.pt_plan.specs.Store.{pairtree_root, prefix_file, version_file}
 use Rattle.pt_plan.specs.TurnStart.{is_dir_kind, is_file_kind, kind_in}
@@ -13,28 +16,50 @@ use Rattle.pt_tree.specs.Path.{joined}
 use Rattle.pt_tree.specs.declared.kind.Kind.{Kind}
 use Rattle.pt_tree.specs.declared.kind.Kind.TheVariants as kind
 use Rattle.pt_walk.specs.Left.{bytes_at, inside_at}
+use Rattle.pt_walk.specs.Limits.{greatest_limits}
 use Rattle.pt_walk.specs.declared.cause.Cause.TheVariants as cause
 
--- there is nothing to tell of an entry of this name and kind in a folder
-abbrev pub IsCleanEntry : Folder → List ℕ → Kind → Type 0
-IsCleanEntry folder name what =
-    entry_trouble folder.here name what (length (joined (folder.path ++ name ∷ []))) ≡ None
+-- there is nothing to tell of an entry of this name and kind in a folder, of which this is wanted
+abbrev pub IsCleanEntry : Wants → Folder → List ℕ → Kind → Type 0
+IsCleanEntry wants folder name what = let bytes = length (joined (folder.path ++ name ∷ [])) in
+    (entry_trouble folder.here name what bytes ≡ None)
+    × (room_trouble wants.room folder.here what bytes ≡ None)
 
 -- nor of a folder that lists these entries: it isn't too deep either
 abbrev pub IsCleanFolder : Folder → List Item → Type 0
 IsCleanFolder folder items =
     ((folder.left == 0) ≡ false) × (folder_trouble folder.here (finding_of folder.here items) folder.path ≡ None)
 
+-- nor of the bytes of a file, if they are read
+abbrev pub AreCleanBytes : Bool → List ℕ → Type 0
+AreCleanBytes reads bytes = size_trouble (cond reads (length bytes) 0) ≡ None
+
+-- how many files it has, at any depth
+abbrev pub file_count : Forest → ℕ
+file_count none = 0
+file_count (file name bytes after) = suc (file_count after)
+file_count (other name after) = file_count after
+file_count (dir name inside after) = file_count inside + file_count after
+
+-- where an object begins with this folder, in one that is that, a run has room for its files
+abbrev pub HasRoom : Folder → Within → Forest → Type 0
+HasRoom folder above inside =
+    starts_object folder.here above ≡ true → file_count inside ≤ greatest_limits.files
+
 -- nor of the entries of a folder, which has an object or not, and of all that stands in them
-abbrev pub IsClean : Folder → Bool → Forest → Type 0
-IsClean folder holds none = ⊤
-IsClean folder holds (file name bytes after) = IsCleanEntry folder name kind.File × IsClean folder holds after
-IsClean folder holds (other name after) = IsCleanEntry folder name kind.Other × IsClean folder holds after
-IsClean folder holds (dir name inside after) =
+abbrev pub IsClean : Wants → Folder → Bool → Forest → Type 0
+IsClean wants folder holds none = ⊤
+IsClean wants folder holds (file name bytes after) =
+    IsCleanEntry wants folder name kind.File × AreCleanBytes wants.reads bytes
+    × IsClean wants folder holds after
+IsClean wants folder holds (other name after) =
+    IsCleanEntry wants folder name kind.Other × IsClean wants folder holds after
+IsClean wants folder holds (dir name inside after) =
     let it = folder_in folder holds name in
-    IsCleanEntry folder name kind.Dir × IsCleanFolder it (listing_of inside)
-    × IsClean it (has_object (finding_of it.here (listing_of inside))) inside
-    × IsClean folder holds after
+    IsCleanEntry wants folder name kind.Dir × IsCleanFolder it (listing_of inside)
+    × HasRoom it folder.here inside
+    × IsClean wants it (has_object (finding_of it.here (listing_of inside))) inside
+    × IsClean wants folder holds after
 
 -- nor of what stands at the name of the prefix, with these bytes
 abbrev pub IsCleanPrefix : Option Kind → List ℕ → Type 0
@@ -48,19 +73,19 @@ abbrev pub below_root : Forest → Forest
 below_root tree = inside_at tree (pairtree_root ∷ [])
 
 -- nor of a store: its top has all that it must have
-pub record IsCleanStore (tree : Forest) : Type 0 where
+pub record IsCleanStore (wants : Wants) (tree : Forest) : Type 0 where
   pub prefix : IsCleanPrefix (kind_in (listing_of tree) prefix_file) (bytes_at tree prefix_path)
   pub version : is_file_kind (kind_in (listing_of tree) version_file) ≡ true
   pub root : is_dir_kind (kind_in (listing_of tree) pairtree_root) ≡ true
   pub top : IsCleanFolder root_folder (listing_of (below_root tree))
-  pub inside : IsClean root_folder (has_object (finding_of root_folder.here (listing_of (below_root tree))))
+  pub inside : IsClean wants root_folder (has_object (finding_of root_folder.here (listing_of (below_root tree))))
       (below_root tree)
 
 -- a check of a store that ended well and told nothing met one of which there is nothing to tell, and its source failed at nothing
 abbrev pub QuietCheckMeansCleanStore : Type 0
 QuietCheckMeansCleanStore =
-    (reads : Bool) (tree : Forest) (numbers : Numbers) (a b : Seen) → Checks reads tree numbers a b
-    → numbers.told ≡ 0 → IsCleanStore tree × (b.failed ≡ a.failed)
+    (wants : Wants) (tree : Forest) (numbers : Numbers) (a b : Seen) → Checks wants tree numbers a b
+    → numbers.told ≡ 0 → IsCleanStore wants tree × (b.failed ≡ a.failed)
 
 -- ---- what follows for a run
 
@@ -85,4 +110,19 @@ IsNotSkippedForOther job item =
 -- no run over a store of which there is nothing to tell passes an object over for that cause, whatever its job
 abbrev pub NoRunSkipsForOther : Type 0
 NoRunSkipsForOther =
-    (job : Job) (tree : Forest) → IsCleanStore tree → Each (IsNotSkippedForOther job) (items job tree)
+    (wants : Wants) (job : Job) (tree : Forest) → IsCleanStore wants tree
+    → Each (IsNotSkippedForOther job) (items job tree)
+
+-- an item isn't passed over for a limit, and neither is its object, if it has one with an identifier
+abbrev pub IsNotSkippedForLimit : Job → WalkItem → Type 0
+IsNotSkippedForLimit job item = (item.verdict ≢ Skip cause.Limit)
+    × ((id : List ℕ) (object : PairtreeObject) → item.verdict ≡ Named id object
+    → cause_of job.limits object ≢ Some cause.Limit)
+
+-- no run with the limits of a check passes anything over for a limit in a store of which there is nothing to tell where its files
+-- are read whole
+abbrev pub NoRunSkipsForLimit : Type 0
+NoRunSkipsForLimit =
+    (room : Option ℕ) (job : Job) (tree : Forest) → job.limits ≡ greatest_limits
+    → IsCleanStore (record { reads = true; room = room }) tree
+    → Each (IsNotSkippedForLimit job) (items job tree)

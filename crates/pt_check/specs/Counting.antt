@@ -16,6 +16,7 @@ no_numbers = record {
   bytes = 0;
   largest = 0;
   longest = 0;
+  held = 0;
 }
 
 -- two numbers together, up to the greatest that is counted
@@ -34,7 +35,11 @@ with_site has_object numbers =
 -- an entry of this kind more, whose path has so many bytes
 abbrev pub with_entry : Kind → ℕ → Numbers → Numbers
 with_entry kind.File length numbers =
-    record numbers { files = plus numbers.files 1; longest = max numbers.longest length }
+    record numbers {
+      files = plus numbers.files 1;
+      longest = max numbers.longest length;
+      held = plus numbers.held 1;
+    }
 with_entry kind.Dir length numbers =
     record numbers { folders = plus numbers.folders 1; longest = max numbers.longest length }
 with_entry kind.Other length numbers = record numbers { longest = max numbers.longest length }
@@ -42,6 +47,10 @@ with_entry kind.Other length numbers = record numbers { longest = max numbers.lo
 -- a file of so many bytes was read
 abbrev pub with_bytes : ℕ → Numbers → Numbers
 with_bytes bytes numbers = record numbers { bytes = plus numbers.bytes bytes }
+
+-- an object begins
+abbrev pub with_object_begun : Numbers → Numbers
+with_object_begun numbers = record numbers { held = 0 }
 
 -- an object is at its end, before which so many bytes were read
 abbrev pub with_object : ℕ → Numbers → Numbers

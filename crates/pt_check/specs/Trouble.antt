@@ -14,6 +14,9 @@ trouble_number trouble.Missing = 13
 trouble_number trouble.Spelling = 14
 trouble_number trouble.Prefix = 15
 trouble_number trouble.Doubtful = 16
+trouble_number trouble.Many = 17
+trouble_number trouble.Large = 18
+trouble_number trouble.Place = 19
 
 -- its word in a line
 abbrev pub trouble_word : Trouble → List ℕ
@@ -25,3 +28,6 @@ trouble_word trouble.Missing = codes "missing"
 trouble_word trouble.Spelling = codes "spelling"
 trouble_word trouble.Prefix = codes "prefix"
 trouble_word trouble.Doubtful = codes "doubtful"
+trouble_word trouble.Many = codes "many"
+trouble_word trouble.Large = codes "large"
+trouble_word trouble.Place = codes "place"

@@ -1,10 +1,10 @@
 -- What a check does at the folders and entries of a store, one after another.
-use Rattle.std.specs.Prelude.{◌≡◌, ◌-◌, ◌==◌, ◌||◌, ◌⊎◌, ℕ, Bool, true, false, cond, codes, drop, length, nat_lt, take, List, [], ◌∷◌, ◌++◌, Option, None, Some}
+use Rattle.std.specs.Prelude.{◌≡◌, ◌+◌, ◌-◌, ◌==◌, ◌||◌, ◌⊎◌, ℕ, Bool, true, false, cond, codes, drop, length, nat_lt, take, List, [], ◌∷◌, ◌++◌, Option, None, Some}
 use Rattle.std.specs.Io.KnownBytes.{Appends}
 use Rattle.std.specs.List.{concat}
 use Rattle.std.specs.Option.{option_map}
 use Rattle.std.specs.Str.{bytes_eq, is_utf8}
-use Rattle.pt_check.specs.Counting.{plus, with_bytes, with_entry, with_line, with_object, with_site}
+use Rattle.pt_check.specs.Counting.{plus, with_bytes, with_entry, with_line, with_object, with_object_begun, with_site}
 use Rattle.pt_check.specs.Lines.{Line, End, Told, Unreadable, line_text}
 use Rattle.pt_check.specs.Prefix.{prefix_trouble}
 use Rattle.pt_check.specs.Within.{below, starts_object}
@@ -12,6 +12,7 @@ use Rattle.pt_check.specs.declared.checking.Check.{Check}
 use Rattle.pt_check.specs.declared.numbers.Numbers.{Numbers}
 use Rattle.pt_check.specs.declared.trouble.Trouble.{Trouble}
 use Rattle.pt_check.specs.declared.trouble.Trouble.TheVariants as trouble
+use Rattle.pt_check.specs.declared.wants.Wants.{Wants}
 use Rattle.pt_check.specs.declared.within.Within.{Within}
 use Rattle.pt_check.specs.declared.within.Within.TheVariants as within
 use Rattle.pt_name.specs.Clean.{cleaned}
@@ -26,6 +27,7 @@ use Rattle.pt_tree.specs.Source.{Reading}
 use Rattle.pt_tree.specs.declared.kind.Kind.{Kind}
 use Rattle.pt_tree.specs.declared.kind.Kind.TheVariants as kind
 use Rattle.pt_walk.specs.Left.{bytes_at, inside_at}
+use Rattle.pt_walk.specs.Limits.{greatest_limits}
 use Rattle.pt_walk.specs.Site.{found}
 use Rattle.pt_walk.specs.declared.site.At.TheVariants as at
 use Rattle.pt_walk.specs.declared.cause.Cause.TheVariants as cause
@@ -56,12 +58,12 @@ tree_by told check = tree_in (told check.source)
 abbrev pub Grows : Option (List ℕ) → Option (List ℕ) → Type 0
 Grows old new = (more : List ℕ) × Appends old new more
 
--- its source is the same one still, with its tree; it reads files whole or not, as before; and its log has only grown
+-- its source is the same one still, with its tree; as much is wanted of it as before; and its log has only grown
 pub record Keeps {S L E : Type 0} (told : S → Option Reading) (keeps : S → S → Type 0)
     (held : L → Option (List ℕ)) (old new : Check S L E) : Type 0 where
   pub tree : tree_by told new ≡ tree_by told old
   pub source : keeps old.source new.source
-  pub reads : new.reads ≡ old.reads
+  pub wants : new.wants ≡ old.wants
   pub log : Grows (held old.log) (held new.log)
 
 -- ---- what is told
@@ -156,7 +158,7 @@ is_of_desktop name =
 
 -- the logical path of an entry whose whole path has so many bytes is longer than a run carries
 abbrev pub is_long : Within → ℕ → Bool
-is_long (within.Object before) bytes = nat_lt (plus before 4000) bytes
+is_long (within.Object before) bytes = nat_lt (plus before greatest_limits.path_bytes) bytes
 is_long _ bytes = false
 
 -- what is told of an entry by its name alone
@@ -169,16 +171,38 @@ entry_trouble here name kind.Other bytes = Some (trouble.Skipped cause.Other)
 entry_trouble here name kind.File bytes = cond (is_long here bytes) (Some trouble.Long) (name_trouble name)
 entry_trouble here name kind.Dir bytes = name_trouble name
 
--- an entry at this path is met: it is counted, and told if there is trouble
-abbrev pub Meets : Path → Within → Item → Seen → Seen → Type 0
-Meets path here item a b =
-    let bytes = length (joined path) in
-    TellsIf path (entry_trouble here item.0 item.1 bytes) (counting (with_entry item.1 bytes) a) b
+-- what is told of an entry of this kind in a folder that is this, by how many files its object has before it: it is the first
+-- file for which there is no room in an object
+abbrev pub count_trouble : Within → Kind → ℕ → Option Trouble
+count_trouble (within.Object before) kind.File held =
+    cond (held == greatest_limits.files) (Some trouble.Many) None
+count_trouble _ _ held = None
 
--- a file with these bytes is opened, and read whole if that is wanted; or it is told that it can't be
+-- what is told of an entry of this kind in a folder that is this, whose path has so many bytes, where a destination has room for
+-- paths of so many bytes in an object
+abbrev pub room_trouble : Option ℕ → Within → Kind → ℕ → Option Trouble
+room_trouble (Some most) (within.Object before) kind.File bytes =
+    cond (nat_lt (plus before most) bytes) (Some trouble.Place) None
+room_trouble _ _ _ bytes = None
+
+-- an entry at this path is met: it is counted, and told if there is trouble
+abbrev pub Meets : Wants → Path → Within → Item → Seen → Seen → Type 0
+Meets wants path here item a b =
+    let bytes = length (joined path) in
+    (m : Seen)
+    × TellsIf path (count_trouble here item.1 a.numbers.held) (counting (with_entry item.1 bytes) a) m
+    × (n : Seen) × TellsIf path (entry_trouble here item.0 item.1 bytes) m n
+    × TellsIf path (room_trouble wants.room here item.1 bytes) n b
+
+-- what is told of a file of which so many bytes were read
+abbrev pub size_trouble : ℕ → Option Trouble
+size_trouble bytes = cond (nat_lt greatest_limits.file_bytes bytes) (Some trouble.Large) None
+
+-- a file with these bytes is opened, read whole if that is wanted, and told if it is too large; or it is told that it can't be
 abbrev pub Opens : Bool → Path → List ℕ → Seen → Seen → Type 0
 Opens reads path bytes a b =
-    (b ≡ counting (with_bytes (cond reads (length bytes) 0)) a) ⊎ TellsFailure path a b
+    let count = cond reads (length bytes) 0 in
+    TellsIf path (size_trouble count) (counting (with_bytes count) a) b ⊎ TellsFailure path a b
 
 -- the same of an entry of this kind, if it is a file
 abbrev pub OpensIf : Bool → Path → Kind → List ℕ → Seen → Seen → Type 0
@@ -204,9 +228,13 @@ folder_in folder holds name =
       left = folder.left - 1;
     }
 
--- where an object ends with this folder, that stands in one which is this, its bytes are compared with the most of any
-abbrev pub ends : Folder → Within → Numbers → Numbers → Numbers
-ends folder above before after = cond (starts_object folder.here above) (with_object before.bytes after) after
+-- where an object begins with a folder that is this, in one that is that, it has no files yet
+abbrev pub begun : Within → Within → Numbers → Numbers
+begun here above numbers = cond (starts_object here above) (with_object_begun numbers) numbers
+
+-- where an object ends with such a folder, before which so many bytes were read, its bytes are compared with the most of any
+abbrev pub ended : Within → Within → ℕ → Numbers → Numbers
+ended here above before after = cond (starts_object here above) (with_object before after) after
 
 -- a folder is met that lists these entries, by what is then done with them: it is too deep and told so, it can't be listed
 -- and that is told, or it is judged and its entries are visited
@@ -215,28 +243,29 @@ Enters folder items visits a b = cond (folder.left == 0) (Tells (Told folder.pat
     (TellsFailure folder.path a b ⊎ ((m : Seen) × Judges folder.path folder.here items a m × visits m b))
 
 -- the entries of a folder, which has an object or not, are visited one after another, each once, and all that stands in them
-abbrev pub Visits : Bool → Folder → Bool → Forest → Seen → Seen → Type 0
-Visits reads folder holds none a b = b ≡ a
-Visits reads folder holds (file name bytes after) a b =
+abbrev pub Visits : Wants → Folder → Bool → Forest → Seen → Seen → Type 0
+Visits wants folder holds none a b = b ≡ a
+Visits wants folder holds (file name bytes after) a b =
     let path = folder.path ++ name ∷ [] in
-    (m : Seen) × Meets path folder.here (name, kind.File) a m
-    × (n : Seen) × Opens reads path bytes m n
-    × Visits reads folder holds after n b
-Visits reads folder holds (other name after) a b =
-    (m : Seen) × Meets (folder.path ++ name ∷ []) folder.here (name, kind.Other) a m
-    × Visits reads folder holds after m b
-Visits reads folder holds (dir name inside after) a b =
+    (m : Seen) × Meets wants path folder.here (name, kind.File) a m
+    × (n : Seen) × Opens wants.reads path bytes m n
+    × Visits wants folder holds after n b
+Visits wants folder holds (other name after) a b =
+    (m : Seen) × Meets wants (folder.path ++ name ∷ []) folder.here (name, kind.Other) a m
+    × Visits wants folder holds after m b
+Visits wants folder holds (dir name inside after) a b =
     let it = folder_in folder holds name in
     let holds_it = has_object (finding_of it.here (listing_of inside)) in
-    (m : Seen) × Meets it.path folder.here (name, kind.Dir) a m
-    × (n : Seen) × Enters it (listing_of inside) (Visits reads it holds_it inside) m n
-    × Visits reads folder holds after (counting (ends it folder.here m.numbers) n) b
+    (m : Seen) × Meets wants it.path folder.here (name, kind.Dir) a m
+    × (n : Seen) × Enters it (listing_of inside) (Visits wants it holds_it inside)
+    (counting (begun it.here folder.here) m) n
+    × Visits wants folder holds after (counting (ended it.here folder.here m.numbers.bytes) n) b
 
 -- a folder of the store and all that stands in it are visited
-abbrev pub VisitsFolder : Bool → Folder → Forest → Seen → Seen → Type 0
-VisitsFolder reads folder inside =
+abbrev pub VisitsFolder : Wants → Folder → Forest → Seen → Seen → Type 0
+VisitsFolder wants folder inside =
     Enters folder (listing_of inside)
-    (Visits reads folder (has_object (finding_of folder.here (listing_of inside))) inside)
+    (Visits wants folder (has_object (finding_of folder.here (listing_of inside))) inside)
 
 -- ---- a store
 
@@ -245,16 +274,20 @@ abbrev pub missing : Bool → Option Trouble
 missing true = None
 missing false = Some trouble.Missing
 
--- the folder `pairtree_root`, below which a run walks folders up to 600 deep
+-- the folder `pairtree_root`, below which a run walks folders as deep as its limit
 abbrev pub root_folder : Folder
-root_folder = record { path = pairtree_root ∷ []; here = within.Site at.Root; left = 601 }
+root_folder = record {
+  path = pairtree_root ∷ [];
+  here = within.Site at.Root;
+  left = greatest_limits.depth + 1;
+}
 
 -- at the top of a store stand the version's file and `pairtree_root` (Pairtree 0.1): it is told where one doesn't, and the second is visited
-abbrev pub Looks : Bool → Forest → Seen → Seen → Type 0
-Looks reads tree a b =
+abbrev pub Looks : Wants → Forest → Seen → Seen → Type 0
+Looks wants tree a b =
     (m : Seen) × TellsIf (version_file ∷ []) (missing (is_file_kind (kind_in (listing_of tree) version_file))) a m
     × cond (is_dir_kind (kind_in (listing_of tree) pairtree_root))
-    (VisitsFolder reads root_folder (inside_at tree (pairtree_root ∷ [])) m b)
+    (VisitsFolder wants root_folder (inside_at tree (pairtree_root ∷ [])) m b)
     (Tells (Told (pairtree_root ∷ []) trouble.Missing) m b)
 
 -- the path of the prefix file
@@ -271,16 +304,16 @@ ReadsPrefix (Some kind.Dir) bytes a b = Tells (Told prefix_path trouble.Prefix) 
 ReadsPrefix (Some kind.Other) bytes a b = Tells (Told prefix_path trouble.Prefix) a b
 
 -- what the top lists is looked at: the prefix, and then what a store must have
-abbrev pub LooksAll : Bool → Forest → Seen → Seen → Type 0
-LooksAll reads tree a b =
+abbrev pub LooksAll : Wants → Forest → Seen → Seen → Type 0
+LooksAll wants tree a b =
     (m : Seen) × ReadsPrefix (kind_in (listing_of tree) prefix_file) (bytes_at tree prefix_path) a m
-    × Looks reads tree m b
+    × Looks wants tree m b
 
 -- a store is checked whole: what its top lists is looked at, or that can't be listed and is told; and at the end stands the line of
 -- these numbers
-pub record Checks (reads : Bool) (tree : Forest) (numbers : Numbers) (a b : Seen) : Type 0 where
+pub record Checks (wants : Wants) (tree : Forest) (numbers : Numbers) (a b : Seen) : Type 0 where
   pub last : Seen
-  pub looks : LooksAll reads tree a last ⊎ TellsFailure [] a last
+  pub looks : LooksAll wants tree a last ⊎ TellsFailure [] a last
   pub numbers_are : numbers ≡ last.numbers
   pub failed : b.failed ≡ last.failed
   pub counted : b.numbers ≡ last.numbers

@@ -1,30 +1,31 @@
 //! The walk of a check over all that lies below a folder of a store.
 ghost use Rattle.std.specs.Io.KnownBytes.{Appends};
-ghost use Rattle.std.specs.Prelude.{◌≡◌, ◌⊎◌, [], cond, length, take, IfOk, IsSome, OnOk, MatchOption, Some};
+ghost use Rattle.std.specs.Prelude.{◌≡◌, ◌⊎◌, [], length, take, IfOk, IsSome, OnOk, MatchOption, Some};
 ghost use Rattle.std.specs.Option.{ForSome};
-ghost use Rattle.pt_check.specs.Counting.{no_numbers, with_object};
+ghost use Rattle.pt_check.specs.Counting.{no_numbers};
 ghost use Rattle.pt_check.specs.Faults.{LogFailsAs};
 ghost use Rattle.pt_check.specs.Lines.{End, Told, line_text};
 ghost use Rattle.pt_check.specs.Prefix.{prefix_trouble};
-ghost use Rattle.pt_check.specs.Within.{starts_object};
 ghost use Rattle.pt_plan.specs.Store.{prefix_file};
 ghost use Rattle.pt_plan.specs.TurnStart.{kind_in as kind_in_items};
 ghost use Rattle.pt_tree.specs.Path.{joined};
-ghost use Rattle.pt_check.specs.Visits.{Checks, Judges, Keeps, Looks, Meets, Opens, OpensIf, Puts, ReadsPrefix, Tells, TellsFailure, TellsIf, TellsUnread, VisitsFolder, finding_of as finding_of_items, has_object as has_object_in, missing as missing_by, prefix_path, seen_by, tree_by};
+ghost use Rattle.pt_check.specs.Visits.{Checks, Judges, Keeps, Looks, Meets, Opens, OpensIf, Puts, ReadsPrefix, Tells, TellsFailure, TellsIf, TellsUnread, VisitsFolder, begun, ended, finding_of as finding_of_items, has_object as has_object_in, missing as missing_by, prefix_path, seen_by, tree_by};
 ghost use Rattle.pt_tree.specs.Forest.{dir_at, file_at, listing_at};
 ghost use Rattle.pt_tree.specs.declared.kind.Kind.TheVariants as kind;
 ghost use Rattle.pt_walk.specs.Left.{bytes_at, inside_at};
 
-use crate::judging::{entry_trouble, finding_of, folder_trouble};
+use crate::judging::{
+    count_trouble, entry_trouble, finding_of, folder_trouble, room_trouble, size_trouble,
+};
 use crate::lines::{end_line, trouble_line, unreadable_line};
 use crate::prefix::open_prefix;
 use crate::reading::open_whole;
-use crate::{Numbers, Trouble, Within};
+use crate::{Devices, Numbers, Trouble, Wants, Within};
 use pt_object::WellKnownName;
 use pt_plan::Fault;
 use pt_plan::kinds::{is_dir, is_file, kind_in};
 use pt_tree::{Kind, KnownName, Listing, Log, MemoryFault, Name, NamePath, Source, TreeFault};
-use pt_walk::{At, Finding};
+use pt_walk::{At, Finding, Limits};
 use std::alloc::Global;
 
 /// Why a source failed.
@@ -39,13 +40,10 @@ pub struct Check<S, L, E> {
     pub(crate) source: S,
     pub(crate) log: L,
     pub(crate) explains: E,
-    pub(crate) reads: bool,
+    pub(crate) wants: Wants,
     pub(crate) numbers: Numbers,
     pub(crate) alloc: Global,
 }
-
-// How many folders may stand one in another, `pairtree_root` with them.
-const MOST_FOLDERS: usize = 601;
 
 // What is told of an entry that a store must have, by whether it is there.
 fn missing(is_there: bool) -> Option<Trouble>
@@ -59,18 +57,23 @@ fn missing(is_there: bool) -> Option<Trouble>
 }
 
 impl<S: Source, L: Log, E: Explains<S> + Drop> Check<S, L, E> {
-    /// A check of the store whose folder a source is, which reads each file whole or not, and tells a log. Nothing is counted yet.
-    pub fn new(alloc: Global, source: S, log: L, explains: E, reads: bool) -> Check<S, L, E>
-        ensures source { result.source ≡ source }
-        ensures log { result.log ≡ log }
-        ensures reads { result.reads ≡ reads }
+    /// A check of the store whose folder a source is, which tells a log. Nothing is counted yet.
+    pub fn new(alloc: Global, devices: Devices<S, L, E>, wants: Wants) -> Check<S, L, E>
+        ensures source { result.source ≡ devices.source }
+        ensures log { result.log ≡ devices.log }
+        ensures wants { result.wants ≡ wants }
         ensures numbers { result.numbers ≡ no_numbers }
     {
+        let Devices {
+            source,
+            log,
+            explains,
+        } = devices;
         Check {
             source,
             log,
             explains,
-            reads,
+            wants,
             numbers: Numbers::none(),
             alloc,
         }
@@ -81,7 +84,7 @@ impl<S: Source, L: Log, E: Explains<S> + Drop> Check<S, L, E> {
     /// `Log` where a line couldn't be put, and `Memory` where a growth was refused.
     pub fn run(&mut self) -> Result<Numbers, Fault>
         ensures checked { IfOk result (λ numbers. ForSome (tree_by S.told self.old)
-            (λ tree. Checks self.old.reads tree numbers
+            (λ tree. Checks self.old.wants tree numbers
             (seen_by S.failed L.told self.old) (seen_by S.failed L.told self.new))) }
         ensures keeps { Keeps S.told S.keeps L.told self.old self.new }
         ensures fault { LogFailsAs (L.failed self.old.log) (L.failed self.new.log) result }
@@ -146,7 +149,7 @@ impl<S: Source, L: Log, E: Explains<S> + Drop> Check<S, L, E> {
         requires { ForSome (tree_by S.told self.old)
             (λ tree. listing_at tree [] ≡ Some listing.now) }
         ensures looked { OnOk result (ForSome (tree_by S.told self.old)
-            (λ tree. Looks self.old.reads tree
+            (λ tree. Looks self.old.wants tree
             (seen_by S.failed L.told self.old) (seen_by S.failed L.told self.new))) }
         ensures keeps { Keeps S.told S.keeps L.told self.old self.new }
         ensures fault { LogFailsAs (L.failed self.old.log) (L.failed self.new.log) result }
@@ -156,7 +159,11 @@ impl<S: Source, L: Log, E: Explains<S> + Drop> Check<S, L, E> {
         let marked = is_file(kind_in(listing, WellKnownName::VersionFile.text().as_bytes()));
         self.tell_if(&version, missing(marked))?;
         if is_dir(kind_in(listing, WellKnownName::PairtreeRoot.text().as_bytes())) {
-            self.visit(&root, Within::Site(At::Root), MOST_FOLDERS)
+            self.visit(
+                &root,
+                Within::Site(At::Root),
+                Limits::greatest().depth() + 1,
+            )
         } else {
             self.tell(&root, Trouble::Missing)
         }
@@ -181,10 +188,10 @@ impl<S: Source, L: Log, E: Explains<S> + Drop> Check<S, L, E> {
 
     // A folder at a path, which is this, and below which folders may stand so deep, and all that lies in it. What can't be read
     // is told, and passed. `Log` where a line couldn't be put, `Memory` where a growth was refused.
-    fn visit(&mut self, path: &NamePath, within: Within, left: usize) -> Result<(), Fault>
+    fn visit(&mut self, path: &NamePath, within: Within, left: u64) -> Result<(), Fault>
         requires { ForSome (tree_by S.told self.old) (λ tree. IsSome (dir_at tree path.now)) }
         ensures visited { OnOk result (ForSome (tree_by S.told self.old)
-            (λ tree. VisitsFolder self.old.reads
+            (λ tree. VisitsFolder self.old.wants
             (record { path = path.now; here = within; left = left }) (inside_at tree path.now)
             (seen_by S.failed L.told self.old) (seen_by S.failed L.told self.new))) }
         ensures keeps { Keeps S.told S.keeps L.told self.old self.new }
@@ -205,7 +212,7 @@ impl<S: Source, L: Log, E: Explains<S> + Drop> Check<S, L, E> {
             let bytes = self.meet(&entry, within, name, kind)?;
             if let Kind::Dir = kind {
                 let inside = within.below(has_object, name, bytes);
-                let before = self.numbers.bytes;
+                let before = self.begin(inside, within);
                 self.visit(&entry, inside, left - 1)?;
                 self.end(inside, within, before);
                 continue;
@@ -220,7 +227,7 @@ impl<S: Source, L: Log, E: Explains<S> + Drop> Check<S, L, E> {
         requires { ForSome (tree_by S.told self.old)
             (λ tree. here ≡ kind.File → IsSome (file_at tree path.now)) }
         ensures opened { OnOk result (ForSome (tree_by S.told self.old)
-            (λ tree. OpensIf self.old.reads path.now here (bytes_at tree path.now)
+            (λ tree. OpensIf self.old.wants.reads path.now here (bytes_at tree path.now)
             (seen_by S.failed L.told self.old) (seen_by S.failed L.told self.new))) }
         ensures keeps { Keeps S.told S.keeps L.told self.old self.new }
         ensures fault { LogFailsAs (L.failed self.old.log) (L.failed self.new.log) result }
@@ -231,11 +238,21 @@ impl<S: Source, L: Log, E: Explains<S> + Drop> Check<S, L, E> {
         }
     }
 
+    // Where an object begins with a folder, it has no files yet. Gives how many bytes were read so far.
+    fn begin(&mut self, within: Within, above: Within) -> u64
+        ensures numbers { self.new.numbers ≡ begun within above self.old.numbers }
+        ensures bytes { result ≡ self.old.numbers.bytes }
+        ensures rest { self.new ≡ record self.old { numbers = self.new.numbers } }
+    {
+        if within.starts_object(above) {
+            self.numbers = self.numbers.with_object_begun();
+        }
+        self.numbers.bytes
+    }
+
     // Where an object ends with a folder, its bytes are compared with the most of any.
     fn end(&mut self, within: Within, above: Within, before: u64)
-        ensures numbers { self.new.numbers ≡ cond (starts_object within above)
-            (with_object before self.old.numbers)
-            self.old.numbers }
+        ensures numbers { self.new.numbers ≡ ended within above before self.old.numbers }
         ensures rest { self.new ≡ record self.old { numbers = self.new.numbers } }
     {
         if within.starts_object(above) {
@@ -270,15 +287,19 @@ impl<S: Source, L: Log, E: Explains<S> + Drop> Check<S, L, E> {
         name: &Name,
         kind: Kind,
     ) -> Result<u64, Fault>
-        ensures met { OnOk result (Meets path.now within (name.now, kind)
+        ensures met { OnOk result (Meets self.old.wants path.now within (name.now, kind)
             (seen_by S.failed L.told self.old) (seen_by S.failed L.told self.new)) }
         ensures length { IfOk result (λ bytes. bytes ≡ length (joined path.now)) }
         ensures keeps { Keeps S.told S.keeps L.told self.old self.new }
         ensures fault { LogFailsAs (L.failed self.old.log) (L.failed self.new.log) result }
     {
         let bytes = path.join()?.len() as u64;
+        let held = self.numbers.held;
+        let room = self.wants.room;
         self.numbers = self.numbers.with_entry(kind, bytes);
+        self.tell_if(path, count_trouble(within, kind, held))?;
         self.tell_if(path, entry_trouble(within, name, kind, bytes))?;
+        self.tell_if(path, room_trouble(room, within, kind, bytes))?;
         Ok(bytes)
     }
 
@@ -310,15 +331,15 @@ impl<S: Source, L: Log, E: Explains<S> + Drop> Check<S, L, E> {
     fn open(&mut self, path: &NamePath) -> Result<(), Fault>
         requires { ForSome (tree_by S.told self.old) (λ tree. IsSome (file_at tree path.now)) }
         ensures opened { OnOk result (ForSome (tree_by S.told self.old)
-            (λ tree. Opens self.old.reads path.now (bytes_at tree path.now)
+            (λ tree. Opens self.old.wants.reads path.now (bytes_at tree path.now)
             (seen_by S.failed L.told self.old) (seen_by S.failed L.told self.new))) }
         ensures keeps { Keeps S.told S.keeps L.told self.old self.new }
         ensures fault { LogFailsAs (L.failed self.old.log) (L.failed self.new.log) result }
     {
-        match open_whole(&mut self.source, path, self.reads) {
+        match open_whole(&mut self.source, path, self.wants.reads) {
             Ok(bytes) => {
                 self.numbers = self.numbers.with_bytes(bytes);
-                Ok(())
+                self.tell_if(path, size_trouble(bytes))
             }
             Err(TreeFault::Device) => self.tell_failure(path),
             Err(TreeFault::Memory) => Err(Fault::Memory),

@@ -3,15 +3,13 @@
 
 ghost use Rattle.std.specs.Prelude.{◌≡◌, drop, IfOk};
 ghost use Rattle.std.specs.List.{concat};
-ghost use Rattle.pt_check.specs.Visits.{entry_trouble as entry_trouble_of, finding_of as finding_of_items, folder_trouble as folder_trouble_of, is_long as is_long_path, is_of_desktop as is_of_desktop_name, name_trouble as name_trouble_of, spelling_trouble as spelling_trouble_of, trouble_of_names};
+ghost use Rattle.pt_check.specs.Visits.{count_trouble as count_trouble_of, entry_trouble as entry_trouble_of, finding_of as finding_of_items, folder_trouble as folder_trouble_of, is_long as is_long_path, is_of_desktop as is_of_desktop_name, name_trouble as name_trouble_of, room_trouble as room_trouble_of, size_trouble as size_trouble_of, spelling_trouble as spelling_trouble_of, trouble_of_names};
 
 use crate::{Trouble, Within};
 use pt_name::{UncleanFault, clean, concatenate, unclean};
 use pt_tree::{Kind, Listing, MemoryFault, Name, NamePath};
-use pt_walk::{Cause, Finding, Form, judge};
+use pt_walk::{Cause, Finding, Form, Limits, judge};
 use std::alloc::Global;
-
-const LONGEST_PATH: u64 = 4_000;
 
 /// What a site is, by what it lists; another folder only leads on.
 pub(crate) fn finding_of(within: Within, listing: &Listing) -> Finding
@@ -88,6 +86,46 @@ pub(crate) fn entry_trouble(within: Within, name: &Name, kind: Kind, length: u64
     }
 }
 
+/// What is told of an entry of this kind in a folder that is this, by how many files its object has before it.
+pub(crate) fn count_trouble(within: Within, kind: Kind, held: u64) -> Option<Trouble>
+    ensures { result ≡ count_trouble_of within kind held }
+{
+    match (within, kind) {
+        (Within::Object(_), Kind::File) if held == Limits::greatest().files() => {
+            Some(Trouble::Many)
+        }
+        _ => None,
+    }
+}
+
+/// What is told of an entry of this kind in a folder that is this, whose path from the store's folder on has so many bytes, where a
+/// destination has room for paths of so many bytes in an object.
+pub(crate) fn room_trouble(
+    room: Option<u64>,
+    within: Within,
+    kind: Kind,
+    length: u64,
+) -> Option<Trouble>
+    ensures { result ≡ room_trouble_of room within kind length }
+{
+    match (room, within, kind) {
+        (Some(most), Within::Object(before), Kind::File) if length > before.saturating_add(most) =>
+            { Some(Trouble::Place) }
+        _ => None,
+    }
+}
+
+/// What is told of a file of which so many bytes were read.
+pub(crate) fn size_trouble(bytes: u64) -> Option<Trouble>
+    ensures { result ≡ size_trouble_of bytes }
+{
+    if bytes > Limits::greatest().file_bytes() {
+        Some(Trouble::Large)
+    } else {
+        None
+    }
+}
+
 // What is told of an entry by its name alone.
 fn name_trouble(name: &Name) -> Option<Trouble>
     ensures { result ≡ name_trouble_of name.now }
@@ -104,7 +142,9 @@ fn is_long(within: Within, length: u64) -> bool
     ensures { result ≡ is_long_path within length }
 {
     match within {
-        Within::Object(before) => length > before.saturating_add(LONGEST_PATH),
+        Within::Object(before) => {
+            length > before.saturating_add(Limits::greatest().path_bytes())
+        }
         _ => false,
     }
 }

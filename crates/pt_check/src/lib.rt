@@ -8,14 +8,16 @@
 //!   pairtree_root and all that stands in it is visited (`Visits`): each entry of each folder that could be listed once, in the order of the
 //!   names, a folder before its entries. Each file is opened, and read whole where that is wanted. Where a folder can't be listed or a file
 //!   opened or read, its path is told with a reason, the source's count of failures rose, and the walk goes on with the next entry (`Enters`,
-//!   `Opens`). A folder more than 600 below pairtree_root is told, and not listed.
-//! - At each folder and entry exactly what `folder_trouble` and `entry_trouble` say of it is told, by a line of its own (`Tells`): the cause for
-//!   which a run without `--gather` passes a site over, names that aren't those of the identifier's own pairpath, names that desktops leave,
-//!   links and special files, and too long paths in an object.
+//!   `Opens`). A folder deeper below pairtree_root than the limit of a run, 600, is told, and not listed.
+//! - At each folder and entry exactly what `folder_trouble`, `count_trouble`, `entry_trouble` and `room_trouble` say of it is told, each by a
+//!   line of its own (`Tells`): the cause for which a run without `--gather` passes a site over, names that aren't those of the identifier's
+//!   own pairpath, the first file over the limit of an object, names that desktops leave, links and special files, and paths in an object that
+//!   are too long, for a run or for the room that a destination has. Of a file that was read it is what `size_trouble` says of its length.
 //! - The numbers are those of what was visited (`with_site`, `with_entry`, `with_bytes`, `with_object`); `told` is that of the lines. The last
 //!   line has them, and they are the answer.
 //! - Where it told nothing there is nothing to tell of the store, and no call of the source failed (`QuietCheckMeansCleanStore`). No run over
-//!   such a store passes an object over for `other` (`NoRunSkipsForOther`).
+//!   such a store passes an object over for `other` (`NoRunSkipsForOther`). None with the greatest limits of pt_walk, which the check holds
+//!   things against, passes anything over for `limit` where the files were read whole (`NoRunSkipsForLimit`).
 //! - It answers `Log` only where the log's count of failures rose, `Memory` only where it stayed, and no other fault (`LogFailsAs`).
 //! - Whatever it answers, the source tells the same tree as before, and what stood in the log stands (`Keeps`).
 //!
@@ -23,11 +25,12 @@
 //! names follow from the text that they join to. And between two entries a check holds the listings on the way to where it stands, and numbers:
 //! nothing grows with the objects.
 //!
-//! Not told are the number and the length of an object's files, the cause `reserved`, and paths that are too long at their place. Of a folder in
-//! which a name isn't UTF-8 the reason tells that, and not which name; its entries aren't visited.
+//! Not told is the cause `reserved`, and without reading whole the length of a file. Of a folder in which a name isn't UTF-8 the reason tells that,
+//! and not which name; its entries aren't visited.
 #![tactic(auto)]
 
 mod checking;
+mod devices;
 mod judging;
 pub mod laws;
 mod lines;
@@ -35,9 +38,12 @@ mod numbers;
 mod prefix;
 mod reading;
 mod trouble;
+mod wants;
 mod within;
 
 pub use checking::{Check, Explains};
+pub use devices::Devices;
 pub use numbers::Numbers;
 pub use trouble::Trouble;
+pub use wants::Wants;
 pub use within::Within;

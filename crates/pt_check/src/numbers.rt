@@ -1,5 +1,5 @@
 ghost use Rattle.std.specs.Prelude.{◌≡◌};
-ghost use Rattle.pt_check.specs.Counting.{no_numbers, with_bytes, with_entry, with_line, with_object, with_site};
+ghost use Rattle.pt_check.specs.Counting.{no_numbers, with_bytes, with_entry, with_line, with_object, with_object_begun, with_site};
 
 use pt_tree::Kind;
 
@@ -22,6 +22,8 @@ pub struct Numbers {
     pub largest: u64,
     /// The length of the longest path, from the store's folder on.
     pub longest: u64,
+    /// The files since an object began last: those of the object at hand, so far.
+    pub held: u64,
 }
 
 impl Numbers {
@@ -38,6 +40,7 @@ impl Numbers {
             bytes: 0,
             largest: 0,
             longest: 0,
+            held: 0,
         }
     }
 
@@ -71,6 +74,7 @@ impl Numbers {
             Kind::File => Numbers {
                 files: self.files.saturating_add(1),
                 longest,
+                held: self.held.saturating_add(1),
                 ..self
             },
             Kind::Dir => Numbers {
@@ -90,6 +94,13 @@ impl Numbers {
             bytes: self.bytes.saturating_add(bytes),
             ..self
         }
+    }
+
+    /// With an object begun: it has no files yet.
+    pub fn with_object_begun(self) -> Numbers
+        ensures { result ≡ with_object_begun self }
+    {
+        Numbers { held: 0, ..self }
     }
 
     /// With an object at its end, before which so many bytes were read.

@@ -22,11 +22,17 @@ pub enum Trouble {
     Prefix,
     /// The prefix has a control character, a byte order mark, or a blank at an end.
     Doubtful,
+    /// An object has more files than a run carries; it is the first of these.
+    Many,
+    /// A file has more bytes than a run carries.
+    Large,
+    /// The path of a file would be too long at its place in the destination.
+    Place,
 }
 
 impl Trouble {
     /// The trouble's number: that of its cause, 1 to 9; 10 `Desktop`, 11 `Long`, 12 `Deep`, 13 `Missing`, 14 `Spelling`, 15 `Prefix`,
-    /// 16 `Doubtful`.
+    /// 16 `Doubtful`, 17 `Many`, 18 `Large`, 19 `Place`.
     pub fn number(&self) -> u8
         ensures { result ≡ trouble_number self.now }
     {
@@ -39,11 +45,14 @@ impl Trouble {
             Trouble::Spelling => 14,
             Trouble::Prefix => 15,
             Trouble::Doubtful => 16,
+            Trouble::Many => 17,
+            Trouble::Large => 18,
+            Trouble::Place => 19,
         }
     }
 
     /// The trouble's word in a line: that of its cause; `desktop`, `long`, `deep`, `missing`, `spelling`,
-    /// `prefix`, `doubtful`.
+    /// `prefix`, `doubtful`, `many`, `large`, `place`.
     pub fn word(&self) -> &'static str
         ensures { result.now ≡ trouble_word self.now }
     {
@@ -56,6 +65,9 @@ impl Trouble {
             Trouble::Spelling => "spelling",
             Trouble::Prefix => "prefix",
             Trouble::Doubtful => "doubtful",
+            Trouble::Many => "many",
+            Trouble::Large => "large",
+            Trouble::Place => "place",
         }
     }
 }

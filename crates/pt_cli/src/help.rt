@@ -58,6 +58,8 @@ Each line says under "as" what is at "path" in the source:
   spelling    its names are others than its identifier's, so that it may be a twin
   deep        it lies more than 600 folders deep, and isn't listed
   long        its path in its object is longer than 4,000 bytes
+  many        it is the first file over the 1,000,000 of an object
+  large       it has more than 8 TiB (with --read)
   desktop     it is one of what desktops leave: .DS_Store, Thumbs.db, desktop.ini, ._*
   root, empty, split, past, name, utf8, other
               a run doesn't carry it, for the cause that migrate gives

@@ -1,26 +1,27 @@
 -- What a check over a store's folder says of what its system keeps.
-use Rattle.std.proofs.Common.{◌≡◌, ◌∙◌, ℕ, Bool, List, subst}
+use Rattle.std.proofs.Common.{◌≡◌, ◌∙◌, ℕ, List, subst}
 use Rattle.std.specs.Prelude.{IfErr, IfOk, Option, Result, Ok, Err}
 use Rattle.std.specs.Option.{ForSome}
 use Rattle.pt_check.specs.Faults.{LogFailsAs}
 use Rattle.pt_check.specs.Visits.{Checks, Seen}
 use Rattle.pt_check.specs.declared.numbers.Numbers.{Numbers}
+use Rattle.pt_check.specs.declared.wants.Wants.{Wants}
 use Rattle.pt_plan.specs.declared.fault.Fault.{Fault}
 use Rattle.pt_plan.specs.declared.fault.Fault.TheVariants as fault
 use Rattle.pt_tree.specs.Forest.{Forest}
-use Rattle.pt_host.specs.Checking.{CheckCall, ChecksTree, IsFaultOfCheck, unbegun}
+use Rattle.pt_host.specs.Checking.{CheckCall, ChecksTree, IsFaultOfCheck, unbegun, wants_of}
 
 -- a check is one of a call, whatever its tree and how far it is are called
-pub checks_as : (ran : Result Numbers Fault) (call : CheckCall) (b : Seen) {reads : Bool} {tree store : Option Forest} {a : Seen} {was held : Option (List ℕ)}
-    → reads ≡ call.options.reads → tree ≡ store → a ≡ unbegun was → b.held ≡ held
-    → IfOk ran (λ numbers. ForSome tree (λ t. Checks reads t numbers a b))
+pub checks_as : (ran : Result Numbers Fault) (call : CheckCall) (b : Seen) {wants : Wants} {tree store : Option Forest} {a : Seen} {was held : Option (List ℕ)}
+    → wants ≡ wants_of call.options → tree ≡ store → a ≡ unbegun was → b.held ≡ held
+    → IfOk ran (λ numbers. ForSome tree (λ t. Checks wants t numbers a b))
     → IfOk ran (λ numbers. ForSome store (ChecksTree call was held numbers))
-checks_as (Err why) call b reads_are same begun held_is checks = tt
-checks_as (Ok numbers) call b {reads} {a = a} reads_are same begun held_is checks =
+checks_as (Err why) call b wants_are same begun held_is checks = tt
+checks_as (Ok numbers) call b {wants} {a = a} wants_are same begun held_is checks =
     λ t is. (
       b,
       held_is,
-      subst (λ (s : Seen). Checks call.options.reads t numbers s b) begun (subst (λ (r : Bool). Checks r t numbers a b) reads_are (checks t (same ∙ is))),
+      subst (λ (s : Seen). Checks (wants_of call.options) t numbers s b) begun (subst (λ (w : Wants). Checks w t numbers a b) wants_are (checks t (same ∙ is))),
     )
 
 -- whichever fault it answers, it is one of a check

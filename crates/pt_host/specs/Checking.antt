@@ -1,9 +1,10 @@
 -- What a check of a store on a machine comes to.
-use Rattle.std.specs.Prelude.{◌≡◌, ◌==◌, ⊤, ℕ, if◌then◌else◌, IfErr, IfOk, List, Option, Result, Ok, Err}
+use Rattle.std.specs.Prelude.{◌≡◌, ◌==◌, ⊤, ℕ, if◌then◌else◌, IfErr, IfOk, List, Option, None, Result, Ok, Err}
 use Rattle.std.specs.Option.{ForSome}
 use Rattle.pt_check.specs.Counting.{no_numbers}
 use Rattle.pt_check.specs.Visits.{Checks, Grows, Seen}
 use Rattle.pt_check.specs.declared.numbers.Numbers.{Numbers}
+use Rattle.pt_check.specs.declared.wants.Wants.{Wants}
 use Rattle.pt_plan.specs.declared.fault.Fault.{Fault}
 use Rattle.pt_plan.specs.declared.fault.Fault.TheVariants as fault
 use Rattle.pt_tree.specs.Forest.{Forest}
@@ -42,10 +43,14 @@ store_checked words call ground = store_tree call.options.ignored (words.store g
 abbrev pub unbegun : Option (List ℕ) → Seen
 unbegun held = record { failed = 0; held = held; numbers = no_numbers }
 
+-- what these options want of a check
+abbrev pub wants_of : CheckOptions → Wants
+wants_of options = record { reads = options.reads; room = None }
+
 -- a check went over this tree from an output to what that then holds, with what `run` of pt_check promises of it
 abbrev pub ChecksTree : CheckCall → Option (List ℕ) → Option (List ℕ) → Numbers → Forest → Type 0
 ChecksTree call was held numbers tree =
-    (end : Seen) × (end.held ≡ held) × Checks call.options.reads tree numbers (unbegun was) end
+    (end : Seen) × (end.held ≡ held) × Checks (wants_of call.options) tree numbers (unbegun was) end
 
 -- a check was made over this folder of the system that keeps the store: where it ended well the output got its lines, of the
 -- tree that the system keeps, and else its fault is the output's or want of memory; whatever it came to, that tree stands, what

@@ -3,11 +3,12 @@ ghost use Rattle.std.specs.Prelude.{◌≡◌};
 ghost use Rattle.pt_host.specs.Checking.{ChecksOver, ChecksStore, check_call, check_status};
 ghost use Rattle.pt_host.specs.Machine.{host_io_words};
 
+use crate::devices::Lent;
 use crate::log::{DurableLog, SyncsOutput};
 use crate::saying::tell_fault;
 use crate::status::{DONE, FAILED, INCOMPLETE};
 use crate::{CheckOptions, Host, HostIo, Machine};
-use pt_check::{Check, Explains, Numbers};
+use pt_check::{Check, Devices, Explains, Numbers, Wants};
 use pt_folder::{HostSource, System};
 use pt_move::Fault;
 use pt_tree::{Ignoring, MemoryFault};
@@ -27,7 +28,8 @@ where
 {
     let ground = host.lend();
     let file: Option<H::File> = None;
-    let Checked { status, ground } = check(rt, ground, file, options, store);
+    let lent = Lent { ground, file };
+    let Checked { status, ground } = check(rt, lent, options, store);
     host.take_back(ground);
     status
 }
@@ -42,17 +44,17 @@ struct Checked<S, D, W> {
 // Checks a store over what is lent, and tells standard error of a fault.
 fn check<R, S: System, D: System, W: Write, F: SyncsOutput<W> + Drop>(
     rt: &R,
-    ground: HostIo<S, D, W>,
-    file: Option<F>,
+    lent: Lent<S, D, W, F>,
     options: CheckOptions,
     store: &str,
 ) -> Checked<S, D, W>
 where
     R: Eprint + AllocGlobal,
     ensures { ChecksOver (host_io_words S.forest D.forest W.contents)
-        (check_call options store.now) ground result.ground result.status }
+        (check_call options store.now) lent.ground result.ground result.status }
 {
     let alloc = rt.alloc();
+    let Lent { ground, file } = lent;
     let HostIo {
         store: system,
         folder,
@@ -60,7 +62,16 @@ where
     } = ground;
     let source = Ignoring::new(HostSource::new(system, alloc, store), options.ignored);
     let log = DurableLog::new(output, file);
-    let mut check = Check::new(alloc, source, log, LastFailure, options.reads);
+    let devices = Devices {
+        source,
+        log,
+        explains: LastFailure,
+    };
+    let wants = Wants {
+        reads: options.reads,
+        room: None,
+    };
+    let mut check = Check::new(alloc, devices, wants);
     let ran = check.run();
     let (source, log) = check.into_devices();
     if let Err(fault) = &ran {

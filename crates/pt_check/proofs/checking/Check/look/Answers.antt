@@ -1,4 +1,4 @@
-use Rattle.std.proofs.Common.{ap, sym, subst, ℕ, List, true, ◌≡◌, ◌∙◌}
+use Rattle.std.proofs.Common.{ap, sym, subst, ℕ, List, true, ◌≡◌, ◌+◌, ◌∙◌}
 use Rattle.std.proofs.lemmas.Result.{on_ok_weaker}
 use Rattle.std.specs.Option.{ForSome}
 use Rattle.std.specs.Prelude.{IsSome, Option}
@@ -30,14 +30,15 @@ returns-then-is_dir-clause-looked g c =
     ap (λ (n : List ℕ). kind_in c.args.listing.now n) (c.as_bytes.ensures.value ∙ c.text.ensures) in
     let marked : c.is_file-marked.result ≡ is_file_kind (kind_in c.args.listing.now version_file) = c.is_file-marked.ensures ∙ ap is_file_kind (c.kind_in.ensures ∙ marks) in
     let lacks : c.missing.result ≡ missing (is_file_kind (kind_in c.args.listing.now version_file)) = c.missing.ensures ∙ ap missing marked in
+    let left : c.depth.result + 1 ≡ 601 = ap (λ (n : ℕ). n + 1) (c.depth.ensures.value ∙ ap (λ l. l.depth) c.greatest.ensures) in
     let a = seen_by g.S.Source.failed g.L.Log.told c.args.self.now in
     let m = seen_by g.S.Source.failed g.L.Log.told c.tell_if.new.self in
     let b = seen_by g.S.Source.failed g.L.Log.told c.visit.new.self in
     let tells : TellsIf c.in_ok-version.version (missing (is_file_kind (kind_in c.args.listing.now version_file))) a m =
     subst (λ (o : Option Trouble). TellsIf c.in_ok-version.version o a m) lacks c.in_ok-tell_if.ensures.told in
     on_ok_weaker c.visit.result
-    (looked (tree_by g.S.Source.told c.args.self.now) (tree_by g.S.Source.told c.tell_if.new.self) c.args.self.now.reads c.tell_if.new.self.reads c.args.listing.now c.in_ok-version.version
-    c.in_ok-root.root a m b c.requires c.in_ok-version.ensures c.in_ok-root.ensures tells is c.tell_if.ensures.keeps.tree c.tell_if.ensures.keeps.reads) c.visit.ensures.visited
+    (looked (tree_by g.S.Source.told c.args.self.now) (tree_by g.S.Source.told c.tell_if.new.self) c.args.self.now.wants c.tell_if.new.self.wants c.args.listing.now c.in_ok-version.version
+    c.in_ok-root.root (c.depth.result + 1) a m b c.requires c.in_ok-version.ensures c.in_ok-root.ensures left tells is c.tell_if.ensures.keeps.tree c.tell_if.ensures.keeps.wants) c.visit.ensures.visited
 
 pub returns-then-is_dir-clause-keeps : goal.returns-then-is_dir-clause-keeps
 returns-then-is_dir-clause-keeps g c = keeps_on g.S.Source.told g.S.Source.keeps g.L.Log.told g.met.S.Source.keeps_on _ _ _ c.tell_if.ensures.keeps c.visit.ensures.keeps

@@ -41,14 +41,14 @@ returns-in-Some-clause-checked g c =
     subst (λ (p : Path). ForSome (tree_by g.S.Source.told c.args.self.now) (λ t. listing_at t p ≡ Some c.in-Some.listing)) c.new-top.ensures there in
     let listed = in_same (λ (t : Forest). listing_at t [] ≡ Some c.in-Some.listing) (tree_by g.S.Source.told c.args.self.now) (tree_by g.S.Source.told c.list.new.self) c.list.ensures.keeps.tree first in
     of_answer c.tell_numbers.result _ _ _ c.tell_numbers.ensures.numbers c.tell_numbers.ensures.told
-    (λ numbers is held. checked (tree_by g.S.Source.told c.args.self.now) (tree_by g.S.Source.told c.list.new.self) c.args.self.now.reads c.list.new.self.reads numbers
+    (λ numbers is held. checked (tree_by g.S.Source.told c.args.self.now) (tree_by g.S.Source.told c.list.new.self) c.args.self.now.wants c.list.new.self.wants numbers
     (seen_by g.S.Source.failed g.L.Log.told c.args.self.now)
     (seen_by g.S.Source.failed g.L.Log.told c.look.new.self) (seen_by g.S.Source.failed g.L.Log.told c.tell_numbers.new.self)
-    c.list.ensures.keeps.tree c.list.ensures.keeps.reads
-    (looked_all (tree_by g.S.Source.told c.list.new.self) (tree_by g.S.Source.told c.look_at_prefix.new.self) c.list.new.self.reads c.look_at_prefix.new.self.reads c.in-Some.listing
+    c.list.ensures.keeps.tree c.list.ensures.keeps.wants
+    (looked_all (tree_by g.S.Source.told c.list.new.self) (tree_by g.S.Source.told c.look_at_prefix.new.self) c.list.new.self.wants c.look_at_prefix.new.self.wants c.in-Some.listing
     (seen_by g.S.Source.failed g.L.Log.told c.args.self.now) (seen_by g.S.Source.failed g.L.Log.told c.list.new.self) (seen_by g.S.Source.failed g.L.Log.told c.look_at_prefix.new.self)
     (seen_by g.S.Source.failed g.L.Log.told c.look.new.self) listed (c.in_ok-listing.ensures.same (ap is_some c.in-Some.is))
-    c.look_at_prefix.ensures.keeps.tree c.look_at_prefix.ensures.keeps.reads c.in_ok-look_at_prefix-in-Some.ensures.looked c.in_ok-look-in-Some.ensures.looked) is
+    c.look_at_prefix.ensures.keeps.tree c.look_at_prefix.ensures.keeps.wants c.in_ok-look_at_prefix-in-Some.ensures.looked c.in_ok-look-in-Some.ensures.looked) is
     (ap g.S.Source.failed c.tell_numbers.ensures.source) c.tell_numbers.ensures.counted held)
 
 pub returns-in-Some-clause-keeps : goal.returns-in-Some-clause-keeps
@@ -63,7 +63,7 @@ returns-clause-checked g c =
     let there = rw c.in-None.is at c.in_ok-listing.ensures.listed in
     let fails : TellsFailure [] a last = subst (λ (p : Path). TellsFailure p a last) c.new-top.ensures there in
     of_answer c.tell_numbers-in-None.result _ _ _ c.tell_numbers-in-None.ensures.numbers c.tell_numbers-in-None.ensures.told
-    (λ numbers is held. checked_nothing (tree_by g.S.Source.told c.args.self.now) c.args.self.now.reads numbers a last
+    (λ numbers is held. checked_nothing (tree_by g.S.Source.told c.args.self.now) c.args.self.now.wants numbers a last
     (seen_by g.S.Source.failed g.L.Log.told c.tell_numbers-in-None.new.self) fails is
     (ap g.S.Source.failed c.tell_numbers-in-None.ensures.source) c.tell_numbers-in-None.ensures.counted held)
 

@@ -1,0 +1,404 @@
+-- No run with the limits of a check passes anything over for `limit` in a clean store.
+use Rattle.std.proofs.Common.{◌≡◌, ◌≤◌, ◌∙◌, ◌+◌, ◌-◌, ◌==◌, ◌||◌, ◌^◌, ℕ, zero, suc, Bool, true, false, cond, length, List, [], ◌∷◌, ◌++◌, Option, None, Some, Result, Ok, Err, refl, sym, ap, subst, arith, nat_le, nat_lt, append_assoc, append-nil}
+use Rattle.std.specs.Prelude.{◌≢◌, ◌&&◌, ⊤, not, option_map, map, slice_get, unwrap_or}
+use Rattle.std.proofs.lemmas.Bool.{eqb-false, le-ltb, lt-leb, ltb-false, ltb-true, or_from}
+use Rattle.std.proofs.lemmas.List.{length-append}
+use Rattle.pt_check.specs.Clean.{AreCleanBytes, Each, IsClean, IsCleanEntry, IsCleanFolder, IsNotSkippedForLimit, NoRunSkipsForLimit, file_count}
+use Rattle.pt_check.specs.Counting.{plus}
+use Rattle.pt_check.specs.Visits.{Folder, finding_of, folder_trouble, has_object, name_trouble}
+use Rattle.pt_check.specs.Within.{below_site, beside_shorties, starts_object}
+use Rattle.pt_check.specs.declared.trouble.Trouble.{Trouble}
+use Rattle.pt_check.specs.declared.trouble.Trouble.TheVariants as trouble
+use Rattle.pt_check.specs.declared.wants.Wants.{Wants}
+use Rattle.pt_check.specs.declared.within.Within.{Within}
+use Rattle.pt_check.specs.declared.within.Within.TheVariants as within
+use Rattle.pt_check.proofs.Others.{each_both}
+use Rattle.pt_name.specs.Identifying.{identifier_at}
+use Rattle.pt_name.specs.declared.identifying.Refusal.{Refusal}
+use Rattle.pt_name.specs.declared.identifying.Refusal.TheVariants as refusal
+use Rattle.pt_plan.specs.Items.{Interior, Named, PairtreeObject, Skip, Verdict, cause_of, encapsulated, is_ours, item_of, verdict_by_finding, verdict_by_identifier, verdict_by_visit, verdict_of, verdict_on_candidate}
+use Rattle.pt_plan.specs.Job.{Job, form_of}
+use Rattle.pt_plan.specs.Store.{pairtree_root, prefix_of, sites_in_root}
+use Rattle.pt_tree.specs.Forest.{Forest, none, file, other, dir, File, Dir, Other, dir_at, listing_of}
+use Rattle.pt_tree.specs.Listing.{Item}
+use Rattle.pt_tree.specs.Path.{Path, joined}
+use Rattle.pt_tree.specs.declared.kind.Kind.{Kind}
+use Rattle.pt_tree.specs.declared.kind.Kind.TheVariants as kind
+use Rattle.pt_walk.proofs.BadEntries.{counts}
+use Rattle.pt_walk.proofs.Findings.{candidate, last_name_says}
+use Rattle.pt_walk.specs.Left.{entries_from}
+use Rattle.pt_walk.specs.Limits.{Bounds, greatest_limits}
+use Rattle.pt_walk.specs.Object.{Entry, bad_or, entries_in, entry_cause, files, first_bad}
+use Rattle.pt_walk.specs.Site.{found, found_at_top, found_below, is_short, non_shorties}
+use Rattle.pt_walk.specs.Sites.{Site, Visit, Listed, Past, Deep, at_of, is_last, sites_in, visit_of, walked}
+use Rattle.pt_walk.specs.declared.cause.Cause.{Cause}
+use Rattle.pt_walk.specs.declared.cause.Cause.TheVariants as cause
+use Rattle.pt_walk.specs.declared.site.At.{At}
+use Rattle.pt_walk.specs.declared.site.At.TheVariants as at
+use Rattle.pt_walk.specs.declared.site.Finding.{Finding}
+use Rattle.pt_walk.specs.declared.site.Finding.TheVariants as finding
+use Rattle.pt_walk.specs.declared.site.Form.{Form}
+use Rattle.pt_walk.specs.declared.site.Form.TheVariants as form
+
+-- ---- the length of a path
+
+behind : (x : List ℕ) (base : Path) (y : List ℕ) (rel : Path) → length (joined ((x ∷ base) ++ (y ∷ rel))) ≡ length (joined (x ∷ base)) + suc (length (joined (y ∷ rel)))
+behind x [] y rel = length-append x (47 ∷ joined (y ∷ rel))
+behind x (z ∷ base) y rel =
+    let inner = behind z base y rel in
+    let whole : length (joined ((x ∷ z ∷ base) ++ (y ∷ rel))) ≡ length x + suc (length (joined ((z ∷ base) ++ (y ∷ rel)))) = length-append x (47 ∷ joined ((z ∷ base) ++ (y ∷ rel))) in
+    let front : length (joined (x ∷ z ∷ base)) ≡ length x + suc (length (joined (z ∷ base))) = length-append x (47 ∷ joined (z ∷ base)) in
+    omega (arith, inner, whole, front)
+
+behind_name : (x : List ℕ) (base rel : Path) (name : List ℕ)
+    → length (joined ((x ∷ base) ++ (rel ++ name ∷ []))) ≡ length (joined (x ∷ base)) + suc (length (joined (rel ++ name ∷ [])))
+behind_name x base [] name = behind x base name []
+behind_name x base (y ∷ rel) name = behind x base y (rel ++ name ∷ [])
+
+one_longer : (path : Path) (name : List ℕ) → length (path ++ name ∷ []) ≡ length path + 1
+one_longer path name = length-append path (name ∷ [])
+
+not_told : (t : Bool) (it : Trouble) (rest : Option Trouble) → cond t (Some it) rest ≡ None → t ≡ false
+not_told true it rest e = absurd (cc)
+not_told false it rest e = refl
+
+-- ---- the entries of an object
+
+abbrev FineEntry : ℕ → Entry → Type 0
+FineEntry depth (path, File bytes) = (nat_lt 4000 (length (joined path)) ≡ false) × (nat_lt (2 ^ 43) (length bytes) ≡ false)
+FineEntry depth (path, Dir inside) = depth + length path ≤ 600
+FineEntry depth (path, Other) = ⊤
+
+-- a folder in an object whose own path is this, below a folder of this name
+abbrev inner : List ℕ → Path → Path → ℕ → Folder
+inner top own path left = record { path = top ∷ path; here = within.Object (plus (length (joined (top ∷ own))) 1); left = left }
+
+short_enough : (before bytes rest : ℕ) → nat_lt (plus (plus before 1) 4000) bytes ≡ false → bytes ≡ before + suc rest → nat_lt 4000 rest ≡ false
+short_enough before bytes rest is whole =
+    let most = ltb-false (plus (plus before 1) 4000) bytes is in
+    le-ltb 4000 rest (omega (arith, most, whole))
+
+-- a check that reads files whole
+abbrev read_whole : Option ℕ → Wants
+read_whole room = record { reads = true; room = room }
+
+module _ (room : Option ℕ) where
+  fine_file : (top : List ℕ) (own rel : Path) (left : ℕ) (name bytes : List ℕ) → IsCleanEntry (read_whole room) (inner top own (own ++ rel) left) name kind.File → AreCleanBytes true bytes
+      → FineEntry (length own) (rel ++ name ∷ [], File bytes)
+  fine_file top own rel left name bytes entry read =
+      let all = length (joined (top ∷ ((own ++ rel) ++ name ∷ []))) in
+      let short = not_told (nat_lt (plus (plus (length (joined (top ∷ own))) 1) 4000) all) trouble.Long (name_trouble name) entry.0 in
+      let whole : all ≡ length (joined (top ∷ own)) + suc (length (joined (rel ++ name ∷ []))) =
+      ap (λ (p : Path). length (joined (top ∷ p))) (append_assoc own rel (name ∷ [])) ∙ behind_name top own rel name in (
+        short_enough (length (joined (top ∷ own))) all (length (joined (rel ++ name ∷ []))) short whole,
+        not_told (nat_lt (2 ^ 43) (length bytes)) trouble.Large None read,
+      )
+
+  fine_entries : (top : List ℕ) (own rel : Path) (left : ℕ) (holds : Bool) (tree : Forest) → left + length (own ++ rel) ≡ 601
+      → IsClean (read_whole room) (inner top own (own ++ rel) left) holds tree → Each (FineEntry (length own)) (entries_in rel tree)
+  fine_entries top own rel left holds none deep clean = tt
+  fine_entries top own rel left holds (file name bytes after) deep clean =
+      (fine_file top own rel left name bytes clean.0 clean.1, fine_entries top own rel left holds after deep clean.2)
+  fine_entries top own rel left holds (other name after) deep clean = (tt, fine_entries top own rel left holds after deep clean.1)
+  fine_entries top own rel left holds (dir name inside after) deep clean =
+      let some = eqb-false (left - 1) 0 clean.1.0 in
+      let long = length-append own rel in
+      let longer = one_longer rel name in
+      let whole = length-append own (rel ++ name ∷ []) in
+      let fits : length own + length (rel ++ name ∷ []) ≤ 600 = omega (arith, some, deep, long, longer) in
+      let deeper : (left - 1) + length (own ++ (rel ++ name ∷ [])) ≡ 601 = omega (arith, some, deep, long, longer, whole) in
+      let there : IsClean (read_whole room) (inner top own (own ++ (rel ++ name ∷ [])) (left - 1)) false inside =
+      subst (λ (p : Path). IsClean (read_whole room) (inner top own p (left - 1)) false inside) (append_assoc own rel (name ∷ [])) clean.3 in (
+        fits,
+        each_both (FineEntry (length own)) (entries_in (rel ++ name ∷ []) inside) (entries_in rel after) (fine_entries top own (rel ++ name ∷ []) (left - 1) false inside deeper there)
+            (fine_entries top own rel left holds after deep clean.4),
+      )
+
+  files_count : (path : Path) (tree : Forest) → length (files (entries_in path tree)) ≡ file_count tree
+  files_count path none = refl
+  files_count path (file name bytes after) = ap suc (files_count path after)
+  files_count path (other name after) = files_count path after
+  files_count path (dir name inside after) =
+      let here = files_count (path ++ name ∷ []) inside in
+      let there = files_count path after in
+      let both = ap length (counts (entries_in (path ++ name ∷ []) inside) (entries_in path after)).0 in
+      let sum = length-append (files (entries_in (path ++ name ∷ []) inside)) (files (entries_in path after)) in
+      omega (arith, here, there, both, sum)
+
+  -- ---- the cause against an object
+
+  abbrev IsNoLimit : Option Cause → Type 0
+  IsNoLimit why = why ≢ Some cause.Limit
+
+  none_is_no_limit : IsNoLimit None
+  none_is_no_limit e = absurd (cc)
+
+  where_false : (t : Bool) → t ≡ false → IsNoLimit (cond t (Some cause.Limit) None)
+  where_false true is = absurd (cc)
+  where_false false is = none_is_no_limit
+
+  bad_no_limit : (why : Option Cause) (entry : Entry) (later : Option (Entry × Cause)) → IsNoLimit why → IsNoLimit (option_map (λ bad. bad.1) later)
+      → IsNoLimit (option_map (λ bad. bad.1) (bad_or why entry later))
+  bad_no_limit None entry later first rest = rest
+  bad_no_limit (Some why) entry later first rest = first
+
+  first_fine : (depth held : ℕ) (all : List Entry) → Each (FineEntry depth) all → held + length (files all) ≤ 1000000
+      → IsNoLimit (option_map (λ bad. bad.1) (first_bad greatest_limits depth held all))
+  first_fine depth held [] fine few = none_is_no_limit
+  first_fine depth held ((path, File bytes) ∷ others) fine few =
+      let full : nat_le 1000000 held ≡ false = lt-leb 1000000 held (omega (arith, few)) in
+      let now : (held + 1) + length (files others) ≤ 1000000 = omega (arith, few) in
+      let parts = or_from (nat_le 1000000 held || nat_lt 4000 (length (joined path))) (nat_lt (2 ^ 43) (length bytes))
+      (or_from (nat_le 1000000 held) (nat_lt 4000 (length (joined path))) full fine.0.0) fine.0.1 in
+      bad_no_limit (entry_cause greatest_limits depth held (path, File bytes)) (path, File bytes) (first_bad greatest_limits depth (held + 1) others)
+      (where_false ((nat_le 1000000 held || nat_lt 4000 (length (joined path))) || nat_lt (2 ^ 43) (length bytes)) parts)
+      (first_fine depth (held + 1) others fine.1 now)
+  first_fine depth held ((path, Dir inside) ∷ others) fine few =
+      bad_no_limit (entry_cause greatest_limits depth held (path, Dir inside)) (path, Dir inside) (first_bad greatest_limits depth held others)
+      (where_false (nat_lt 600 (depth + length path)) (le-ltb 600 (depth + length path) fine.0))
+      (first_fine depth held others fine.1 few)
+  first_fine depth held ((path, Other) ∷ others) fine few =
+      bad_no_limit (Some cause.Other) (path, Other) (first_bad greatest_limits depth held others) (λ e. absurd (cc)) (first_fine depth held others fine.1 few)
+
+  fine_object : (top : List ℕ) (own : Path) (left : ℕ) (holds : Bool) (inside : Forest) → left + length own ≡ 601 → (left ≡ 0 → ⊥)
+      → IsClean (read_whole room) (inner top own own left) holds inside → file_count inside ≤ 1000000
+      → IsNoLimit (cause_of greatest_limits (record { at = own; gathered = false; inside = inside }))
+  fine_object top own left holds inside deep some clean few =
+      let fits : nat_lt 600 (length own) ≡ false = le-ltb 600 (length own) (omega (arith, deep, some)) in
+      let whole = append-nil own in
+      let there : IsClean (read_whole room) (inner top own (own ++ []) left) holds inside = subst (λ (p : Path). IsClean (read_whole room) (inner top own p left) holds inside) (sym whole) clean in
+      let long : left + length (own ++ []) ≡ 601 = ap (λ (p : Path). left + length p) whole ∙ deep in
+      let count = files_count [] inside in
+      by (nat_lt 600 (length own)) fits (first_fine (length own) 0 (entries_in [] inside) (fine_entries top own [] left holds inside long there) (omega (arith, count, few)))
+    where
+      by : (t : Bool) → t ≡ false → IsNoLimit (option_map (λ bad. bad.1) (first_bad greatest_limits (length own) 0 (entries_in [] inside)))
+          → IsNoLimit (cond (not false && t) (Some cause.Limit) (option_map (λ bad. bad.1) (first_bad greatest_limits (length own) 0 (entries_in [] inside))))
+      by true is fine = absurd (cc)
+      by false is fine = fine
+
+  -- ---- the sites
+
+  -- the folder of a site, below a folder of this name
+  abbrev site_folder : List ℕ → Path → ℕ → Folder
+  site_folder top path left = record { path = top ∷ path; here = within.Site (at_of path); left = left }
+
+  -- there is nothing to tell of a site that is listed
+  abbrev CleanSite : List ℕ → Path → Forest → Type 0
+  CleanSite top path inside = (left : ℕ) × (left + length path ≡ 601) × IsCleanFolder (site_folder top path left) (listing_of inside)
+      × IsClean (read_whole room) (site_folder top path left) (has_object (finding_of (within.Site (at_of path)) (listing_of inside))) inside
+
+  abbrev FineVisit : List ℕ → Path → Visit → Type 0
+  FineVisit top path (Listed inside) = CleanSite top path inside
+  FineVisit top path Past = ⊤
+  FineVisit top path Deep = ⊥
+
+  abbrev FineSite : List ℕ → Site → Type 0
+  FineSite top site = FineVisit top site.0 site.1
+
+  leads_to : (w : At) (name : List ℕ) → is_last w ≡ false → below_site w name ≡ within.Site (cond (length name == 1) at.Last at.Pair)
+  leads_to at.Root name is = refl
+  leads_to at.Pair name is = refl
+  leads_to at.Last name is = absurd (cc)
+
+  -- what a check finds of a folder in a site, and of all that stands in it
+  abbrev Met : List ℕ → Path → ℕ → Forest → Within → Type 0
+  Met top path left inside here = let it : Folder = record { path = top ∷ path; here = here; left = left } in
+      IsCleanFolder it (listing_of inside) × IsClean (read_whole room) it (has_object (finding_of here (listing_of inside))) inside
+
+  fine_shorty : (top : List ℕ) (path : Path) (left : ℕ) (name : List ℕ) (inside : Forest) → left + length path ≡ 601
+      → Met top (path ++ name ∷ []) (left - 1) inside (below_site (at_of path) name)
+      → (CleanSite top (path ++ name ∷ []) inside → Each (FineSite top) (sites_in 600 (path ++ name ∷ []) inside))
+      → Each (FineSite top) ((path ++ name ∷ [], visit_of 600 path inside) ∷ walked (visit_of 600 path inside) (sites_in 600 (path ++ name ∷ []) inside))
+  fine_shorty top path left name inside deep met on = by (is_last (at_of path)) (nat_lt 600 (length path + 1)) refl refl
+    where
+      by : (a b : Bool) → is_last (at_of path) ≡ a → nat_lt 600 (length path + 1) ≡ b
+          → Each (FineSite top) ((path ++ name ∷ [], cond a Past (cond b Deep (Listed inside))) ∷ walked (cond a Past (cond b Deep (Listed inside))) (sites_in 600 (path ++ name ∷ []) inside))
+      by true b last too_deep = (tt, tt)
+      by false true last too_deep =
+          let some = eqb-false (left - 1) 0 met.0.0 in
+          let over = ltb-true 600 (length path + 1) too_deep in
+          absurd (omega (arith, deep, some, over))
+      by false false last too_deep =
+          let some = eqb-false (left - 1) 0 met.0.0 in
+          let longer = one_longer path name in
+          let here : below_site (at_of path) name ≡ within.Site (at_of (path ++ name ∷ [])) =
+          leads_to (at_of path) name last ∙ ap (λ (w : At). within.Site w) (sym (last_name_says path name)) in
+          let there : Met top (path ++ name ∷ []) (left - 1) inside (within.Site (at_of (path ++ name ∷ []))) = subst (Met top (path ++ name ∷ []) (left - 1) inside) here met in
+          let clean : CleanSite top (path ++ name ∷ []) inside = (left - 1, omega (arith, deep, some, longer), there.0, there.1) in
+          (clean, on clean)
+
+  -- what a folder of a site comes to, by whether its name is short
+  abbrev in_site : At → Bool → List ℕ → ℕ → Bool → Within
+  in_site w holds name bytes short = cond short (below_site w name) (beside_shorties holds bytes)
+
+  fine_sites : (top : List ℕ) (path : Path) (left : ℕ) (holds : Bool) (tree : Forest) → left + length path ≡ 601 → IsClean (read_whole room) (site_folder top path left) holds tree
+      → Each (FineSite top) (sites_in 600 path tree)
+  fine_sites top path left holds none deep clean = tt
+  fine_sites top path left holds (file name bytes after) deep clean = fine_sites top path left holds after deep clean.2
+  fine_sites top path left holds (other name after) deep clean = fine_sites top path left holds after deep clean.1
+  fine_sites top path left holds (dir name inside after) deep clean =
+      each_both (FineSite top) (here (is_short name)) (sites_in 600 path after)
+      (by (is_short name) refl (clean.1, clean.3)
+      (λ site. fine_sites top (path ++ name ∷ []) site.0 (has_object (finding_of (within.Site (at_of (path ++ name ∷ []))) (listing_of inside))) inside site.1 site.3))
+      (fine_sites top path left holds after deep clean.4)
+    where
+      here : Bool → List Site
+      here b = cond b ((path ++ name ∷ [], visit_of 600 path inside) ∷ walked (visit_of 600 path inside) (sites_in 600 (path ++ name ∷ []) inside)) []
+
+      bytes : ℕ
+      bytes = length (joined (top ∷ (path ++ name ∷ [])))
+
+      by : (b : Bool) → is_short name ≡ b → Met top (path ++ name ∷ []) (left - 1) inside (in_site (at_of path) holds name bytes (is_short name))
+          → (CleanSite top (path ++ name ∷ []) inside → Each (FineSite top) (sites_in 600 (path ++ name ∷ []) inside)) → Each (FineSite top) (here b)
+      by false is met on = tt
+      by true is met on =
+          fine_shorty top path left name inside deep (subst (λ (s : Bool). Met top (path ++ name ∷ []) (left - 1) inside (in_site (at_of path) holds name bytes s)) is met) on
+
+  -- ---- what is found of a site
+
+  abbrev is_told : At → Finding → Path → Option Trouble
+  is_told w f path = folder_trouble (within.Site w) f path
+
+  same_below : (w : At) (how : Form) (items : List Item) (path : Path) (l : List (ℕ × Kind)) → is_told w (found_below form.Plain items l) path ≡ None
+      → found_below how items l ≡ found_below form.Plain items l
+  same_below w how items path [] silent = refl
+  same_below w how items path ((i, kind.Dir) ∷ []) silent = refl
+  same_below w how items path ((i, kind.File) ∷ []) silent = absurd (cc)
+  same_below w how items path ((i, kind.Other) ∷ []) silent = absurd (cc)
+  same_below w how items path (first ∷ second ∷ others) silent = absurd (cc)
+
+  same_found : (w : At) (how : Form) (items : List Item) (path : Path) → is_told w (found items w form.Plain) path ≡ None → found items w how ≡ found items w form.Plain
+  same_found at.Root how items path silent = refl
+  same_found at.Pair how items path silent = same_below at.Pair how items path (non_shorties items) silent
+  same_found at.Last how items path silent = same_below at.Last how items path (non_shorties items) silent
+
+  no_gathered_below : (items : List Item) (l : List (ℕ × Kind)) → found_below form.Plain items l ≡ finding.Gathered → ⊥
+  no_gathered_below [] [] e = absurd (cc)
+  no_gathered_below (x ∷ items) [] e = absurd (cc)
+  no_gathered_below items ((i, kind.Dir) ∷ []) e = absurd (cc)
+  no_gathered_below items ((i, kind.File) ∷ []) e = absurd (cc)
+  no_gathered_below items ((i, kind.Other) ∷ []) e = absurd (cc)
+  no_gathered_below items (first ∷ second ∷ others) e = absurd (cc)
+
+  no_gathered_at_top : (l : List (ℕ × Kind)) → found_at_top l ≡ finding.Gathered → ⊥
+  no_gathered_at_top [] e = absurd (cc)
+  no_gathered_at_top (x ∷ l) e = absurd (cc)
+
+  no_gathered : (w : At) (items : List Item) → found items w form.Plain ≡ finding.Gathered → ⊥
+  no_gathered at.Root items e = no_gathered_at_top (non_shorties items) e
+  no_gathered at.Pair items e = no_gathered_below items (non_shorties items) e
+  no_gathered at.Last items e = no_gathered_below items (non_shorties items) e
+
+  -- ---- the verdict on a site
+
+  abbrev FineVerdict : Verdict → Type 0
+  FineVerdict Interior = ⊤
+  FineVerdict (Skip why) = why ≢ cause.Limit
+  FineVerdict (Named id object) = IsNoLimit (cause_of greatest_limits object)
+
+  fine_named : (object : PairtreeObject) (named : Result (List ℕ) Refusal) → IsNoLimit (cause_of greatest_limits object) → FineVerdict (verdict_by_identifier object named)
+  fine_named object (Ok id) fine = fine
+  fine_named object (Err refusal.Malformed) fine = λ e. absurd (cc)
+  fine_named object (Err refusal.NotUtf8) fine = λ e. absurd (cc)
+  fine_named object (Err refusal.Reserved) fine = λ e. absurd (cc)
+
+  -- the first of these
+  abbrev first_item : Forest → Option Item
+  first_item none = None
+  first_item (file name bytes after) = Some (name, kind.File)
+  first_item (other name after) = Some (name, kind.Other)
+  first_item (dir name inside after) = Some (name, kind.Dir)
+
+  item_from : (i : ℕ) (tree : Forest) → first_item (entries_from i tree) ≡ slice_get (listing_of tree) i
+  item_from zero none = refl
+  item_from zero (file name bytes after) = refl
+  item_from zero (other name after) = refl
+  item_from zero (dir name inside after) = refl
+  item_from (suc i) none = refl
+  item_from (suc i) (file name bytes after) = item_from i after
+  item_from (suc i) (other name after) = item_from i after
+  item_from (suc i) (dir name inside after) = item_from i after
+
+  clean_from : (folder : Folder) (holds : Bool) (i : ℕ) (tree : Forest) → IsClean (read_whole room) folder holds tree → IsClean (read_whole room) folder holds (entries_from i tree)
+  clean_from folder holds zero tree clean = clean
+  clean_from folder holds (suc i) none clean = clean
+  clean_from folder holds (suc i) (file name bytes after) clean = clean_from folder holds i after clean.2
+  clean_from folder holds (suc i) (other name after) clean = clean_from folder holds i after clean.1
+  clean_from folder holds (suc i) (dir name inside after) clean = clean_from folder holds i after clean.4
+
+  module _ (job : Job) (prefix : List ℕ) (top : List ℕ) where
+    -- what a check finds of an object's folder in its site
+    abbrev MetObject : Path → ℕ → Forest → At → Within → Type 0
+    MetObject own left inside w here = let it : Folder = record { path = top ∷ own; here = here; left = left } in
+        IsCleanFolder it (listing_of inside) × (starts_object here (within.Site w) ≡ true → file_count inside ≤ 1000000)
+        × IsClean (read_whole room) it (has_object (finding_of here (listing_of inside))) inside
+
+    fine_candidate : (path : Path) (left : ℕ) (tree : Forest) → left + length path ≡ 601 → IsClean (read_whole room) (site_folder top path left) true tree
+        → ((name : List ℕ) → first_item tree ≡ Some (name, kind.Dir) → is_short name ≡ false) → FineVerdict (verdict_on_candidate job prefix path (encapsulated path tree))
+    fine_candidate path left none deep clean long = tt
+    fine_candidate path left (file name bytes after) deep clean long = tt
+    fine_candidate path left (other name after) deep clean long = tt
+    fine_candidate path left (dir name inside after) deep clean long =
+        let own : Path = path ++ name ∷ [] in
+        let bytes = length (joined (top ∷ own)) in
+        let some = eqb-false (left - 1) 0 clean.1.0 in
+        let longer = one_longer path name in
+        let sum : (left - 1) + length (path ++ name ∷ []) ≡ 601 = omega (arith, deep, some, longer) in
+        let met : MetObject own (left - 1) inside (at_of path) (within.Object (plus bytes 1)) =
+        subst (λ (s : Bool). MetObject own (left - 1) inside (at_of path) (in_site (at_of path) true name bytes s)) (long name refl) (clean.1, clean.2, clean.3) in
+        fine_named (record { at = own; gathered = false; inside = inside }) (identifier_at job.tuples prefix path)
+        (fine_object top own (left - 1) false inside sum some met.2 (met.1 refl))
+
+    fine_finding : (path : Path) (left : ℕ) (inside : Forest) (f : Finding) → left + length path ≡ 601 → found (listing_of inside) (at_of path) form.Plain ≡ f
+        → is_told (at_of path) f (top ∷ path) ≡ None → IsClean (read_whole room) (site_folder top path left) (has_object f) inside → FineVerdict (verdict_by_finding job prefix path inside f)
+    fine_finding path left inside finding.Interior deep is silent clean = tt
+    fine_finding path left inside (finding.Skip why) deep is silent clean = absurd (cc)
+    fine_finding path left inside finding.Gathered deep is silent clean = absurd (no_gathered (at_of path) (listing_of inside) is)
+    fine_finding path left inside (finding.Candidate i) deep is silent clean =
+        let only = candidate (listing_of inside) (at_of path) form.Plain i is in
+        fine_candidate path left (entries_from i inside) deep (clean_from (site_folder top path left) true i inside clean)
+        (λ name stands. let same : Some (name, kind.Dir) ≡ Some (only.0, kind.Dir) = sym stands ∙ item_from i inside ∙ only.1 in
+        let pair : (name, kind.Dir) ≡ (only.0, kind.Dir) = cc in
+        ap is_short (ap (λ (item : Item). item.0) pair) ∙ only.2)
+
+    fine_by_visit : (path : Path) (visit : Visit) → FineVisit top path visit → FineVerdict (verdict_by_visit job prefix path visit)
+    fine_by_visit path (Listed inside) (left, deep, folder, clean) =
+        let items = listing_of inside in
+        let plain = found items (at_of path) form.Plain in
+        let same : found items (at_of path) (form_of job) ≡ plain = same_found (at_of path) (form_of job) items (top ∷ path) folder.1 in
+        subst (λ (f : Finding). FineVerdict (verdict_by_finding job prefix path inside f)) (sym same) (fine_finding path left inside plain deep refl folder.1 clean)
+    fine_by_visit path Past fine = λ e. absurd (cc)
+    fine_by_visit path Deep fine = absurd fine
+
+    fine_verdict : (path : Path) (visit : Visit) → FineVisit top path visit → FineVerdict (verdict_of job prefix path visit)
+    fine_verdict path visit fine = by (is_ours job.share (verdict_by_visit job prefix path visit))
+      where
+        by : (b : Bool) → FineVerdict (cond b (verdict_by_visit job prefix path visit) Interior)
+        by true = fine_by_visit path visit fine
+        by false = tt
+
+    fine_item : job.limits ≡ greatest_limits → (site : Site) → FineSite top site → IsNotSkippedForLimit job (item_of job prefix site)
+    fine_item limits site fine =
+        let verdict = fine_verdict site.0 site.1 fine in (
+          (λ is. let skips : FineVerdict (Skip cause.Limit) = subst FineVerdict is verdict in skips refl),
+          (λ id object is.
+              let named : FineVerdict (Named id object) = subst FineVerdict is verdict in
+              subst (λ (l : Bounds). IsNoLimit (cause_of l object)) (sym limits) named),
+        )
+
+    fine_items : job.limits ≡ greatest_limits → (all : List Site) → Each (FineSite top) all → Each (IsNotSkippedForLimit job) (map (item_of job prefix) all)
+    fine_items limits [] fine = tt
+    fine_items limits (site ∷ rest) fine = (fine_item limits site fine.0, fine_items limits rest fine.1)
+
+  fine_root : (top : List ℕ) (tree : Option Forest) → Met top [] 601 (unwrap_or tree none) (within.Site at.Root) → Each (FineSite top) (sites_in_root 600 tree)
+  fine_root top None met = tt
+  fine_root top (Some inside) met =
+      ((601, refl, met.0, met.1), fine_sites top [] 601 (has_object (finding_of (within.Site at.Root) (listing_of inside))) inside refl met.1)
+
+pub none_for_limit : NoRunSkipsForLimit
+none_for_limit room job tree limits clean =
+    let root = dir_at tree (pairtree_root ∷ []) in
+    let fine : Each (FineSite room pairtree_root) (sites_in_root 600 root) = fine_root room pairtree_root root (clean.top, clean.inside) in
+    let depth : 600 ≡ job.limits.depth = sym (ap (λ (l : Bounds). l.depth) limits) in
+    fine_items room job (prefix_of tree) pairtree_root limits (sites_in_root job.limits.depth root)
+    (subst (λ (d : ℕ). Each (FineSite room pairtree_root) (sites_in_root d root)) depth fine)

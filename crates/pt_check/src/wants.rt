@@ -1,0 +1,8 @@
+/// What is asked of a check.
+#[derive(Clone, Copy, Debug, PartialEq, Eq)]
+pub struct Wants {
+    /// Whether each file is read whole, and not only opened.
+    pub reads: bool,
+    /// How many bytes the path of a file in its object may have in a destination; None where none is named.
+    pub room: Option<u64>,
+}
