@@ -17,7 +17,7 @@ GRAMMAR = "crates/pt_cli/src/grammar.rt"
 PAGE = "man/pairtree2ocfl.1"
 BASH, ZSH, FISH = (f"completions/{name}" for name in ("pairtree2ocfl.bash", "_pairtree2ocfl", "pairtree2ocfl.fish"))
 
-# How help calls a value that is the path of a file, and what is a folder by its place.
+# How help calls a value that is the path of a file, and one that is a folder's.
 FILES = ("FILE", "LOG")
 FOLDERS = ("SOURCE", "DEST")
 
@@ -143,10 +143,10 @@ def in_bash(command):
 
 
 def bash_values(commands):
-    """The cases of bash by which an option's value is completed: to words, to files, or to nothing."""
+    """The cases of bash by which an option's value is completed: to words, to files, to folders, or to nothing."""
     cases = {}
     for option in (option for command in commands for option in command.options if option.value):
-        how = f"-W '{' '.join(option.words)}'" if option.words else "-f" if option.value in FILES else ""
+        how = f"-W '{' '.join(option.words)}'" if option.words else "-f" if option.value in FILES else "-d" if option.value in FOLDERS else ""
         cases.setdefault(how, {})[f"--{option.name}"] = None
     completing = 'mapfile -t COMPREPLY < <(compgen -P "$front" {} -- "$current") && return'
     return "\n".join(f"{' | '.join(names)}) {completing.format(how) if how else 'return'} ;;" for how, names in cases.items())
@@ -165,7 +165,7 @@ def zsh_option(option):
         return f"'({letter} {name})'{{{letter},{name}}}'{told}'"
     if not option.value:
         return f"'--{option.name}{told}'"
-    values = f":({' '.join(option.words)})" if option.words else ":_files" if option.value in FILES else ""
+    values = f":({' '.join(option.words)})" if option.words else ":_files" if option.value in FILES else ":_directories" if option.value in FOLDERS else ""
     return f"'{'*' * option.form.startswith('Repeated')}--{option.name}={told}:{option.value}{values}'"
 
 
@@ -184,10 +184,19 @@ def in_zsh(command):
 # The completions of fish.
 
 
+def fish_values(option):
+    """How `complete` of fish takes the value of an option."""
+    if option.words:
+        return f" -x -a '{' '.join(option.words)}'"
+    if option.value in FOLDERS:
+        return " -x -a '(__fish_complete_directories)'"
+    return " -r -F" if option.value in FILES else " -x" if option.value else ""
+
+
 def fish_option(command, option):
     """An option of a command, as `complete` of fish takes it."""
     letter = f"-s {option.letter} " * bool(option.letter)
-    values = f" -x -a '{' '.join(option.words)}'" if option.words else " -r -F" if option.value in FILES else " -x" if option.value else ""
+    values = fish_values(option)
     told = quoted(option.help, "\\'")
     return f"complete -c pairtree2ocfl -n '__fish_seen_subcommand_from {command.name}' {letter}-l {option.name}{values} -d '{told}'"
 

@@ -260,6 +260,52 @@ def many_files(program, folder):
     return differs(answer=(checked(program, folder, source="t"), answer(told, {**last, "sites": 4, "told": 1})))
 
 
+def file_at(path_bytes):
+    """A path of so many bytes: folders with names of 200, and a file."""
+    folders = (path_bytes - 51) // 201
+    return "/".join([*("x" * 200 for _ in range(folders)), "y" * (path_bytes - 201 * folders)])
+
+
+# How long a path may be that is made in DEST: what the longest place of a layout leaves of 4,095 bytes, its last name of 165 and `ocfl/` in the place of `staging`.
+LONGEST_MADE = {(): 4095 - 163 - 3 * 4, ("--tuple-size", "2", "--tuples", "5"): 4095 - 163 - 5 * 3, ("--tuple-size", "0", "--tuples", "0"): 4095 - 163}
+
+
+def long_in_a_destination(program, folder):
+    """With --dest a file is told for which a run has no room there, and none that is a byte shorter; DEST as it is given counts, and isn't made."""
+    faults = []
+    for number, (layout, longest) in enumerate(LONGEST_MADE.items()):
+        for dest in ("D", "away/" * 40 + "D"):
+            most = longest - len(f"{dest}/staging/v1/content/")
+            source = f"t{number}{len(dest)}"
+            build(folder, {f"{source}/pairtree_root": DIR})
+            build(f"{folder}/{source}", store({}))
+            made_by_steps(folder, f"{source}/pairtree_root/ab/c/obj/{file_at(most)}")
+            made_by_steps(folder, f"{source}/pairtree_root/ab/d/obj/{file_at(most + 1)}")
+            long = of_path("place", f"ab/d/obj/{file_at(most + 1)}")
+            status, output, errors = checked(program, folder, "--dest", dest, *layout, source=source)
+            faults += differs(**{f"{source} told": (output.splitlines()[:-1], lines(long).splitlines()), f"{source} status": ((status, errors), (1, b""))})
+            faults += differs(**{f"{source} without": (checked(program, folder, source=source)[0], 0)})
+    faults += differs(made=(os.path.lexists(f"{folder}/D") or os.path.lexists(f"{folder}/away"), False))
+    return faults + as_a_run_into_it(program, folder)
+
+
+def as_a_run_into_it(program, folder):
+    """A run makes the file that isn't told, and ends with fault 2 at the one that is."""
+    most = LONGEST_MADE[()] - len("D/staging/v1/content/")
+    words = ("migrate", "--created", "2024-05-01T12:00:00Z", "--name", "Ada", "--verbose", "--quiet")
+    faults = []
+    for name, count, status in (("fits", most, 0), ("long", most + 1, 3)):
+        build(folder, {f"{name}/D": DIR})
+        build(f"{folder}/{name}/s", store({}))
+        made_by_steps(folder, f"{name}/s/pairtree_root/ab/c/obj/{file_at(count)}")
+        where = f"{folder}/{name}"
+        told = checked(program, where, "--dest", "D")
+        run = subprocess.run([program, *words, "s", "D"], cwd=where, capture_output=True, timeout=300)
+        faults += differs(**{f"{name}: status": (run.returncode, status), f"{name}: told": (b'"place"' in told[1], status == 3)})
+        faults += differs(**{f"{name}: reason": (b"too long at its place" in run.stderr, status == 3)})
+    return faults
+
+
 def deep_folders(program, folder):
     """A folder more than 600 below pairtree_root is told, and not listed."""
     chain = {count: "/".join(["ab"] * count) for count in (600, 601)}
@@ -349,6 +395,7 @@ CASES = [
         ("names that aren't UTF-8", names_that_are_no_text),
         ("long paths", long_paths),
         ("many files", many_files),
+        ("paths that are too long in a destination", long_in_a_destination),
         ("deep folders", deep_folders),
         ("what is counted", counting),
         ("files that can't be read", failing_reads),

@@ -166,8 +166,9 @@ module _ (rows : List Row) where
       (then_there audit_meta _ audit_meta_there (λ m. then_there (job_in m rows) _ (job m) (λ j. then_there (ignored_in rows) _ (ignored_there (all_of (codes "ignore") rows)) (λ i. then_there (feedback_in rows) _ feedback (λ f. tt)))))
       (λ o. then_there (folders_in rows) _ folders (λ f. tt))
 
-  check_there : (source : Text) → first_of (codes "SOURCE") rows ≡ Some source → IsThere (check_in rows)
-  check_there source e1 = then_there (ignored_in rows) _ (ignored_there (all_of (codes "ignore") rows)) (λ i. rw e1 tt)
+  check_there : (source : Text) → first_of (codes "SOURCE") rows ≡ Some source → IsThere (layout_in rows) → IsThere (check_in rows)
+  check_there source e1 cuts =
+      then_there (layout_in rows) _ cuts (λ l. then_there (ignored_in rows) _ (ignored_there (all_of (codes "ignore") rows)) (λ i. rw e1 tt))
 
   names_there : (id : Text) → first_of (codes "ID") rows ≡ Some id → IsThere (layout_in rows) → IsThere (names_in rows)
   names_there id e1 cuts = rw e1 (then_there (id_only id) _ (id_there id) (λ x. then_there (layout_in rows) _ cuts (λ l. tt)))
@@ -253,12 +254,17 @@ module _ (spelled others : Spelled) where
   fit_audit = ((refl, refl, refl), ((refl, refl, refl), ((refl, refl, refl), ((refl, refl, refl), ((refl, refl, refl), ((refl, refl, refl), ((refl, refl, refl), ((refl, refl, refl), ((refl, refl, refl), ((refl, refl, refl), ((refl, refl, refl), ((refl, refl, refl), ((refl, refl, refl), ((refl, refl, refl), ((refl, refl, refl), ((refl, refl, refl), ((refl, refl, refl), tt)))))))))))))))))
 
   fit_check : Every (Fits built_check.rules) built_check.rules
-  fit_check = ((refl, refl, refl), ((refl, refl, refl), ((refl, refl, refl), ((refl, refl, refl), tt))))
+  fit_check = ((refl, refl, refl), ((refl, refl, refl), ((refl, refl, refl), ((refl, refl, refl), ((refl, refl, refl), ((refl, refl, refl), ((refl, refl, refl), tt)))))))
 
   check_is_answered : Answered built_check
   check_is_answered words e =
+      let size = default_value built_check refl fit_check [] words false [] e (codes "tuple-size") _ refl refl in
+      let count = default_value built_check refl fit_check [] words false [] e (codes "tuples") _ refl refl in
       let source = required_value built_check refl fit_check [] words false [] e (codes "SOURCE") _ refl refl refl in
-      check_there (rows_after built_check.rules [] words) source.0 source.1
+      let digits = number_there size.0 size.3 in
+      let number = number_there count.0 count.3 in
+      let rows = rows_after built_check.rules [] words in
+      check_there rows source.0 source.1 (layout_there rows _ _ digits.0 number.0 size.2 digits.1 count.2 number.1)
 
   audit_is_answered : Answered built_audit
   audit_is_answered words e =

@@ -131,6 +131,10 @@ skips_rule = flag_rule (codes "skips-ok")
 abbrev pub read_rule : Rule
 read_rule = flag_rule (codes "read")
 
+-- `--dest DEST`
+abbrev pub into_rule : Rule
+into_rule = option_rule (codes "dest")
+
 -- `--verbose`, `-v`
 abbrev pub verbose_rule : Rule
 verbose_rule = record (flag_rule (codes "verbose")) { short = Some 118 }
@@ -187,7 +191,9 @@ IsAuditApp app = (words : Spelled) × (app ≡ audit_app words)
 
 -- `check [OPTIONS] SOURCE`
 abbrev pub check_app : App
-check_app = on_top (λ s. record s { rules = read_rule ∷ ignore_rule ∷ source_rule ∷ [] }) (new_app (codes "check"))
+check_app = on_top
+    (λ s. record s { rules = read_rule ∷ into_rule ∷ size_rule ∷ count_rule ∷ ignore_rule ∷ source_rule ∷ [] })
+    (new_app (codes "check"))
 
 -- `pairtree2ocfl` with a command behind it, or `--version`
 abbrev pub top_app : App

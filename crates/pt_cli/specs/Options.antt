@@ -140,10 +140,16 @@ audit_in rows = do
 -- what `check` is asked for
 abbrev pub check_in : List Row → Result Command Unread
 check_in rows = do
+  layout ← layout_in rows
   ignored ← ignored_in rows
   source ← needed (first_of (codes "SOURCE") rows)
   Ok (Check (record {
-    options = record { reads = is_set_in (codes "read") rows; ignored = ignored };
+    options = record {
+      reads = is_set_in (codes "read") rows;
+      ignored = ignored;
+      dest = first_of (codes "dest") rows;
+      layout = layout;
+    };
     source = source;
   }))
 

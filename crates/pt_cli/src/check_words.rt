@@ -5,22 +5,27 @@ ghost use Rattle.pt_cli.specs.Options.{check_in};
 
 use crate::arguments::{is_set, needed, text};
 use crate::faults::Unread;
-use crate::grammar::{READ, SOURCE};
+use crate::feedback_words::copy_of;
+use crate::grammar::{INTO, READ, SOURCE};
 use crate::ignore_words::ignored;
+use crate::job_words::layout;
 use crate::{Check, Command, Text};
 use clap::ArgMatches;
 use pt_host::CheckOptions;
 use std::alloc::Global;
 
-// The check that is asked for: refused as `Ignored`.
+// The check that is asked for: refused as `Tuples`, and then as `Ignored`.
 pub(crate) fn check_command(alloc: Global, matches: &ArgMatches<'_>) -> Result<Command, Unread>
     ensures { ReadsAs (check_in (rows_of (found_of matches.now))) result }
 {
+    let layout = layout(matches)?;
     let ignored = ignored(alloc, matches)?;
     let source = needed(text(matches, SOURCE))?;
     let options = CheckOptions {
         reads: is_set(matches, READ),
         ignored,
+        dest: copy_of(alloc, text(matches, INTO))?,
+        layout,
     };
     let source = Text::of(alloc, source)?;
     Ok(Command::Check(Check { options, source }))

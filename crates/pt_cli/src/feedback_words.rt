@@ -48,7 +48,7 @@ fn progress_by_word(word: &str) -> Option<Progress>
 }
 
 // A copy of a text, where there is one.
-fn copy_of(alloc: Global, text: Option<&str>) -> Result<Option<Text>, MemoryFault>
+pub(crate) fn copy_of(alloc: Global, text: Option<&str>) -> Result<Option<Text>, MemoryFault>
     ensures { IfOk result (λ copy. copy ≡ option_map (λ t. t.now) text.entry) }
 {
     match text {

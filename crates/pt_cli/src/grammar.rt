@@ -67,6 +67,8 @@ pub(crate) const EVENT: &str = "event";
 
 pub(crate) const READ: &str = "read";
 
+pub(crate) const INTO: &str = "dest";
+
 pub(crate) const PREFIX: &str = "prefix";
 
 pub(crate) const SOURCE: &str = "SOURCE";
@@ -305,6 +307,13 @@ const CHECK_TAKES: &[ArgSpec] = &[
         form: Form::Flag,
         help: "Read each file whole, and count its bytes [default: open it]",
     },
+    ArgSpec {
+        id: INTO,
+        form: Form::Value("DEST"),
+        help: "Tell what would be too long for a run into this folder, which need not be there",
+    },
+    TAKES_TUPLE_SIZE,
+    TAKES_TUPLES,
     TAKES_IGNORE,
     TAKES_SOURCE,
 ];

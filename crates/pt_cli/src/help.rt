@@ -60,6 +60,7 @@ Each line says under "as" what is at "path" in the source:
   long        its path in its object is longer than 4,000 bytes
   many        it is the first file over the 1,000,000 of an object
   large       it has more than 8 TiB (with --read)
+  place       its path would be too long in DEST (with --dest)
   desktop     it is one of what desktops leave: .DS_Store, Thumbs.db, desktop.ini, ._*
   root, empty, split, past, name, utf8, other
               a run doesn't carry it, for the cause that migrate gives

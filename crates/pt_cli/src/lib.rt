@@ -10,7 +10,7 @@
 //!   machine's output: 0 where they were, or nobody may read them any more, and else 3 (`TellsText`). Refused words (2) and want of
 //!   memory (3) ask nothing of the machine.
 //! - The options that have a part in what is said of a run or an audit: those of the job, `--ignore`, `--sync`, `--dry-run`,
-//!   `--present-ok`, `--skips-ok`, `--read` of a check, and `--expect`, whose log is asked for its end. `--verbose`, `--progress`, `--interval` and `--quiet`
+//!   `--present-ok`, `--skips-ok`, `--read` and `--dest` of a check, and `--expect`, whose log is asked for its end. `--verbose`, `--progress`, `--interval` and `--quiet`
 //!   are taken from the words too; what they then show is tested.
 //! - `run` asks for the words that it was started with (`Started`), and ends with the status of `answer` to just these (`Ends`); where they
 //!   aren't text that is refused (2), and want of memory is 3.
@@ -22,7 +22,7 @@
 //! - `read_words`: the words are read exactly as `clap` reads them, for the grammar that the contract spells out (`ReadsWords`). What the
 //!   parser accepts always has an answer: `names` gives its identifier, prefix and layout, or `EmptyId` for the empty one, or `Tuples`.
 //!   `migrate` gives the values of its options with their defaults and its two paths, or, in this order, `Created`, `EmptyName`, `Tuples`,
-//!   `Share` or `Ignored`; `check` gives those of its own, or `Ignored`. Help, the version and `Words` come only where the parser's rules give them.
+//!   `Share` or `Ignored`; `check` gives those of its own, or `Tuples` or `Ignored`. Help, the version and `Words` come only where the parser's rules give them.
 #![tactic(auto)]
 
 mod arguments;

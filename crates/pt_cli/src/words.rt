@@ -20,7 +20,7 @@ use std::convert::AsStr;
 ///
 /// Refused as `Help` where the parser was asked for help, as `Version` where for the version, and as `Words` where it refuses
 /// the words otherwise. Then for `names` as `EmptyId`, where the identifier is empty, and as `Tuples`. For `audit` as `Tuples`, `Share`
-/// and `Ignored`, as below, and for `check` as `Ignored`. For `migrate`, in this order, as `Created`, where `--created`
+/// and `Ignored`, as below, and for `check` as `Tuples` and `Ignored`. For `migrate`, in this order, as `Created`, where `--created`
 /// isn't a moment of RFC 3339 to the second; as `EmptyName`, where `--name` is empty; as `Tuples`, where `--tuple-size`
 /// and `--tuples` aren't a layout of extension 0003-hash-and-id-n-tuple-storage-layout; as `Share`, where `--share` isn't `K/N` with a
 /// share's two numbers; as `Ignored`, where `--ignore` isn't a name that an entry may have. As `Memory` where a growth was refused.

@@ -14,7 +14,7 @@ enum Reading {
     Migration(&'static Row),
     // An audit of what was gathered, by SHA-256 and two tuples of three digits, with its event.
     Audit,
-    // A check that reads each file, of all entries but those with one name.
+    // A check that reads each file, of all entries but those with one name, for a run into D with four tuples of two digits.
     Check,
     // The fault of this number; 0 where it is a migration.
     Fault(u8),
@@ -58,13 +58,13 @@ fn is_migration(asked: &Migrate, row: &Row) -> bool {
         && has_tuples(&job.layout, row.tuples)
         && (job.algorithm, job.gather) == (row.algorithm, row.gather)
         && (asked.source.as_str(), asked.dest.as_str()) == row.folders
-        && is_event(&asked.options.feedback.event, row.event)
+        && is_path(&asked.options.feedback.event, row.event)
 }
 
-// Whether this path is given for an event's file, or none.
-fn is_event(event: &Option<Text>, path: Option<&str>) -> bool {
-    match (event, path) {
-        (Some(event), Some(path)) => event.as_str() == path,
+// Whether this path is given, or none.
+fn is_path(given: &Option<Text>, path: Option<&str>) -> bool {
+    match (given, path) {
+        (Some(given), Some(path)) => given.as_str() == path,
         (None, None) => true,
         _ => false,
     }
@@ -82,11 +82,16 @@ fn is_gathering(asked: &Audit) -> bool {
     has_tuples(&job.layout, (3, 2))
         && (job.algorithm, job.gather) == (Algorithm::Sha256, true)
         && (asked.source.as_str(), asked.dest.as_str()) == ("S", "D")
-        && is_event(&asked.options.feedback.event, Some("E"))
+        && is_path(&asked.options.feedback.event, Some("E"))
 }
 
 fn is_reading(asked: &Check) -> bool {
-    asked.options.reads && asked.options.ignored.names().len() == 1 && asked.source.as_str() == "S"
+    let options = &asked.options;
+    options.reads
+        && options.ignored.names().len() == 1
+        && is_path(&options.dest, Some("D"))
+        && has_tuples(&options.layout, (2, 4))
+        && asked.source.as_str() == "S"
 }
 
 // Whether a layout has tuples of so many digits, and so many of them.
@@ -233,6 +238,9 @@ const CHECK: Words = &[
     "check",
     "--ignore=.DS_Store",
     "--read",
+    "--dest=D",
+    "--tuple-size=2",
+    "--tuples=4",
     "S",
 ];
 
@@ -263,6 +271,7 @@ const REFUSED: Readings = &[
     (&["pairtree2ocfl", "check", "S", "D"], 2),
     (&["pairtree2ocfl", "check", "--gather", "S"], 2),
     (&["pairtree2ocfl", "check", "--ignore=a/b", "S"], 10),
+    (&["pairtree2ocfl", "check", "--tuples=0", "--ignore=a/b", "S"], 7),
     (&["pairtree2ocfl", "carry"], 2),
     (&["pairtree2ocfl", "names", ""], 5),
 ];

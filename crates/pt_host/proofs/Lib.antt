@@ -5,4 +5,5 @@ mod Logged
 mod Recorded
 mod Rehearsed
 mod RehearsalTold
+mod Roomy
 mod Unstuck

@@ -1,6 +1,6 @@
 -- What a check of a store on a machine comes to.
-use Rattle.std.specs.Prelude.{◌≡◌, ◌==◌, ⊤, ℕ, if◌then◌else◌, IfErr, IfOk, List, Option, None, Result, Ok, Err}
-use Rattle.std.specs.Option.{ForSome}
+use Rattle.std.specs.Prelude.{◌≡◌, ◌==◌, ⊤, ℕ, if◌then◌else◌, IfErr, IfOk, List, Option, Result, Ok, Err}
+use Rattle.std.specs.Option.{ForSome, option_map}
 use Rattle.pt_check.specs.Counting.{no_numbers}
 use Rattle.pt_check.specs.Visits.{Checks, Grows, Seen}
 use Rattle.pt_check.specs.declared.numbers.Numbers.{Numbers}
@@ -10,6 +10,7 @@ use Rattle.pt_plan.specs.declared.fault.Fault.TheVariants as fault
 use Rattle.pt_tree.specs.Forest.{Forest}
 use Rattle.pt_host.specs.Audits.{store_tree}
 use Rattle.pt_host.specs.HostCall.{Lend, TakeBack}
+use Rattle.pt_host.specs.Room.{room_in}
 use Rattle.pt_host.specs.Machine.{HostIoOf, HostIoWords, MachineWords}
 use Rattle.pt_host.specs.declared.host.HostIo.{HostIo}
 use Rattle.pt_host.specs.declared.options.CheckOptions.{CheckOptions}
@@ -43,9 +44,12 @@ store_checked words call ground = store_tree call.options.ignored (words.store g
 abbrev pub unbegun : Option (List ℕ) → Seen
 unbegun held = record { failed = 0; held = held; numbers = no_numbers }
 
--- what these options want of a check
+-- what these options want of a check: where a destination is named, its room is that of the folder at that path
 abbrev pub wants_of : CheckOptions → Wants
-wants_of options = record { reads = options.reads; room = None }
+wants_of options = record {
+  reads = options.reads;
+  room = option_map (λ dest. room_in dest options.layout) options.dest;
+}
 
 -- a check went over this tree from an output to what that then holds, with what `run` of pt_check promises of it
 abbrev pub ChecksTree : CheckCall → Option (List ℕ) → Option (List ℕ) → Numbers → Forest → Type 0

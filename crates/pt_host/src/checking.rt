@@ -1,10 +1,11 @@
 //! A check of the store in a folder, on a machine.
 ghost use Rattle.std.specs.Prelude.{◌≡◌};
-ghost use Rattle.pt_host.specs.Checking.{ChecksOver, ChecksStore, check_call, check_status};
+ghost use Rattle.pt_host.specs.Checking.{ChecksOver, ChecksStore, check_call, check_status, wants_of as wants_of_options};
 ghost use Rattle.pt_host.specs.Machine.{host_io_words};
 
 use crate::devices::Lent;
 use crate::log::{DurableLog, SyncsOutput};
+use crate::room::room_in;
 use crate::saying::tell_fault;
 use crate::status::{DONE, FAILED, INCOMPLETE};
 use crate::{CheckOptions, Host, HostIo, Machine};
@@ -60,16 +61,13 @@ where
         folder,
         output,
     } = ground;
+    let wants = wants_of(&options);
     let source = Ignoring::new(HostSource::new(system, alloc, store), options.ignored);
     let log = DurableLog::new(output, file);
     let devices = Devices {
         source,
         log,
         explains: LastFailure,
-    };
-    let wants = Wants {
-        reads: options.reads,
-        room: None,
     };
     let mut check = Check::new(alloc, devices, wants);
     let ran = check.run();
@@ -84,6 +82,20 @@ where
         output: log.into_writer(),
     };
     Checked { status, ground }
+}
+
+// What these options want of a check.
+fn wants_of(options: &CheckOptions) -> Wants
+    ensures { result ≡ wants_of_options options.now }
+{
+    let room = match &options.dest {
+        Some(dest) => Some(room_in(dest.as_str(), &options.layout)),
+        None => None,
+    };
+    Wants {
+        reads: options.reads,
+        room,
+    }
 }
 
 // Why a folder failed: the reason of its last failure.

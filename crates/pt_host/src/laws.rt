@@ -1,8 +1,15 @@
-//! What follows of a run from the promises of two. Each law is the contract of a function that does nothing.
+//! What follows of a run from the promises of two, and what a check's room is. Each law is the contract of a function that does nothing.
 ghost use Rattle.pt_host.specs.RehearsalLaw.{RehearsalTellsTheRun};
+ghost use Rattle.pt_host.specs.Room.{RoomIsThatOfStaging};
 
 /// A rehearsal that ends well tells in its log what the run tells that it rehearses, where both tell their devices and the
 /// run ends well too, and ends with the same status.
 pub fn rehearsal_tells_the_run()
     ensures { RehearsalTellsTheRun }
+{}
+
+/// A path in an object is longer than a check has room for just where a run couldn't make the file, since its path in `staging` would be
+/// longer than any that a run makes.
+pub fn room_is_that_of_staging()
+    ensures { RoomIsThatOfStaging }
 {}

@@ -4,6 +4,7 @@ ghost use Rattle.std.specs.Prelude.{◌≡◌, ◌||◌, is_some, option_map};
 use crate::Text;
 use pt_messages::{Progress, Watching, Words};
 use pt_move::Job;
+use pt_name::Layout;
 use pt_tree::Ignored;
 
 /// All that the options of a run say.
@@ -43,6 +44,10 @@ pub struct CheckOptions {
     pub reads: bool,
     /// The names of the entries of the store that are left out.
     pub ignored: Ignored,
+    /// The path of the folder in which a run would make the root, if one is named. Nothing of it is looked at.
+    pub dest: Option<Text>,
+    /// How the places in it would be cut.
+    pub layout: Layout,
 }
 
 /// What is told of a run or an audit beside its log: what standard error shows, and the file of its event.
