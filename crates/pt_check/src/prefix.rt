@@ -2,17 +2,15 @@
 #![tactic(auto)]
 
 ghost use Rattle.std.specs.Prelude.{◌≡◌, IfOk, IsSome, take};
-ghost use Rattle.std.specs.List.{list_any};
 ghost use Rattle.std.specs.Option.{ForSome};
-ghost use Rattle.std.specs.Str.{chars};
-ghost use Rattle.pt_check.specs.Prefix.{has_outer_blank as has_outer_blank_in, is_doubtful as is_doubtful_text, is_unseen, prefix_trouble as prefix_trouble_of};
+ghost use Rattle.pt_check.specs.Prefix.{prefix_trouble as prefix_trouble_of};
 ghost use Rattle.pt_check.specs.Visits.{tree_in};
 ghost use Rattle.pt_tree.specs.Failures.{IsCounted};
 ghost use Rattle.pt_tree.specs.Forest.{file_at};
 ghost use Rattle.pt_walk.specs.Left.{bytes_at};
 
 use crate::Trouble;
-use pt_name::{PrefixFault, read_prefix};
+use pt_name::{PrefixFault, is_doubtful, read_prefix};
 use pt_tree::{Block, MemoryFault, NamePath, Source, TreeFault};
 use std::alloc::Global;
 
@@ -45,25 +43,4 @@ fn prefix_trouble(alloc: Global, bytes: &[u8]) -> Result<Option<Trouble>, Memory
         Err(PrefixFault::Memory) => Err(MemoryFault::Memory),
         Err(_) => Ok(Some(Trouble::Prefix)),
     }
-}
-
-// Whether a text reads otherwise than it looks: it has a control character, a byte order mark, or a blank at an end.
-fn is_doubtful(text: &str) -> bool
-    ensures { result ≡ is_doubtful_text text.now }
-{
-    has_outer_blank(text.as_bytes()) || has_unseen(text)
-}
-
-// Whether a blank begins or ends a text.
-fn has_outer_blank(text: &[u8]) -> bool
-    ensures { result ≡ has_outer_blank_in text.now }
-{
-    text.starts_with(b" ") || text.ends_with(b" ")
-}
-
-// Whether a text has a character that isn't seen.
-fn has_unseen(text: &str) -> bool
-    ensures { result ≡ list_any is_unseen (chars text.now) }
-{
-    text.chars().any(|c| c.is_control() || c == '\u{feff}')
 }

@@ -1,7 +1,7 @@
 //! A prefix that reads otherwise than it looks.
 use crate::reads::Reads;
 use crate::shown::escaped;
-use pt_name::read_prefix;
+use pt_name::{is_doubtful, read_prefix};
 use std::alloc::{AllocError, AllocGlobal, Global};
 
 const NAME: &str = "/pairtree_prefix";
@@ -14,7 +14,7 @@ pub fn tell<R: Reads + Eprint + AllocGlobal>(rt: &R, store: &str) {
     let Ok(path) = path_in(rt.alloc(), store) else {
         return;
     };
-    if is_doubtful(rt, path.as_str())
+    if has_doubtful(rt, path.as_str())
         && let Ok(path) = escaped(rt.alloc(), path.as_str())
     {
         let _ = eprintln!(rt;
@@ -31,19 +31,12 @@ fn path_in(alloc: Global, store: &str) -> Result<String, AllocError> {
 }
 
 // Whether a file holds such a prefix. What can't be read, or isn't a prefix, is the run's own to tell.
-fn is_doubtful<R: Reads + AllocGlobal>(rt: &R, path: &str) -> bool {
+fn has_doubtful<R: Reads + AllocGlobal>(rt: &R, path: &str) -> bool {
     match rt.read_small(path, LONGEST) {
         Ok(Some(bytes)) => match read_prefix(rt.alloc(), bytes.as_slice()) {
-            Ok(prefix) => has_hidden(prefix.as_str()),
+            Ok(prefix) => is_doubtful(prefix.as_str()),
             Err(_) => false,
         },
         _ => false,
     }
-}
-
-// Whether a text has such a character.
-fn has_hidden(text: &str) -> bool {
-    text.starts_with(' ')
-        || text.ends_with(' ')
-        || text.chars().any(|c| c.is_control() || c == '\u{feff}')
 }

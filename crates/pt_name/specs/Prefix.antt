@@ -1,6 +1,8 @@
 -- The prefix of a store, as its file holds it.
-use Rattle.std.specs.Prelude.{ℕ, ◌==◌, ◌||◌, Bool, nat_lt, if◌then◌else◌, List, [], ◌∷◌, length, Option, Some, None}
-use Rattle.std.specs.Str.{is_utf8}
+use Rattle.std.specs.Prelude.{ℕ, ◌-◌, ◌==◌, ◌||◌, Bool, codes, drop, nat_lt, take, if◌then◌else◌, List, [], ◌∷◌, length, Option, Some, None}
+use Rattle.std.specs.Char.{is_control}
+use Rattle.std.specs.List.{list_any}
+use Rattle.std.specs.Str.{bytes_eq, chars, is_utf8}
 use Rattle.pt_name.specs.declared.prefix.PrefixFault.{PrefixFault}
 use Rattle.pt_name.specs.declared.prefix.PrefixFault.TheVariants as fault
 
@@ -30,3 +32,16 @@ abbrev pub prefix_number : PrefixFault → ℕ
 prefix_number fault.TooLong = 1
 prefix_number fault.NotUtf8 = 2
 prefix_number fault.Memory = 3
+
+-- a character that isn't seen: a control character, or a byte order mark
+abbrev pub is_unseen : ℕ → Bool
+is_unseen c = is_control c || c == 65279
+
+-- a blank begins or ends it
+abbrev pub has_outer_blank : List ℕ → Bool
+has_outer_blank text =
+    bytes_eq (take 1 text) (codes " ") || bytes_eq (drop (length text - 1) text) (codes " ")
+
+-- a text that reads otherwise than it looks
+abbrev pub is_doubtful : List ℕ → Bool
+is_doubtful text = has_outer_blank text || list_any is_unseen (chars text)

@@ -19,7 +19,8 @@
 //! - `Identifier`: a text, seen as its bytes.
 //! - `unclean`: reads a cleaned text back: gives an identifier exactly where the text reads it and it is UTF-8, and says of each other text
 //!   exactly whether it reads nothing or bytes that aren't UTF-8. `concatenate`: joins the names of a pairpath for it.
-//! - `read_prefix`: exactly the prefix of a store, refused exactly where it is too long or not UTF-8.
+//! - `read_prefix`: exactly the prefix of a store, refused exactly where it is too long or not UTF-8. `is_doubtful`: exactly the prefixes that
+//!   read otherwise than they look.
 //! - `identify`: exactly what the names of a site say of its object (`Identification`): why it has no identifier that can be carried
 //!   (`Refusal`), that it is of another share, or its identifier, behind the store's prefix, and its place. Asked in that order. What it notes
 //!   in a list changes no answer.
@@ -49,7 +50,7 @@ pub use identifier_list::IdentifierList;
 pub use identifying::{Candidate, Identification, Refusal, identify};
 pub use joining::concatenate;
 pub use layout::{Layout, LayoutFault};
-pub use prefix::{PrefixFault, read_prefix};
+pub use prefix::{PrefixFault, is_doubtful, read_prefix};
 pub use reading::{UncleanFault, unclean};
 pub use share::{Share, ShareFault};
 pub use sought::Sought;

@@ -1,6 +1,8 @@
 ghost use Rattle.std.specs.Prelude.{◌≡◌, string_bytes};
+ghost use Rattle.std.specs.List.{list_any};
+ghost use Rattle.std.specs.Str.{chars};
 ghost use Rattle.pt_tree.specs.Refusal.{Answers};
-ghost use Rattle.pt_name.specs.Prefix.{ends_line, prefix_number, prefix_refusal, without_line_ends};
+ghost use Rattle.pt_name.specs.Prefix.{ends_line, has_outer_blank as has_outer_blank_in, is_doubtful as is_doubtful_text, is_unseen, prefix_number, prefix_refusal, without_line_ends};
 
 use std::alloc::Global;
 use thiserror::Error;
@@ -71,4 +73,25 @@ fn is_line_end(byte: u8) -> bool
     ensures { result ≡ ends_line byte }
 {
     byte == b'\n' || byte == b'\r'
+}
+
+/// Whether a prefix reads otherwise than it looks: it has a control character, a byte order mark, or a blank at an end.
+pub fn is_doubtful(prefix: &str) -> bool
+    ensures { result ≡ is_doubtful_text prefix.now }
+{
+    has_outer_blank(prefix.as_bytes()) || has_unseen(prefix)
+}
+
+// Whether a blank begins or ends a text.
+fn has_outer_blank(text: &[u8]) -> bool
+    ensures { result ≡ has_outer_blank_in text.now }
+{
+    text.starts_with(b" ") || text.ends_with(b" ")
+}
+
+// Whether a text has a character that isn't seen.
+fn has_unseen(text: &str) -> bool
+    ensures { result ≡ list_any is_unseen (chars text.now) }
+{
+    text.chars().any(|c| c.is_control() || c == '\u{feff}')
 }
