@@ -1,12 +1,15 @@
 -- What is kept of a failure, and of a directory whose names aren't had.
-use Rattle.std.proofs.Common.{◌≡◌, ℕ, List, sym, subst}
-use Rattle.std.specs.Prelude.{Option, Some, None, IfSome, IsSomeAnd}
+use Rattle.std.proofs.Common.{◌≡◌, ℕ, List, false, sym, subst}
+use Rattle.std.specs.Global.{Global}
+use Rattle.std.specs.Option.{option_map}
+use Rattle.std.specs.Prelude.{Option, Some, None, IfSome, IsSomeAnd, Vec}
 use Rattle.std.specs.Prelude.{Result, Ok, Err}
 use Rattle.std.specs.Result.{IsErrAnd}
 use Rattle.std.specs.declared.io.Error.{Error}
 use Rattle.pt_tree.specs.declared.faults.TreeFault.{TreeFault}
 use Rattle.pt_tree.specs.declared.faults.TreeFault.TheVariants.{Device, Memory}
-use Rattle.pt_folder.specs.Failure.{HasError, IsAt, IsNamesCause, IsOfCall, IsOfName, IsOfNames, OnDevice}
+use Rattle.pt_tree.specs.Name.{is_name}
+use Rattle.pt_folder.specs.Failure.{HasError, IsAt, IsForName, IsNamesCause, IsOfCall, IsOfName, IsOfNames, OnDevice}
 use Rattle.pt_folder.specs.declared.failure.FailureReason.TheVariants as cause
 use Rattle.pt_folder.specs.declared.failure.FailureReason.{FailureReason}
 use Rattle.pt_folder.specs.declared.failure.Failure.{Failure}
@@ -33,7 +36,18 @@ kept_held (Err Device) (Some f) P kept = kept
 
 pub kept_names : (last : Option Failure) (text : List ℕ) (why : FailureReason) → IfSome last (IsAt text why) → IsNamesCause why → IfSome last (IsOfNames text)
 kept_names None text why kept is = tt
-kept_names (Some f) text why kept is = (kept.0, subst IsNamesCause (sym kept.1) is)
+kept_names (Some f) text why kept is = (kept.0, subst IsNamesCause (sym kept.1) is, subst (λ (o : Option (Vec ℕ Global)). IfSome (option_map (λ name. name.items) o) (λ name. is_name name ≡ false)) (sym kept.2) tt)
+
+-- of a name that isn't added
+pub kept_bytes : (last : Option Failure) (text name : List ℕ) → IfSome last (IsForName text name) → is_name name ≡ false → IfSome last (IsOfNames text)
+kept_bytes None text name kept is = tt
+kept_bytes (Some f) text name kept is =
+    (kept.0, subst IsNamesCause (sym kept.1) tt, subst (λ (o : Option (List ℕ)). IfSome o (λ n. is_name n ≡ false)) (sym kept.2) is)
+
+pub kept_bad : (last : Option Failure) (text : List ℕ) (most : ℕ) (names : List (List ℕ)) (name : List ℕ) → IfSome last (IsForName text name)
+    → is_name name ≡ false → IfSome last (λ f. IsOfName most names name f.cause)
+kept_bad None text most names name kept is = tt
+kept_bad (Some f) text most names name kept is = subst (IsOfName most names name) (sym kept.1) is
 
 pub names_heard : {T : Type 0} (r : Result T TreeFault) (last : Option Failure) (text : List ℕ) (why : FailureReason) → IfSome last (IsAt text why) → IsNamesCause why → OnDevice r (IfSome last (IsOfNames text))
 names_heard (Ok x) last text why kept is = tt

@@ -1,5 +1,6 @@
 -- The failure that a folder keeps.
-use Rattle.std.specs.Prelude.{◌≡◌, ◌⊎◌, ℕ, ◌<◌, ◌≤◌, ◌++◌, ⊤, false, [], List, length, Option, IfSome, IsSomeAnd, Result, Ok, Err, String, string_bytes}
+use Rattle.std.specs.Prelude.{◌≡◌, ◌⊎◌, ℕ, ◌<◌, ◌≤◌, ◌++◌, ⊤, false, [], List, length, Option, None, Some, IfSome, IsSomeAnd, Result, Ok, Err, String, Vec, string_bytes}
+use Rattle.std.specs.Option.{option_map}
 use Rattle.std.specs.Global.{Global}
 use Rattle.std.specs.declared.io.Error.{Error}
 use Rattle.pt_tree.specs.declared.faults.TreeFault.{TreeFault}
@@ -16,11 +17,23 @@ use Rattle.pt_tree.specs.declared.kind.Kind.{Kind}
 
 -- the failure of a call on this path, for this cause
 abbrev pub failure_at : String Global → FailureReason → Failure
-failure_at path why = record { path = path; cause = why }
+failure_at path why = record { path = path; cause = why; name = None }
 
--- it was at this path, for this cause
+-- it was at this path, for this cause, and of no name
 abbrev pub IsAt : List ℕ → FailureReason → Failure → Type 0
-IsAt path why f = (string_bytes f.path ≡ path) × (f.cause ≡ why)
+IsAt path why f = (string_bytes f.path ≡ path) × (f.cause ≡ why) × (f.name ≡ None)
+
+-- the failure of a listing of the directory at this path, for these bytes, which are no name
+abbrev pub failure_for_name : String Global → Vec ℕ Global → Failure
+failure_for_name path name = record { path = path; cause = cause.Name; name = Some name }
+
+-- the bytes for which it was, if they are no name
+abbrev pub name_of : Failure → Option (List ℕ)
+name_of f = option_map (λ name. name.items) f.name
+
+-- it was for these bytes, which the directory at this path gave
+abbrev pub IsForName : List ℕ → List ℕ → Failure → Type 0
+IsForName path name f = (string_bytes f.path ≡ path) × (f.cause ≡ cause.Name) × (name_of f ≡ Some name)
 
 -- where the device failed, this holds
 abbrev pub OnDevice : {T : Type 0} → Result T TreeFault → Type 0 → Type 0
@@ -86,9 +99,10 @@ IsNamesCause cause.Entries = ⊤
 IsNamesCause cause.Endless = ⊤
 IsNamesCause _ = ⊥
 
--- of a directory: its names aren't had
+-- of a directory: its names aren't had; what is kept of one that isn't added is no name
 abbrev pub IsOfNames : List ℕ → Failure → Type 0
 IsOfNames text f = (string_bytes f.path ≡ text) × IsNamesCause f.cause
+    × IfSome (name_of f) (λ name. is_name name ≡ false)
 
 -- of an entry in a directory: looking at it failed; or its name comes twice
 abbrev pub IsOfEntry : {S : Type 0} → (S → List ℕ → Result Kind Error → S → Type 0) → List ℕ

@@ -1,13 +1,14 @@
 //! The last failure of a folder: the path of the call that failed, and why.
-ghost use Rattle.std.specs.Prelude.{◌≡◌, IfSome, Some, string_bytes};
+ghost use Rattle.std.specs.Prelude.{◌≡◌, IfOk, IfSome, Some, string_bytes};
+ghost use Rattle.std.specs.Option.{option_map};
 ghost use Rattle.std.specs.IoError.{error_kind};
 ghost use Rattle.pt_tree.specs.declared.faults.TreeFault.TheVariants.{Device};
 ghost use Rattle.pt_folder.specs.Folder.{fault_of_kind};
-ghost use Rattle.pt_folder.specs.Failure.{IsAt, failure_at};
+ghost use Rattle.pt_folder.specs.Failure.{IsAt, IsForName, failure_at, failure_for_name, name_of};
 
 use crate::folder::fault_of;
 use pt_tree::TreeFault;
-use std::alloc::Global;
+use std::alloc::{AllocError, Global};
 use std::{fmt, io};
 
 /// Why a call of a folder failed: the system's own error, or one of the folder's own rules.
@@ -54,6 +55,7 @@ impl fmt::Display for FailureReason {
 pub struct Failure {
     path: String,
     cause: FailureReason,
+    name: Option<Vec<u8>>,
 }
 
 impl Failure {
@@ -61,7 +63,22 @@ impl Failure {
     pub fn at(path: String, cause: FailureReason) -> Failure
         ensures { result ≡ failure_at path cause }
     {
-        Failure { path, cause }
+        Failure {
+            path,
+            cause,
+            name: None,
+        }
+    }
+
+    /// A failure of a listing at a directory's path, for these bytes, which are no name that an entry may have.
+    pub fn for_name(path: String, name: Vec<u8>) -> Failure
+        ensures { result ≡ failure_for_name path name }
+    {
+        Failure {
+            path,
+            cause: FailureReason::Name,
+            name: Some(name),
+        }
     }
 
     /// The path of the call that failed.
@@ -76,6 +93,16 @@ impl Failure {
         ensures { result ≡ self.now.cause }
     {
         self.cause
+    }
+
+    /// Of a directory's name that no entry may have: its bytes.
+    pub fn name(&self) -> Option<&[u8]>
+        ensures { option_map (λ bytes. bytes.now) result ≡ name_of self.now }
+    {
+        match &self.name {
+            Some(name) => Some(name.as_slice()),
+            None => None,
+        }
     }
 }
 
@@ -100,6 +127,17 @@ impl Last {
     {
         self.failure = match String::from_str(self.alloc, path) {
             Ok(path) => Some(Failure::at(path, cause)),
+            Err(_) => None,
+        };
+    }
+
+    /// Keeps a failure at a copy of a directory's path, for a copy of these bytes, which are no name that an entry may have; none is kept
+    /// where there is no memory for the copies.
+    pub fn keep_name(&mut self, path: &str, name: &[u8])
+        ensures { IfSome self.new.failure (IsForName path.now name.now) }
+    {
+        self.failure = match copied(self.alloc, path, name) {
+            Ok(failure) => Some(failure),
             Err(_) => None,
         };
     }
@@ -131,4 +169,12 @@ impl Last {
         self.keep(path, FailureReason::System(error));
         TreeFault::Device
     }
+}
+
+// A failure at a copy of a directory's path, for a copy of these bytes.
+fn copied(alloc: Global, path: &str, name: &[u8]) -> Result<Failure, AllocError>
+    ensures { IfOk result (IsForName path.now name.now) }
+{
+    let path = String::from_str(alloc, path)?;
+    Ok(Failure::for_name(path, Vec::from_slice(alloc, name)?))
 }

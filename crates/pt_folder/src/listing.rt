@@ -182,7 +182,7 @@ fn add_name(
         Ok(name) => names.push(name).map_err(|_| TreeFault::Memory),
         Err(NameFault::Memory) => Err(TreeFault::Memory),
         Err(_) => {
-            last.keep_copy(text, FailureReason::Name);
+            last.keep_name(text, bytes);
             Err(TreeFault::Device)
         }
     }
