@@ -18,3 +18,6 @@ returns-in_default c =
       order = by_keys a b c.cmp.result long_a long_b are_a are_b keys c.in_default.not-Equal;
       counted = refl;
     }
+
+pub returns-in-Equal-clause-order : goal.returns-in-Equal-clause-order
+returns-in-Equal-clause-order c = grind arith steps 100000
