@@ -1,5 +1,5 @@
 -- What stands in a list of identifiers, once it is sorted and each is there once; and what a search in it finds.
-use Rattle.std.proofs.Common.{◌≡◌, ◌<◌, ◌≤◌, ◌+◌, ℕ, zero, suc, Bool, true, false, List, [], ◌∷◌, ◌∙◌, ap, arith, length, map, refl, subst, sym, get_or, add-one, inl, inr}
+use Rattle.std.proofs.Common.{◌≡◌, ◌<◌, ◌≤◌, ℕ, zero, suc, Bool, true, false, List, [], ◌∷◌, ◌∙◌, ap, arith, length, map, refl, subst, sym, get_or, add-one, inl, inr}
 use Rattle.std.specs.Cmp.{IsTotalOrder, both_ways, on_equiv}
 use Rattle.std.specs.Cmp.Lexicographic.{nat_list_cmp_total, nat_list_eq_equiv, slice_cmp}
 use Rattle.std.specs.Global.{Global}
