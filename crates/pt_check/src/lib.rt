@@ -26,7 +26,7 @@
 //! nothing grows with the objects.
 //!
 //! Not told is the cause `reserved`, and without reading whole the length of a file. Of a folder in which a name isn't UTF-8 the reason tells that,
-//! and not which name; its entries aren't visited.
+//! and its entries aren't visited.
 #![tactic(auto)]
 
 mod checking;

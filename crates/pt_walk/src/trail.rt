@@ -115,7 +115,7 @@ impl Trail {
         self.path_below(NamePath::with_room(*self.frames.allocator(), room)?)
     }
 
-    /// That path behind another, for which there is no room to be made at its front then.
+    /// That path behind another: so no name has to move to make room in front.
     pub fn path_below(&self, above: NamePath) -> Result<NamePath, MemoryFault>
         ensures { IfOk result (λ path. path ≡ above ++ trail_path self.now) }
     {

@@ -6,7 +6,8 @@ use std::alloc::{AllocError, Global};
 use std::collections::VecDeque;
 use std::marker::Model;
 
-// How many positions a row has room for.
+// How many positions a row has room for: all are full but the last. A new one moves a quarter of its row on average, and one of each
+// later row; in one list it would move half of all.
 pub(crate) const ROW: usize = 4096;
 
 // Positions in a block of memory for a whole row, seen as their list.
