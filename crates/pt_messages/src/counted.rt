@@ -23,6 +23,9 @@ pub struct LineCounts {
     bytes: u64,
     present: u64,
     absent: u64,
+    // Those of what the store lacks.
+    extra: u64,
+    stray: u64,
     // Those of objects that differ, and of skips, by the words above.
     differing: [u64; 5],
     skipped: [u64; 9],
@@ -101,6 +104,8 @@ impl LineCounts {
             bytes: 0,
             present: 0,
             absent: 0,
+            extra: 0,
+            stray: 0,
             differing: [0; 5],
             skipped: [0; 9],
         }
@@ -119,6 +124,8 @@ impl LineCounts {
             }
             "present" => self.present = self.present.saturating_add(1),
             "absent" => self.absent = self.absent.saturating_add(1),
+            "extra" => self.extra = self.extra.saturating_add(1),
+            "stray" => self.stray = self.stray.saturating_add(1),
             "differs" => add_word(&REASONS, &mut self.differing, last_word(rest)),
             "skip" => add_word(&CAUSES, &mut self.skipped, last_word(rest)),
             _ => {}
@@ -134,13 +141,17 @@ impl LineCounts {
                 lines.put_number("done", self.well)?;
                 lines.put_number("present", self.present)?;
             }
-            Words::Audit => {
+            Words::Audit | Words::BothWays => {
                 lines.put_number("absent", self.absent)?;
                 lines.put_number("differs", sum(&self.differing))?;
                 lines.put_number("same", self.well)?;
                 let whys = with_counts(record.empty(), &REASONS, &self.differing)?;
                 record.put_members("differs", whys)?;
             }
+        }
+        if let Words::BothWays = words {
+            lines.put_number("extra", self.extra)?;
+            lines.put_number("stray", self.stray)?;
         }
         lines.put_number("skip", sum(&self.skipped))?;
         record.put_members("lines", lines)?;
@@ -163,13 +174,25 @@ impl LineCounts {
                 format!(in alloc; "{well} done, {present} present, {skipped}, {files}, {bytes}")
             }
             Words::Audit => {
-                let absent = group_digits(alloc, self.absent)?;
-                let differ = with_words(alloc, "different", &REASONS, &self.differing)?;
+                let others = self.others(alloc)?;
+                format!(in alloc; "{well} same, {others}, {skipped}, {files}, {bytes}")
+            }
+            Words::BothWays => {
+                let others = self.others(alloc)?;
+                let extra = group_digits(alloc, self.extra)?;
+                let stray = group_digits(alloc, self.stray)?;
                 format!(in alloc;
-                    "{well} same, {absent} absent, {differ}, {skipped}, {files}, {bytes}"
+                    "{well} same, {others}, {extra} extra, {stray} stray, {skipped}, {files}, {bytes}"
                 )
             }
         }
+    }
+
+    // How many objects an audit found otherwise: as `2 absent, 1 different (bytes 1)`.
+    fn others(&self, alloc: Global) -> Result<String, AllocError> {
+        let absent = group_digits(alloc, self.absent)?;
+        let differ = with_words(alloc, "different", &REASONS, &self.differing)?;
+        format!(in alloc; "{absent} absent, {differ}")
     }
 }
 

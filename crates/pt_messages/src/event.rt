@@ -138,7 +138,7 @@ impl Outcome {
     // The text of a fault, which is this of a run: an audit only reads its destination.
     fn text_of<'a>(&self, fault: &Fault, text: &'a str) -> &'a str {
         match (self.words, fault) {
-            (Words::Audit, Fault::Dest) => "cannot read the destination",
+            (Words::Audit | Words::BothWays, Fault::Dest) => "cannot read the destination",
             _ => text,
         }
     }

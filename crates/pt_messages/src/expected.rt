@@ -7,9 +7,9 @@ use crate::shown::escaped;
 use std::alloc::AllocGlobal;
 
 // How many bytes at a log's end are read; an end line has fewer.
-const TAIL: usize = 128;
+const TAIL: usize = 256;
 
-/// The number of lines that a log's end line counts, if a log is named. Standard error is told where it can't be read, or has no end line.
+/// The number of lines on the store that a log's end line counts, if a log is named. Standard error is told where it can't be read, or has no end line.
 pub fn lines_expected<R: Reads + Eprint + AllocGlobal>(rt: &R, log: Option<&str>) -> Option<u64>
     ensures { AsksEnd R.ends rt.now (option_map (λ path. path.now) log.entry) }
 {
@@ -30,15 +30,17 @@ pub fn lines_expected<R: Reads + Eprint + AllocGlobal>(rt: &R, log: Option<&str>
     counted
 }
 
-// What the last line of these bytes counts, if they are a text that ends with an end line.
+// What the last line of these bytes counts, if they end with an end line. They may begin inside of a character.
 fn counted_in(bytes: &[u8]) -> Option<u64> {
-    match str::from_utf8(bytes) {
+    let begin = bytes.iter().position(|byte| byte & 0xc0 != 0x80)?;
+    match str::from_utf8(bytes.get(begin..)?) {
         Ok(text) => last_count(text),
         Err(_) => None,
     }
 }
 
-// What the last line of a text counts, if it is an end line, of a run's log or of an audit's.
+// What the last line of a text counts of the store, if it is an end line, of a run's log or of an audit's. How far an audit is doesn't count
+// what the root has beside.
 fn last_count(text: &str) -> Option<u64> {
     match text.rsplit_once("{\"as\":\"end\",\"done\":") {
         Some((_, counts)) => {
@@ -49,9 +51,19 @@ fn last_count(text: &str) -> Option<u64> {
         None => {
             let (_, counts) = text.rsplit_once("{\"absent\":")?;
             let (absent, counts) = counts.split_once(",\"as\":\"end\",\"differs\":")?;
-            let (differs, counts) = counts.split_once(",\"same\":")?;
-            let (same, counts) = counts.split_once(",\"skip\":")?;
-            sum(&[absent, differs, same, counts.strip_suffix("}\n")?])
+            match counts.split_once(",\"extra\":") {
+                Some((differs, counts)) => {
+                    let (_, counts) = counts.split_once(",\"same\":")?;
+                    let (same, counts) = counts.split_once(",\"skip\":")?;
+                    let (skip, _) = counts.split_once(",\"stray\":")?;
+                    sum(&[absent, differs, same, skip])
+                }
+                None => {
+                    let (differs, counts) = counts.split_once(",\"same\":")?;
+                    let (same, counts) = counts.split_once(",\"skip\":")?;
+                    sum(&[absent, differs, same, counts.strip_suffix("}\n")?])
+                }
+            }
         }
     }
 }

@@ -3,8 +3,8 @@
 //! `Watched` is a source: it meets the contract of the trait by that of the source within, which stays the one that it is; so what is proved of
 //! a run holds of a watched one. What is shown and said has no contract, but that each function is safe and ends.
 //!
-//! `Reads` is what can be read of files beside a run: the end of a log, and a store's prefix. Its calls change nothing. `lines_expected` asks
-//! for the end of the log that is named, if one is (`AsksEnd`); what it makes of it is shown only.
+//! `Reads` is what can be read of files beside a run: the end of a log, a list of identifiers, and a store's prefix. Its calls change nothing.
+//! `lines_expected` asks for the end of the log that is named, if one is (`AsksEnd`); what it makes of it is shown only.
 //!
 //! `Event` is the record of a run or an audit that `--event` asks for, as a text; who calls it writes that.
 #![tactic(auto)]
@@ -28,6 +28,7 @@ pub use expected::lines_expected;
 pub use members::Members;
 pub use reads::Reads;
 pub use reason::Why;
+pub use shown::escaped;
 pub use tally::Tally;
 pub use terminal::Terminals;
 pub use watch::{Progress, Watched, Watching, Words};

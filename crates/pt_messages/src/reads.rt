@@ -1,5 +1,6 @@
 //! Files that are read beside a run.
-ghost use Rattle.std.specs.Prelude.{⊤, ℕ, List};
+ghost use Rattle.std.specs.Prelude.{⊤, ℕ, List, Vec};
+ghost use Rattle.std.specs.Global.{Global};
 ghost use Rattle.std.specs.declared.io.Error.{Error};
 ghost use Rattle.std.specs.declared.result.Result.{Result};
 
@@ -19,9 +20,16 @@ pub trait Reads {
     /// Reading the end of the file at a path may be answered so, and leave these bytes in the room for it.
     ghost ends: { Self → List ℕ → List ℕ → Result ℕ Error → Type 0 };
 
+    /// Reading the file at a path whole may be answered so.
+    ghost gives: { Self → List ℕ → Result (Vec ℕ Global) Error → Type 0 };
+
     /// Reads the last bytes of the file at a path, links followed, and gives how many there are: as many as there is room for, or all.
     fn read_end(&self, path: &str, end: &mut [u8]) -> io::Result<usize>
         ensures { ends self.now path.now end.new result };
+
+    /// What the file at a path holds, links followed.
+    fn read_whole(&self, path: &str) -> io::Result<Vec<u8>>
+        ensures { gives self.now path.now result };
 
     /// What the file at a path holds, links not followed; none where it is no file, or has more bytes than `most`.
     fn read_small(&self, path: &str, most: u64) -> io::Result<Option<Vec<u8>>>;
@@ -37,6 +45,8 @@ pub trait Reads {
 impl Reads for HostRuntime {
     ghost ends = { λ _ _ _ _. ⊤ };
 
+    ghost gives = { λ _ _ _. ⊤ };
+
     fn read_end(&self, path: &str, end: &mut [u8]) -> io::Result<usize> {
         let length = self.metadata(path)?.len();
         let mut options = OpenOptions::new();
@@ -44,6 +54,10 @@ impl Reads for HostRuntime {
         let mut file = self.open_file(&options, path)?;
         file.seek(SeekFrom::Start(length.saturating_sub(end.len() as u64)))?;
         file.read(end)
+    }
+
+    fn read_whole(&self, path: &str) -> io::Result<Vec<u8>> {
+        fs::read(self, path)
     }
 
     fn read_small(&self, path: &str, most: u64) -> io::Result<Option<Vec<u8>>> {

@@ -48,6 +48,8 @@ pub enum Words {
     Run,
     /// Those of an audit.
     Audit,
+    /// Those of an audit that tells of what the store lacks too.
+    BothWays,
 }
 
 /// A source that is watched, and is the source in all else.
@@ -222,7 +224,7 @@ impl<'a, S: Source, R: Clock + Eprint + Terminals> Watched<'a, S, R> {
         };
         let (carried, other) = match self.words {
             Words::Run => ("done", "present"),
-            Words::Audit => ("same", "not the same"),
+            Words::Audit | Words::BothWays => ("same", "not the same"),
         };
         let (done, present) = (group_digits(alloc, done)?, group_digits(alloc, present)?);
         let skipped = group_digits(alloc, skipped)?;
