@@ -1,8 +1,9 @@
 -- That the steps of an audit are within its bounds.
-use Rattle.std.proofs.Common.{◌≡◌, ◌≤◌, ◌+◌, ◌∙◌, ℕ, ap, arith, refl, subst}
-use Rattle.std.specs.Prelude.{Option, Result, Ok, Err, IfOk, OnOk}
+use Rattle.std.proofs.Common.{◌≡◌, ◌≤◌, ◌+◌, ◌∙◌, ℕ, ap, arith, refl, subst, sym}
+use Rattle.std.specs.Prelude.{Option, Result, Ok, Err, IfOk}
 use Rattle.std.specs.Option.{ForSome}
-use Rattle.pt_audit.specs.Bounds.{IsMade, IsMadeFrom, NoStep, OneMore, Surveyed}
+use Rattle.pt_audit.specs.Bounds.{IsMade, IsMadeFrom, NoStep, OneMore, Surveyed, counts_in}
+use Rattle.pt_audit.specs.declared.auditing.Audited.{Audited}
 use Rattle.pt_audit.specs.declared.counts.Counts.{Counts}
 use Rattle.pt_move.specs.Running.{IsNew, Running}
 use Rattle.pt_plan.specs.declared.fault.Fault.{Fault}
@@ -45,12 +46,15 @@ module _ {source : Option Forest} {first : Running} where
 pub made_within : {job : own.Job} {source : Option Forest} {first : Running} {result : Result Counts Fault} → IsNew job first → IsMadeFrom source first result → IsMade job source result
 made_within {first = first} new made = record { first = first; new = new; made = made; within = few_steps new made.steps; work = work_steps new made.steps }
 
--- ---- by the answer
+-- whatever comes behind it, if that tells its counts
+pub made_by : {job : own.Job} {source : Option Forest} {result : Result Counts Fault} (last : Result Counts Fault) → IfOk last (λ counts. result ≡ Ok counts) → IsMade job source result → IsMade job source last
+made_by {job} {source} (Ok counts) is it = subst (IsMade job source) is it
+made_by (Err why) is it = record { first = it.first; new = it.new; made = record { count = it.made.count; last = it.made.last; steps = it.made.steps; ended = tt }; within = it.within; work = it.work }
 
-pub first_of : (A : Counts → Type 0) (B : Type 0) (result : Result Counts Fault) → IfOk result (λ counts. A counts × B) → IfOk result A
-first_of A B (Ok counts) both = both.0
-first_of A B (Err why) both = tt
+pub made_stopped : {job : own.Job} {source : Option Forest} {result : Result Counts Fault} (last : Result Audited Fault) (why : Fault) → last ≡ Err why → IsMade job source result → IsMade job source (counts_in last)
+made_stopped {job} {source} last why is it = subst (λ (r : Result Audited Fault). IsMade job source (counts_in r)) (sym is) (made_by (Err why) tt it)
 
-pub second_of : (A : Counts → Type 0) (B : Type 0) (result : Result Counts Fault) → IfOk result (λ counts. A counts × B) → OnOk result B
-second_of A B (Ok counts) both = both.1
-second_of A B (Err why) both = tt
+-- by the end line, which gives the counts again
+pub made_end : {job : own.Job} {source : Option Forest} {counts : Counts} (Told : Type 0) (last : Result Counts Fault) → IfOk last (λ told. (told ≡ counts) × Told) → IsMade job source (Ok counts) → IsMade job source last
+made_end Told (Ok told) puts it = made_by (Ok told) (ap (λ (c : Counts). Ok c) (sym puts.0)) it
+made_end Told (Err why) puts it = made_by (Err why) tt it

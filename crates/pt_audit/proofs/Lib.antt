@@ -8,7 +8,7 @@ pub mod Saying
 mod Pacing
 mod Following
 mod AuditRules
-mod Bounding
+pub mod Bounding
 mod Files
 pub mod Alone
 pub mod Seen
@@ -18,4 +18,4 @@ pub mod Working
 pub mod Steps
 mod SurveyRules
 mod Stopping
-mod ToldFront
+pub mod ToldFront

@@ -150,6 +150,25 @@ log_fails _ a b old new it = absurd it
 pub same_failures : {a b c a' b' c' : ℕ} {x : Bool} → BlamesRightly {T = Bool} (failures a b c) (failures a' b' c') (Ok x) → failures a' b' c' ≡ failures a b c
 same_failures it = λ i. failures (it.source i) (it.root i) (it.log i)
 
+-- whom an answer blames whose calls fail so
+pub blames_by : {T : Type 0} (result : Result T Fault) (old new : Failures) → FailsAs result old new → BlamesRightly old new result
+blames_by (Ok x) old new it = record { source = ap (λ (f : Failures). f.source) it; root = ap (λ (f : Failures). f.dest) it; log = ap (λ (f : Failures). f.log) it }
+blames_by (Err fault.Source) old new it = record { source = it.0; root = it.1; log = it.2 }
+blames_by (Err fault.Dest) old new it = record { source = it.0; root = it.1; log = it.2 }
+blames_by (Err fault.Log) old new it = record { source = it.0; root = it.1; log = it.2 }
+blames_by (Err fault.Memory) old new it = record { source = ap (λ (f : Failures). f.source) it; root = ap (λ (f : Failures). f.dest) it; log = ap (λ (f : Failures). f.log) it }
+blames_by (Err _) old new it = absurd it
+
+-- the end line's alone
+pub end_fails : {T : Type 0} (result : Result T Fault) (a b old new : ℕ) → FailsAs result (failures 0 0 old) (failures 0 0 new) → FailsAs result (failures a b old) (failures a b new)
+end_fails (Ok x) a b old new it = ap (λ (f : Failures). failures a b f.log) it
+end_fails (Err why) a b old new it = log_fails why a b old new it
+
+-- and what they say
+pub says_by : {T : Type 0} (result : Result T Fault) (job : own.Job) (source root : Option Forest) (old new : Failures) → FailsAs result old new → IfErr result (AuditSays job source root)
+says_by (Ok x) job source root old new it = tt
+says_by (Err why) job source root old new it = says_failed job source root why old new it
+
 -- whom both blame
 pub blames_told : (why : Fault) (a b c a' b' c' a'' b'' c'' : ℕ) → a' ≡ a → b' ≡ b → c' ≡ c → TellFails {T = StepTold} (Err why) (failures a' b' c') (failures a'' b'' c'') → BlamesRightly {T = Bool} (failures a b c) (failures a'' b'' c'') (Err why)
 blames_told why a b c a' b' c' a'' b'' c'' sa sb sc it =

@@ -7,14 +7,14 @@ use Rattle.std.specs.Io.KnownBytes.{Appends}
 use Rattle.std.proofs.lemmas.Bool.{true≢false}
 use Rattle.std.proofs.lemmas.List.{drop-map}
 use Rattle.std.proofs.lemmas.Option.{slice_get-get_or}
-use Rattle.pt_audit.specs.Auditing.{CanCompare, EndsAs, Finds, GoesOn as AuditGoesOn, Nothing, HasToldOf, IsAt, IsFoundAtHand, IsFoundOf, IsSeen, IsTwinAtHand, IsUnderWay, CanGoOn, Leads, Next, is_told, Passes, TellsOf, Told, counted, last_text, sought, sought_at_hand, start_over, told_at}
+use Rattle.pt_audit.specs.Auditing.{AllToldAs, AuditStart, CanCompare, EndsAs, Finds, GoesOn as AuditGoesOn, HasSeenAll, IsAllTold, IsAuditLog, Nothing, HasToldOf, IsAt, IsFoundAtHand, IsFoundOf, IsSeen, IsTwinAtHand, IsUnderWay, CanGoOn, Leads, Next, is_told, Passes, TellsOf, Told, counted, last_text, sought, sought_at_hand, start_over, told_at}
 use Rattle.pt_audit.specs.Counting.{counts_with, no_counts}
 use Rattle.pt_audit.specs.Layout.{IsOfLayout}
 use Rattle.pt_audit.specs.Twin.{is_differing, is_twin}
 use Rattle.pt_audit.specs.Lines as audit
 use Rattle.pt_audit.specs.declared.counts.Counts.{Counts}
 use Rattle.pt_invariant.specs.HeldInvariant.{HeldAt}
-use Rattle.pt_invariant.specs.SourceInvariant.{SourcePart}
+use Rattle.pt_invariant.specs.SourceInvariant.{SourceAt, SourcePart}
 use Rattle.pt_invariant.proofs.ends.Permitted.{may_open_row}
 use Rattle.pt_compare.specs.Found.{IsFound, Sought}
 use Rattle.pt_compare.specs.Marks.{inside}
@@ -90,7 +90,7 @@ no_hand r is none =
     subst (λ (p : Phase). IsHandAt p r.state None) here.1 none
 
 -- the survey is at its end
-end_at : (here : Phase) → sight_at here ≡ sight.End → here ≡ phase.End
+pub end_at : (here : Phase) → sight_at here ≡ sight.End → here ≡ phase.End
 end_at phase.End is = refl
 end_at (phase.Carrying object (stage.Read zero)) is = absurd (cc)
 end_at (phase.Carrying object (stage.Read (suc bytes))) is = absurd (cc)
@@ -355,23 +355,38 @@ told_object told again source root first now new counts r at finding twin text j
 
 -- ---- the end
 
-pub told_end : (told : Option Reading) (source root : Option Forest) (first now new : Option (List ℕ)) (counts : Counts) (r : Running) → sight_at r.phase ≡ sight.End → source_tree told ≡ source → Appends now new (last_text (counted counts r))
-    → IsSeen told (start_over source root first) now counts r → EndsAs (job_of r.state.job) source root first new (counted counts r)
-told_end told source root first now new counts r is tree puts it = λ s e o f old g.
-    let had = it.so_far s e o f old g in
-    let told_is = reading_of told (tree ∙ e) in
-    let part = subst (λ (p : Phase). SourcePart (job_of r.state.job) it.is.past p (string_bytes r.state.prefix) (held_of r.state it.is.fed) told_is.0) (end_at r.phase is) (it.is.is.source told_is.0 told_is.1) in (
-      had.0 ++ last_text (counted counts r),
-      put_behind old had.0 (last_text (counted counts r)) now new had.1 puts,
-      record {
-        count = it.count;
-        lines = had.0;
-        told = had.2;
-        all = subst (λ (t : Forest). drop it.count (items (job_of r.state.job) t) ≡ []) told_is.2 (subst (λ (n : ℕ). drop n (items (job_of r.state.job) told_is.0.tree) ≡ []) it.is.seen
-            (drop-map (item_of (job_of r.state.job) (prefix_of told_is.0.tree)) it.is.past.count (sites_of r.state.job.limits.depth told_is.0.tree) ∙ ap (map (item_of (job_of r.state.job) (prefix_of told_is.0.tree))) part.at.2));
-        whole = refl;
-      },
-    )
+pub seen_all : (told : Option Reading) (source root : Option Forest) (first now : Option (List ℕ)) (counts : Counts) (r : Running) → sight_at r.phase ≡ sight.End → source_tree told ≡ source
+    → IsSeen told (start_over source root first) now counts r → HasSeenAll (start_over source root first) now (counted counts r) r
+seen_all told source root first now counts r is tree it = record {
+  told = λ s e o f old g.
+      let had = it.so_far s e o f old g in
+      let told_is = reading_of told (tree ∙ e) in (
+        had.0,
+        had.1,
+        record {
+          count = it.count;
+          told = had.2;
+          all = subst (λ (t : Forest). drop it.count (items (job_of r.state.job) t) ≡ []) told_is.2 (subst (λ (n : ℕ). drop n (items (job_of r.state.job) told_is.0.tree) ≡ []) it.is.seen
+              (drop-map (item_of (job_of r.state.job) (prefix_of told_is.0.tree)) it.is.past.count (sites_of r.state.job.limits.depth told_is.0.tree) ∙ ap (map (item_of (job_of r.state.job) (prefix_of told_is.0.tree))) (at_end told_is.0 told_is.1).2));
+        },
+      );
+  layout = it.opened (ap is_before_sites (end_at r.phase is));
+  prefix = λ s e.
+      let told_is = reading_of told (tree ∙ e) in
+      (at_end told_is.0 told_is.1).1.read ∙ ap prefix_of told_is.2;
+}
+  where
+    at_end : (s : Reading) → told ≡ Some s → SourceAt (job_of r.state.job) s (string_bytes r.state.prefix) it.is.past.count phase.End (held_of r.state it.is.fed)
+    at_end s e = (subst (λ (p : Phase). SourcePart (job_of r.state.job) it.is.past p (string_bytes r.state.prefix) (held_of r.state it.is.fed) s) (end_at r.phase is) (it.is.is.source s e)).at
+
+-- with the end line behind it
+abbrev pub whole_log : {job : Job} {source root : Forest} {text : List ℕ} {counts : Counts} → IsAllTold job source root text counts → IsAuditLog job source root (text ++ last_text counts) counts
+whole_log {text = text} it = record { count = it.count; lines = text; told = it.told; all = it.all; whole = refl }
+
+pub told_end : (job : Job) (start : AuditStart) (now new : Option (List ℕ)) (counts : Counts) → AllToldAs job start now counts → Appends now new (last_text counts) → EndsAs job start.source start.root start.log new counts
+told_end job start now new counts told puts = λ s e r f old g.
+    let had = told s e r f old g in
+    (had.0 ++ last_text counts, put_behind old had.0 (last_text counts) now new had.1 puts, whole_log had.2)
 
 -- ---- what was found
 
@@ -414,9 +429,9 @@ on_more now counts r what more at it = goes_on now counts r what (sym at.saw) mo
 pub on_store : {told : Option Reading} {source root : Option Forest} {first : Option (List ℕ)} (now : Option (List ℕ)) (counts : Counts) (r : Running) (job : own.Job) → job ≡ r.state.job → ForSome root (IsOfLayout (job_of job)) → IsAt told sight.Store r → IsSeen told (start_over source root first) now counts r → IsUnderWay told (start_over source root first) now counts r
 on_store {root} now counts r job same layout at it = goes_on_store now counts r (sym at.saw) (subst (λ (j : own.Job). ForSome root (IsOfLayout (job_of j))) same layout) it
 
-pub on_end : (told : Option Reading) (what : SurveyEvent) (root : Option Forest) (first now new : Option (List ℕ)) (counts last : Counts) (r : Running) → what ≡ sight.End → IsAt told what r → last ≡ counted counts r → Appends now new (last_text last) → IsSeen told (start_over (source_tree told) root first) now counts r
-    → EndsAs (job_of r.state.job) (source_tree told) root first new (counted counts r) × CanGoOn root r
-on_end told what root first now new counts last r end at is puts it = (told_end told (source_tree told) root first now new counts r (sym at.saw ∙ end) refl (subst (λ (k : Counts). Appends now new (last_text k)) is puts) it, it.opened (ap is_before_sites (end_at r.phase (sym at.saw ∙ end))))
+pub on_end : (told : Option Reading) (what : SurveyEvent) (root : Option Forest) (first now : Option (List ℕ)) (counts : Counts) (r : Running) → what ≡ sight.End → IsAt told what r → IsSeen told (start_over (source_tree told) root first) now counts r
+    → HasSeenAll (start_over (source_tree told) root first) now (counted counts r) r
+on_end told what root first now counts r end at it = seen_all told (source_tree told) root first now counts r (sym at.saw ∙ end) refl it
 
 -- ---- a step, and what was told of it
 
@@ -455,16 +470,11 @@ pub same_trees : (more : Bool) (told : Option Reading) (source source' root root
 same_trees more told source source' root root' first now counts r is s o it =
     subst (λ (t : Option Forest). IsUnderWay told (start_over t root' first) now counts r) (sym s) (subst (λ (t : Option Forest). IsUnderWay told (start_over source t first) now counts r) (sym o) (subst (λ (b : Bool). AuditGoesOn b told (start_over source root first) now counts r) is it))
 
-pub same_end : (more : Bool) (job : own.Job) (told : Option Reading) (source source' root root' : Option Forest) (first now : Option (List ℕ)) (counts result : Counts) (r : Running) → more ≡ false → r.state.job ≡ job → result ≡ counted counts r → source' ≡ source → root' ≡ root → AuditGoesOn more told (start_over source root first) now counts r → EndsAs (job_of job) source' root' first now result
-same_end more job told source source' root root' first now counts result r is j k s o it =
-    subst (λ (x : own.Job). EndsAs (job_of x) source' root' first now result) j
-    (subst (λ (x : Counts). EndsAs (job_of r.state.job) source' root' first now x) (sym k)
-    (subst (λ (t : Option Forest). EndsAs (job_of r.state.job) t root' first now (counted counts r)) (sym s)
-    (subst (λ (t : Option Forest). EndsAs (job_of r.state.job) source t first now (counted counts r)) (sym o) (subst (λ (b : Bool). AuditGoesOn b told (start_over source root first) now counts r) is it).0)))
+pub same_end : (more : Bool) (told : Option Reading) (source source' root root' : Option Forest) (first now : Option (List ℕ)) (counts result : Counts) (r : Running) → more ≡ false → result ≡ counted counts r → source' ≡ source → root' ≡ root → AuditGoesOn more told (start_over source root first) now counts r
+    → HasSeenAll (start_over source' root' first) now result r
+same_end more told source source' root root' first now counts result r is k s o it =
+    subst (λ (x : Counts). HasSeenAll (start_over source' root' first) now x r) (sym k)
+    (subst (λ (t : Option Forest). HasSeenAll (start_over t root' first) now (counted counts r) r) (sym s)
+    (subst (λ (t : Option Forest). HasSeenAll (start_over source t first) now (counted counts r) r) (sym o) (subst (λ (b : Bool). AuditGoesOn b told (start_over source root first) now counts r) is it)))
 
-pub same_layout : (more : Bool) (job : own.Job) (told : Option Reading) (source root root' : Option Forest) (first now : Option (List ℕ)) (counts : Counts) (r : Running) → more ≡ false → r.state.job ≡ job → root' ≡ root → AuditGoesOn more told (start_over source root first) now counts r → ForSome root' (IsOfLayout (job_of job))
-same_layout more job told source root root' first now counts r is j o it =
-    subst (λ (x : own.Job). ForSome root' (IsOfLayout (job_of x))) j
-    (subst (λ (t : Option Forest). ForSome t (IsOfLayout (job_of r.state.job))) (sym o) (subst (λ (b : Bool). AuditGoesOn b told (start_over source root first) now counts r) is it).1)
-
-pub ruleset auditing = (no_hand, surveys_again, can_compare, at_object, on_store, on_end, surveys_on, first_step, same_trees, same_end, same_layout)
+pub ruleset auditing = (no_hand, surveys_again, can_compare, at_object, on_store, on_end, surveys_on, first_step, same_trees, same_end)

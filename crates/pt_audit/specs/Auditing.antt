@@ -1,9 +1,11 @@
 -- An audit: what it tells of the objects of a store and a storage root, and an audit under way.
 use Rattle.std.specs.Prelude.{◌≡◌, ℕ, suc, ◌+◌, ◌&&◌, All, Bool, true, false, List, [], ◌∷◌, ◌++◌, drop, map, min, Option, Some, Result, Ok, Err, slice_get, take}
 use Rattle.std.specs.Option.{ForSome}
+use Rattle.std.specs.String.{string_bytes}
 use Rattle.pt_audit.specs.Counting.{counts_with, no_counts}
 use Rattle.pt_audit.specs.Layout.{IsOfLayout}
 use Rattle.pt_audit.specs.Lines as audit
+use Rattle.pt_audit.specs.declared.auditing.Audited.{Audited}
 use Rattle.pt_audit.specs.declared.counts.Counts.{Counts}
 use Rattle.pt_compare.specs.Found.{IsFound, Sought}
 use Rattle.pt_compare.specs.Marks.{inside}
@@ -17,6 +19,7 @@ use Rattle.pt_object.specs.Object.{bytes_in, rows_of, stored_files}
 use Rattle.pt_plan.specs.Items.{Holds, Item, Named, PairtreeObject, items, outcome}
 use Rattle.pt_plan.specs.Job.{Job}
 use Rattle.pt_plan.specs.Lines.{Done, Line, Skipped, line_by_verdict, line_text}
+use Rattle.pt_plan.specs.Store.{prefix_of}
 use Rattle.pt_plan.specs.TurnWalk.{in_pairtree, in_root}
 use Rattle.pt_plan.specs.DeviceStates.{source_tree}
 use Rattle.pt_plan.specs.declared.fault.Fault.{Fault}
@@ -179,6 +182,51 @@ pub record CanCompare (told : Option Reading) (hand : AtHand) : Type 0 where
 abbrev pub last_text : Counts → List ℕ
 last_text counts = audit.line_text (audit.End counts.same counts.absent counts.differs counts.skipped)
 
+-- what is told of all items
+pub record IsAllTold (job : Job) (source root : Forest) (text : List ℕ) (counts : Counts) : Type 0 where
+  pub count : ℕ
+  pub told : Told job source root count text counts
+  pub all : drop count (items job source) ≡ []
+
+-- where all three were told, the log has got that
+abbrev pub AllToldAs : Job → AuditStart → Option (List ℕ) → Counts → Type 0
+AllToldAs job start now counts =
+    ForSome start.source
+    (λ s. ForSome start.root
+    (λ r. ForSome start.log
+    (λ old. (text : List ℕ) × (now ≡ Some (old ++ text)) × IsAllTold job s r text counts)))
+
+-- what is told of the first so many items
+abbrev pub IsOfItems : Job → Forest → Forest → List ℕ → Type 0
+IsOfItems job source root text = (count : ℕ) × (counts : Counts) × Told job source root count text counts
+
+-- where all three were told, the log has got a front of that
+abbrev pub FrontToldAs : Job → AuditStart → Option (List ℕ) → Type 0
+FrontToldAs job start now =
+    ForSome start.source
+    (λ s. ForSome start.root
+    (λ r. ForSome start.log
+    (λ old. (n : ℕ) × (text : List ℕ) × (now ≡ Some (old ++ take n text)) × IsOfItems job s r text)))
+
+-- by the answer it has got all, or a front of it, without the end line
+abbrev pub TellsItems : Job → AuditStart → Option (List ℕ) → Result Audited Fault → Type 0
+TellsItems job start now (Ok audited) = AllToldAs job start now audited.counts
+TellsItems job start now (Err why) = FrontToldAs job start now
+
+-- what each identifier of the store begins with is this
+abbrev pub IsPrefix : Option Forest → List ℕ → Type 0
+IsPrefix source prefix = ForSome source (λ s. prefix ≡ prefix_of s)
+
+-- of an audit that told of all items the job is given back, with what each identifier of the store begins with
+abbrev pub GivesBack : own.Job → Option Forest → Audited → Type 0
+GivesBack job source audited = (audited.job ≡ job) × IsPrefix source (string_bytes audited.prefix)
+
+-- a survey at its end has seen all, and all was told with these counts
+pub record HasSeenAll (start : AuditStart) (now : Option (List ℕ)) (counts : Counts) (r : Running) : Type 0 where
+  pub told : AllToldAs (job_of r.state.job) start now counts
+  pub layout : CanGoOn start.root r
+  pub prefix : IsPrefix start.source (string_bytes r.state.prefix)
+
 -- what is told of all items, and the end line
 pub record IsAuditLog (job : Job) (source root : Forest) (text : List ℕ) (counts : Counts) : Type 0 where
   pub count : ℕ
@@ -197,8 +245,7 @@ EndsAs job source root first now counts =
 
 -- what is told of the first so many items; or of all, with the end line
 pub data IsLogSoFar (job : Job) (source root : Forest) (text : List ℕ) : Type 0 where
-  OfItems : {count : ℕ} {counts : Counts} → Told job source root count text counts
-      → IsLogSoFar job source root text
+  OfItems : IsOfItems job source root text → IsLogSoFar job source root text
   WithEnd : {counts : Counts} → IsAuditLog job source root text counts → IsLogSoFar job source root text
 
 -- where both trees are told, and the log told this at first, it has got a front of that
@@ -218,17 +265,15 @@ LogsAs job source root first now (Err why) = StopsAs job source root first now
 abbrev pub StopsUnderWay : Option Reading → Option Forest → Option (List ℕ) → Counts → Running → Option (List ℕ) → Type 0
 StopsUnderWay told root now counts r new =
     (first : Option (List ℕ)) → IsUnderWay told (start_over (source_tree told) root first) now counts r
-    → StopsAs (job_of r.state.job) (source_tree told) root first new
+    → FrontToldAs (job_of r.state.job) (start_over (source_tree told) root first) new
 
 -- and so where a step was made, and of nothing was told that it came to
 abbrev pub StopsSeen : Option Reading → Option Forest → Option (List ℕ) → Counts → Running → Option (List ℕ) → Type 0
 StopsSeen told root now counts r new =
     (first : Option (List ℕ)) → IsSeen told (start_over (source_tree told) root first) now counts r
-    → StopsAs (job_of r.state.job) (source_tree told) root first new
+    → FrontToldAs (job_of r.state.job) (start_over (source_tree told) root first) new
 
--- a step leaves the audit under way, or ended with these counts
+-- a step leaves the audit under way, or at its end with these counts
 abbrev pub GoesOn : Bool → Option Reading → AuditStart → Option (List ℕ) → Counts → Running → Type 0
 GoesOn true told start now counts r = IsUnderWay told start now counts r
-GoesOn false told start now counts r =
-    EndsAs (job_of r.state.job) start.source start.root start.log now (counted counts r)
-    × CanGoOn start.root r
+GoesOn false told start now counts r = HasSeenAll start now (counted counts r) r

@@ -1,6 +1,7 @@
 -- Within which bounds an audit is made: steps of a survey, one after another.
-use Rattle.std.specs.Prelude.{◌≡◌, ◌≤◌, ◌+◌, ℕ, IfOk, Option, Result}
+use Rattle.std.specs.Prelude.{◌≡◌, ◌≤◌, ◌+◌, ℕ, IfOk, Option, Result, Ok, Err}
 use Rattle.std.specs.Option.{ForSome}
+use Rattle.pt_audit.specs.declared.auditing.Audited.{Audited}
 use Rattle.pt_audit.specs.declared.counts.Counts.{Counts}
 use Rattle.pt_move.specs.Running.{IsNew, Running}
 use Rattle.pt_plan.specs.declared.fault.Fault.{Fault}
@@ -19,6 +20,11 @@ pub data Surveyed (source : Option Forest) (first : Running) : ℕ → Running �
 -- all was seen, and so much was passed over
 abbrev pub AllSeen : Running → Counts → Type 0
 AllSeen r counts = (r.phase ≡ phase.End) × (counts.skipped ≡ r.state.counts.skipped)
+
+-- the counts of an audit that told of all items, or why it broke off
+abbrev pub counts_in : Result Audited Fault → Result Counts Fault
+counts_in (Ok audited) = Ok audited.counts
+counts_in (Err why) = Err why
 
 -- an audit goes on from this survey by so many steps, to its end where it answers Ok
 pub record IsMadeFrom (source : Option Forest) (first : Running) (result : Result Counts Fault) : Type 0 where

@@ -12,8 +12,9 @@ use Rattle.pt_plan.specs.declared.phase.Stage.TheVariants as stage
 use Rattle.pt_scan.specs.Blocks.{IsNextBlock, is_reading}
 use Rattle.pt_state.specs.States.{held_of, job_of}
 use Rattle.pt_state.specs.declared.state.State.{State}
-use Rattle.pt_audit.specs.Surveying.{Steps, passed}
+use Rattle.pt_audit.specs.Surveying.{Steps, passed, sight_at}
 use Rattle.pt_audit.specs.declared.survey.Opened.{Opened}
+use Rattle.pt_audit.specs.declared.survey.SurveyEvent.{SurveyEvent}
 use Rattle.pt_tree.specs.Source.{Reading}
 use Rattle.pt_walk.specs.Trail.{names_to}
 
@@ -53,6 +54,11 @@ ScansOn told told' before after =
 pub record MakesStep (told told' : Option Reading) (before after : Running) : Type 0 where
   pub steps : Steps (source_tree told) before after
   pub scans : ScansOn told told' before after
+
+-- such a step came to this
+pub record ComesTo (told told' : Option Reading) (before after : Running) (what : SurveyEvent) : Type 0 where
+  pub saw : what ≡ sight_at after.phase
+  pub made : MakesStep told told' before after
 
 -- it is the file that was just opened, if one was
 abbrev pub IsOpenedAt : Phase → State → Option Opened → Type 0

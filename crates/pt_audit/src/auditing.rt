@@ -1,21 +1,22 @@
 //! A whole audit.
-ghost use Rattle.std.specs.Prelude.{◌≡◌, ◌≢◌, ℕ, IfErr, IfOk, List, OnErr, OnOk, Option, Some, drop, length};
-ghost use Rattle.pt_audit.specs.Auditing.{EndsAs, GoesOn, IsFoundAtHand, IsSeen, IsTwinAtHand, IsUnderWay, LogsAs};
-ghost use Rattle.pt_audit.specs.Auditing.{StopsAs, StopsSeen, StopsUnderWay, counted, last_text, start_over};
+ghost use Rattle.std.specs.Prelude.{◌≡◌, ◌≢◌, ℕ, IfErr, IfOk, List, OnErr, OnOk, Option, Some};
+ghost use Rattle.pt_audit.specs.Auditing.{FrontToldAs, GivesBack, GoesOn, HasSeenAll, IsFoundAtHand, IsSeen};
+ghost use Rattle.pt_audit.specs.Auditing.{IsTwinAtHand, IsUnderWay, LogsAs, StopsSeen, StopsUnderWay, TellsItems};
+ghost use Rattle.pt_audit.specs.Auditing.{counted, last_text, start_over};
 ghost use Rattle.pt_audit.specs.declared.counts.Counts.{Counts};
 ghost use Rattle.std.specs.Bool.{OnFalse, OnTrue};
 ghost use Rattle.std.specs.Option.{ForSome};
 ghost use Rattle.std.specs.Io.KnownBytes.{Appends};
 ghost use Rattle.pt_tree.specs.Log.{AppendsFront};
 ghost use Rattle.pt_audit.specs.RootReader.{Begins, Follows, FollowsOn, Saw};
-ghost use Rattle.pt_audit.specs.Bounds.{IsMade, IsMadeFrom};
+ghost use Rattle.pt_audit.specs.Bounds.{IsMade, IsMadeFrom, counts_in};
 ghost use Rattle.pt_audit.specs.Failing.{AuditSays, BlamesRightly, FailsAs, TellFails, failures};
 ghost use Rattle.pt_audit.specs.Layout.{IsOfLayout};
 ghost use Rattle.pt_compare.specs.Root.{KeepsRoot, tree_in};
 ghost use Rattle.pt_state.specs.States.{job_of};
 ghost use Rattle.pt_plan.specs.DeviceStates.{source_tree};
 ghost use Rattle.pt_plan.specs.declared.phase.Phase.TheVariants as phase;
-ghost use Rattle.pt_audit.specs.Growing.{KeepsLog};
+ghost use Rattle.pt_audit.specs.Growing.{KeepsLog, KeepsSides};
 ghost use Rattle.pt_audit.specs.Surveying.{GoesOn as SurveyGoesOn, IsHand, IsSurvey, Steps, Surveys, sight_at};
 ghost use Rattle.pt_audit.specs.declared.survey.SurveyEvent.TheVariants as sight;
 
@@ -24,7 +25,7 @@ use crate::layout::check_layout;
 use crate::lines::{end_line, object_line};
 use crate::root_reader::RootReader;
 use crate::survey::{AtHand, Survey, SurveyEvent};
-use crate::twin::is_second;
+use crate::twin::{behind, is_second};
 use pt_compare::{Comparison, Root, Scanned, compare};
 use pt_move::{Job, Observer};
 use pt_plan::Fault;
@@ -67,13 +68,58 @@ pub fn audit<S: Source, R: Root, L: Log, O: Observer<Counts>>(
         (tree_in (R.told root.old))) }
     ensures made { IsMade job (source_tree (S.told source.old)) result }
 {
+    let audited = audit_objects(alloc, source, root, log, job, observer)?;
+    tell_end(alloc, audited.counts, log)
+}
+
+/// An audit that told of all objects, and not yet of its end.
+#[derive(Drop)]
+pub struct Audited {
+    /// How many lines there are of each kind.
+    pub counts: Counts,
+    /// What it was asked for.
+    pub job: Job,
+    /// What each identifier of the store begins with.
+    pub prefix: String,
+}
+
+/// The same as `audit`, but for the end line, which is left to the caller: after a fault the log has a front of what is told of the first
+/// items. It answers the faults of `audit`, and gives what the caller may go on with.
+pub fn audit_objects<S: Source, R: Root, L: Log, O: Observer<Counts>>(
+    alloc: Global,
+    source: &mut S,
+    root: &mut R,
+    log: &mut L,
+    job: Job,
+    observer: &O,
+) -> Result<Audited, Fault>
+    ensures ends { TellsItems (job_of job) (start_over (tree_in (S.told source.old))
+        (tree_in (R.told root.old)) (L.told log.old)) (L.told log.new) result }
+    ensures given { IfOk result (GivesBack job (tree_in (S.told source.old))) }
+    ensures layout { OnOk result (ForSome (tree_in (R.told root.old)) (IsOfLayout (job_of job))) }
+    ensures sides { KeepsSides S.told S.keeps R.told R.keeps (source.old, root.old)
+        (source.new, root.new) }
+    ensures log { KeepsLog L.told L.keeps log.old log.new }
+    ensures blames { BlamesRightly
+        (failures (S.failed source.old) (R.failed root.old) (L.failed log.old))
+        (failures (S.failed source.new) (R.failed root.new) (L.failed log.new)) result }
+    ensures says { IfErr result (AuditSays job (source_tree (S.told source.old))
+        (tree_in (R.told root.old))) }
+    ensures made { IsMade job (source_tree (S.told source.old)) (counts_in result) }
+{
     let mut auditor = Auditor {
         alloc,
         survey: Survey::start(alloc, job),
         beside: RootReader::new(alloc),
         counts: Counts::none(),
     };
-    auditor.go_through(source, root, log, observer)
+    let counts = auditor.go_through(source, root, log, observer)?;
+    let (job, prefix) = auditor.survey.into_parts();
+    Ok(Audited {
+        counts,
+        job,
+        prefix,
+    })
 }
 
 // An audit between two steps.
@@ -114,22 +160,21 @@ impl Auditor {
     ) -> Result<Counts, Fault>
         requires { Begins (S.told source.old) (R.told root.old) (L.told log.old)
             self.old.counts self.old.beside self.old.survey }
-        ensures ends { IfOk result (λ counts. EndsAs (job_of self.old.survey.state.job)
-            (tree_in (S.told source.old)) (tree_in (R.told root.old))
-            (L.told log.old) (L.told log.new) counts
-            × ForSome (tree_in (R.told root.old)) (IsOfLayout (job_of self.old.survey.state.job))) }
+        ensures ends { IfOk result (λ counts. HasSeenAll (start_over (tree_in (S.told source.old))
+            (tree_in (R.told root.old)) (L.told log.old)) (L.told log.new) counts self.new.survey
+            × (self.new.survey.state.job ≡ self.old.survey.state.job)) }
         ensures made { IsMadeFrom (source_tree (S.told source.old)) self.old.survey result }
-        ensures source { KeepsRoot S.told S.keeps source.old source.new }
-        ensures root { KeepsRoot R.told R.keeps root.old root.new }
+        ensures sides { KeepsSides S.told S.keeps R.told R.keeps (source.old, root.old)
+            (source.new, root.new) }
         ensures log { KeepsLog L.told L.keeps log.old log.new }
         ensures blames { BlamesRightly
             (failures (S.failed source.old) (R.failed root.old) (L.failed log.old))
             (failures (S.failed source.new) (R.failed root.new) (L.failed log.new)) result }
         ensures says { IfErr result (AuditSays self.old.survey.state.job
             (source_tree (S.told source.old)) (tree_in (R.told root.old))) }
-        ensures stops { OnErr result (StopsAs (job_of self.old.survey.state.job)
-            (tree_in (S.told source.old)) (tree_in (R.told root.old))
-            (L.told log.old) (L.told log.new)) }
+        ensures stops { OnErr result (FrontToldAs (job_of self.old.survey.state.job)
+            (start_over (tree_in (S.told source.old)) (tree_in (R.told root.old)) (L.told log.old))
+            (L.told log.new)) }
     {
         loop {
             let more = self.go_on(source, root, log)?;
@@ -168,8 +213,8 @@ impl Auditor {
             × Follows (S.told source.new) (R.told root.new) self.new.beside self.new.survey
             × OnFalse more (self.new.survey.phase ≡ phase.End)
             × OnTrue more (self.new.survey.phase ≢ phase.End)) }
-        ensures source { KeepsRoot S.told S.keeps source.old source.new }
-        ensures root { KeepsRoot R.told R.keeps root.old root.new }
+        ensures sides { KeepsSides S.told S.keeps R.told R.keeps (source.old, root.old)
+            (source.new, root.new) }
         ensures log { KeepsLog L.told L.keeps log.old log.new }
         ensures blames { BlamesRightly
             (failures (S.failed source.old) (R.failed root.old) (L.failed log.old))
@@ -203,8 +248,8 @@ impl Auditor {
         ensures still { IfOk result (λ it. Follows (S.told source.new) (R.told root.new)
             self.now.beside self.now.survey × OnFalse it.more (self.now.survey.phase ≡ phase.End)
             × OnTrue it.more (self.now.survey.phase ≢ phase.End)) }
-        ensures source { KeepsRoot S.told S.keeps source.old source.new }
-        ensures root { KeepsRoot R.told R.keeps root.old root.new }
+        ensures sides { KeepsSides S.told S.keeps R.told R.keeps (source.old, root.old)
+            (source.new, root.new) }
         ensures log { KeepsLog L.told L.keeps log.old log.new }
         ensures fails { TellFails result
             (failures (S.failed source.old) (R.failed root.old) (L.failed log.old))
@@ -232,13 +277,10 @@ impl Auditor {
                 let counts = self.tell_object(source, root, log)?;
                 Ok(StepTold { counts, more: true })
             }
-            SurveyEvent::End => {
-                tell_end(self.alloc, self.so_far(), log)?;
-                Ok(StepTold {
-                    counts: self.counts,
-                    more: false,
-                })
-            }
+            SurveyEvent::End => Ok(StepTold {
+                counts: self.counts,
+                more: false,
+            }),
         }
     }
 
@@ -259,8 +301,8 @@ impl Auditor {
             (start_over (tree_in (S.told source.old)) (tree_in (R.told root.old)) first)
             (L.told log.new) counts self.now.survey) }
         ensures still { OnOk result (Surveys (S.told source.new) self.now.survey) }
-        ensures source { KeepsRoot S.told S.keeps source.old source.new }
-        ensures root { KeepsRoot R.told R.keeps root.old root.new }
+        ensures sides { KeepsSides S.told S.keeps R.told R.keeps (source.old, root.old)
+            (source.new, root.new) }
         ensures log { KeepsLog L.told L.keeps log.old log.new }
         ensures fails { FailsAs result
             (failures (S.failed source.old) (R.failed root.old) (L.failed log.old))
@@ -353,8 +395,8 @@ fn see<S: Source, R: Root, L: Log>(
         (S.told source.new, L.told log.new) count survey.old survey.new) }
     ensures saw { IfOk result (λ what. Steps (source_tree (S.told source.old)) survey.old survey.new
         × Saw (S.told source.new) (R.told root.new) beside.new what survey.new) }
-    ensures source { KeepsRoot S.told S.keeps source.old source.new }
-    ensures root { KeepsRoot R.told R.keeps root.old root.new }
+    ensures sides { KeepsSides S.told S.keeps R.told R.keeps (source.old, root.old)
+        (source.new, root.new) }
     ensures log { KeepsLog L.told L.keeps log.old log.new }
     ensures blames { BlamesRightly
         (failures (S.failed source.old) (R.failed root.old) (L.failed log.old))
@@ -396,17 +438,10 @@ fn finds_twin<S: Source>(
     }
 }
 
-// What is behind so many bytes as a prefix has.
-fn behind<'a>(text: &'a [u8], prefix: &[u8]) -> &'a [u8]
-    ensures { result.now ≡ drop (length prefix.now) text.now }
-{
-    let (_, rest) = text.split_at(prefix.len().min(text.len()));
-    rest
-}
-
-// Tells the end, with the counts.
-fn tell_end<L: Log>(alloc: Global, counts: Counts, log: &mut L) -> Result<(), Fault>
-    ensures told { OnOk result (Appends (L.told log.old) (L.told log.new) (last_text counts)) }
+// Tells the end, with the counts, and gives these.
+fn tell_end<L: Log>(alloc: Global, counts: Counts, log: &mut L) -> Result<Counts, Fault>
+    ensures told { IfOk result (λ told. (told ≡ counts)
+        × Appends (L.told log.old) (L.told log.new) (last_text counts)) }
     ensures part { OnErr result (AppendsFront (L.told log.old) (L.told log.new)
         (last_text counts)) }
     ensures log { KeepsLog L.told L.keeps log.old log.new }
@@ -414,5 +449,6 @@ fn tell_end<L: Log>(alloc: Global, counts: Counts, log: &mut L) -> Result<(), Fa
         (failures 0 0 (L.failed log.new)) }
 {
     let line = end_line(alloc, &counts)?;
-    log.put(line.as_bytes()).map_err(Fault::of_log)
+    log.put(line.as_bytes()).map_err(Fault::of_log)?;
+    Ok(counts)
 }

@@ -8,6 +8,8 @@
 //!   is passed over that is a run's line; of an object what was found at its place, which is so (`IsFoundOf`). The object of each item is told
 //!   of, also a second one of an identifier. After a fault the log has got a front of what is told of the first items, or of all with the
 //!   end line (`StopsAs`): what it tells is so, and nothing else is told.
+//! - `audit_objects` is the same but for the end line, for who has more to tell before that: after all items the log has got just what is told of
+//!   them (`IsAllTold`), after a fault a front of what is told of the first (`TellsItems`); and job and prefix are given back (`GivesBack`).
 //! - An object that differs is told as a twin exactly where its site isn't the pairpath of its identifier without the prefix, and an object stands
 //!   at that, as a run judges what is listed there (`is_twin`).
 //! - Store and root are the same, with the same trees, and what stood in the log stands. A device is blamed exactly where it failed. A store is
@@ -54,8 +56,8 @@ mod root_reader;
 mod survey;
 mod twin;
 
-pub use auditing::audit;
+pub use auditing::{Audited, audit, audit_objects};
 pub use counts::Counts;
 pub use pt_compare::{Comparison, Difference, Root, Why};
 pub use survey::{AtHand, Opened, Survey, SurveyEvent};
-pub use twin::{object_stands, proper_site};
+pub use twin::{behind, object_stands, proper_site};

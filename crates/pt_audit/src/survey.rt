@@ -8,14 +8,14 @@ ghost use Rattle.std.specs.String.{string_bytes};
 ghost use Rattle.pt_move.specs.Bounds.{most_calls};
 ghost use Rattle.pt_move.specs.Running.{IsNew, TypeInvariant};
 ghost use Rattle.pt_plan.specs.Answer.{phase_after};
-ghost use Rattle.pt_audit.specs.Growing.{BlamesRightly, KeepsLog, KeepsTree, Leaves};
+ghost use Rattle.pt_audit.specs.Growing.{BlamesRightly, KeepsDevices, KeepsLog, KeepsTree, Leaves};
 ghost use Rattle.pt_plan.specs.DeviceStates.{source_tree};
 ghost use Rattle.pt_state.specs.Counting.{AtMostCalls};
 ghost use Rattle.pt_state.specs.States.{job_of};
 ghost use Rattle.pt_move.specs.Turning.{CountedTurn};
 ghost use Rattle.pt_plan.specs.declared.phase.Phase.TheVariants as phase;
 ghost use Rattle.pt_scan.specs.Blocks.{ReadsNext};
-ghost use Rattle.pt_audit.specs.Files.{IsOpened, MakesStep};
+ghost use Rattle.pt_audit.specs.Files.{ComesTo, IsOpened, MakesStep};
 ghost use Rattle.pt_audit.specs.Surveying.{GoesOn, IsHand, IsReady, IsSurvey, StopsAt, SurveySays, Surveys, bare_states, is_at_hand as is_at_hand_there, is_looking, passed as passed_phase, sight_at, unlogged_states};
 ghost use Rattle.pt_tree.specs.Forest.{is_proper};
 ghost use Rattle.pt_tree.specs.Source.{Reading};
@@ -129,8 +129,7 @@ impl Survey {
         ensures on { (count : ℕ) → IsSurvey (S.told source.old) count self.old
             → OnOk result (GoesOn (S.told source.old, L.told log.old)
             (S.told source.new, L.told log.new) count self.old self.new) }
-        ensures sight { IfOk result (λ sight. sight ≡ sight_at self.new.phase) }
-        ensures made { OnOk result (MakesStep (S.told source.old) (S.told source.new)
+        ensures came { IfOk result (ComesTo (S.told source.old) (S.told source.new)
             self.old self.new) }
         ensures source { KeepsTree S.told S.keeps source.old source.new
             × AtMostCalls (most_calls self.old.phase)
@@ -213,6 +212,14 @@ impl Survey {
         self.state.prefix.as_str()
     }
 
+    /// What it was asked for, and what each identifier begins with.
+    pub(crate) fn into_parts(self) -> (Job, String)
+        ensures { (result.0 ≡ self.state.job) × (result.1 ≡ self.state.prefix) }
+    {
+        let state = self.state;
+        (state.job, state.prefix)
+    }
+
     /// What it was asked for.
     pub fn job(&self) -> &Job
         ensures { result.now ≡ self.now.state.job }
@@ -248,9 +255,8 @@ fn stepped<S: Source, L: Log>(
     ensures made { IfOk result (λ next. MakesStep (S.told source.old) (S.told source.new)
         (record { phase = here; state = state.old })
         (record { phase = next; state = state.new })) }
-    ensures source_stays { S.keeps source.old source.new
-        × AtMostCalls (most_calls here) (S.called source.old) (S.called source.new) }
-    ensures log_stays { L.keeps log.old log.new }
+    ensures keeps { KeepsDevices S.Source L.Log (most_calls here)
+        (source.old, log.old) (source.new, log.new) }
     ensures stops { (count : ℕ)
         → IsSurvey (S.told source.old) count (record { phase = here; state = state.old })
         → OnErr result (ForSome (source_tree (S.told source.old))

@@ -1,7 +1,7 @@
 //! Whether an object is a twin: its site isn't where its identifier belongs, and an object stands there.
 #![tactic(auto, using(crate::proofs::Twins::twins))]
 
-ghost use Rattle.std.specs.Prelude.{◌≡◌, IfOk};
+ghost use Rattle.std.specs.Prelude.{◌≡◌, IfOk, drop, length};
 ghost use Rattle.std.specs.Option.{ForSome};
 ghost use Rattle.pt_audit.specs.Twin.{has_object as has_object_finding, is_second as is_second_site, object_stands as object_stands_in, proper_site as proper_site_of};
 ghost use Rattle.pt_compare.specs.Root.{Stands, kind_at as kind_there, tree_in};
@@ -88,6 +88,14 @@ pub fn proper_site(alloc: Global, id: &[u8]) -> Result<NamePath, MemoryFault>
             _ => unreachable!(),
         },
     }
+}
+
+/// What is behind so many bytes as a prefix has.
+pub fn behind<'a>(text: &'a [u8], prefix: &[u8]) -> &'a [u8]
+    ensures { result.now ≡ drop (length prefix.now) text.now }
+{
+    let (_, rest) = text.split_at(prefix.len().min(text.len()));
+    rest
 }
 
 // Whether a directory stands at a path of the pairtree. It is looked for from where a directory that stands has another name.

@@ -1,37 +1,32 @@
-use Rattle.std.proofs.Common.{subst}
-use Rattle.std.specs.Option.{ForSome}
-use Rattle.std.specs.Prelude.{OnOk}
-use Rattle.pt_audit.specs.Auditing.{LogsAs}
-use Rattle.pt_audit.specs.Layout.{IsOfLayout}
+use Rattle.std.proofs.Common.{rules}
+use Rattle.pt_audit.specs.Auditing.{start_over}
 use Rattle.pt_compare.specs.Root.{tree_in}
-use Rattle.pt_state.specs.States.{job_of}
-use Rattle.pt_state.specs.declared.job.Job.{Job}
-use Rattle.pt_audit.proofs.Bounding.{first_of, made_within, second_of}
-use Rattle.pt_audit.proofs.Telling.{first_step, surveys_first}
-use Rattle.pt_audit.proofs.Pacing.{follows_first}
-use Rattle.pt_audit.proofs.Saying.{begun_is_not_over}
-use Rattle.pt_audit.proofs.ToldFront.{logs_by}
+use Rattle.pt_audit.proofs.Bounding.{made_end}
+use Rattle.pt_audit.proofs.Saying.{says_by}
+use Rattle.pt_audit.proofs.ToldFront.{logs_before, logs_end}
+use Rattle.pt_audit.specs.Growing.{grows_on}
 use Rattle.pt_audit.proofs.auditing.audit.Goals as goal
 
-pub go_through-requires : goal.go_through-requires
-go_through-requires g c =
-    let it = c.start.ensures.begun (g.S.Source.told c.args.source.now) (g.met.S.Source.proper c.args.source.now) in record {
-      under_way = first_step c.args.job _ _ _ _ _ _ c.start.ensures.new it c.none.ensures;
-      follows = record {
-        follows = follows_first _ _ _ c.start.result c.new.ensures c.start.ensures.new.phase (surveys_first _ 0 _ it);
-        more = begun_is_not_over c.start.ensures.new;
-      };
-    }
+pub returns-in_err-audited-clause-ends : goal.returns-in_err-audited-clause-ends
+returns-in_err-audited-clause-ends g c =
+    logs_before c.from_residual.result c.in_err-audited.field-0.0 _
+    (start_over (tree_in (g.S.Source.told c.args.source.now)) (tree_in (g.R.Source.told c.args.root.now)) (g.L.Log.told c.args.log.now))
+    _ (search rules) c.in_err-audited.ensures.ends
 
 pub returns-clause-ends : goal.returns-clause-ends
 returns-clause-ends g c =
-    subst (λ (job : Job). LogsAs (job_of job) (tree_in (g.S.Source.told c.args.source.now)) (tree_in (g.R.Source.told c.args.root.now)) (g.L.Log.told c.args.log.now) (g.L.Log.told c.go_through.new.log) c.go_through.result)
-    c.start.ensures.new.job_is (logs_by c.go_through.result _ _ _ _ _ (first_of _ _ _ c.go_through.ensures.ends) c.go_through.ensures.stops)
-
-pub returns-clause-layout : goal.returns-clause-layout
-returns-clause-layout g c =
-    subst (λ (job : Job). OnOk c.go_through.result (ForSome (tree_in (g.R.Source.told c.args.root.now)) (IsOfLayout (job_of job))))
-    c.start.ensures.new.job_is (second_of _ _ _ c.go_through.ensures.ends)
+    logs_end c.tell_end.result _
+    (start_over (tree_in (g.S.Source.told c.args.source.now)) (tree_in (g.R.Source.told c.args.root.now)) (g.L.Log.told c.args.log.now))
+    _ _ _ c.in_ok-audited.ensures.ends c.tell_end.ensures.told c.tell_end.ensures.part
 
 pub returns-clause-made : goal.returns-clause-made
-returns-clause-made g c = made_within c.start.ensures.new c.go_through.ensures.made
+returns-clause-made g c = made_end _ c.tell_end.result c.tell_end.ensures.told c.in_ok-audited.ensures.made
+
+pub returns-clause-log : goal.returns-clause-log
+returns-clause-log g c = (
+  g.met.L.Log.keeps_on _ _ _ c.in_ok-audited.ensures.log.0 c.tell_end.ensures.log.0,
+  grows_on _ _ _ c.in_ok-audited.ensures.log.1 c.tell_end.ensures.log.1,
+)
+
+pub returns-clause-says : goal.returns-clause-says
+returns-clause-says g c = says_by c.tell_end.result _ _ _ _ _ c.tell_end.ensures.fails

@@ -16,15 +16,15 @@ returns-in_err-sight-clause-says g c =
 pub returns-clause-saw : goal.returns-clause-saw
 returns-clause-saw g c =
     let now = surveys_on _ _ _ _ _ _ c.requires.follows.under_way c.in_ok-sight.ensures.on in (
-      c.in_ok-sight.ensures.made.steps,
+      c.in_ok-sight.ensures.came.made.steps,
       record {
         follows = record {
           holds = holds_its_fields _;
           under_way = now;
-          paced = c.in_ok-follow.ensures.paced _ (behind _ _ _ _ _ _ c.requires.follows.under_way now c.in_ok-sight.ensures.made.scans c.in_ok-sight.ensures.source.0.1 c.requires.follows.paced);
+          paced = c.in_ok-follow.ensures.paced _ (behind _ _ _ _ _ _ c.requires.follows.under_way now c.in_ok-sight.ensures.came.made.scans c.in_ok-sight.ensures.source.0.1 c.requires.follows.paced);
           can = c.in_ok-follow.ensures.still;
         };
-        saw = c.in_ok-sight.ensures.sight;
+        saw = c.in_ok-sight.ensures.came.saw;
       },
     )
 
@@ -36,4 +36,4 @@ returns-in_err-sight-clause-stops g c =
 pub returns-in_err-follow-clause-stops : goal.returns-in_err-follow-clause-stops
 returns-in_err-follow-clause-stops g c =
     at_err c.from_residual-in_err-follow.result c.in_err-follow.field-0.0 (search rules)
-    (λ counts first it. follow_stops _ _ _ first _ _ counts _ _ c.in_ok-sight.ensures.source.0.1 c.in_ok-sight.ensures.made.steps.order c.in_ok-sight.ensures.on it)
+    (λ counts first it. follow_stops _ _ _ first _ _ counts _ _ c.in_ok-sight.ensures.source.0.1 c.in_ok-sight.ensures.came.made.steps.order c.in_ok-sight.ensures.on it)

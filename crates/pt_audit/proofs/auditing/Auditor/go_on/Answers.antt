@@ -1,7 +1,7 @@
 use Rattle.std.proofs.Common.{rules, ◌∙◌}
 use Rattle.pt_audit.proofs.Telling.{step_told}
 use Rattle.pt_audit.proofs.ToldFront.{at_err, tell_stops}
-use Rattle.pt_audit.specs.Growing.{grows_on}
+use Rattle.pt_audit.specs.Growing.{grows_on, sides_on}
 use Rattle.pt_audit.proofs.auditing.Auditor.go_on.Goals as goal
 
 pub tell-requires : goal.tell-requires
@@ -13,15 +13,13 @@ returns-in_err-told-clause-log g c = (
   grows_on _ _ _ c.in_ok-sight.ensures.log.1 c.in_err-told.ensures.log.1,
 )
 
-pub returns-in_err-told-clause-root : goal.returns-in_err-told-clause-root
-returns-in_err-told-clause-root g c = (
-  g.met.R.Source.keeps_on _ _ _ c.in_ok-sight.ensures.root.0 c.in_err-told.ensures.root.0,
-  c.in_err-told.ensures.root.1 ∙ c.in_ok-sight.ensures.root.1,
-)
+pub returns-in_err-told-clause-sides : goal.returns-in_err-told-clause-sides
+returns-in_err-told-clause-sides g c =
+    sides_on g.met.S.Source.keeps_on g.met.R.Source.keeps_on _ _ _ c.in_ok-sight.ensures.sides c.in_err-told.ensures.sides
 
 pub returns-clause-on : goal.returns-clause-on
 returns-clause-on g c = λ first it.
-    step_told c.in_ok-told.told.more _ _ _ _ _ first _ _ _ _ _ _ _ c.in_ok-sight.ensures.source.1 c.in_ok-sight.ensures.root.1 c.in_ok-sight.ensures.saw.0.order c.in_ok-sight.ensures.on c.in_ok-told.ensures.on it
+    step_told c.in_ok-told.told.more _ _ _ _ _ first _ _ _ _ _ _ _ c.in_ok-sight.ensures.sides.source.1 c.in_ok-sight.ensures.sides.root.1 c.in_ok-sight.ensures.saw.0.order c.in_ok-sight.ensures.on c.in_ok-told.ensures.on it
 
 pub returns-clause-log : goal.returns-clause-log
 returns-clause-log g c = (
@@ -29,11 +27,9 @@ returns-clause-log g c = (
   grows_on _ _ _ c.in_ok-sight.ensures.log.1 c.in_ok-told.ensures.log.1,
 )
 
-pub returns-clause-root : goal.returns-clause-root
-returns-clause-root g c = (
-  g.met.R.Source.keeps_on _ _ _ c.in_ok-sight.ensures.root.0 c.in_ok-told.ensures.root.0,
-  c.in_ok-told.ensures.root.1 ∙ c.in_ok-sight.ensures.root.1,
-)
+pub returns-clause-sides : goal.returns-clause-sides
+returns-clause-sides g c =
+    sides_on g.met.S.Source.keeps_on g.met.R.Source.keeps_on _ _ _ c.in_ok-sight.ensures.sides c.in_ok-told.ensures.sides
 
 pub returns-in_err-sight-clause-stops : goal.returns-in_err-sight-clause-stops
 returns-in_err-sight-clause-stops g c =
@@ -42,4 +38,4 @@ returns-in_err-sight-clause-stops g c =
 pub returns-in_err-told-clause-stops : goal.returns-in_err-told-clause-stops
 returns-in_err-told-clause-stops g c =
     at_err c.from_residual-in_err-told.result c.in_err-told.field-0.0 (search rules)
-    (λ first it. tell_stops _ _ _ _ first _ _ _ _ _ _ c.in_ok-sight.ensures.source.1 c.in_ok-sight.ensures.root.1 c.in_ok-sight.ensures.saw.0.order c.in_ok-sight.ensures.on c.in_err-told.ensures.stops it)
+    (λ first it. tell_stops _ _ _ _ first _ _ _ _ _ _ c.in_ok-sight.ensures.sides.source.1 c.in_ok-sight.ensures.sides.root.1 c.in_ok-sight.ensures.saw.0.order c.in_ok-sight.ensures.on c.in_err-told.ensures.stops it)

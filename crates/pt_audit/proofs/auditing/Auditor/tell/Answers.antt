@@ -1,17 +1,13 @@
 use Rattle.std.proofs.Common.{ap, refl, rules, subst, sym, ◌∙◌}
 use Rattle.pt_audit.proofs.Saying.{has_layout, more_is_not_over, object_is_not_over, says_err, says_failed, says_layout, store_is_not_over}
 use Rattle.pt_audit.proofs.Pacing.{at_sight, follows_told}
-use Rattle.pt_audit.proofs.Telling.{not_told, on_end, on_more, on_store}
-use Rattle.pt_audit.proofs.ToldFront.{at_err, end_stops, seen_stops_any}
+use Rattle.pt_audit.proofs.Telling.{end_at, not_told, on_end, on_more, on_store}
+use Rattle.pt_audit.proofs.ToldFront.{at_err, seen_stops_any}
 use Rattle.pt_audit.specs.Auditing.{IsAt, is_told}
 use Rattle.pt_audit.specs.Growing.{grows_none}
 use Rattle.pt_compare.specs.Root.{tree_in}
 use Rattle.pt_plan.specs.DeviceStates.{source_tree}
 use Rattle.pt_audit.proofs.auditing.Auditor.tell.Goals as goal
-
-pub returns-in_ok-tell_end-in-End-clause-on : goal.returns-in_ok-tell_end-in-End-clause-on
-returns-in_ok-tell_end-in-End-clause-on g c = λ first it.
-    on_end _ c.args.sight _ first _ _ c.args.self.now.counts c.so_far.result c.args.self.now.survey c.in-End.is (at_sight c.requires) (search rules) c.in_ok-tell_end-in-End.ensures.told it
 
 pub check_layout-requires : goal.check_layout-requires
 check_layout-requires g c = has_layout _ c.args.sight c.args.self.now.survey c.job.result.now c.job.ensures (at_sight c.requires)
@@ -30,12 +26,6 @@ returns-in_err-counts-in-Object-clause-says g c =
     says_err c.from_residual-in_err-counts-in-Object.result why c.args.self.now.survey.state.job (source_tree (g.S.Source.told c.args.source.now)) (tree_in (g.R.Source.told c.args.root.now)) (search rules)
     (says_failed c.args.self.now.survey.state.job _ _ why _ _ c.in_err-counts-in-Object.ensures.fails)
 
-pub returns-in_err-tell_end-in-End-clause-says : goal.returns-in_err-tell_end-in-End-clause-says
-returns-in_err-tell_end-in-End-clause-says g c =
-    let why = c.in_err-tell_end-in-End.field-0.0 in
-    says_err c.from_residual-in_err-tell_end-in-End.result why c.args.self.now.survey.state.job (source_tree (g.S.Source.told c.args.source.now)) (tree_in (g.R.Source.told c.args.root.now)) (search rules)
-    (says_failed c.args.self.now.survey.state.job _ _ why _ _ c.in_err-tell_end-in-End.ensures.fails)
-
 pub returns-in_ok-check_layout-in-Store-clause-on : goal.returns-in_ok-check_layout-in-Store-clause-on
 returns-in_ok-check_layout-in-Store-clause-on g c = λ first it.
     on_store {told = g.S.Source.told c.args.source.now} {root = tree_in (g.R.Source.told c.args.root.now)} {first = first} (g.L.Log.told c.args.log.now) c.args.self.now.counts c.args.self.now.survey c.job.result.now c.job.ensures
@@ -46,8 +36,7 @@ pub returns-in-More : goal.returns-in-More
 returns-in-More g c = record {
   on = λ first it. on_more _ c.args.self.now.counts c.args.self.now.survey c.args.sight (not_told c.args.sight c.in-More.is) (at_sight c.requires) it;
   still = (c.requires.follows, tt, more_is_not_over c.args.self.now.survey c.requires.saw c.in-More.is);
-  source = (g.met.S.Source.is_kept _, refl);
-  root = (g.met.R.Source.is_kept _, refl);
+  sides = record { source = (g.met.S.Source.is_kept _, refl); root = (g.met.R.Source.is_kept _, refl) };
   log = (g.met.L.Log.is_kept _, grows_none _);
   fails = refl;
   says = tt;
@@ -56,7 +45,7 @@ returns-in-More g c = record {
 
 pub returns-in_ok-counts-in-Object-clause-still : goal.returns-in_ok-counts-in-Object-clause-still
 returns-in_ok-counts-in-Object-clause-still g c =
-    (follows_told _ _ _ _ c.args.self.now.beside c.args.self.now.survey c.args.sight c.requires.saw (ap is_told c.in-Object.is) c.in_ok-counts-in-Object.ensures.source.1 c.in_ok-counts-in-Object.ensures.root.1 c.in_ok-counts-in-Object.ensures.still c.requires.follows, tt, object_is_not_over c.args.self.now.survey c.requires.saw c.in-Object.is)
+    (follows_told _ _ _ _ c.args.self.now.beside c.args.self.now.survey c.args.sight c.requires.saw (ap is_told c.in-Object.is) c.in_ok-counts-in-Object.ensures.sides.source.1 c.in_ok-counts-in-Object.ensures.sides.root.1 c.in_ok-counts-in-Object.ensures.still c.requires.follows, tt, object_is_not_over c.args.self.now.survey c.requires.saw c.in-Object.is)
 
 pub returns-in_ok-check_layout-in-Store-clause-still : goal.returns-in_ok-check_layout-in-Store-clause-still
 returns-in_ok-check_layout-in-Store-clause-still g c = (search rules, tt, store_is_not_over c.args.self.now.survey c.requires.saw c.in-Store.is)
@@ -69,7 +58,13 @@ pub returns-in_err-counts-in-Object-clause-stops : goal.returns-in_err-counts-in
 returns-in_err-counts-in-Object-clause-stops g c =
     at_err c.from_residual-in_err-counts-in-Object.result c.in_err-counts-in-Object.field-0.0 (search rules) c.in_err-counts-in-Object.ensures.stops
 
-pub returns-in_err-tell_end-in-End-clause-stops : goal.returns-in_err-tell_end-in-End-clause-stops
-returns-in_err-tell_end-in-End-clause-stops g c =
-    at_err c.from_residual-in_err-tell_end-in-End.result c.in_err-tell_end-in-End.field-0.0 (search rules)
-    (λ first it. end_stops _ _ first _ _ c.args.self.now.counts c.so_far.result c.args.self.now.survey (sym c.requires.saw ∙ c.in-End.is) (search rules) c.in_err-tell_end-in-End.ensures.part it)
+pub returns-in-End : goal.returns-in-End
+returns-in-End g c = record {
+  on = λ first it. on_end _ c.args.sight _ first _ c.args.self.now.counts c.args.self.now.survey c.in-End.is (at_sight c.requires) it;
+  still = (c.requires.follows, end_at c.args.self.now.survey.phase (sym c.requires.saw ∙ c.in-End.is), tt);
+  sides = record { source = (g.met.S.Source.is_kept _, refl); root = (g.met.R.Source.is_kept _, refl) };
+  log = (g.met.L.Log.is_kept _, grows_none _);
+  fails = refl;
+  says = tt;
+  stops = tt;
+}

@@ -30,8 +30,7 @@ returns-in_err-self-inside g c =
     let source = source_tree (g.S.Source.told c.args.source.now) in
     record {
       on = search rules;
-      sight = search rules;
-      made = search rules;
+      came = search rules;
       source = search rules;
       log = search rules;
       blames = search rules;
