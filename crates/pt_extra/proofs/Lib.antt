@@ -1,3 +1,4 @@
+mod BothWays
 mod ExtraRules
 mod Keeping
 mod LineTexts

@@ -3,14 +3,15 @@ use Rattle.std.proofs.Common.{◌≡◌, ◌≤◌, ◌<◌, ◌+◌, ◌-◌, �
 use Rattle.std.specs.Option.{ForSome, option_map}
 use Rattle.std.specs.Prelude.{IsSome, Option, None, Some, ◌||◌, slice_get, unwrap_or}
 use Rattle.pt_compare.specs.Root.{tree_in}
-use Rattle.pt_extra.proofs.Telling.{puts_none, puts_on}
-use Rattle.pt_extra.specs.Findings.{Against, found_at, is_object, is_part, of_entries, of_leaf, of_object}
+use Rattle.pt_extra.proofs.Telling.{front_more, front_none, front_on, puts_none, puts_on, texts_on}
+use Rattle.pt_extra.specs.Findings.{Against, found_at, is_object, is_part, of_entries, of_leaf, of_object, of_unnamed}
 use Rattle.pt_extra.specs.Inventories.{id_of}
-use Rattle.pt_extra.specs.Lines.{Finding, Stray}
+use Rattle.pt_extra.specs.Lines.{Finding, texts}
 use Rattle.pt_extra.specs.Walk.{Puts, Seen}
 use Rattle.pt_plan.specs.TurnWalk.{in_root}
 use Rattle.pt_tree.specs.Forest.{Forest, none, dir_at, is_proper, listing_at, listing_of}
 use Rattle.pt_tree.specs.Listing.{Item}
+use Rattle.pt_tree.specs.Log.{AppendsFront}
 use Rattle.pt_tree.specs.Path.{Path}
 use Rattle.pt_tree.specs.Source.{CanList, IsListed, Reading}
 use Rattle.pt_tree.specs.declared.kind.Kind.{Kind}
@@ -62,8 +63,8 @@ next_stands told path entry items place name what there proper listed at is_dir 
 
 -- what is found of an entry
 abbrev of_entry : Against → Forest → Path → ℕ → List ℕ → Kind → List Finding
-of_entry c top path left name kind.File = of_leaf path name kind.File
-of_entry c top path left name kind.Other = of_leaf path name kind.Other
+of_entry c top path left name kind.File = of_leaf c path name kind.File
+of_entry c top path left name kind.Other = of_leaf c path name kind.Other
 of_entry c top path left name kind.Dir =
     cond (is_part path name kind.Dir) [] (found_at c (path ++ name ∷ []) (left - 1) (inside_at top (in_root (path ++ name ∷ []))))
 
@@ -108,39 +109,67 @@ found_part c top path left items place name here a b proper listed at part to =
     found_more c top path left items place name here a b b proper listed at to (subst (λ (l : List Finding). Puts l b b) (sym (by here part)) (puts_none b))
   where
     by : (here : Kind) → is_part path name here ≡ true → of_entry c top path left name here ≡ []
-    by kind.File part = ap (λ (t : Bool). cond t [] (Stray (path ++ name ∷ []) ∷ [])) part
-    by kind.Other part = ap (λ (t : Bool). cond t [] (Stray (path ++ name ∷ []) ∷ [])) part
+    by kind.File part = ap (λ (t : Bool). cond t [] (of_unnamed c (path ++ name ∷ []))) part
+    by kind.Other part = ap (λ (t : Bool). cond t [] (of_unnamed c (path ++ name ∷ []))) part
     by kind.Dir part = ap (λ (t : Bool). cond t [] (found_at c (path ++ name ∷ []) (left - 1) (inside_at top (in_root (path ++ name ∷ []))))) part
 
 -- where it is a folder
-pub found_dir : (c : Against) (top : Forest) (path : Path) (left : ℕ) (items : List Item) (place : ℕ) (name : List ℕ) (here : Kind) (entry : Path) (a b d : Seen) → is_proper top ≡ true → listing_at top (in_root path) ≡ Some items
-    → slice_get items place ≡ Some (name, here) → here ≡ kind.Dir → is_part path name here ≡ false → entry ≡ path ++ name ∷ [] → FoundTo c path left (inside_at top (in_root path)) place a b
-    → Puts (found_at c entry (left - 1) (inside_at top (in_root entry))) b d
-    → FoundTo c path left (inside_at top (in_root path)) (place + 1) a d
-found_dir c top path left items place name here entry a b d proper listed at is part entry_is to puts =
-    found_more c top path left items place name here a b d proper listed at to
-    (subst (λ (l : List Finding). Puts l b d) (sym (by here is part))
-    (subst (λ (p : Path). Puts (found_at c p (left - 1) (inside_at top (in_root p))) b d) entry_is puts))
+dir_is : (c : Against) (top : Forest) (path : Path) (left : ℕ) (name : List ℕ) (here : Kind) (entry : Path) → here ≡ kind.Dir → is_part path name here ≡ false → entry ≡ path ++ name ∷ []
+    → of_entry c top path left name here ≡ found_at c entry (left - 1) (inside_at top (in_root entry))
+dir_is c top path left name here entry is part entry_is = by here is part ∙ ap (λ (p : Path). found_at c p (left - 1) (inside_at top (in_root p))) (sym entry_is)
   where
     by : (here : Kind) → here ≡ kind.Dir → is_part path name here ≡ false → of_entry c top path left name here ≡ found_at c (path ++ name ∷ []) (left - 1) (inside_at top (in_root (path ++ name ∷ [])))
     by kind.File is part = absurd (cc)
     by kind.Other is part = absurd (cc)
     by kind.Dir is part = ap (λ (t : Bool). cond t [] (found_at c (path ++ name ∷ []) (left - 1) (inside_at top (in_root (path ++ name ∷ []))))) part
 
+pub found_dir : (c : Against) (top : Forest) (path : Path) (left : ℕ) (items : List Item) (place : ℕ) (name : List ℕ) (here : Kind) (entry : Path) (a b d : Seen) → is_proper top ≡ true → listing_at top (in_root path) ≡ Some items
+    → slice_get items place ≡ Some (name, here) → here ≡ kind.Dir → is_part path name here ≡ false → entry ≡ path ++ name ∷ [] → FoundTo c path left (inside_at top (in_root path)) place a b
+    → Puts (found_at c entry (left - 1) (inside_at top (in_root entry))) b d
+    → FoundTo c path left (inside_at top (in_root path)) (place + 1) a d
+found_dir c top path left items place name here entry a b d proper listed at is part entry_is to puts =
+    found_more c top path left items place name here a b d proper listed at to
+    (subst (λ (l : List Finding). Puts l b d) (sym (dir_is c top path left name here entry is part entry_is)) puts)
+
 -- where it is none
+leaf_is : (c : Against) (top : Forest) (path : Path) (left : ℕ) (name : List ℕ) (here : Kind) (entry : Path) → (here ≡ kind.Dir → ⊥) → is_part path name here ≡ false → entry ≡ path ++ name ∷ []
+    → of_entry c top path left name here ≡ of_unnamed c entry
+leaf_is c top path left name here entry leaf part entry_is = by here leaf part ∙ ap (of_unnamed c) (sym entry_is)
+  where
+    by : (here : Kind) → (here ≡ kind.Dir → ⊥) → is_part path name here ≡ false → of_entry c top path left name here ≡ of_unnamed c (path ++ name ∷ [])
+    by kind.File leaf part = ap (λ (t : Bool). cond t [] (of_unnamed c (path ++ name ∷ []))) part
+    by kind.Other leaf part = ap (λ (t : Bool). cond t [] (of_unnamed c (path ++ name ∷ []))) part
+    by kind.Dir leaf part = absurd (leaf refl)
+
 pub found_leaf : (c : Against) (top : Forest) (path : Path) (left : ℕ) (items : List Item) (place : ℕ) (name : List ℕ) (here : Kind) (entry : Path) (a b d : Seen) → is_proper top ≡ true → listing_at top (in_root path) ≡ Some items
     → slice_get items place ≡ Some (name, here) → (here ≡ kind.Dir → ⊥) → is_part path name here ≡ false → entry ≡ path ++ name ∷ [] → FoundTo c path left (inside_at top (in_root path)) place a b
-    → Puts (Stray entry ∷ []) b d
+    → Puts (of_unnamed c entry) b d
     → FoundTo c path left (inside_at top (in_root path)) (place + 1) a d
 found_leaf c top path left items place name here entry a b d proper listed at leaf part entry_is to puts =
     found_more c top path left items place name here a b d proper listed at to
-    (subst (λ (l : List Finding). Puts l b d) (sym (by here leaf part))
-    (subst (λ (p : Path). Puts (Stray p ∷ []) b d) entry_is puts))
-  where
-    by : (here : Kind) → (here ≡ kind.Dir → ⊥) → is_part path name here ≡ false → of_entry c top path left name here ≡ Stray (path ++ name ∷ []) ∷ []
-    by kind.File leaf part = ap (λ (t : Bool). cond t [] (Stray (path ++ name ∷ []) ∷ [])) part
-    by kind.Other leaf part = ap (λ (t : Bool). cond t [] (Stray (path ++ name ∷ []) ∷ [])) part
-    by kind.Dir leaf part = absurd (leaf refl)
+    (subst (λ (l : List Finding). Puts l b d) (sym (leaf_is c top path left name here entry leaf part entry_is)) puts)
+
+-- ---- where it breaks off
+
+-- of an entry a front is put
+stops_more : (c : Against) (top : Forest) (path : Path) (left : ℕ) (items : List Item) (place : ℕ) (name : List ℕ) (here : Kind) (a b : Seen) (last : Option (List ℕ)) → is_proper top ≡ true → listing_at top (in_root path) ≡ Some items
+    → slice_get items place ≡ Some (name, here) → FoundTo c path left (inside_at top (in_root path)) place a b → AppendsFront b.held last (texts (of_entry c top path left name here))
+    → AppendsFront a.held last (texts (of_entries c path left (inside_at top (in_root path))))
+stops_more c top path left items place name here a b last proper listed at to part =
+    let e = of_entry c top path left name here in
+    let rest = of_entries c path left (entries_from (place + 1) (inside_at top (in_root path))) in
+    let whole : texts to.findings ++ (texts e ++ texts rest) ≡ texts (of_entries c path left (inside_at top (in_root path))) =
+    ap (λ (l : List ℕ). texts to.findings ++ l) (sym (texts_on e rest)) ∙ sym (texts_on to.findings (e ++ rest))
+    ∙ ap texts (ap (λ (l : List Finding). to.findings ++ l) (sym (splits c top path left items place name here proper listed at)) ∙ to.rest) in
+    subst (AppendsFront a.held last) whole
+    (front_on a.held b.held last (texts to.findings) (texts e ++ texts rest) to.puts.held (front_more b.held last (texts e) (texts rest) part))
+
+-- nothing is
+stops_here : (c : Against) (path : Path) (left : ℕ) (inside : Forest) (place : ℕ) (a b : Seen) → FoundTo c path left inside place a b → AppendsFront a.held b.held (texts (of_entries c path left inside))
+stops_here c path left inside place a b to =
+    let rest = of_entries c path left (entries_from place inside) in
+    subst (AppendsFront a.held b.held) (sym (texts_on to.findings rest) ∙ ap texts to.rest)
+    (front_on a.held b.held b.held (texts to.findings) (texts rest) to.puts.held (front_none b.held (texts rest)))
 
 -- behind the last entry there is none
 past_end : (items : List Item) (place : ℕ) → length items ≤ place → slice_get items place ≡ None
@@ -159,20 +188,53 @@ found_all c top path left items place a b listed past to =
 
 -- ---- a folder
 
--- what is found of a folder that isn't an object, isn't too deep, and isn't empty
-pub found_folder : (c : Against) (top : Forest) (path : Path) (left : ℕ) (items : List Item) (place : ℕ) (a b : Seen) → listing_at top (in_root path) ≡ Some items → is_object items ≡ false
-    → (left == 0) ≡ false → (length items == 0) ≡ false → length items ≤ place
-    → FoundTo c path left (inside_at top (in_root path)) place a b → Puts (found_at c path left (inside_at top (in_root path))) a b
-found_folder c top path left items place a b listed object deep empty past to =
+-- of one that isn't an object, isn't too deep, and isn't empty it is what is found of its entries
+pub record IsWalked (left : ℕ) (items : List Item) : Type 0 where
+  object : is_object items ≡ false
+  deep : (left == 0) ≡ false
+  empty : (length items == 0) ≡ false
+
+pub is_walked : (left : ℕ) (items : List Item) → is_object items ≡ false → (left == 0) ≡ false → (length items == 0) ≡ false → IsWalked left items
+is_walked left items object deep empty = record { object = object; deep = deep; empty = empty }
+
+folder_is : (c : Against) (top : Forest) (path : Path) (left : ℕ) (items : List Item) → listing_at top (in_root path) ≡ Some items → IsWalked left items
+    → found_at c path left (inside_at top (in_root path)) ≡ of_entries c path left (inside_at top (in_root path))
+folder_is c top path left items listed it =
     let lists = inside_lists top (in_root path) items listed in
     let entries = of_entries c path left (inside_at top (in_root path)) in
-    let first : is_object (listing_of (inside_at top (in_root path))) ≡ false = ap is_object lists ∙ object in
-    let none : (length (listing_of (inside_at top (in_root path))) == 0) ≡ false = ap (λ (l : List Item). length l == 0) lists ∙ empty in
-    let is : found_at c path left (inside_at top (in_root path)) ≡ entries =
-    ap (λ (t : Bool). cond t (of_object c path (id_of (inside_at top (in_root path)))) (cond (left == 0 || length (listing_of (inside_at top (in_root path))) == 0) (Stray path ∷ []) entries)) first
-    ∙ ap (λ (t : Bool). cond (t || length (listing_of (inside_at top (in_root path))) == 0) (Stray path ∷ []) entries) deep
-    ∙ ap (λ (t : Bool). cond t (Stray path ∷ []) entries) none in
-    subst (λ (l : List Finding). Puts l a b) (sym is) (found_all c top path left items place a b listed past to)
+    let first : is_object (listing_of (inside_at top (in_root path))) ≡ false = ap is_object lists ∙ it.object in
+    let none : (length (listing_of (inside_at top (in_root path))) == 0) ≡ false = ap (λ (l : List Item). length l == 0) lists ∙ it.empty in
+    ap (λ (t : Bool). cond t (of_object c path (id_of (inside_at top (in_root path)))) (cond (left == 0 || length (listing_of (inside_at top (in_root path))) == 0) (of_unnamed c path) entries)) first
+    ∙ ap (λ (t : Bool). cond (t || length (listing_of (inside_at top (in_root path))) == 0) (of_unnamed c path) entries) it.deep
+    ∙ ap (λ (t : Bool). cond t (of_unnamed c path) entries) none
+
+pub found_folder : (c : Against) (top : Forest) (path : Path) (left : ℕ) (items : List Item) (place : ℕ) (a b : Seen) → listing_at top (in_root path) ≡ Some items → IsWalked left items → length items ≤ place
+    → FoundTo c path left (inside_at top (in_root path)) place a b → Puts (found_at c path left (inside_at top (in_root path))) a b
+found_folder c top path left items place a b listed it past to =
+    subst (λ (l : List Finding). Puts l a b) (sym (folder_is c top path left items listed it)) (found_all c top path left items place a b listed past to)
+
+-- where it breaks off in it: at an entry that is a folder, at one that is none, and before one
+pub stops_dir : (c : Against) (top : Forest) (path : Path) (left : ℕ) (items : List Item) (place : ℕ) (name : List ℕ) (here : Kind) (entry : Path) (a b : Seen) (last : Option (List ℕ)) → is_proper top ≡ true → listing_at top (in_root path) ≡ Some items
+    → slice_get items place ≡ Some (name, here) → here ≡ kind.Dir → is_part path name here ≡ false → entry ≡ path ++ name ∷ [] → IsWalked left items → FoundTo c path left (inside_at top (in_root path)) place a b
+    → AppendsFront b.held last (texts (found_at c entry (left - 1) (inside_at top (in_root entry)))) → AppendsFront a.held last (texts (found_at c path left (inside_at top (in_root path))))
+stops_dir c top path left items place name here entry a b last proper listed at is part entry_is it to put =
+    subst (λ (l : List Finding). AppendsFront a.held last (texts l)) (sym (folder_is c top path left items listed it))
+    (stops_more c top path left items place name here a b last proper listed at to
+    (subst (λ (l : List Finding). AppendsFront b.held last (texts l)) (sym (dir_is c top path left name here entry is part entry_is)) put))
+
+pub stops_leaf : (c : Against) (top : Forest) (path : Path) (left : ℕ) (items : List Item) (place : ℕ) (name : List ℕ) (here : Kind) (entry : Path) (a b : Seen) (last : Option (List ℕ)) → is_proper top ≡ true → listing_at top (in_root path) ≡ Some items
+    → slice_get items place ≡ Some (name, here) → (here ≡ kind.Dir → ⊥) → is_part path name here ≡ false → entry ≡ path ++ name ∷ [] → IsWalked left items → FoundTo c path left (inside_at top (in_root path)) place a b
+    → AppendsFront b.held last (texts (of_unnamed c entry)) → AppendsFront a.held last (texts (found_at c path left (inside_at top (in_root path))))
+stops_leaf c top path left items place name here entry a b last proper listed at leaf part entry_is it to put =
+    subst (λ (l : List Finding). AppendsFront a.held last (texts l)) (sym (folder_is c top path left items listed it))
+    (stops_more c top path left items place name here a b last proper listed at to
+    (subst (λ (l : List Finding). AppendsFront b.held last (texts l)) (sym (leaf_is c top path left name here entry leaf part entry_is)) put))
+
+pub stops_before : (c : Against) (top : Forest) (path : Path) (left : ℕ) (items : List Item) (place : ℕ) (a b : Seen) → listing_at top (in_root path) ≡ Some items → IsWalked left items → FoundTo c path left (inside_at top (in_root path)) place a b
+    → AppendsFront a.held b.held (texts (found_at c path left (inside_at top (in_root path))))
+stops_before c top path left items place a b listed it to =
+    subst (λ (l : List Finding). AppendsFront a.held b.held (texts l)) (sym (folder_is c top path left items listed it))
+    (stops_here c path left (inside_at top (in_root path)) place a b to)
 
 -- of an object
 pub found_object : (c : Against) (top : Forest) (path : Path) (left : ℕ) (items : List Item) → listing_at top (in_root path) ≡ Some items → is_object items ≡ true
@@ -180,18 +242,18 @@ pub found_object : (c : Against) (top : Forest) (path : Path) (left : ℕ) (item
 found_object c top path left items listed object =
     let lists = inside_lists top (in_root path) items listed in
     ap (λ (t : Bool). cond t (of_object c path (id_of (inside_at top (in_root path))))
-    (cond (left == 0 || length (listing_of (inside_at top (in_root path))) == 0) (Stray path ∷ []) (of_entries c path left (inside_at top (in_root path)))))
+    (cond (left == 0 || length (listing_of (inside_at top (in_root path))) == 0) (of_unnamed c path) (of_entries c path left (inside_at top (in_root path)))))
     (ap is_object lists ∙ object)
 
 -- of one that is too deep or empty
 pub found_bare : (c : Against) (top : Forest) (path : Path) (left : ℕ) (items : List Item) → listing_at top (in_root path) ≡ Some items → is_object items ≡ false
-    → (left == 0 || length items == 0) ≡ true → found_at c path left (inside_at top (in_root path)) ≡ Stray path ∷ []
+    → (left == 0 || length items == 0) ≡ true → found_at c path left (inside_at top (in_root path)) ≡ of_unnamed c path
 found_bare c top path left items listed object bare =
     let lists = inside_lists top (in_root path) items listed in
     let entries = of_entries c path left (inside_at top (in_root path)) in
-    ap (λ (t : Bool). cond t (of_object c path (id_of (inside_at top (in_root path)))) (cond (left == 0 || length (listing_of (inside_at top (in_root path))) == 0) (Stray path ∷ []) entries)) (ap is_object lists ∙ object)
-    ∙ ap (λ (l : List Item). cond (left == 0 || length l == 0) (Stray path ∷ []) entries) lists
-    ∙ ap (λ (t : Bool). cond t (Stray path ∷ []) entries) bare
+    ap (λ (t : Bool). cond t (of_object c path (id_of (inside_at top (in_root path)))) (cond (left == 0 || length (listing_of (inside_at top (in_root path))) == 0) (of_unnamed c path) entries)) (ap is_object lists ∙ object)
+    ∙ ap (λ (l : List Item). cond (left == 0 || length l == 0) (of_unnamed c path) entries) lists
+    ∙ ap (λ (t : Bool). cond t (of_unnamed c path) entries) bare
 
 -- it is too deep
 pub bare_deep : (left n : ℕ) → left ≡ 0 → (left == 0 || n == 0) ≡ true

@@ -1,3 +1,4 @@
+pub mod Audits
 pub mod Counting
 pub mod Findings
 pub mod Inventories

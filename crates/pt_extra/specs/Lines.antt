@@ -1,6 +1,7 @@
 -- The lines that tell what a root has and its store lacks: each one compact JSON object with its keys in byte order, and LF.
 use Rattle.std.specs.Prelude.{ℕ, List, [], ◌∷◌, ◌++◌, codes}
-use Rattle.pt_plan.specs.Lines.{text_member}
+use Rattle.pt_extra.specs.declared.auditing.AuditCounts.{AuditCounts}
+use Rattle.pt_plan.specs.Lines.{number_member, text_member}
 use Rattle.pt_tree.specs.Path.{Path, joined}
 use Rattle.serde_json.specs.Data.{Data, no_members}
 use Rattle.serde_json.specs.Data as json
@@ -30,3 +31,18 @@ line_text finding = compact_text (line_tree finding) ++ 10 ∷ []
 abbrev pub texts : List Finding → List ℕ
 texts [] = []
 texts (finding ∷ findings) = line_text finding ++ texts findings
+
+-- the end line, with these counts, as a tree of JSON
+abbrev pub last_tree : AuditCounts → Data
+last_tree told = json.object
+    (number_member (codes "absent") told.counts.absent
+    (text_member (codes "as") (codes "end")
+    (number_member (codes "differs") told.counts.differs
+    (number_member (codes "extra") told.numbers.extra
+    (number_member (codes "same") told.counts.same
+    (number_member (codes "skip") told.counts.skipped
+    (number_member (codes "stray") told.numbers.stray no_members)))))))
+
+-- its compact text, and LF
+abbrev pub last_text : AuditCounts → List ℕ
+last_text told = compact_text (last_tree told) ++ 10 ∷ []

@@ -1,5 +1,5 @@
 -- What a walk over a root tells, and what it keeps.
-use Rattle.std.specs.Prelude.{◌≡◌, ◌+◌, ℕ, cond, List, [], Option, Result}
+use Rattle.std.specs.Prelude.{◌≡◌, ◌+◌, ℕ, cond, List, [], ◌∷◌, Option, Some, Result}
 use Rattle.std.specs.Io.KnownBytes.{Appends}
 use Rattle.std.specs.Option.{ForSome}
 use Rattle.std.specs.String.{string_bytes}
@@ -7,7 +7,8 @@ use Rattle.pt_audit.specs.Failing.{FailsAs, failures}
 use Rattle.pt_audit.specs.Growing.{KeepsLog}
 use Rattle.pt_compare.specs.Root.{KeepsRoot, tree_in}
 use Rattle.pt_extra.specs.Counting.{with_findings}
-use Rattle.pt_extra.specs.Findings.{Against, found_at}
+use Rattle.pt_extra.specs.Findings.{Against, found_at, of_object, of_unnamed}
+use Rattle.pt_extra.specs.Inventories.{id_of}
 use Rattle.pt_extra.specs.Lines.{Finding, texts}
 use Rattle.pt_extra.specs.declared.numbers.Numbers.{Numbers}
 use Rattle.pt_extra.specs.declared.walking.Extras.{Extras}
@@ -15,9 +16,12 @@ use Rattle.pt_object.specs.WellKnown.{known_text}
 use Rattle.pt_object.specs.declared.well_known.WellKnownName.TheVariants as known
 use Rattle.pt_plan.specs.Roots.{storage_root}
 use Rattle.pt_plan.specs.TurnStart.{is_dir_kind, kind_in}
+use Rattle.pt_plan.specs.TurnWalk.{in_root}
 use Rattle.pt_plan.specs.declared.fault.Fault.{Fault}
 use Rattle.pt_state.specs.States.{job_of}
 use Rattle.pt_tree.specs.Forest.{Forest, listing_of}
+use Rattle.pt_tree.specs.Log.{AppendsFront}
+use Rattle.pt_tree.specs.Path.{Path}
 use Rattle.pt_tree.specs.declared.log.Log.{Ghosts as OfLog}
 use Rattle.pt_tree.specs.declared.source.Source.{Ghosts as OfSource}
 use Rattle.pt_walk.specs.Left.{inside_at}
@@ -39,6 +43,34 @@ pub record Puts (findings : List Finding) (a b : Seen) : Type 0 where
 -- against what its root is held, where its store is this
 abbrev pub against : {S R L : Type 0} → Extras S R L → Forest → Against
 against walk store = record { job = job_of walk.job; prefix = string_bytes walk.prefix; store = store }
+
+-- what is found of a folder at this path of the root, below which so many names lead to an object
+abbrev pub found_below : Path → ℕ → Against → Forest → List Finding
+found_below path left c tree = found_at c path left (inside_at tree (in_root path))
+
+-- of the object at a path, whose folder in the destination is this
+abbrev pub found_there : Path → Path → Against → Forest → List Finding
+found_there path folder c tree = of_object c path (id_of (inside_at tree folder))
+
+-- of the object at a path, with this identifier
+abbrev pub found_named : Path → List ℕ → Against → Forest → List Finding
+found_named path id c tree = of_object c path (Some id)
+
+-- of what has no identifier
+abbrev pub found_unnamed : Path → Against → Forest → List Finding
+found_unnamed path c tree = of_unnamed c path
+
+-- that one thing
+abbrev pub found_one : Finding → Against → Forest → List Finding
+found_one finding c tree = finding ∷ []
+
+-- where store and root tell, a front of what is found of them is told
+abbrev pub TellsFront : {S R L : Type 0} → OfSource S → OfSource R → OfLog L → (Against → Forest → List Finding)
+    → Extras S R L → Extras S R L → Type 0
+TellsFront store root log findings old new =
+    ForSome (tree_in (store.told old.store))
+    (λ s. ForSome (tree_in (root.told old.root))
+    (λ r. AppendsFront (log.told old.log) (log.told new.log) (texts (findings (against old s) r))))
 
 -- where store and root tell, what is found of them is told
 abbrev pub Tells : {S R L : Type 0} → OfSource S → OfSource R → OfLog L → (Against → Forest → List Finding)

@@ -1,9 +1,10 @@
 //! The lines of what a store lacks: each one compact JSON object with its keys in byte order, and LF.
 ghost use Rattle.std.specs.Prelude.{◌≡◌, IfOk};
 ghost use Rattle.std.specs.String.{string_bytes};
-ghost use Rattle.pt_extra.specs.Lines.{Extra, Stray, line_text};
+ghost use Rattle.pt_extra.specs.Lines.{Extra, Stray, last_text, line_text};
 
-use pt_object::members::put_text;
+use crate::AuditCounts;
+use pt_object::members::{put_number, put_text};
 use pt_plan::lines::{line_of, text_of};
 use pt_tree::{MemoryFault, NamePath};
 use serde_json::{Map, Value};
@@ -29,5 +30,20 @@ pub(crate) fn extra_line(alloc: Global, id: &str, to: &NamePath) -> Result<Strin
     put_text(&mut members, alloc, "as", "extra")?;
     put_text(&mut members, alloc, "id", id)?;
     put_text(&mut members, alloc, "to", to.as_str())?;
+    line_of(alloc, &Value::from(members))
+}
+
+/// The end line, with these counts.
+pub(crate) fn end_line(alloc: Global, told: &AuditCounts) -> Result<String, MemoryFault>
+    ensures { IfOk result (λ text. string_bytes text ≡ last_text told.now) }
+{
+    let mut members = Map::new(alloc);
+    put_number(&mut members, alloc, "absent", told.counts.absent)?;
+    put_text(&mut members, alloc, "as", "end")?;
+    put_number(&mut members, alloc, "differs", told.counts.differs)?;
+    put_number(&mut members, alloc, "extra", told.numbers.extra)?;
+    put_number(&mut members, alloc, "same", told.counts.same)?;
+    put_number(&mut members, alloc, "skip", told.counts.skipped)?;
+    put_number(&mut members, alloc, "stray", told.numbers.stray)?;
     line_of(alloc, &Value::from(members))
 }

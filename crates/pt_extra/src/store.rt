@@ -1,5 +1,5 @@
 //! Whether the store has an object where an identifier belongs.
-ghost use Rattle.std.specs.Prelude.{◌≡◌, IfOk, drop, length};
+ghost use Rattle.std.specs.Prelude.{◌≡◌, IfOk};
 ghost use Rattle.std.specs.Option.{ForSome};
 ghost use Rattle.pt_compare.specs.Root.{tree_in};
 ghost use Rattle.pt_extra.specs.Findings.{is_held};
@@ -9,7 +9,7 @@ ghost use Rattle.pt_state.specs.States.{job_of};
 ghost use Rattle.pt_tree.specs.Failures.{IsCounted};
 ghost use Rattle.pt_tree.specs.Forest.{listing_of};
 
-use pt_audit::{object_stands, proper_site};
+use pt_audit::{behind, object_stands, proper_site};
 use pt_move::Job;
 use pt_object::WellKnownName;
 use pt_plan::kinds::{is_dir, kind_in};
@@ -58,12 +58,4 @@ pub(crate) fn has_folder<S: Source>(
     let top = NamePath::new(alloc);
     let listing = source.list(&top)?;
     Ok(is_dir(kind_in(&listing, name.text().as_bytes())))
-}
-
-// What is behind so many bytes as a prefix has.
-fn behind<'a>(text: &'a [u8], prefix: &[u8]) -> &'a [u8]
-    ensures { result.now ≡ drop (length prefix.now) text.now }
-{
-    let (_, rest) = text.split_at(prefix.len().min(text.len()));
-    rest
 }

@@ -1,24 +1,24 @@
 //! The walk over a root.
-ghost use Rattle.std.specs.Prelude.{◌≡◌, ◌<◌, ◌∷◌, [], IfOk, IsSome, OnOk, Some, length};
+ghost use Rattle.std.specs.Prelude.{◌≡◌, ◌<◌, ◌∷◌, [], IfOk, IsSome, OnErr, OnOk, length};
 ghost use Rattle.std.specs.Option.{ForSome};
 ghost use Rattle.pt_compare.specs.Root.{tree_in};
 ghost use Rattle.pt_extra.specs.Counting.{no_numbers, with_finding};
-ghost use Rattle.pt_extra.specs.Findings.{found_at, is_held, of_object, of_placed};
-ghost use Rattle.pt_extra.specs.Inventories.{id_of};
-ghost use Rattle.pt_extra.specs.Lines.{Extra, Finding, Stray, line_text};
-ghost use Rattle.pt_extra.specs.Walk.{Fails, Keeps, Puts, Tells, against, found_in, seen_by};
+ghost use Rattle.pt_extra.specs.Findings.{is_held};
+ghost use Rattle.pt_extra.specs.Lines.{Extra, Finding, Stray, line_text, texts};
+ghost use Rattle.pt_extra.specs.Walk.{Fails, Keeps, Puts, Tells, TellsFront, against, seen_by};
+ghost use Rattle.pt_extra.specs.Walk.{found_below, found_in, found_named, found_one, found_there, found_unnamed};
 ghost use Rattle.pt_object.specs.WellKnown.{known_text};
 ghost use Rattle.pt_object.specs.declared.well_known.WellKnownName.TheVariants as known;
 ghost use Rattle.pt_plan.specs.TurnStart.{is_dir_kind, kind_in};
 ghost use Rattle.pt_plan.specs.TurnWalk.{in_root};
 ghost use Rattle.pt_tree.specs.Forest.{dir_at, listing_at, listing_of};
-ghost use Rattle.pt_walk.specs.Left.{inside_at};
+ghost use Rattle.pt_tree.specs.Log.{AppendsFront};
 
-use crate::Numbers;
 use crate::identifier::identifier_at;
 use crate::lines::{extra_line, stray_line};
 use crate::parts::{is_object, is_part};
 use crate::store::{has_folder, has_object};
+use crate::{Devices, Numbers};
 use pt_move::Job;
 use pt_object::WellKnownName;
 use pt_plan::Fault;
@@ -43,20 +43,19 @@ impl<S: Source, R: Source, L: Log> Extras<S, R, L> {
     /// job sees it. Nothing is told yet.
     pub fn new(
         alloc: Global,
-        store: S,
-        root: R,
-        log: L,
+        devices: Devices<S, R, L>,
         job: Job,
         prefix: String,
     ) -> Extras<S, R, L>
-        ensures devices { (result.store ≡ store) × (result.root ≡ root) × (result.log ≡ log) }
+        ensures devices { (result.store ≡ devices.store) × (result.root ≡ devices.root)
+            × (result.log ≡ devices.log) }
         ensures against { (result.job ≡ job) × (result.prefix ≡ prefix) }
         ensures numbers { result.numbers ≡ no_numbers }
     {
         Extras {
-            store,
-            root,
-            log,
+            store: devices.store,
+            root: devices.root,
+            log: devices.log,
             job,
             prefix,
             numbers: Numbers::none(),
@@ -67,10 +66,12 @@ impl<S: Source, R: Source, L: Log> Extras<S, R, L> {
     /// Walks the root, and tells what the store lacks. Gives how many lines there are.
     ///
     /// `Source` where the store can't be listed, `Dest` where the root can't be listed or read, `Log` where a line couldn't be put, and
-    /// `Memory` where a growth was refused.
+    /// `Memory` where a growth was refused. The log has a front of the lines then.
     pub fn run(&mut self) -> Result<Numbers, Fault>
         ensures told { OnOk result
             (Tells S.Source R.Source L.Log found_in self.old self.new) }
+        ensures stops { OnErr result
+            (TellsFront S.Source R.Source L.Log found_in self.old self.new) }
         ensures numbers { IfOk result (λ numbers. numbers ≡ self.new.numbers) }
         ensures keeps { Keeps S.Source R.Source L.Log self.old self.new }
         ensures fails { Fails S.Source R.Source L.Log self.old self.new result }
@@ -85,10 +86,15 @@ impl<S: Source, R: Source, L: Log> Extras<S, R, L> {
     }
 
     /// Store, root and log, as the walk left them.
-    pub fn into_devices(self) -> (S, R, L)
-        ensures { (result.0 ≡ self.store) × (result.1 ≡ self.root) × (result.2 ≡ self.log) }
+    pub fn into_devices(self) -> Devices<S, R, L>
+        ensures { (result.store ≡ self.store) × (result.root ≡ self.root)
+            × (result.log ≡ self.log) }
     {
-        (self.store, self.root, self.log)
+        Devices {
+            store: self.store,
+            root: self.root,
+            log: self.log,
+        }
     }
 
     // A folder at a path of the root, below which so many names lead to an object, and all that stands in it.
@@ -96,8 +102,9 @@ impl<S: Source, R: Source, L: Log> Extras<S, R, L> {
         requires { ForSome (tree_in (R.told self.old.root))
             (λ tree. IsSome (dir_at tree (in_root path.now))) }
         ensures told { OnOk result (Tells S.Source R.Source L.Log
-            (λ c tree. found_at c path.now left (inside_at tree (in_root path.now)))
-            self.old self.new) }
+            (found_below path.now left) self.old self.new) }
+        ensures stops { OnErr result (TellsFront S.Source R.Source L.Log
+            (found_below path.now left) self.old self.new) }
         ensures keeps { Keeps S.Source R.Source L.Log self.old self.new }
         ensures fails { Fails S.Source R.Source L.Log self.old self.new result }
     {
@@ -107,10 +114,10 @@ impl<S: Source, R: Source, L: Log> Extras<S, R, L> {
             return self.judge(path, &folder, &listing);
         }
         if left == 0 {
-            return self.tell_stray(path);
+            return self.meet_stray(path);
         }
         if listing.is_empty() {
-            return self.tell_stray(path);
+            return self.meet_stray(path);
         }
         for i in 0..listing.len() {
             let Some((name, kind)) = listing.get(i) else {
@@ -124,7 +131,7 @@ impl<S: Source, R: Source, L: Log> Extras<S, R, L> {
                 self.visit(&entry, left - 1)?;
                 continue;
             }
-            self.tell_stray(&entry)?;
+            self.meet_stray(&entry)?;
         }
         Ok(())
     }
@@ -162,8 +169,9 @@ impl<S: Source, R: Source, L: Log> Extras<S, R, L> {
         requires { ForSome (tree_in (R.told self.old.root))
             (λ tree. listing_at tree folder.now ≡ Some listing.now) }
         ensures told { OnOk result (Tells S.Source R.Source L.Log
-            (λ c tree. of_object c path.now (id_of (inside_at tree folder.now)))
-            self.old self.new) }
+            (found_there path.now folder.now) self.old self.new) }
+        ensures stops { OnErr result (TellsFront S.Source R.Source L.Log
+            (found_there path.now folder.now) self.old self.new) }
         ensures keeps { Keeps S.Source R.Source L.Log self.old self.new }
         ensures fails { Fails S.Source R.Source L.Log self.old self.new result }
     {
@@ -172,7 +180,7 @@ impl<S: Source, R: Source, L: Log> Extras<S, R, L> {
         )?;
         match id {
             Some(id) => self.judge_named(path, id.as_str()),
-            None => self.tell_stray(path),
+            None => self.meet_stray(path),
         }
     }
 
@@ -180,16 +188,18 @@ impl<S: Source, R: Source, L: Log> Extras<S, R, L> {
     fn judge_named(&mut self, path: &NamePath, id: &str) -> Result<(), Fault>
         requires { 0 < length id.now }
         ensures told { OnOk result (Tells S.Source R.Source L.Log
-            (λ c tree. of_object c path.now (Some id.now)) self.old self.new) }
+            (found_named path.now id.now) self.old self.new) }
+        ensures stops { OnErr result (TellsFront S.Source R.Source L.Log
+            (found_named path.now id.now) self.old self.new) }
         ensures keeps { Keeps S.Source R.Source L.Log self.old self.new }
         ensures fails { Fails S.Source R.Source L.Log self.old self.new result }
     {
+        if !self.job.share.holds(id.as_bytes()) {
+            return Ok(());
+        }
         let place = self.job.layout.place(self.alloc, id.as_bytes())?;
         if *path != place {
             return self.tell_stray(path);
-        }
-        if !self.job.share.holds(id.as_bytes()) {
-            return Ok(());
         }
         if self.store_has(id)? {
             return Ok(());
@@ -215,10 +225,27 @@ impl<S: Source, R: Source, L: Log> Extras<S, R, L> {
         .map_err(Fault::of_source)
     }
 
+    // What stands at a path is stray and has no identifier: the first share tells it.
+    fn meet_stray(&mut self, path: &NamePath) -> Result<(), Fault>
+        ensures told { OnOk result (Tells S.Source R.Source L.Log
+            (found_unnamed path.now) self.old self.new) }
+        ensures stops { OnErr result (TellsFront S.Source R.Source L.Log
+            (found_unnamed path.now) self.old self.new) }
+        ensures keeps { Keeps S.Source R.Source L.Log self.old self.new }
+        ensures fails { Fails S.Source R.Source L.Log self.old self.new result }
+    {
+        if !self.job.share.is_first() {
+            return Ok(());
+        }
+        self.tell_stray(path)
+    }
+
     // Tells that what stands at a path is stray.
     fn tell_stray(&mut self, path: &NamePath) -> Result<(), Fault>
         ensures told { OnOk result (Tells S.Source R.Source L.Log
-            (λ c tree. Stray path.now ∷ []) self.old self.new) }
+            (found_one (Stray path.now)) self.old self.new) }
+        ensures stops { OnErr result (TellsFront S.Source R.Source L.Log
+            (found_one (Stray path.now)) self.old self.new) }
         ensures keeps { Keeps S.Source R.Source L.Log self.old self.new }
         ensures fails { Fails S.Source R.Source L.Log self.old self.new result }
     {
@@ -229,7 +256,9 @@ impl<S: Source, R: Source, L: Log> Extras<S, R, L> {
     // Tells that the store doesn't have the object at a path, which has this identifier.
     fn tell_extra(&mut self, path: &NamePath, id: &str) -> Result<(), Fault>
         ensures told { OnOk result (Tells S.Source R.Source L.Log
-            (λ c tree. Extra id.now path.now ∷ []) self.old self.new) }
+            (found_one (Extra id.now path.now)) self.old self.new) }
+        ensures stops { OnErr result (TellsFront S.Source R.Source L.Log
+            (found_one (Extra id.now path.now)) self.old self.new) }
         ensures keeps { Keeps S.Source R.Source L.Log self.old self.new }
         ensures fails { Fails S.Source R.Source L.Log self.old self.new result }
     {
@@ -242,6 +271,8 @@ impl<S: Source, R: Source, L: Log> Extras<S, R, L> {
         ensures put { (finding : Finding) → line.now ≡ line_text finding
             → numbers ≡ with_finding finding self.old.numbers → OnOk result
             (Puts (finding ∷ []) (seen_by L.Log self.old) (seen_by L.Log self.new)) }
+        ensures part { (finding : Finding) → line.now ≡ line_text finding → OnErr result
+            (AppendsFront (L.told self.old.log) (L.told self.new.log) (texts (finding ∷ []))) }
         ensures keeps { Keeps S.Source R.Source L.Log self.old self.new }
         ensures fails { Fails S.Source R.Source L.Log self.old self.new result }
     {

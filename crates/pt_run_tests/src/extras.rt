@@ -3,7 +3,7 @@
 
 use crate::expected_roots::Files;
 use crate::jobs::{Settings, make_job};
-use pt_extra::{Extras, Numbers};
+use pt_extra::{Devices, Extras, Numbers};
 use pt_memory::texts::{add, store};
 use pt_memory::{MemLog, MemSource};
 use pt_move::Fault;
@@ -123,17 +123,45 @@ const GATHERED: Row = Row {
     numbers: NONE,
 };
 
-// It is of the second share of two.
+// It is of the second share of two; the first tells what has no identifier.
+const SHARED: Files = &[
+    ("ocfl/a", ""),
+    ABC,
+    ABC_ID,
+    ("ocfl/x/0=ocfl_object_1.1", ""),
+    ("ocfl/x/inventory.json", r#"{"id":"abc"}"#),
+];
+
 const OTHER_SHARE: Row = Row {
     entries: "",
     prefix: "",
     settings: Settings::Share(1, 2),
-    root: &[ABC, ABC_ID],
-    log: "",
-    numbers: NONE,
+    root: SHARED,
+    log: "{\"as\":\"stray\",\"to\":\"a\"}\n",
+    numbers: Numbers { extra: 0, stray: 1 },
 };
 
-const ROWS: [Row; 7] = [SAME, STRAY, EXTRA, PREFIX, SPLIT, GATHERED, OTHER_SHARE];
+const OWN_SHARE: Row = Row {
+    entries: "",
+    prefix: "",
+    settings: Settings::Share(2, 2),
+    root: SHARED,
+    log: r#"{"as":"extra","id":"abc","to":"ba7/816/bf8/abc"}
+{"as":"stray","to":"x"}
+"#,
+    numbers: Numbers { extra: 1, stray: 1 },
+};
+
+const ROWS: [Row; 8] = [
+    SAME,
+    STRAY,
+    EXTRA,
+    PREFIX,
+    SPLIT,
+    GATHERED,
+    OTHER_SHARE,
+    OWN_SHARE,
+];
 
 // What a walk comes to, and its log.
 fn walked(
@@ -151,9 +179,14 @@ fn walked(
     let Ok(prefix) = String::from_str(alloc, row.prefix) else {
         return None;
     };
-    let mut walk = Extras::new(alloc, store, root, MemLog::new(alloc), job, prefix);
+    let devices = Devices {
+        store,
+        root,
+        log: MemLog::new(alloc),
+    };
+    let mut walk = Extras::new(alloc, devices, job, prefix);
     let ran = walk.run();
-    let (_, _, log) = walk.into_devices();
+    let log = walk.into_devices().log;
     if planted.is_ok() {
         Some((ran, log))
     } else {

@@ -1,21 +1,34 @@
-use Rattle.std.proofs.Common.{ap, false, rules, subst, sym, true, List, [], ◌∷◌, ◌≡◌, ◌∙◌}
-use Rattle.std.proofs.lemmas.Result.{on_ok_weaker}
-use Rattle.pt_extra.proofs.Keeping.{told_from}
+use Rattle.std.proofs.Common.{ap, false, refl, rules, subst, sym, true, List, ℕ, [], ◌∷◌, ◌≡◌, ◌∙◌}
+use Rattle.std.proofs.lemmas.Result.{on_err_weaker, on_ok_weaker}
+use Rattle.std.specs.Prelude.{Option}
+use Rattle.pt_extra.proofs.Keeping.{front_from, stops_still, told_from}
 use Rattle.pt_extra.proofs.Objects.{of_misplaced, of_unheld}
-use Rattle.pt_extra.specs.Lines.{Extra, Finding}
-use Rattle.pt_extra.specs.Walk.{Puts, Seen, against, seen_by}
+use Rattle.pt_extra.specs.Lines.{Extra, Finding, texts}
+use Rattle.pt_extra.specs.Walk.{Puts, Seen, against, found_named, found_one, seen_by}
 use Rattle.pt_name.specs.Place.{place_of}
 use Rattle.pt_name.specs.Share.{holds}
+use Rattle.pt_tree.specs.Log.{AppendsFront}
 use Rattle.pt_tree.specs.Path.{same_path}
 use Rattle.pt_extra.proofs.walking.Extras.judge_named.Goals as goal
 
 pub returns-then-ne-clause-told : goal.returns-then-ne-clause-told
 returns-then-ne-clause-told g c =
+    let chosen : holds c.args.self.now.job.share c.args.id.now ≡ true = search rules in
     let apart : same_path c.args.path.now (place_of c.args.self.now.job.layout c.args.id.now) ≡ false = search rules in
     on_ok_weaker c.tell_stray.result
     (λ tells s is r there. subst (λ (fs : List Finding). Puts fs (seen_by g.L.Log c.args.self.now) (seen_by g.L.Log c.tell_stray.new.self))
-    (sym (of_misplaced (against c.args.self.now s) c.args.path.now c.args.id.now apart)) (tells s is r there))
+    (sym (of_misplaced (against c.args.self.now s) c.args.path.now c.args.id.now chosen apart)) (tells s is r there))
     c.tell_stray.ensures.told
+
+pub returns-then-ne-clause-stops : goal.returns-then-ne-clause-stops
+returns-then-ne-clause-stops g c =
+    let old = c.args.self.now in
+    let chosen : holds old.job.share c.args.id.now ≡ true = search rules in
+    let apart : same_path c.args.path.now (place_of old.job.layout c.args.id.now) ≡ false = search rules in
+    on_err_weaker c.tell_stray.result
+    (λ front s is r there. subst (λ (fs : List Finding). AppendsFront (g.L.Log.told old.log) (g.L.Log.told c.tell_stray.new.self.log) (texts fs))
+    (sym (of_misplaced (against old s) c.args.path.now c.args.id.now chosen apart)) (front s is r there))
+    c.tell_stray.ensures.stops
 
 pub returns-clause-told : goal.returns-clause-told
 returns-clause-told g c =
@@ -27,7 +40,30 @@ returns-clause-told g c =
     on_ok_weaker c.tell_extra.result
     (λ tells s is r there.
     subst (λ (fs : List Finding). Puts fs (seen_by g.L.Log old) (seen_by g.L.Log c.tell_extra.new.self))
-    (sym (of_unheld (against old s) c.args.path.now id placed chosen (sym c.if-branch.false ∙ c.in_ok-store_has.ensures.has s is)))
+    (sym (of_unheld (against old s) c.args.path.now id chosen placed (sym c.if-branch.false ∙ c.in_ok-store_has.ensures.has s is)))
     (subst (λ (a : Seen). Puts (Extra id c.args.path.now ∷ []) a (seen_by g.L.Log c.tell_extra.new.self)) still
     (told_from g.S.Source g.R.Source g.L.Log (λ x t. Extra id c.args.path.now ∷ []) old c.store_has.new.self c.tell_extra.new.self c.store_has.ensures.keeps tells s is r there)))
     c.tell_extra.ensures.told
+
+pub returns-clause-stops : goal.returns-clause-stops
+returns-clause-stops g c =
+    let old = c.args.self.now in
+    let id = c.args.id.now in
+    let placed : same_path c.args.path.now (place_of old.job.layout id) ≡ true = search rules in
+    let chosen : holds old.job.share id ≡ true = search rules in
+    let still = ap (λ w. g.L.Log.told w.log) c.store_has.ensures.rest in
+    on_err_weaker c.tell_extra.result
+    (λ front s is r there.
+    subst (λ (fs : List Finding). AppendsFront (g.L.Log.told old.log) (g.L.Log.told c.tell_extra.new.self.log) (texts fs))
+    (sym (of_unheld (against old s) c.args.path.now id chosen placed (sym c.if-branch.false ∙ c.in_ok-store_has.ensures.has s is)))
+    (subst (λ (l : Option (List ℕ)). AppendsFront l (g.L.Log.told c.tell_extra.new.self.log) (texts (Extra id c.args.path.now ∷ []))) still
+    (front_from g.S.Source g.R.Source g.L.Log (found_one (Extra id c.args.path.now)) old c.store_has.new.self c.tell_extra.new.self c.store_has.ensures.keeps front s is r there)))
+    c.tell_extra.ensures.stops
+
+pub returns-in_err-place-clause-stops : goal.returns-in_err-place-clause-stops
+returns-in_err-place-clause-stops g c =
+    stops_still g.S.Source g.R.Source g.L.Log (found_named c.args.path.now c.args.id.now) c.args.self.now c.args.self.now c.from_residual.result refl
+
+pub returns-in_err-store_has-clause-stops : goal.returns-in_err-store_has-clause-stops
+returns-in_err-store_has-clause-stops g c =
+    stops_still g.S.Source g.R.Source g.L.Log (found_named c.args.path.now c.args.id.now) c.args.self.now c.store_has.new.self c.from_residual-in_err-store_has.result (ap (λ w. g.L.Log.told w.log) c.store_has.ensures.rest)

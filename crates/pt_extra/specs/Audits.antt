@@ -1,0 +1,104 @@
+-- An audit both ways: what its log tells.
+use Rattle.std.specs.Prelude.{◌≡◌, ℕ, Bool, true, false, List, ◌++◌, Option, Some, Result, Ok, Err, take}
+use Rattle.std.specs.Io.KnownBytes.{Appends}
+use Rattle.std.specs.Option.{ForSome}
+use Rattle.std.specs.String.{string_bytes}
+use Rattle.pt_audit.specs.Auditing.{AuditStart, IsAllTold, IsOfItems, LogsAs}
+use Rattle.pt_audit.specs.declared.auditing.Audited.{Audited}
+use Rattle.pt_audit.specs.declared.counts.Counts.{Counts}
+use Rattle.pt_extra.specs.Counting.{no_numbers, with_findings}
+use Rattle.pt_extra.specs.Findings.{Against}
+use Rattle.pt_extra.specs.Lines.{Finding, last_text, texts}
+use Rattle.pt_extra.specs.Walk.{found_in}
+use Rattle.pt_extra.specs.declared.auditing.AuditCounts.{AuditCounts}
+use Rattle.pt_plan.specs.Job.{Job}
+use Rattle.pt_plan.specs.Store.{prefix_of}
+use Rattle.pt_plan.specs.declared.fault.Fault.{Fault}
+use Rattle.pt_state.specs.States.{job_of}
+use Rattle.pt_tree.specs.Forest.{Forest}
+use Rattle.pt_tree.specs.Log.{AppendsFront}
+
+-- ---- counts
+
+-- these, with none of what the store lacks
+abbrev pub without_extras : Counts → AuditCounts
+without_extras counts = record { counts = counts; numbers = no_numbers }
+
+-- the same of an answer
+abbrev pub counts_of : Result Counts Fault → Result AuditCounts Fault
+counts_of (Ok counts) = Ok (without_extras counts)
+counts_of (Err why) = Err why
+
+-- the counts of what the store has, of an answer
+abbrev pub in_both : Result AuditCounts Fault → Result Counts Fault
+in_both (Ok told) = Ok told.counts
+in_both (Err why) = Err why
+
+-- ---- behind the lines of what the store has
+
+-- with the numbers of what is found
+abbrev pub with_found : Counts → List Finding → AuditCounts
+with_found counts findings = record { counts = counts; numbers = with_findings findings no_numbers }
+
+-- the lines of what is found, and the end line
+abbrev pub rest_text : Counts → List Finding → List ℕ
+rest_text counts findings = texts findings ++ last_text (with_found counts findings)
+
+-- by the answer that is put, with these counts, or a front of it
+abbrev pub PutsRest : Counts → List Finding → Option (List ℕ) → Option (List ℕ) → Result AuditCounts Fault → Type 0
+PutsRest counts findings old new (Ok told) =
+    (told ≡ with_found counts findings) × Appends old new (rest_text counts findings)
+PutsRest counts findings old new (Err why) = AppendsFront old new (rest_text counts findings)
+
+-- against what a root is held, by what an audit gives back
+abbrev pub against_given : Audited → Forest → Against
+against_given audited store =
+    record { job = job_of audited.job; prefix = string_bytes audited.prefix; store = store }
+
+-- so it is behind the objects' lines of an audit, where store and root tell
+abbrev pub TellsRest : Audited → AuditStart → Option (List ℕ) → Result AuditCounts Fault → Type 0
+TellsRest audited start now ran =
+    ForSome start.source
+    (λ s. ForSome start.root
+    (λ r. PutsRest audited.counts (found_in (against_given audited s) r) start.log now ran))
+
+-- ---- a whole audit
+
+-- against what a root is held: a store, whose own prefix it is
+abbrev pub against_store : Job → Forest → Against
+against_store job store = record { job = job; prefix = prefix_of store; store = store }
+
+-- what is found in a root that its store lacks
+abbrev pub found_extra : Job → Forest → Forest → List Finding
+found_extra job source root = found_in (against_store job source) root
+
+-- what is told of all items of the store, then of what it lacks, and the end line, with the counts of these
+pub record IsExtraLog (job : Job) (source root : Forest) (text : List ℕ) (told : AuditCounts) : Type 0 where
+  pub lines : List ℕ
+  pub all : IsAllTold job source root lines told.counts
+  pub numbers : told ≡ with_found told.counts (found_extra job source root)
+  pub whole : text ≡ lines ++ rest_text told.counts (found_extra job source root)
+
+-- what is told of the first so many items; or all of that
+pub data IsExtraLogSoFar (job : Job) (source root : Forest) (text : List ℕ) : Type 0 where
+  OfItems : IsOfItems job source root text → IsExtraLogSoFar job source root text
+  WithRest : {told : AuditCounts} → IsExtraLog job source root text told → IsExtraLogSoFar job source root text
+
+-- where all three are told, the log has got by the answer all of it, with these counts, or a front of it
+abbrev pub ExtraLogs : Job → AuditStart → Option (List ℕ) → Result AuditCounts Fault → Type 0
+ExtraLogs job start now (Ok told) =
+    ForSome start.source
+    (λ s. ForSome start.root
+    (λ r. ForSome start.log
+    (λ old. (text : List ℕ) × (now ≡ Some (old ++ text)) × IsExtraLog job s r text told)))
+ExtraLogs job start now (Err why) =
+    ForSome start.source
+    (λ s. ForSome start.root
+    (λ r. ForSome start.log
+    (λ old. (n : ℕ) × (text : List ℕ) × (now ≡ Some (old ++ take n text)) × IsExtraLogSoFar job s r text)))
+
+-- with extras, or without them
+abbrev pub AuditLogs : Bool → Job → AuditStart → Option (List ℕ) → Result AuditCounts Fault → Type 0
+AuditLogs true job start now ran = ExtraLogs job start now ran
+AuditLogs false job start now ran =
+    LogsAs job start.source start.root start.log now (in_both ran) × (counts_of (in_both ran) ≡ ran)

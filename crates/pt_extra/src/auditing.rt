@@ -1,0 +1,189 @@
+//! An audit both ways: the objects of a store are held against the root, and the root against the store.
+ghost use Rattle.std.specs.Prelude.{◌≡◌, IfErr, IfOk, OnErr, OnOk};
+ghost use Rattle.std.specs.Io.KnownBytes.{Appends};
+ghost use Rattle.std.specs.Option.{ForSome};
+ghost use Rattle.pt_audit.specs.Auditing.{start_over};
+ghost use Rattle.pt_audit.specs.Bounds.{IsMade};
+ghost use Rattle.pt_audit.specs.Failing.{AuditSays, BlamesRightly, FailsAs, failures};
+ghost use Rattle.pt_audit.specs.Growing.{KeepsLog, KeepsSides};
+ghost use Rattle.pt_audit.specs.Layout.{IsOfLayout};
+ghost use Rattle.pt_compare.specs.Root.{tree_in};
+ghost use Rattle.pt_extra.specs.Audits.{AuditLogs, ExtraLogs, TellsRest, counts_of, in_both};
+ghost use Rattle.pt_extra.specs.Lines.{last_text};
+ghost use Rattle.pt_plan.specs.DeviceStates.{source_tree};
+ghost use Rattle.pt_state.specs.States.{job_of};
+ghost use Rattle.pt_tree.specs.Log.{AppendsFront};
+
+use crate::lines::end_line;
+use crate::{Devices, Extras, Numbers};
+use pt_audit::{Audited, Counts, Root, audit_objects};
+use pt_move::{Job, Observer};
+use pt_plan::Fault;
+use pt_tree::{Log, Source};
+use std::alloc::Global;
+
+/// How many lines an audit has: those of what the store has, and of what it lacks.
+#[derive(Clone, Copy, Debug, PartialEq, Eq)]
+pub struct AuditCounts {
+    /// Of what the store has.
+    pub counts: Counts,
+    /// Of what it lacks.
+    pub numbers: Numbers,
+}
+
+/// What an audit came to, and its devices, as it left them.
+#[derive(Drop)]
+pub struct AuditEnd<S, R, L> {
+    /// How many lines its log has, or why it broke off.
+    pub ran: Result<AuditCounts, Fault>,
+    /// The devices.
+    pub devices: Devices<S, R, L>,
+}
+
+/// An audit, as `audit` of pt_audit makes it; where extras are wanted too, the log tells of what the root has and the store lacks, behind the
+/// lines of what the store has and before the end line, which counts both.
+///
+/// It answers the faults of `audit`, and those of a walk (`Extras::run`). After a fault the log has a front of what is told.
+pub fn audit<S: Source, R: Root, L: Log, O: Observer<Counts>>(
+    alloc: Global,
+    devices: Devices<S, R, L>,
+    job: Job,
+    with_extras: bool,
+    observer: &O,
+) -> AuditEnd<S, R, L>
+    ensures ends { AuditLogs with_extras (job_of job) (start_over (tree_in (S.told devices.store))
+        (tree_in (R.told devices.root)) (L.told devices.log))
+        (L.told result.devices.log) result.ran }
+    ensures layout { OnOk result.ran (ForSome (tree_in (R.told devices.root))
+        (IsOfLayout (job_of job))) }
+    ensures sides { KeepsSides S.told S.keeps R.told R.keeps (devices.store, devices.root)
+        (result.devices.store, result.devices.root) }
+    ensures log { KeepsLog L.told L.keeps devices.log result.devices.log }
+    ensures blames { BlamesRightly
+        (failures (S.failed devices.store) (R.failed devices.root) (L.failed devices.log))
+        (failures (S.failed result.devices.store) (R.failed result.devices.root)
+        (L.failed result.devices.log)) result.ran }
+    ensures says { IfErr result.ran (AuditSays job (source_tree (S.told devices.store))
+        (tree_in (R.told devices.root))) }
+    ensures made { IsMade job (source_tree (S.told devices.store)) (in_both result.ran) }
+{
+    if with_extras {
+        return audit_with_extras(alloc, devices, job, observer);
+    }
+    let Devices {
+        mut store,
+        mut root,
+        mut log,
+    } = devices;
+    let ran = pt_audit::audit(alloc, &mut store, &mut root, &mut log, job, observer);
+    AuditEnd {
+        ran: without_extras(ran),
+        devices: Devices { store, root, log },
+    }
+}
+
+// What an audit came to that told of nothing that the store lacks.
+fn without_extras(ran: Result<Counts, Fault>) -> Result<AuditCounts, Fault>
+    ensures { result ≡ counts_of ran }
+{
+    match ran {
+        Ok(counts) => Ok(AuditCounts {
+            counts,
+            numbers: Numbers::none(),
+        }),
+        Err(fault) => Err(fault),
+    }
+}
+
+// An audit that tells of what the store lacks too.
+fn audit_with_extras<S: Source, R: Root, L: Log, O: Observer<Counts>>(
+    alloc: Global,
+    devices: Devices<S, R, L>,
+    job: Job,
+    observer: &O,
+) -> AuditEnd<S, R, L>
+    ensures ends { ExtraLogs (job_of job) (start_over (tree_in (S.told devices.store))
+        (tree_in (R.told devices.root)) (L.told devices.log))
+        (L.told result.devices.log) result.ran }
+    ensures layout { OnOk result.ran (ForSome (tree_in (R.told devices.root))
+        (IsOfLayout (job_of job))) }
+    ensures sides { KeepsSides S.told S.keeps R.told R.keeps (devices.store, devices.root)
+        (result.devices.store, result.devices.root) }
+    ensures log { KeepsLog L.told L.keeps devices.log result.devices.log }
+    ensures blames { BlamesRightly
+        (failures (S.failed devices.store) (R.failed devices.root) (L.failed devices.log))
+        (failures (S.failed result.devices.store) (R.failed result.devices.root)
+        (L.failed result.devices.log)) result.ran }
+    ensures says { IfErr result.ran (AuditSays job (source_tree (S.told devices.store))
+        (tree_in (R.told devices.root))) }
+    ensures made { IsMade job (source_tree (S.told devices.store)) (in_both result.ran) }
+{
+    let Devices {
+        mut store,
+        mut root,
+        mut log,
+    } = devices;
+    let audited = audit_objects(alloc, &mut store, &mut root, &mut log, job, observer);
+    let devices = Devices { store, root, log };
+    match audited {
+        Ok(audited) => tell_rest(alloc, devices, audited),
+        Err(fault) => AuditEnd {
+            ran: Err(fault),
+            devices,
+        },
+    }
+}
+
+// Tells of what the store lacks, and of the end, after all objects of the store were told.
+fn tell_rest<S: Source, R: Source, L: Log>(
+    alloc: Global,
+    devices: Devices<S, R, L>,
+    audited: Audited,
+) -> AuditEnd<S, R, L>
+    ensures told { TellsRest audited (start_over (tree_in (S.told devices.store))
+        (tree_in (R.told devices.root)) (L.told devices.log))
+        (L.told result.devices.log) result.ran }
+    ensures counts { IfOk result.ran (λ told. told.counts ≡ audited.counts) }
+    ensures sides { KeepsSides S.told S.keeps R.told R.keeps (devices.store, devices.root)
+        (result.devices.store, result.devices.root) }
+    ensures log { KeepsLog L.told L.keeps devices.log result.devices.log }
+    ensures fails { FailsAs result.ran
+        (failures (S.failed devices.store) (R.failed devices.root) (L.failed devices.log))
+        (failures (S.failed result.devices.store) (R.failed result.devices.root)
+        (L.failed result.devices.log)) }
+{
+    let Audited {
+        counts,
+        job,
+        prefix,
+    } = audited;
+    let mut walk = Extras::new(alloc, devices, job, prefix);
+    let found = walk.run();
+    let mut devices = walk.into_devices();
+    match found {
+        Ok(numbers) => {
+            let told = AuditCounts { counts, numbers };
+            let ran = tell_end(alloc, told, &mut devices.log);
+            AuditEnd { ran, devices }
+        }
+        Err(fault) => AuditEnd {
+            ran: Err(fault),
+            devices,
+        },
+    }
+}
+
+// Tells the end, with the counts, and gives these.
+fn tell_end<L: Log>(alloc: Global, counts: AuditCounts, log: &mut L) -> Result<AuditCounts, Fault>
+    ensures told { IfOk result (λ told. (told ≡ counts)
+        × Appends (L.told log.old) (L.told log.new) (last_text counts)) }
+    ensures part { OnErr result (AppendsFront (L.told log.old) (L.told log.new)
+        (last_text counts)) }
+    ensures log { KeepsLog L.told L.keeps log.old log.new }
+    ensures fails { FailsAs result (failures 0 0 (L.failed log.old))
+        (failures 0 0 (L.failed log.new)) }
+{
+    let line = end_line(alloc, &counts)?;
+    log.put(line.as_bytes()).map_err(Fault::of_log)?;
+    Ok(counts)
+}

@@ -1,0 +1,10 @@
+/// What an audit is made over.
+#[derive(Drop)]
+pub struct Devices<S, R, L> {
+    /// The store.
+    pub store: S,
+    /// The destination, in which the storage root stands.
+    pub root: R,
+    /// The log.
+    pub log: L,
+}
