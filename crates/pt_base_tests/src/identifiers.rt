@@ -355,7 +355,7 @@ const NOT_HELD: &[Form] = &[
 ];
 
 // Copies of texts.
-fn owned(alloc: Global, texts: &[&str]) -> Result<Vec<String>, AllocError> {
+pub(crate) fn owned(alloc: Global, texts: &[&str]) -> Result<Vec<String>, AllocError> {
     let mut owned = Vec::new(alloc);
     for text in texts {
         owned.push(String::from_str(alloc, text)?)?;

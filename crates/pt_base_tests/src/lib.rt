@@ -6,6 +6,8 @@
 #[cfg(test)]
 mod identification;
 #[cfg(test)]
+mod identifier_lists;
+#[cfg(test)]
 mod identifiers;
 #[cfg(test)]
 mod inventories;

@@ -1,5 +1,6 @@
 pub mod Building
 pub mod Complete
+pub mod IdentifierLines
 pub mod NameLists
 pub mod Naming
 mod Parsed

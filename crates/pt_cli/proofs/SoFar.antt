@@ -7,7 +7,7 @@ use Rattle.std.proofs.KnownBytes.{Appends-kept, Appends-trans, Consumes-kept, Co
 use Rattle.std.proofs.lemmas.List.Sums.{fold-append}
 use Rattle.pt_tree.specs.Log.{AppendsFront}
 use Rattle.pt_cli.specs.Feeding.{Fed, IsPut, Stopped, ended, ended_by, fed, fed_step, finished, text_in}
-use Rattle.pt_cli.specs.NameList.{AppendsSome, AnswersSo, NamesListed, ListsNames, line_fault, listed_of, names_line, whole_text_of}
+use Rattle.pt_cli.specs.NameList.{AppendsSome, AppendsWhole, AnswersSo, NamesListed, ListsNames, line_fault, listed_of, names_line, whole_of}
 use Rattle.pt_cli.specs.declared.command.NamesArgs.{NamesArgs}
 use Rattle.pt_cli.specs.declared.list_fault.LineFault.{LineFault}
 use Rattle.pt_cli.specs.declared.list_fault.ListFault.{ListFault}
@@ -109,16 +109,21 @@ module _ (asked : NamesArgs) where
         ∙ ap (λ (r : Result Fed Stopped). fed asked r piece) (so_far.came ∙ at_hand)
         ∙ shifted-fed asked so_far.told (Ok at) piece
 
-    -- the names so far are those of the whole lines
-    text_so_far : whole_text_of asked so_far.bytes ≡ so_far.told
-    text_so_far = ap (λ (l : NamesListed). l.text) (whole_read asked begun (record at { text = so_far.told }) so_far.bytes so_far.came)
+    -- the names so far are those of the whole lines, each of which is an identifier
+    whole_so_far : (new : Option (List ℕ)) → Appends old new so_far.told → AppendsWhole asked old new so_far.bytes
+    whole_so_far new appended =
+        let whole : whole_of asked so_far.bytes ≡ record { text = so_far.told; bad = None } =
+        whole_read asked begun (record at { text = so_far.told }) so_far.bytes so_far.came in (
+          ap (λ (l : NamesListed). l.bad) whole,
+          subst (Appends old new) (sym (ap (λ (l : NamesListed). l.text) whole)) appended,
+        )
 
     some : (new : Option (List ℕ)) (piece : List ℕ) → Keeps out new → AppendsSome asked old new (so_far.bytes ++ piece)
     some new piece kept = record {
       front = so_far.bytes;
       behind = piece;
       both = refl;
-      appended = subst (Appends old new) (sym text_so_far) (Appends-kept old out new so_far.told so_far.written kept);
+      appended = whole_so_far new (Appends-kept old out new so_far.told so_far.written kept);
     }
 
     -- a piece more was read, and written
@@ -221,5 +226,5 @@ module _ (asked : NamesArgs) where
     breaks rest kept = record {
       bytes = so_far.bytes;
       consumed = Consumes-kept input mid rest so_far.bytes so_far.consumed kept;
-      listed = subst (Appends old out) (sym text_so_far) so_far.written;
+      listed = whole_so_far out so_far.written;
     }

@@ -83,6 +83,10 @@ share_rule = option_rule (codes "share")
 abbrev pub only_rule : Rule
 only_rule = record (option_rule (codes "only")) { action = Some Append; parser = Some vp.NonEmptyString }
 
+-- `--list FILE`
+abbrev pub list_rule : Rule
+list_rule = option_rule (codes "list")
+
 -- `--ignore NAME`, which may be given more than once
 abbrev pub ignore_rule : Rule
 ignore_rule = record (option_rule (codes "ignore")) { action = Some Append }
@@ -127,6 +131,10 @@ present_rule = flag_rule (codes "present-ok")
 abbrev pub skips_rule : Rule
 skips_rule = flag_rule (codes "skips-ok")
 
+-- `--extra`
+abbrev pub extra_rule : Rule
+extra_rule = flag_rule (codes "extra")
+
 -- `--read`
 abbrev pub read_rule : Rule
 read_rule = flag_rule (codes "read")
@@ -161,7 +169,7 @@ abbrev pub migrate_rules : Spelled → List Rule
 migrate_rules words =
     created_rule ∷ name_rule ∷ address_rule ∷ message_rule ∷ digest_rule words.algorithms
     ∷ size_rule ∷ count_rule ∷ gather_rule
-    ∷ share_rule ∷ only_rule ∷ ignore_rule ∷ sync_rule ∷ rehearse_rule ∷ present_rule
+    ∷ share_rule ∷ only_rule ∷ list_rule ∷ ignore_rule ∷ sync_rule ∷ rehearse_rule ∷ present_rule
     ∷ verbose_rule ∷ quiet_rule
     ∷ progress_rule words.times ∷ interval_rule ∷ expect_rule ∷ event_rule
     ∷ source_rule ∷ dest_rule ∷ []
@@ -178,8 +186,8 @@ IsMigrateApp app = (words : Spelled) × (app ≡ migrate_app words)
 abbrev pub audit_rules : Spelled → List Rule
 audit_rules words =
     digest_rule words.algorithms ∷ size_rule ∷ count_rule ∷ gather_rule ∷ share_rule ∷ only_rule
-    ∷ ignore_rule ∷ skips_rule ∷ verbose_rule ∷ quiet_rule ∷ progress_rule words.times
-    ∷ interval_rule ∷ expect_rule ∷ event_rule ∷ source_rule ∷ dest_rule ∷ []
+    ∷ list_rule ∷ ignore_rule ∷ skips_rule ∷ extra_rule ∷ verbose_rule ∷ quiet_rule
+    ∷ progress_rule words.times ∷ interval_rule ∷ expect_rule ∷ event_rule ∷ source_rule ∷ dest_rule ∷ []
 
 -- `audit [OPTIONS] SOURCE DEST`
 abbrev pub audit_app : Spelled → App

@@ -76,16 +76,21 @@ listed_from asked number (id ∷ ids) =
 abbrev pub listed_of : NamesArgs → List ℕ → NamesListed
 listed_of asked bytes = listed_from asked 1 (lines_from [] bytes)
 
--- the names of the whole lines of an input
-abbrev pub whole_text_of : NamesArgs → List ℕ → List ℕ
-whole_text_of asked bytes = (listed_from asked 1 (whole_lines_from [] bytes)).text
+-- what the whole lines of an input come to
+abbrev pub whole_of : NamesArgs → List ℕ → NamesListed
+whole_of asked bytes = listed_from asked 1 (whole_lines_from [] bytes)
 
--- an output grew by the names of the whole lines in a front of these bytes
+-- each whole line of these bytes is an identifier, and an output grew by the names of them all
+abbrev pub AppendsWhole : NamesArgs → Option (List ℕ) → Option (List ℕ) → List ℕ → Type 0
+AppendsWhole asked old new bytes =
+    ((whole_of asked bytes).bad ≡ None) × Appends old new (whole_of asked bytes).text
+
+-- the same of the whole lines in a front of these bytes
 pub record AppendsSome (asked : NamesArgs) (old new : Option (List ℕ)) (bytes : List ℕ) : Type 0 where
   pub front : List ℕ
   pub behind : List ℕ
   pub both : bytes ≡ front ++ behind
-  pub appended : Appends old new (whole_text_of asked front)
+  pub appended : AppendsWhole asked old new front
 
 -- what was read and written where the answer is so: of these bytes, behind which this is left of the input
 abbrev pub AnswersSo : NamesArgs → List ℕ → Option (List ℕ) → Option (List ℕ) → Option (List ℕ)
@@ -94,7 +99,7 @@ AnswersSo asked bytes rest old new (Ok done) =
     IsAtEnd rest × ((listed_of asked bytes).bad ≡ None) × Appends old new (listed_of asked bytes).text
 AnswersSo asked bytes rest old new (Err (list.Line bad)) =
     ((listed_of asked bytes).bad ≡ Some bad) × Appends old new (listed_of asked bytes).text
-AnswersSo asked bytes rest old new (Err list.Read) = Appends old new (whole_text_of asked bytes)
+AnswersSo asked bytes rest old new (Err list.Read) = AppendsWhole asked old new bytes
 AnswersSo asked bytes rest old new (Err list.Write) = AppendsFront old new (listed_of asked bytes).text
 AnswersSo asked bytes rest old new (Err list.Memory) = AppendsSome asked old new bytes
 

@@ -113,6 +113,7 @@ audit_options_in rows = do
     job = job;
     ignored = ignored;
     skips_ok = is_set_in (codes "skips-ok") rows;
+    extra = is_set_in (codes "extra") rows;
     feedback = feedback;
   })
 
@@ -128,14 +129,24 @@ abbrev pub migration_in : List Row → Result Command Unread
 migration_in rows = do
   options ← run_options_in rows
   folders ← folders_in rows
-  Ok (Migrate (record { options = options; source = folders.0; dest = folders.1 }))
+  Ok (Migrate (record {
+    options = options;
+    source = folders.0;
+    dest = folders.1;
+    list = first_of (codes "list") rows;
+  }))
 
 -- what `audit` is asked for
 abbrev pub audit_in : List Row → Result Command Unread
 audit_in rows = do
   options ← audit_options_in rows
   folders ← folders_in rows
-  Ok (Audit (record { options = options; source = folders.0; dest = folders.1 }))
+  Ok (Audit (record {
+    options = options;
+    source = folders.0;
+    dest = folders.1;
+    list = first_of (codes "list") rows;
+  }))
 
 -- what `check` is asked for
 abbrev pub check_in : List Row → Result Command Unread

@@ -1,5 +1,6 @@
 -- What the program does by its words, and its exit statuses: 0, 1, 2 and 3.
-use Rattle.std.specs.Prelude.{◌≡◌, ◌≢◌, ◌⊎◌, ℕ, List, Option, Result, Ok, Err}
+use Rattle.std.specs.Prelude.{◌≡◌, ◌≢◌, ◌⊎◌, ℕ, List, Option, Result, Ok, Err, Vec}
+use Rattle.std.specs.Global.{Global}
 use Rattle.std.specs.IoError.{error_kind}
 use Rattle.std.specs.declared.io.Error.{Error}
 use Rattle.std.specs.declared.io.ErrorKind.TheVariants.{OutOfMemory}
@@ -9,10 +10,14 @@ use Rattle.pt_host.specs.Checking.{ChecksStore, check_call}
 use Rattle.pt_host.specs.Machine.{MachineWords}
 use Rattle.pt_host.specs.Made.{Runs, run_call}
 use Rattle.pt_cli.specs.Calls.{TellsAsked, TellsText}
+use Rattle.pt_state.specs.declared.job.Job.{Job}
 use Rattle.pt_cli.specs.Inputs.{Beside}
+use Rattle.pt_cli.specs.Listing.{MakesListed, TakesList}
 use Rattle.pt_cli.specs.Words.{ReadsWords}
+use Rattle.pt_cli.specs.declared.command.Audit.{Audit as AuditArgs}
 use Rattle.pt_cli.specs.declared.command.Command.{Command}
 use Rattle.pt_cli.specs.declared.command.Command.TheVariants.{Audit, Check, Names, Migrate}
+use Rattle.pt_cli.specs.declared.command.Migrate.{Migrate as MigrateArgs}
 use Rattle.pt_cli.specs.declared.faults.WordsFault.{WordsFault}
 use Rattle.pt_cli.specs.declared.faults.WordsFault.TheVariants as words
 
@@ -33,12 +38,28 @@ Declines machine words.Tuples = Refuses 2
 Declines machine words.Share = Refuses 2
 Declines machine words.Ignored = Refuses 2
 
+-- what the list of a migration takes, where one is named, and the run with that
+abbrev pub MakesRun : {H : Type 0} → MachineWords H → (Option Text → Type 0)
+    → (Text → Result (Vec ℕ Global) Error → Type 0) → MigrateArgs → H → H → ℕ → Type 0
+MakesRun machine asks gives asked old new status =
+    (taken : Result Job ℕ) × TakesList gives asked.list asked.options.job taken
+    × MakesListed (λ job. Runs machine asks
+    (run_call (record asked.options { job = job }) asked.source asked.dest)) taken old new status
+
+-- the same of an audit
+abbrev pub MakesAudit : {H : Type 0} → MachineWords H → (Option Text → Type 0)
+    → (Text → Result (Vec ℕ Global) Error → Type 0) → AuditArgs → H → H → ℕ → Type 0
+MakesAudit machine asks gives asked old new status =
+    (taken : Result Job ℕ) × TakesList gives asked.list asked.options.job taken
+    × MakesListed (λ job. Audits machine asks
+    (audit_call (record asked.options { job = job }) asked.source asked.dest)) taken old new status
+
 -- what is done at a command: its call is made, with what its words ask for, and its status is the program's; `names` alone may ask for the input
 abbrev pub Obeys : {H : Type 0} → MachineWords H → Beside H → Command
     → H → H → ℕ → Type 0
 Obeys machine beside (Names asked) = TellsAsked machine beside.input asked
-Obeys machine beside (Migrate asked) = Runs machine beside.asks (run_call asked.options asked.source asked.dest)
-Obeys machine beside (Audit asked) = Audits machine beside.asks (audit_call asked.options asked.source asked.dest)
+Obeys machine beside (Migrate asked) = MakesRun machine beside.asks beside.gives asked
+Obeys machine beside (Audit asked) = MakesAudit machine beside.asks beside.gives asked
 Obeys machine beside (Check asked) = ChecksStore machine (check_call asked.options asked.source)
 
 -- what is done where the words were answered so

@@ -3,10 +3,10 @@ ghost use Rattle.clap.specs.Words.{found_of, rows_of};
 ghost use Rattle.pt_cli.specs.Arguments.{ReadsAs};
 ghost use Rattle.pt_cli.specs.Options.{audit_in, audit_meta, audit_options_in};
 
-use crate::arguments::is_set;
+use crate::arguments::{is_set, text};
 use crate::faults::Unread;
-use crate::feedback_words::feedback;
-use crate::grammar::SKIPS_OK;
+use crate::feedback_words::{copy_of, feedback};
+use crate::ids::{EXTRA, LIST, SKIPS_OK};
 use crate::ignore_words::ignored;
 use crate::job_words::{folders, job, meta_of};
 use crate::{Audit, Command};
@@ -24,10 +24,12 @@ pub(crate) fn audit_command(alloc: Global, matches: &ArgMatches<'_>) -> Result<C
 {
     let options = audit_options(alloc, matches)?;
     let (source, dest) = folders(alloc, matches)?;
+    let list = copy_of(alloc, text(matches, LIST))?;
     Ok(Command::Audit(Audit {
         options,
         source,
         dest,
+        list,
     }))
 }
 
@@ -42,6 +44,7 @@ fn audit_options(alloc: Global, matches: &ArgMatches<'_>) -> Result<AuditOptions
         job,
         ignored,
         skips_ok: is_set(matches, SKIPS_OK),
+        extra: is_set(matches, EXTRA),
         feedback,
     })
 }

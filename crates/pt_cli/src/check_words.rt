@@ -6,7 +6,7 @@ ghost use Rattle.pt_cli.specs.Options.{check_in};
 use crate::arguments::{is_set, needed, text};
 use crate::faults::Unread;
 use crate::feedback_words::copy_of;
-use crate::grammar::{INTO, READ, SOURCE};
+use crate::ids::{INTO, READ, SOURCE};
 use crate::ignore_words::ignored;
 use crate::job_words::layout;
 use crate::{Check, Command, Text};

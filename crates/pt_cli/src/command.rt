@@ -35,6 +35,8 @@ pub struct Migrate {
     pub source: Text,
     /// The folder in which `ocfl` is, or comes to be.
     pub dest: Text,
+    /// The path of a list of the identifiers that are carried, if one is named.
+    pub list: Option<Text>,
 }
 
 /// An audit, as the words ask for it.
@@ -46,6 +48,8 @@ pub struct Audit {
     pub source: Text,
     /// The folder in which `ocfl` is.
     pub dest: Text,
+    /// The path of a list of the identifiers that are audited, if one is named.
+    pub list: Option<Text>,
 }
 
 /// A check, as the words ask for it.

@@ -7,7 +7,7 @@ ghost use Rattle.pt_cli.specs.Options.{feedback_in};
 use crate::Text;
 use crate::arguments::{is_set, needed, number, text};
 use crate::faults::Unread;
-use crate::grammar::{EVENT, EXPECT, INTERVAL, PROGRESS, QUIET, VERBOSE};
+use crate::ids::{EVENT, EXPECT, INTERVAL, PROGRESS, QUIET, VERBOSE};
 use clap::ArgMatches;
 use pt_host::{Feedback, Progress};
 use pt_tree::MemoryFault;

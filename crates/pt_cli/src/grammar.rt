@@ -8,72 +8,15 @@ ghost use Rattle.pt_cli.specs.ArgSpec.{IsLocal, IsTaker, TakesToo, defaulted_rul
 ghost use Rattle.pt_cli.specs.ArgSpec.{repeated_rule, repeated_text_rule, rule_of_taken, word_rule};
 
 use crate::help::{AUDIT_AND_STATUS, LOG_AND_STATUS, TROUBLES_AND_STATUS};
+use crate::ids::{
+    ADDRESS, AUDIT, CHECK, CREATED, DEST, DIGEST, EVENT, EXPECT, EXTRA, GATHER, ID, IGNORE,
+    INTERVAL, INTO, LIST, MESSAGE, MIGRATE, NAME, NAMES, ONLY, PREFIX, PRESENT_OK, PROGRESS, QUIET,
+    READ, REHEARSE, SHARE, SKIPS_OK, SOURCE, SYNC, TUPLE_SIZE, TUPLES, VERBOSE,
+};
 use clap::builder::ValueParser;
 use clap::{Arg, ArgAction, Command as Parser, value_parser};
 use pt_host::VERSION;
 use std::alloc::{AllocError, Global};
-
-pub(crate) const NAMES: &str = "names";
-
-pub(crate) const ID: &str = "ID";
-
-pub(crate) const MIGRATE: &str = "migrate";
-
-pub(crate) const AUDIT: &str = "audit";
-
-pub(crate) const CHECK: &str = "check";
-
-pub(crate) const CREATED: &str = "created";
-
-pub(crate) const NAME: &str = "name";
-
-pub(crate) const ADDRESS: &str = "address";
-
-pub(crate) const MESSAGE: &str = "message";
-
-pub(crate) const DIGEST: &str = "digest";
-
-pub(crate) const TUPLE_SIZE: &str = "tuple-size";
-
-pub(crate) const TUPLES: &str = "tuples";
-
-pub(crate) const GATHER: &str = "gather";
-
-pub(crate) const SHARE: &str = "share";
-
-pub(crate) const ONLY: &str = "only";
-
-pub(crate) const IGNORE: &str = "ignore";
-
-pub(crate) const SYNC: &str = "sync";
-
-pub(crate) const REHEARSE: &str = "dry-run";
-
-pub(crate) const PRESENT_OK: &str = "present-ok";
-
-pub(crate) const SKIPS_OK: &str = "skips-ok";
-
-pub(crate) const VERBOSE: &str = "verbose";
-
-pub(crate) const QUIET: &str = "quiet";
-
-pub(crate) const PROGRESS: &str = "progress";
-
-pub(crate) const INTERVAL: &str = "interval";
-
-pub(crate) const EXPECT: &str = "expect";
-
-pub(crate) const EVENT: &str = "event";
-
-pub(crate) const READ: &str = "read";
-
-pub(crate) const INTO: &str = "dest";
-
-pub(crate) const PREFIX: &str = "prefix";
-
-pub(crate) const SOURCE: &str = "SOURCE";
-
-pub(crate) const DEST: &str = "DEST";
 
 // An argument that a command takes: its id, how it is given, and its help.
 pub(crate) struct ArgSpec {
@@ -128,6 +71,12 @@ const TAKES_ONLY: ArgSpec = ArgSpec {
     id: ONLY,
     form: Form::RepeatedText("TEXT"),
     help: "Take the objects alone whose identifiers begin with TEXT, the prefix included; may be given again",
+};
+
+const TAKES_LIST: ArgSpec = ArgSpec {
+    id: LIST,
+    form: Form::Value("FILE"),
+    help: "Take the objects alone whose identifiers stand in FILE, one a line, beside those of --only",
 };
 
 const TAKES_IGNORE: ArgSpec = ArgSpec {
@@ -218,6 +167,7 @@ const MIGRATE_TAKES: &[ArgSpec] = &[
         help: "Carry the objects of share K of N shares alone, as 2/8 [default: all objects]",
     },
     TAKES_ONLY,
+    TAKES_LIST,
     TAKES_IGNORE,
     ArgSpec {
         id: SYNC,
@@ -272,11 +222,17 @@ const AUDIT_TAKES: &[ArgSpec] = &[
         help: "Audit the objects of share K of N shares alone, as 2/8 [default: all objects]",
     },
     TAKES_ONLY,
+    TAKES_LIST,
     TAKES_IGNORE,
     ArgSpec {
         id: SKIPS_OK,
         form: Form::Flag,
         help: "Exit with 0 also where the log has skip lines",
+    },
+    ArgSpec {
+        id: EXTRA,
+        form: Form::Flag,
+        help: "Tell too of what stands in ocfl and the store lacks [default: hold the store's objects against ocfl]",
     },
     TAKES_VERBOSE,
     TAKES_QUIET,

@@ -22,7 +22,8 @@ The causes of a skip:
 
 Exit status:
   0  everything was carried
-  1  the run ended, but the log has a line of skip or present (with --present-ok, of skip)
+  1  the run ended, but the log has a line of skip or present (with --present-ok, of skip),
+     or an identifier of --list was met nowhere
   2  the words were refused, and nothing was done
   3  a fault ended the run, and standard error says which"#;
 
@@ -38,11 +39,15 @@ Each line says under "as" what was found:
            missing, extra, kind (a file for a folder, or so) or bytes;
            or twin: its folder has other names than its identifier's, which stands too
   skip     not carried, for the cause that migrate gives
+  extra    with --extra, an object at "to" of ocfl that isn't in the source
+  stray    with --extra, what stands at "to" is no part of ocfl or of an object,
+           or is an object whose place is another, or whose identifier can't be read
   end      the last line: how many there were of each
 
 Exit status:
   0  all lines are same
-  1  the log has other lines (with --skips-ok, lines of absent or differs)
+  1  the log has other lines (with --skips-ok, lines that are neither same nor skip),
+     or an identifier of --list was met nowhere
   2  the words were refused, and nothing was done
   3  a fault ended the audit, and standard error says which"#;
 

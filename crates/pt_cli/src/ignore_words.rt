@@ -8,7 +8,7 @@ ghost use Rattle.pt_cli.specs.Ignore.{AreNamed, ignored_in, not_a_name};
 
 use crate::arguments::texts;
 use crate::faults::Unread;
-use crate::grammar::IGNORE;
+use crate::ids::IGNORE;
 use clap::ArgMatches;
 use pt_tree::{Ignored, Name, NameFault};
 use std::alloc::Global;

@@ -8,7 +8,7 @@ ghost use Rattle.pt_cli.specs.Options.{described, folders_in, job_in, layout_in}
 use crate::Text;
 use crate::arguments::{is_set, needed, number, text, texts};
 use crate::faults::Unread;
-use crate::grammar::{DEST, DIGEST, GATHER, ONLY, SHARE, SOURCE, TUPLE_SIZE, TUPLES};
+use crate::ids::{DEST, DIGEST, GATHER, ONLY, SHARE, SOURCE, TUPLE_SIZE, TUPLES};
 use crate::share_words::{share, with_only};
 use clap::ArgMatches;
 use pt_move::Job;

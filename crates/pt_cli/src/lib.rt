@@ -6,12 +6,13 @@
 //!   that is done (`Obeys`, `Declines`). `names` writes the two names, by `names_to`, to the output that the machine lends, and the status
 //!   is by the answer (`TellsNames`). `names -` asks for the machine's input, which no other command does, and writes the names of the identifiers
 //!   in its lines, by `list_names` (`TellsAll`). `migrate` makes the run of pt_host from SOURCE to DEST, with all that its options say, and
-//!   the status is its status; `audit` makes the audit likewise, and `check` the check of SOURCE. Help and the version are written to the
-//!   machine's output: 0 where they were, or nobody may read them any more, and else 3 (`TellsText`). Refused words (2) and want of
-//!   memory (3) ask nothing of the machine.
-//! - The options that have a part in what is said of a run or an audit: those of the job, `--ignore`, `--sync`, `--dry-run`,
-//!   `--present-ok`, `--skips-ok`, `--read` and `--dest` of a check, and `--expect`, whose log is asked for its end. `--verbose`, `--progress`, `--interval` and `--quiet`
-//!   are taken from the words too; what they then show is tested.
+//!   the status is its status; `audit` makes the audit likewise, and `check` the check of SOURCE. Where `--list` names a file, that is read first,
+//!   and what is made takes just the identifiers in its lines (`TakesList`); a file that can't be read or has another line is refused (2).
+//!   Help and the version are written to the machine's output: 0 where they were, or nobody may read them any more, and else 3
+//!   (`TellsText`). Refused words (2) and want of memory (3) ask nothing of the machine.
+//! - The options that have a part in what is said of a run or an audit: those of the job, `--list`, `--ignore`, `--sync`, `--dry-run`,
+//!   `--present-ok`, `--skips-ok`, `--extra`, `--read` and `--dest` of a check, and `--expect`, whose log is asked for its end. `--verbose`,
+//!   `--progress`, `--interval` and `--quiet` are taken from the words too; what they then show is tested.
 //! - `run` asks for the words that it was started with (`Started`), and ends with the status of `answer` to just these (`Ends`); where they
 //!   aren't text that is refused (2), and want of memory is 3.
 //! - `names_to`, for every layout and prefix, over every output that tells what it holds: where it answers Ok, exactly the two lines were
@@ -22,7 +23,8 @@
 //! - `read_words`: the words are read exactly as `clap` reads them, for the grammar that the contract spells out (`ReadsWords`). What the
 //!   parser accepts always has an answer: `names` gives its identifier, prefix and layout, or `EmptyId` for the empty one, or `Tuples`.
 //!   `migrate` gives the values of its options with their defaults and its two paths, or, in this order, `Created`, `EmptyName`, `Tuples`,
-//!   `Share` or `Ignored`; `check` gives those of its own, or `Tuples` or `Ignored`. Help, the version and `Words` come only where the parser's rules give them.
+//!   `Share` or `Ignored`; `check` gives those of its own, or `Tuples` or `Ignored`. Help, the version and `Words` come only where the
+//!   parser's rules give them.
 #![tactic(auto)]
 
 mod arguments;
@@ -33,10 +35,13 @@ mod faults;
 mod feedback_words;
 mod grammar;
 mod help;
+mod identifier_lines;
+mod ids;
 mod ignore_words;
 mod input;
 mod job_words;
 mod list_fault;
+mod listing;
 mod migrate_words;
 mod name_list;
 mod names;

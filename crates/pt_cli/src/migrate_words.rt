@@ -5,8 +5,8 @@ ghost use Rattle.pt_cli.specs.Options.{meta_in, migration_in, run_options_in};
 
 use crate::arguments::{is_set, needed, text};
 use crate::faults::Unread;
-use crate::feedback_words::feedback;
-use crate::grammar::{ADDRESS, CREATED, MESSAGE, NAME, PRESENT_OK, REHEARSE, SYNC};
+use crate::feedback_words::{copy_of, feedback};
+use crate::ids::{ADDRESS, CREATED, LIST, MESSAGE, NAME, PRESENT_OK, REHEARSE, SYNC};
 use crate::ignore_words::ignored;
 use crate::job_words::{folders, job, meta_of};
 use crate::{Command, Migrate};
@@ -21,10 +21,12 @@ pub(crate) fn migrate_command(alloc: Global, matches: &ArgMatches<'_>) -> Result
 {
     let options = run_options(alloc, matches)?;
     let (source, dest) = folders(alloc, matches)?;
+    let list = copy_of(alloc, text(matches, LIST))?;
     Ok(Command::Migrate(Migrate {
         options,
         source,
         dest,
+        list,
     }))
 }
 

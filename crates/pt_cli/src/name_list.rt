@@ -1,5 +1,5 @@
 //! The names of the identifiers in the lines of an input, piece by piece.
-ghost use Rattle.std.specs.Prelude.{◌≡◌, ◌<◌, ◌++◌, [], Ok, length, OnOk};
+ghost use Rattle.std.specs.Prelude.{◌≡◌, ◌<◌, ◌++◌, [], MatchResult, Ok, length, OnOk};
 ghost use Rattle.std.specs.Io.BufRead.{strip_last};
 ghost use Rattle.pt_cli.specs.Feeding.{IsFed, IsPut, Puts, ended, fed, fed_byte, finished};
 ghost use Rattle.pt_cli.specs.NameList.{ListsNames, line_fault, names_line};
@@ -39,9 +39,9 @@ impl Model for NameLister {
 /// behind, LF. A line ends with LF or CR LF; what stands behind the last LF is a line too, where it isn't empty.
 ///
 /// `Line` at the first line that is no identifier, with its number: as `TooLong` where it has more than 65,536 bytes, else as `Empty`,
-/// else as `NotUtf8`. The names of all lines before it were written. `Read` where the input answers an error: the names of all whole
-/// lines before it were. `Write` where the output answers an error, or takes nothing of a piece that isn't empty: a front of the names
-/// was. `Memory` where a growth was refused: the names of the whole lines in a front of the input were.
+/// else as `NotUtf8`. The names of all lines before it were written. `Read` where the input answers an error: each whole line before it is
+/// an identifier, and their names were. `Write` where the output answers an error, or takes nothing of a piece that isn't empty: a front of
+/// the names was. `Memory` where a growth was refused: the names of the whole lines in a front of the input were, each an identifier.
 ///
 /// What is held doesn't grow with the input: it is read in pieces of at most 65,536 bytes, and the names of the lines that end in one
 /// are written before the next is read. Line numbers stop at 2^64 - 1.
@@ -195,15 +195,26 @@ impl NameLister {
 fn fault_in(line: &[u8]) -> Option<LineFault>
     ensures { result ≡ line_fault line.now }
 {
+    match identifier_in(line) {
+        Ok(_) => None,
+        Err(fault) => Some(fault),
+    }
+}
+
+// The identifier that a line is, or why it is none.
+pub(crate) fn identifier_in(line: &[u8]) -> Result<&str, LineFault>
+    ensures { MatchResult result (λ id. (None ≡ line_fault line.now) × (id.now ≡ line.now))
+        (λ fault. Some fault ≡ line_fault line.now) }
+{
     if line.len() > LONGEST {
-        return Some(LineFault::TooLong);
+        return Err(LineFault::TooLong);
     }
     if line.is_empty() {
-        return Some(LineFault::Empty);
+        return Err(LineFault::Empty);
     }
     match str::from_utf8(line) {
-        Ok(_) => None,
-        Err(_) => Some(LineFault::NotUtf8),
+        Ok(id) => Ok(id),
+        Err(_) => Err(LineFault::NotUtf8),
     }
 }
 

@@ -5,7 +5,7 @@ ghost use Rattle.pt_cli.specs.Options.{names_in};
 
 use crate::arguments::{needed, text};
 use crate::faults::Unread;
-use crate::grammar::{ID, PREFIX};
+use crate::ids::{ID, PREFIX};
 use crate::job_words::layout;
 use crate::{Command, NamesArgs, Text};
 use clap::ArgMatches;

@@ -1,14 +1,13 @@
-ghost use Rattle.std.specs.Prelude.{◌≡◌, map, string_bytes};
+ghost use Rattle.std.specs.Prelude.{◌≡◌, map, option_map, string_bytes};
 ghost use Rattle.std.specs.Process.{exit_status};
 ghost use Rattle.pt_messages.specs.Expected.{AsksEnd};
 ghost use Rattle.pt_cli.specs.Calls.{IsToldAs, TellsAsked, TellsNames, TellsText, names_status};
 ghost use Rattle.pt_cli.specs.Inputs.{beside};
-ghost use Rattle.pt_cli.specs.Statuses.{Declines, Ends, EndsWith, IsWordless, Obeys};
-ghost use Rattle.pt_host.specs.Audits.{Audits, audit_call};
+ghost use Rattle.pt_cli.specs.Statuses.{Declines, Ends, EndsWith, IsWordless, MakesAudit, MakesRun, Obeys};
 ghost use Rattle.pt_host.specs.Checking.{ChecksStore, check_call};
-ghost use Rattle.pt_host.specs.Made.{Runs, run_call};
 
 use crate::input::{HasInput, InputMachine};
+use crate::listing::take_list;
 use crate::names_of_input::{is_of_input, write_names_of_input};
 use crate::started::Started;
 use crate::{
@@ -16,7 +15,8 @@ use crate::{
 };
 use pt_host::status::{DONE, REFUSED};
 use pt_host::{
-    Host, Machine, Reads, Terminals, audit_guarded, check_store, end_with_fault, run_guarded,
+    AuditOptions, Host, Machine, Reads, RunOptions, Terminals, audit_guarded, check_store,
+    end_with_fault, run_guarded,
 };
 use pt_move::Fault;
 use pt_tree::write_out;
@@ -36,7 +36,7 @@ pub fn run<R, H: Host + HasInput>(rt: &R, host: &mut H) -> ExitCode
 where
     R: Started + Reads + Clock + Eprint + AllocGlobal + Terminals,
     ensures { Ends (R.starts rt.now) (EndsWith ⟦<H as Machine>⟧.words
-        (beside (AsksEnd R.ends rt.now) ⟦<H as InputMachine>⟧.input_words))
+        (beside (AsksEnd R.ends rt.now) (R.gives rt.now) ⟦<H as InputMachine>⟧.input_words))
         host.old host.new (exit_status result) }
 {
     ExitCode::from(status_of(rt, host))
@@ -47,7 +47,7 @@ fn status_of<R, H: Host + HasInput>(rt: &R, host: &mut H) -> u8
 where
     R: Started + Reads + Clock + Eprint + AllocGlobal + Terminals,
     ensures { Ends (R.starts rt.now) (EndsWith ⟦<H as Machine>⟧.words
-        (beside (AsksEnd R.ends rt.now) ⟦<H as InputMachine>⟧.input_words))
+        (beside (AsksEnd R.ends rt.now) (R.gives rt.now) ⟦<H as InputMachine>⟧.input_words))
         host.old host.new result }
 {
     match rt.words(rt.alloc()) {
@@ -76,7 +76,7 @@ pub fn answer<R, H: Host + HasInput>(rt: &R, host: &mut H, words: &[String]) -> 
 where
     R: Reads + Clock + Eprint + AllocGlobal + Terminals,
     ensures { EndsWith ⟦<H as Machine>⟧.words
-        (beside (AsksEnd R.ends rt.now) ⟦<H as InputMachine>⟧.input_words)
+        (beside (AsksEnd R.ends rt.now) (R.gives rt.now) ⟦<H as InputMachine>⟧.input_words)
         (map string_bytes words.now) host.old host.new result }
 {
     match read_words(rt.alloc(), words) {
@@ -90,7 +90,7 @@ fn obey<R, H: Host + HasInput>(rt: &R, host: &mut H, command: Command) -> u8
 where
     R: Reads + Clock + Eprint + AllocGlobal + Terminals,
     ensures { Obeys ⟦<H as Machine>⟧.words
-        (beside (AsksEnd R.ends rt.now) ⟦<H as InputMachine>⟧.input_words)
+        (beside (AsksEnd R.ends rt.now) (R.gives rt.now) ⟦<H as InputMachine>⟧.input_words)
         command host.old host.new result }
 {
     match command {
@@ -141,34 +141,58 @@ fn told_text(rt: &impl Eprint, written: io::Result<()>) -> u8
     }
 }
 
-// Makes the run that the words ask for, and gives its status.
+// Makes the run that the words ask for, of what its list takes, and gives its status.
 fn make_run<R, H: Host>(rt: &R, host: &mut H, asked: Migrate) -> u8
 where
     R: Reads + Clock + Eprint + AllocGlobal + Terminals,
-    ensures { Runs ⟦<H as Machine>⟧.words (AsksEnd R.ends rt.now)
-        (run_call asked.options asked.source asked.dest) host.old host.new result }
+    ensures { MakesRun ⟦<H as Machine>⟧.words (AsksEnd R.ends rt.now) (R.gives rt.now)
+        asked host.old host.new result }
 {
     let Migrate {
         options,
         source,
         dest,
+        list,
     } = asked;
-    run_guarded(rt, host, options, source.as_str(), dest.as_str())
+    match take_list(rt, path_of(&list), options.job) {
+        Ok(job) => {
+            let options = RunOptions { job, ..options };
+            run_guarded(rt, host, options, source.as_str(), dest.as_str())
+        }
+        Err(status) => status,
+    }
 }
 
-// Makes the audit that the words ask for, and gives its status.
+// Makes the audit that the words ask for, of what its list takes, and gives its status.
 fn make_audit<R, H: Host>(rt: &R, host: &mut H, asked: Audit) -> u8
 where
     R: Reads + Clock + Eprint + AllocGlobal + Terminals,
-    ensures { Audits ⟦<H as Machine>⟧.words (AsksEnd R.ends rt.now)
-        (audit_call asked.options asked.source asked.dest) host.old host.new result }
+    ensures { MakesAudit ⟦<H as Machine>⟧.words (AsksEnd R.ends rt.now) (R.gives rt.now)
+        asked host.old host.new result }
 {
     let Audit {
         options,
         source,
         dest,
+        list,
     } = asked;
-    audit_guarded(rt, host, options, source.as_str(), dest.as_str())
+    match take_list(rt, path_of(&list), options.job) {
+        Ok(job) => {
+            let options = AuditOptions { job, ..options };
+            audit_guarded(rt, host, options, source.as_str(), dest.as_str())
+        }
+        Err(status) => status,
+    }
+}
+
+// The path of a list, if one is named.
+fn path_of(list: &Option<Text>) -> Option<&str>
+    ensures { option_map (λ path. path.now) result ≡ list.now }
+{
+    match list {
+        Some(path) => Some(path.as_str()),
+        None => None,
+    }
 }
 
 // Makes the check that the words ask for, and gives its status.

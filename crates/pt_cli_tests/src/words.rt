@@ -12,7 +12,7 @@ enum Reading {
     Names,
     // The migration that the row has.
     Migration(&'static Row),
-    // An audit of what was gathered, by SHA-256 and two tuples of three digits, with its event.
+    // An audit of what was gathered, by SHA-256 and two tuples of three digits, with its event and extras.
     Audit,
     // A check that reads each file, of all entries but those with one name, for a run into D with four tuples of two digits.
     Check,
@@ -83,6 +83,7 @@ fn is_gathering(asked: &Audit) -> bool {
         && (job.algorithm, job.gather) == (Algorithm::Sha256, true)
         && (asked.source.as_str(), asked.dest.as_str()) == ("S", "D")
         && is_path(&asked.options.feedback.event, Some("E"))
+        && (asked.options.extra, asked.options.skips_ok) == (true, false)
 }
 
 fn is_reading(asked: &Check) -> bool {
@@ -220,6 +221,7 @@ fn the_words_of_migrate_are_read(rt: HostRuntime) {
 const AUDIT: Words = &[
     "pairtree2ocfl",
     "audit",
+    "--extra",
     "--gather",
     "--digest=sha256",
     "--tuples=2",
@@ -340,6 +342,9 @@ const PARTS: Readings = &[
     (&[GOOD, "--name=Ada", "--only=ark:/13030/x"], 0),
     (&[GOOD, "--name=Ada", "--only="], 2),
     (&["--only=a", "--only=b", GOOD, "--name=Ada"], 0),
+    (&[GOOD, "--name=Ada", "--list=ids", "--only=a"], 0),
+    (&[GOOD, "--name=Ada", "--list"], 2),
+    (&["--list=a", "--list=b", GOOD, "--name=Ada"], 2),
     (&[GOOD, "--name=Ada", "--ignore=.DS_Store"], 0),
     (&[GOOD, "--name=Ada", "--ignore=a/b"], 10),
     (&[GOOD, "--name=Ada", "--ignore=.."], 10),

@@ -1,10 +1,11 @@
 -- What an audit over the devices of a machine says of what its systems keep.
 use Rattle.std.proofs.Common.{◌≡◌, ◌∙◌, ℕ, List, refl, subst}
-use Rattle.std.specs.Prelude.{IfErr, None, Option, Some, Result}
-use Rattle.pt_audit.specs.Auditing.{LogsAs}
+use Rattle.std.specs.Prelude.{Bool, IfErr, None, Option, Some, Result}
+use Rattle.pt_audit.specs.Auditing.{start_over}
 use Rattle.pt_audit.specs.Failing.{AuditSays}
-use Rattle.pt_audit.specs.declared.counts.Counts.{Counts}
 use Rattle.pt_compare.specs.Root.{tree_in}
+use Rattle.pt_extra.specs.Audits.{AuditLogs}
+use Rattle.pt_extra.specs.declared.auditing.AuditCounts.{AuditCounts}
 use Rattle.pt_folder.specs.SourceHeld.{told_of as source_told}
 use Rattle.pt_tree.specs.Ignoring.{told_without}
 use Rattle.pt_plan.specs.declared.fault.Fault.{Fault}
@@ -31,14 +32,15 @@ module _ {S : Type 0} (forest : S → List ℕ → Option Forest) where
   root_is {own = own} {path = path} reading same at = tree_of_root (forest own path) reading ∙ (λ i. root_tree (forest (same i) (at i)))
 
 -- an audit ends as it did, whatever its trees and its log are called
-pub ends_as : (ran : Result Counts Fault) (job : Job) {source store root folder : Option Forest} {first begun now last : Option (List ℕ)} → source ≡ store → root ≡ folder → first ≡ begun → now ≡ last → LogsAs job source root first now ran → LogsAs job store folder begun last ran
-ends_as ran job {source} {store} {root} {folder} {first} {begun} {now} {last} source_is root_is first_is now_is ends =
-    subst (λ (l : Option (List ℕ)). LogsAs job store folder begun l ran) now_is
-    (subst (λ (l : Option (List ℕ)). LogsAs job store folder l now ran) first_is
-    (subst (λ (t : Option Forest). LogsAs job store t first now ran) root_is
-    (subst (λ (t : Option Forest). LogsAs job t root first now ran) source_is ends)))
+pub ends_as : (extra : Bool) (ran : Result AuditCounts Fault) (job : Job) {source store root folder : Option Forest} {first begun now last : Option (List ℕ)} → source ≡ store → root ≡ folder → first ≡ begun → now ≡ last → AuditLogs extra job (start_over source root first) now ran
+    → AuditLogs extra job (start_over store folder begun) last ran
+ends_as extra ran job {source} {store} {root} {folder} {first} {begun} {now} {last} source_is root_is first_is now_is ends =
+    subst (λ (l : Option (List ℕ)). AuditLogs extra job (start_over store folder begun) l ran) now_is
+    (subst (λ (l : Option (List ℕ)). AuditLogs extra job (start_over store folder l) now ran) first_is
+    (subst (λ (t : Option Forest). AuditLogs extra job (start_over store t first) now ran) root_is
+    (subst (λ (t : Option Forest). AuditLogs extra job (start_over t root first) now ran) source_is ends)))
 
 -- so does what it says
-pub says_as : (ran : Result Counts Fault) (job : own.Job) {source store root folder : Option Forest} → source ≡ store → root ≡ folder → IfErr ran (AuditSays job source root) → IfErr ran (AuditSays job store folder)
+pub says_as : (ran : Result AuditCounts Fault) (job : own.Job) {source store root folder : Option Forest} → source ≡ store → root ≡ folder → IfErr ran (AuditSays job source root) → IfErr ran (AuditSays job store folder)
 says_as ran job {source} {store} {root} {folder} source_is root_is says =
     subst (λ (t : Option Forest). IfErr ran (AuditSays job store t)) root_is (subst (λ (t : Option Forest). IfErr ran (AuditSays job t root)) source_is says)

@@ -1,12 +1,10 @@
 -- How long a path in an object may be where a run makes its file.
-use Rattle.std.proofs.Common.{◌≡◌, ◌≤◌, ◌+◌, ◌-◌, ℕ, Bool, true, false, cond, suc, length, List, [], ◌∷◌, ◌++◌, None, Some, refl, arith, nat_lt}
-use Rattle.std.specs.Prelude.{◌&&◌, codes, is_none}
+use Rattle.std.proofs.Common.{◌≡◌, ◌≤◌, ◌+◌, ◌-◌, ℕ, Bool, true, false, length, List, [], ◌∷◌, ◌++◌, refl, arith, nat_lt}
+use Rattle.std.specs.Prelude.{codes}
 use Rattle.std.specs.List.{list_all}
-use Rattle.std.specs.Str.{is_utf8}
 use Rattle.std.proofs.lemmas.Bool.{and_parts, le-ltb, lt-ltb, ltb-false, ltb-true}
 use Rattle.std.proofs.lemmas.List.{length-append}
-use Rattle.pt_host.specs.Room.{RoomIsThatOfStaging, longest_in, made_at, room_in}
-use Rattle.pt_plan.specs.Fixity.{content_folder}
+use Rattle.pt_host.specs.Room.{RoomIsThatOfStaging, longest_in, made_at}
 use Rattle.pt_object.specs.FilePaths.{is_logical}
 use Rattle.pt_tree.specs.Name.{is_name}
 use Rattle.pt_tree.specs.Path.{Path, joined}

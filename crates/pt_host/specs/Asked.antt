@@ -3,9 +3,10 @@ use Rattle.std.specs.Prelude.{ℕ, List, Option}
 use Rattle.pt_guard.specs.declared.places.Claim.{Claim}
 use Rattle.pt_guard.specs.declared.places.Claim.TheVariants.{Alone, Shared}
 use Rattle.pt_host.specs.Audits.{Compares, audit_call}
+use Rattle.pt_host.specs.Ends.{OfList}
 use Rattle.pt_host.specs.Events.{IsRecorded}
 use Rattle.pt_host.specs.Machine.{MachineWords}
-use Rattle.pt_host.specs.Made.{Carries, Guarded, run_call}
+use Rattle.pt_host.specs.Made.{Carries, GuardsRecord, run_call}
 use Rattle.pt_host.specs.declared.asked.Asked.{Asked}
 use Rattle.pt_host.specs.declared.asked.Asked.TheVariants.{Audit, Run}
 
@@ -19,11 +20,20 @@ abbrev pub event_of : Asked → Option (List ℕ)
 event_of (Run options) = options.feedback.event
 event_of (Audit options) = options.feedback.event
 
+-- the list of the identifiers that it is asked for, where there is one
+abbrev pub list_of : Asked → Option (List (List ℕ))
+list_of (Run options) = options.job.share.list
+list_of (Audit options) = options.job.share.list
+
 module _ {H : Type 0} (words : MachineWords H) (asks : Option (List ℕ) → Type 0) (folders : List ℕ × List ℕ) where
   -- it is made between a store and a destination, once it may begin
+  abbrev pub MakesAlone : Asked → H → H → ℕ → Type 0
+  MakesAlone (Run options) = Carries words asks (run_call options folders.0 folders.1)
+  MakesAlone (Audit options) = Compares words asks (audit_call options folders.0 folders.1)
+
+  -- the same, with a list or without one
   abbrev pub Makes : Asked → H → H → ℕ → Type 0
-  Makes (Run options) = Carries words asks (run_call options folders.0 folders.1)
-  Makes (Audit options) = Compares words asks (audit_call options folders.0 folders.1)
+  Makes asked = OfList (list_of asked) (MakesAlone asked)
 
   -- the same, recorded where a file is named for its event
   abbrev pub Records : Asked → H → H → ℕ → Type 0
@@ -31,4 +41,4 @@ module _ {H : Type 0} (words : MachineWords H) (asks : Option (List ℕ) → Typ
 
   -- the guard, with the lock that it asks for, what is asked for, with its event, and the lock
   abbrev pub MakesGuarded : Asked → H → H → ℕ → Type 0
-  MakesGuarded asked = Guarded words.places (claim_of asked) folders (Records asked)
+  MakesGuarded asked = GuardsRecord words (claim_of asked) folders (event_of asked) (Makes asked)

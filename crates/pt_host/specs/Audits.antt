@@ -1,33 +1,35 @@
 -- What an audit on a machine comes to.
 use Rattle.std.specs.Prelude.{◌≡◌, ◌+◌, ◌==◌, ℕ, Bool, true, false, if◌then◌else◌, IfErr, List, None, OnOk, Option, Result, Ok, Err}
 use Rattle.std.specs.Option.{ForSome}
-use Rattle.pt_audit.specs.Auditing.{LogsAs}
+use Rattle.pt_audit.specs.Auditing.{start_over}
 use Rattle.pt_audit.specs.Failing.{AuditSays}
 use Rattle.pt_audit.specs.Layout.{IsOfLayout}
-use Rattle.pt_audit.specs.declared.counts.Counts.{Counts}
 use Rattle.pt_compare.specs.Root.{tree_in}
+use Rattle.pt_extra.specs.Audits.{AuditLogs}
+use Rattle.pt_extra.specs.declared.auditing.AuditCounts.{AuditCounts}
 use Rattle.pt_folder.specs.SourceHeld.{told_of as source_told}
 use Rattle.pt_guard.specs.declared.places.Claim.TheVariants.{Shared}
 use Rattle.pt_tree.specs.Ignoring.{told_without}
 use Rattle.pt_plan.specs.declared.fault.Fault.{Fault}
-use Rattle.pt_host.specs.Events.{IsRecorded}
+use Rattle.pt_host.specs.Ends.{OfList}
 use Rattle.pt_host.specs.HostCall.{Lend, TakeBack}
 use Rattle.pt_host.specs.Machine.{HostIoOf, HostIoWords, MachineWords}
-use Rattle.pt_host.specs.Made.{Guarded}
+use Rattle.pt_host.specs.Made.{GuardsRecord}
 use Rattle.pt_host.specs.declared.host.HostIo.{HostIo}
 use Rattle.pt_host.specs.declared.options.AuditOptions.{AuditOptions}
 use Rattle.pt_state.specs.States.{job_of}
 use Rattle.pt_audit.specs.Growing.{Grows}
 use Rattle.pt_tree.specs.Forest.{Forest}
 
--- how many lines of an audit's log tell of what isn't the same: those of objects, and skip lines unless these are well
-abbrev pub others : Bool → Counts → ℕ
-others false counts = counts.absent + counts.differs + counts.skipped
-others true counts = counts.absent + counts.differs
+-- how many lines of an audit's log tell of what isn't the same: those of objects, of what the store lacks, and skip lines unless these are well
+abbrev pub others : Bool → AuditCounts → ℕ
+others false told =
+    told.counts.absent + told.counts.differs + told.numbers.extra + told.numbers.stray + told.counts.skipped
+others true told = told.counts.absent + told.counts.differs + told.numbers.extra + told.numbers.stray
 
 -- of an audit, whose skip lines are well or not: 0 where its log has no such line, 1 where it has, 3 after a fault
-abbrev pub audit_status : Bool → Result Counts Fault → ℕ
-audit_status skips_ok (Ok counts) = if others skips_ok counts == 0 then 0 else 1
+abbrev pub audit_status : Bool → Result AuditCounts Fault → ℕ
+audit_status skips_ok (Ok told) = if others skips_ok told == 0 then 0 else 1
 audit_status skips_ok (Err fault) = 3
 
 -- the tree that an audit sees of a store: the one that its system keeps, without the entries that are left out
@@ -58,14 +60,15 @@ abbrev pub root_seen : {S D W : Type 0} → HostIoWords S D W (Option Forest) �
     → Option Forest
 root_seen words call ground = root_tree (words.folder ground.folder call.folder)
 
--- an audit was made over these folders of the systems, with what `audit` of pt_audit promises of it: where it ended well the
+-- an audit was made over these folders of the systems, with what `audit` of pt_extra promises of it: where it ended well the
 -- output got its log, of both trees as they stood, and the root is one that a run could go on with; after a fault it got a front of what
 -- is told; and they stand
 pub record AuditsOver {S D W : Type 0} (words : HostIoWords S D W (Option Forest)) (call : AuditCall)
     (old new : HostIo S D W) (status : ℕ) : Type 0 where
-  pub ran : Result Counts Fault
-  pub ends : LogsAs (job_of call.options.job) (store_seen words call old)
-      (root_seen words call old) (words.output old.output) (words.output new.output) ran
+  pub ran : Result AuditCounts Fault
+  pub ends : AuditLogs call.options.extra (job_of call.options.job)
+      (start_over (store_seen words call old) (root_seen words call old) (words.output old.output))
+      (words.output new.output) ran
   pub layout : OnOk ran (ForSome (root_seen words call old) (IsOfLayout (job_of call.options.job)))
   pub says : IfErr ran (AuditSays call.options.job (store_seen words call old)
       (root_seen words call old))
@@ -81,11 +84,8 @@ module _ {H : Type 0} (words : MachineWords H) (asks : Option (List ℕ) → Typ
       × (ground : HostIoOf words) × (lent : H) × words.host old (Lend ground) lent × (after : HostIoOf words)
       × AuditsOver words.read call ground after status × words.host lent (TakeBack after) new
 
-  -- the same, recorded where a file is named for its event
-  abbrev pub RecordsAudit : H → H → ℕ → Type 0
-  RecordsAudit = IsRecorded words (call.store, call.folder) call.options.feedback.event Compares
-
   -- what `audit_guarded` does on a machine, by the words of that: the guard, with a lock that others may share, the audit that
-  -- is asked for, with its event, and the lock
+  -- is asked for, with a list or without one, with its event, and the lock
   abbrev pub Audits : H → H → ℕ → Type 0
-  Audits = Guarded words.places Shared (call.store, call.folder) RecordsAudit
+  Audits = GuardsRecord words Shared (call.store, call.folder) call.options.feedback.event
+      (OfList call.options.job.share.list Compares)

@@ -1,5 +1,5 @@
 -- What a migration ends with.
-use Rattle.std.specs.Prelude.{◌≡◌, ◌⊎◌, ◌+◌, ◌==◌, ℕ, Bool, true, false, if◌then◌else◌, Result, Ok, Err}
+use Rattle.std.specs.Prelude.{◌≡◌, ◌⊎◌, ◌+◌, ◌==◌, ℕ, Bool, true, false, if◌then◌else◌, List, None, Option, Result, Some, Ok, Err}
 use Rattle.pt_guard.specs.declared.guard.GuardFault.{GuardFault}
 use Rattle.pt_guard.specs.declared.guard.GuardFault.TheVariants as guard
 use Rattle.pt_plan.specs.declared.fault.Fault.{Fault}
@@ -27,6 +27,16 @@ run_status present_ok (Err fault) = 3
 -- what a run came to, and its status
 abbrev pub RunEnds : Bool → ℕ → Type 0
 RunEnds present_ok status = (result : Result Report Fault) × (status ≡ run_status present_ok result)
+
+-- with a list of identifiers a run or an audit that would end with 0 may end with 1, where one of them was met nowhere; without a list it
+-- ends as it does
+abbrev pub EndsWithList : Option (List (List ℕ)) → ℕ → ℕ → Type 0
+EndsWithList None plain status = status ≡ plain
+EndsWithList (Some ids) plain status = (status ≡ plain) ⊎ ((plain ≡ 0) × (status ≡ 1))
+
+-- it is made, with a list or without one
+abbrev pub OfList : {H : Type 0} → Option (List (List ℕ)) → (H → H → ℕ → Type 0) → H → H → ℕ → Type 0
+OfList list makes old new status = (plain : ℕ) × makes old new plain × EndsWithList list plain status
 
 -- it may not begin, or it came to this, and ends with this status, whether present lines are well or not
 abbrev pub Ends : Bool → ℕ → Type 0

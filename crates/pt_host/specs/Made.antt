@@ -22,7 +22,7 @@ use Rattle.pt_state.specs.declared.job.Job.{Job}
 use Rattle.pt_state.specs.declared.job.Report.{Report}
 use Rattle.pt_tree.specs.Dest.{Writing}
 use Rattle.pt_host.specs.Durable.{IsLogged}
-use Rattle.pt_host.specs.Ends.{guard_status, run_status}
+use Rattle.pt_host.specs.Ends.{OfList, guard_status, run_status}
 use Rattle.pt_host.specs.Events.{IsRecorded}
 use Rattle.pt_host.specs.HostCall.{Lend, OpenOutput, TakeBack}
 use Rattle.pt_host.specs.Machine.{HostIoOf, HostIoWords, MachineWords}
@@ -165,6 +165,12 @@ module _ {H L : Type 0} (places : H → PlaceCall L → H → Type 0) where
   Guarded claim folders carries old new status = (answer : Result (Result L Error) GuardFault) × (mid : H)
       × Begins places claim folders old mid answer × GoesOn carries answer mid new status
 
+module _ {H : Type 0} (words : MachineWords H) where
+  -- the guard, with this lock; then what is made between the two folders, recorded where a file is named for its event; and the lock
+  abbrev pub GuardsRecord : Claim → List ℕ × List ℕ → Option (List ℕ) → (H → H → ℕ → Type 0) → H → H → ℕ
+      → Type 0
+  GuardsRecord claim folders event makes = Guarded words.places claim folders (IsRecorded words folders event makes)
+
 -- ---- the run, on a machine
 
 module _ {H : Type 0} (words : MachineWords H) where
@@ -192,11 +198,8 @@ module _ {H : Type 0} (words : MachineWords H) (asks : Option (List ℕ) → Typ
   Carries old new status = (file : Result (Option words.OutputFile) Error) × (mid : H)
       × FindsLog words call.options.sync old mid file × GoesOver file mid new status
 
-  -- the same, recorded where a file is named for its event
-  abbrev pub RecordsRun : H → H → ℕ → Type 0
-  RecordsRun = IsRecorded words (call.store, call.folder) call.options.feedback.event Carries
-
   -- what `run_guarded` does on a machine, by the words of that: the guard, with the lock for it alone, the run that is asked
-  -- for, with its event, and the lock
+  -- for, with a list or without one, with its event, and the lock
   abbrev pub Runs : H → H → ℕ → Type 0
-  Runs = Guarded words.places Alone (call.store, call.folder) RecordsRun
+  Runs = GuardsRecord words Alone (call.store, call.folder) call.options.feedback.event
+      (OfList call.options.job.share.list Carries)

@@ -1,4 +1,4 @@
--- How much longer a path becomes as `staging` is renamed.
+-- How long a path that is made in `staging` may be, and a file's in its object.
 use Rattle.std.specs.Prelude.{◌≡◌, ℕ, ◌+◌, ◌-◌, ◌*◌, true, nat_lt, List, ◌++◌, length}
 use Rattle.pt_folder.specs.Folder.{entry_text}
 use Rattle.pt_name.specs.Tuples.{Tuples}

@@ -1,11 +1,13 @@
 //! What was asked for, a run or an audit: which lock that wants, what is told of it, and what its event records.
-ghost use Rattle.std.specs.Prelude.{◌≡◌, option_map};
-ghost use Rattle.pt_host.specs.Asked.{claim_of, event_of};
+ghost use Rattle.std.specs.Prelude.{◌≡◌, ◌⊎◌, Ok, None, option_map};
+ghost use Rattle.std.specs.Option.{IsSome};
+ghost use Rattle.pt_host.specs.Asked.{claim_of, event_of, list_of};
 
 use crate::{AuditOptions, Feedback, RunOptions};
 use pt_guard::Claim;
 use pt_messages::{Members, Progress};
 use pt_move::Job;
+use pt_name::Sought;
 use std::alloc::{AllocError, Global};
 
 /// What is asked for.
@@ -35,6 +37,16 @@ impl Asked {
         match self {
             Asked::Run(options) => options.feedback.event(),
             Asked::Audit(options) => options.feedback.event(),
+        }
+    }
+
+    /// What it is to meet of a list of identifiers, where it has one. An error where that can't be had.
+    pub(crate) fn sought(&self) -> Result<Option<Sought>, AllocError>
+        ensures { IsSome (list_of self.now) ⊎ (result ≡ Ok None) }
+    {
+        match self {
+            Asked::Run(options) => options.job.share.sought(),
+            Asked::Audit(options) => options.job.share.sought(),
         }
     }
 
@@ -88,6 +100,7 @@ fn options_of_audit(alloc: Global, options: &AuditOptions) -> Result<Members, Al
     put_job(alloc, &mut members, &options.job)?;
     members.put_names("ignore", options.ignored.names())?;
     members.put_flag("skips-ok", options.skips_ok)?;
+    members.put_flag("extra", options.extra)?;
     put_feedback(&mut members, &options.feedback)?;
     Ok(members)
 }
@@ -101,7 +114,8 @@ fn put_job(alloc: Global, members: &mut Members, job: &Job) -> Result<(), AllocE
     let (index, count) = (job.share.index(), job.share.count());
     let share = format!(in alloc; "{index}/{count}")?;
     members.put_text("share", share.as_str())?;
-    members.put_texts("only", job.share.texts())
+    members.put_texts("only", job.share.texts())?;
+    members.put_given("list", job.share.list().map(|list| list.name()))
 }
 
 // Those that say what is told beside the log.

@@ -10,7 +10,7 @@ use crate::saying::tell_fault;
 use crate::status::{DONE, FAILED, INCOMPLETE};
 use crate::{CheckOptions, Host, HostIo, Machine};
 use pt_check::{Check, Devices, Explains, Numbers, Wants};
-use pt_folder::{HostSource, System};
+use pt_folder::{Failure, HostSource, System};
 use pt_move::Fault;
 use pt_tree::{Ignoring, MemoryFault};
 use std::alloc::{AllocGlobal, Global};
@@ -110,9 +110,19 @@ impl<'a, S: System> Explains<Ignoring<HostSource<'a, S>>> for LastFailure {
         source: &Ignoring<HostSource<'a, S>>,
     ) -> Result<String, MemoryFault> {
         match source.source().last_failure() {
-            Some(failure) => Ok(failure.cause().to_string(alloc)?),
+            Some(failure) => reason_of(alloc, failure),
             None => Err(MemoryFault::Memory),
         }
+    }
+}
+
+// Why a call failed. Where it was for a name that no entry may have, that stands behind it: each byte that is no printable character of
+// ASCII is escaped, as `\xe9`, and `\`, `'` and `"` get a `\` in front.
+fn reason_of(alloc: Global, failure: &Failure) -> Result<String, MemoryFault> {
+    let cause = failure.cause();
+    match failure.name() {
+        Some(name) => Ok(format!(in alloc; "{cause}: {}", name.escape_ascii())?),
+        None => Ok(cause.to_string(alloc)?),
     }
 }
 

@@ -1,6 +1,6 @@
 //! What is alike in a run and an audit on a machine: the guard before it, with its lock, and the event that records it.
 ghost use Rattle.pt_guard.specs.Guard.{Begins};
-ghost use Rattle.pt_host.specs.Asked.{Makes, MakesGuarded, Records, claim_of};
+ghost use Rattle.pt_host.specs.Asked.{Makes, MakesAlone, MakesGuarded, Records, claim_of};
 ghost use Rattle.pt_messages.specs.Expected.{AsksEnd};
 
 use crate::asked::Asked;
@@ -10,6 +10,7 @@ use crate::guarded_audit::hold;
 use crate::guarded_run::carry;
 use crate::running::Ending;
 use crate::saying::end_with_refusal;
+use crate::unmet::end_with_unmet;
 use crate::{Host, Machine};
 use pt_guard::{GuardFault, begin};
 use pt_messages::{Reads, Terminals, prefix, reason};
@@ -86,11 +87,24 @@ where
     }
 }
 
-// Makes it.
+// Makes it, and tells standard error which identifiers of its list were met nowhere.
 fn make<R, H: Host>(rt: &R, host: &mut H, asked: Asked, folders: Folders<'_>) -> Ending
 where
     R: Reads + Clock + Eprint + AllocGlobal + Terminals,
     ensures { Makes ⟦<H as Machine>⟧.words (AsksEnd R.ends rt.now)
+        (folders.entry.store.now, folders.entry.folder.now) asked host.old host.new result.status }
+{
+    let sought = asked.sought();
+    let Ending { status, outcome } = make_alone(rt, host, asked, folders);
+    let status = end_with_unmet(rt, &sought, status);
+    Ending { status, outcome }
+}
+
+// Makes it, whatever is sought of it.
+fn make_alone<R, H: Host>(rt: &R, host: &mut H, asked: Asked, folders: Folders<'_>) -> Ending
+where
+    R: Reads + Clock + Eprint + AllocGlobal + Terminals,
+    ensures { MakesAlone ⟦<H as Machine>⟧.words (AsksEnd R.ends rt.now)
         (folders.entry.store.now, folders.entry.folder.now) asked host.old host.new result.status }
 {
     match asked {

@@ -14,7 +14,7 @@ use crate::running::{Ended, Ending};
 use crate::saying::{tell_fault, tell_why};
 use crate::status::{DONE, FAILED, INCOMPLETE};
 use crate::{AuditOptions, Host, HostIo, Machine};
-use pt_audit::Counts;
+use pt_extra::{AuditCounts, AuditEnd, Devices, audit};
 use pt_folder::{HostSource, System};
 use pt_messages::{
     Counted, Outcome, Reads, Tally, Terminals, Watched, Why, Words, lines_expected, reason,
@@ -25,11 +25,13 @@ use std::io::Write;
 use std::rt::Clock;
 
 /// Holds the root in a destination against a store on a machine, and gives the exit status: 0 each object stands as a run makes
-/// it; 1 the log has lines that tell of others; 2 the folders lie in one another, or it isn't known where, or the destination is a
-/// storage root itself; 3 a fault, or a run holds the destination. Standard error tells of 2 and 3.
+/// it, and, where extras are told too, the log has no line of these; 1 the log has lines that tell of others, or an identifier of the
+/// list was met nowhere; 2 the folders lie in one another, or it isn't known where, or the destination is a storage root itself; 3 a
+/// fault, or a run holds the destination. Standard error tells of 2 and 3, and of these identifiers.
 ///
 /// The guard is asked first, and for a lock that other audits may share. Where the audit may begin it is made over what the machine
-/// lends, which is given back then; and at last the lock is given back. Where it ends well the output has got its log, of both folders as their systems keep them.
+/// lends, which is given back then; and at last the lock is given back. Where it ends well the output has got its log, of both folders
+/// as their systems keep them.
 /// Nothing is made or changed in either folder. Where a file is named for its event, that is made and replaced as of a run.
 ///
 /// Skip lines count as others, unless the options say that they are well. The log that is expected to be as long may be one of a
@@ -96,27 +98,35 @@ where
     let alloc = rt.alloc();
     let tally = Tally::new();
     let telling = options.feedback.telling();
-    let watching = options.feedback.watching(Words::Audit, expected);
+    let words = words_of(options.extra);
+    let watching = options.feedback.watching(words, expected);
     let ignores = !options.ignored.names().is_empty();
-    let Sides {
-        source,
-        mut root,
+    let Sides { source, root, log } = both_sides(alloc, lent, options.ignored, folders);
+    let source = Watched::new(source, rt, alloc, &tally, watching);
+    let log = Counted::new(log, source.sums() | telling.records);
+    let devices = Devices {
+        store: source,
+        root,
         log,
-    } = both_sides(alloc, lent, options.ignored, folders);
-    let mut source = Watched::new(source, rt, alloc, &tally, watching);
-    let mut log = Counted::new(log, source.sums() | telling.records);
-    let ran = pt_audit::audit(alloc, &mut source, &mut root, &mut log, options.job, &tally);
-    source.end(log.counts_if(ran.is_ok()));
+    };
+    let AuditEnd { ran, devices } = audit(alloc, devices, options.job, options.extra, &tally);
+    let source = devices.store;
+    source.end(devices.log.counts_if(ran.is_ok()));
     let ignoring = source.into_source();
     reason::tell_left_out(rt, telling.verbose & ignores, ignoring.left_out());
     let source = ignoring.into_source();
-    let why = report_outcome(rt, &ran, telling, &source, &root, folders.store);
-    let outcome = Outcome::new(Words::Audit, log.counts(), ran.as_ref().err(), why);
+    let sides = AuditSides {
+        source: &source,
+        root: &devices.root,
+        store: folders.store,
+    };
+    let why = report_outcome(rt, &ran, telling, sides);
+    let outcome = Outcome::new(words, devices.log.counts(), ran.as_ref().err(), why);
     let status = status_of(&ran, options.skips_ok);
     let ground = HostIo {
         store: source.into_system(),
-        folder: root.into_system(),
-        output: log.into_log().into_writer(),
+        folder: devices.root.into_system(),
+        output: devices.log.into_log().into_writer(),
     };
     Ended {
         status,
@@ -125,14 +135,29 @@ where
     }
 }
 
+// Which lines its log has.
+fn words_of(with_extras: bool) -> Words {
+    if with_extras {
+        Words::BothWays
+    } else {
+        Words::Audit
+    }
+}
+
+// What an audit read, and the path of the store.
+#[derive(Drop)]
+struct AuditSides<'r, 'a, S: System, D: System> {
+    source: &'r HostSource<'a, S>,
+    root: &'r HostSource<'a, D>,
+    store: &'r str,
+}
+
 // Says what an audit came to, if a fault ended it, and why, if that is asked for; and gives why, where that is told or recorded.
 fn report_outcome<R: Reads + Eprint + AllocGlobal, S: System, D: System>(
     rt: &R,
-    ran: &Result<Counts, Fault>,
+    ran: &Result<AuditCounts, Fault>,
     telling: Telling,
-    source: &HostSource<'_, S>,
-    root: &HostSource<'_, D>,
-    store: &str,
+    sides: AuditSides<'_, '_, S, D>,
 ) -> Result<Option<Why>, AllocError> {
     let Err(fault) = ran else {
         return Ok(None);
@@ -141,7 +166,7 @@ fn report_outcome<R: Reads + Eprint + AllocGlobal, S: System, D: System>(
     if !telling.wants_why() {
         return Ok(None);
     }
-    let why = reason::of_audit(rt, fault, source, root, store);
+    let why = reason::of_audit(rt, fault, sides.source, sides.root, sides.store);
     tell_why(rt, telling, &why);
     why
 }
@@ -158,12 +183,13 @@ fn tell_audit_fault(rt: &impl Eprint, fault: &Fault) {
 }
 
 // The exit status of an audit, whose skip lines are well or not.
-fn status_of(ran: &Result<Counts, Fault>, skips_ok: bool) -> u8
+fn status_of(ran: &Result<AuditCounts, Fault>, skips_ok: bool) -> u8
     ensures { result ≡ audit_status skips_ok ran.now }
 {
     match ran {
-        Ok(counts) if counts.absent > 0 || counts.differs > 0 => INCOMPLETE,
-        Ok(counts) if counts.skipped > 0 && !skips_ok => INCOMPLETE,
+        Ok(told) if told.counts.absent > 0 || told.counts.differs > 0 => INCOMPLETE,
+        Ok(told) if told.numbers.extra > 0 || told.numbers.stray > 0 => INCOMPLETE,
+        Ok(told) if told.counts.skipped > 0 && !skips_ok => INCOMPLETE,
         Ok(_) => DONE,
         Err(_) => FAILED,
     }

@@ -19,6 +19,7 @@
 //!   written (`IsLogged`). The system of DEST is left as calls left it of a destination that is set as wanted, to its end (`Serves`); of a
 //!   rehearsal, which makes nothing there, that isn't said.
 //! - `make_guarded` makes what is asked for, a run or an audit, behind the guard (`MakesGuarded`): `run_guarded` and `audit_guarded` are it of one of these.
+//!   With a list of identifiers the status may be 1 in place of 0, and without one it stays (`EndsWithList`); what is told of them is tested.
 //! - `open_devices` and `both_sides` make the devices, each field by an equation. `longest_made`: exactly 4,095 less what the longest place is
 //!   longer than `staging`.
 //! - `run_or_rehearse`: a run is one over the destination's folder, and a rehearsal one over a destination that at first tells what the folder holds,
@@ -66,6 +67,7 @@ mod running;
 mod saying;
 pub mod status;
 mod text;
+mod unmet;
 
 pub use checking::check_store;
 pub use event::EventFault;

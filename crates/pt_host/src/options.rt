@@ -33,6 +33,8 @@ pub struct AuditOptions {
     pub ignored: Ignored,
     /// Whether skip lines leave the status at 0.
     pub skips_ok: bool,
+    /// Whether it tells too of what the root has and the store lacks.
+    pub extra: bool,
     /// What is shown of it beside its log.
     pub feedback: Feedback,
 }

@@ -79,15 +79,12 @@ where
     let ignoring = Ignoring::new(source, options.ignored);
     let mut source = Watched::new(ignoring, rt, alloc, &tally, watching);
     let mut log = Counted::new(log, source.sums() | telling.records);
-    let Ran { ran, dest } = run_or_rehearse(
-        alloc,
-        &mut source,
-        dest,
-        &mut log,
-        options.rehearse,
-        options.job,
-        &tally,
-    );
+    let task = Task {
+        job: options.job,
+        rehearse: options.rehearse,
+        tally: &tally,
+    };
+    let Ran { ran, dest } = run_or_rehearse(alloc, &mut source, dest, &mut log, task);
     source.end(log.counts_if(ran.is_ok()));
     let ignoring = source.into_source();
     reason::tell_left_out(rt, telling.verbose & ignores, ignoring.left_out());
@@ -107,6 +104,13 @@ where
     }
 }
 
+// What a run has to do: its job, whether it is only rehearsed, and what is told after each turn how far it is.
+struct Task<'t> {
+    job: Job,
+    rehearse: bool,
+    tally: &'t Tally,
+}
+
 // What a run came to, and its destination.
 #[derive(Drop)]
 struct Ran<'a, D: System> {
@@ -114,28 +118,31 @@ struct Ran<'a, D: System> {
     dest: HostDest<'a, D>,
 }
 
-// Makes a run, or rehearses it. The tally says after each turn how far it is.
+// Makes a run, or rehearses it.
 fn run_or_rehearse<'a, S: Source, D: System, L: Log>(
     alloc: Global,
     source: &mut S,
     dest: HostDest<'a, D>,
     log: &mut L,
-    rehearse: bool,
-    job: Job,
-    tally: &Tally,
+    task: Task<'_>,
 ) -> Ran<'a, D>
-    ensures promises { IsRun job rehearse (told_at_rest dest.entry)
+    ensures promises { IsRun task.entry.job task.entry.rehearse (told_at_rest dest.entry)
         (states_of S.Source ⟦<HostDest<'a, D> as Dest>⟧ L.Log source.old dest.entry log.old)
         (states_of S.Source ⟦<HostDest<'a, D> as Dest>⟧ L.Log source.new result.dest log.new)
         result.ran }
     ensures source { S.keeps source.old source.new }
     ensures log { L.keeps log.old log.new }
     ensures dest { result.dest.folder ≡ dest.entry.folder }
-    ensures served { IsServed rehearse dest.entry result.dest }
+    ensures served { IsServed task.entry.rehearse dest.entry result.dest }
     ensures stuck { (present_ok : Bool) → IsStuckBy dest.entry.synced dest.entry.failures
         (run_status present_ok result.ran) result.dest.stuck }
-    ensures rehearsed { LeavesKept rehearse (kept_by dest.entry) (kept_by result.dest) }
+    ensures rehearsed { LeavesKept task.entry.rehearse (kept_by dest.entry) (kept_by result.dest) }
 {
+    let Task {
+        job,
+        rehearse,
+        tally,
+    } = task;
     if rehearse {
         let mut rehearsal = Rehearsal::new(alloc, dest);
         let ran = migrate_observed(alloc, source, &mut rehearsal, log, job, tally);

@@ -174,6 +174,7 @@ pub fn audit(rt: &HostRuntime, machine: &mut Machine<'_>) -> Option<u8> {
         job: job(machine.alloc, false)?,
         ignored: ignored(machine.alloc, false)?,
         skips_ok: false,
+        extra: false,
         feedback: NOTHING_SHOWN,
     };
     Some(audit_guarded(rt, machine, options, "store", "root"))

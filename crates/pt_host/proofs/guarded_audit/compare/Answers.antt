@@ -10,11 +10,11 @@ use Rattle.pt_host.proofs.guarded_audit.compare.Goals as goal
 pub returns : goal.returns
 returns g c =
     let made = c.audit-ran.ensures in
+    let ran = c.audit-ran.result.ran in
     let forest = g.S.System.forest in
     let folders = g.D.System.forest in
     let contents = g.W.Write.contents in
     let job = c.args.options.job in
-    let after = c.audit-ran.new in
     let ignoring = c.new-source.ensures in
     let names = ap (λ w. w.names) ignoring ∙ c.both_sides-source.ensures.left_out in
     let system = ap (λ w. w.source.desk.system) ignoring ∙ c.both_sides-source.ensures.store.0 in
@@ -24,15 +24,15 @@ returns g c =
     let first = ap (λ l. contents l.writer) c.new-log.ensures ∙ ap contents c.both_sides-source.ensures.log in
     let output = c.into_writer.ensures ∙ ap (λ l. l.writer) c.into_log.ensures in
     let kept = c.into_system.ensures ∙ ap (λ s. s.desk.system) (c.into_source-source.ensures ∙ ap (λ i. i.source) c.into_source-ignoring.ensures) in
-    let later = store_is forest _ (made.source.0.0 ∙ names) (sym kept) (ap (λ f. f.path.now) made.source.0.1 ∙ path) in
-    let stands = root_is folders _ (sym c.into_system-2.ensures) (ap (λ f. f.path.now) made.root.0 ∙ c.both_sides-source.ensures.folder.1) in
+    let later = store_is forest _ (made.sides.source.0.0 ∙ names) (sym kept) (ap (λ f. f.path.now) made.sides.source.0.1 ∙ path) in
+    let stands = root_is folders _ (sym c.into_system-2.ensures) (ap (λ f. f.path.now) made.sides.root.0 ∙ c.both_sides-source.ensures.folder.1) in
     record {
-      ran = c.audit-ran.result;
-      ends = ends_as c.audit-ran.result (job_of job) store folder first (ap contents (sym output)) made.ends;
-      layout = subst (λ t. OnOk c.audit-ran.result (ForSome t (IsOfLayout (job_of job)))) folder made.layout;
-      says = says_as c.audit-ran.result job store folder made.says;
-      store_stays = sym later ∙ made.source.1 ∙ store;
-      root_stays = sym stands ∙ made.root.1 ∙ folder;
+      ran = ran;
+      ends = ends_as c.args.options.extra ran (job_of job) store folder first (ap contents (sym output)) made.ends;
+      layout = subst (λ t. OnOk ran (ForSome t (IsOfLayout (job_of job)))) folder made.layout;
+      says = says_as ran job store folder made.says;
+      store_stays = sym later ∙ made.sides.source.1 ∙ store;
+      root_stays = sym stands ∙ made.sides.root.1 ∙ folder;
       grows = subst (λ l. Grows l (contents c.into_writer.result)) first (subst (Grows _) (ap contents (sym output)) made.log.1);
       status_is = c.status_of-status.ensures;
     }

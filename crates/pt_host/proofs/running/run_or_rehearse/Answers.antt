@@ -9,15 +9,15 @@ pub returns-then-rehearse-clause-promises : goal.returns-then-rehearse-clause-pr
 returns-then-rehearse-clause-promises g c =
     let begun = c.new-rehearsal.result in
     let ended = c.migrate_observed-ran.new.dest in
-    rehearsed c.args.job (dest_told (g.D.System.kept c.args.dest.desk.system c.args.dest.folder.path.now) None None) _ _ _ _ _ _ _ _ _
-    c.args.rehearse (told begun) (told ended) _ _ _ _ begun.dest.failures ended.dest.failures
+    rehearsed c.args.task.job (dest_told (g.D.System.kept c.args.dest.desk.system c.args.dest.folder.path.now) None None) _ _ _ _ _ _ _ _ _
+    c.args.task.rehearse (told begun) (told ended) _ _ _ _ begun.dest.failures ended.dest.failures
     c.if-rehearse.true c.new-rehearsal.ensures.told (tells_still begun ended c.migrate_observed-ran.ensures.dest_stays)
     (ap (λ t. t.3) c.new-rehearsal.ensures.still) (ap (λ d. d.failures) (sym c.into_dest-dest.ensures)) c.migrate_observed-ran.ensures.promises
 
 pub returns-clause-promises : goal.returns-clause-promises
 returns-clause-promises g c =
-    carried c.args.job (dest_told (g.D.System.kept c.args.dest.desk.system c.args.dest.folder.path.now) None None) _ _ _ _ _ _ _ _ _
-    c.args.rehearse _ _ _ _ c.if-rehearse.false c.migrate_observed-ran-2.ensures.promises
+    carried c.args.task.job (dest_told (g.D.System.kept c.args.dest.desk.system c.args.dest.folder.path.now) None None) _ _ _ _ _ _ _ _ _
+    c.args.task.rehearse _ _ _ _ c.if-rehearse.false c.migrate_observed-ran-2.ensures.promises
 
 pub returns-then-rehearse-clause-served : goal.returns-then-rehearse-clause-served
 returns-then-rehearse-clause-served g c = rw c.if-rehearse.true tt

@@ -1,0 +1,65 @@
+//! Lists of identifiers: what stands in one, and what of it was met nowhere.
+use crate::identifiers::owned;
+use crate::tables::{Holds, all_hold};
+use pt_name::{IdentifierList, Share};
+use pt_tree::MemoryFault;
+use std::alloc::{AllocError, Global};
+
+enum Row {
+    // The identifiers of a list, one, and whether the whole holds it of which only these are taken.
+    Stands(&'static [&'static str], &'static [u8], bool),
+    // The identifiers of a list, one that was met, and those that were met nowhere, by their places in the list.
+    Unmet(&'static [&'static str], &'static [u8], &'static [Option<&'static str>]),
+}
+
+impl Holds for Row {
+    fn holds(&self, alloc: Global) -> bool {
+        match self {
+            Row::Stands(ids, id, answer) => match listed(alloc, ids) {
+                Ok(share) => share.holds(id) == *answer,
+                Err(_) => false,
+            },
+            Row::Unmet(ids, id, unmet) => match list_of(alloc, ids) {
+                Ok(list) => tells_unmet(&list, id, unmet),
+                Err(_) => false,
+            },
+        }
+    }
+}
+
+fn list_of(alloc: Global, ids: &[&str]) -> Result<IdentifierList, AllocError> {
+    IdentifierList::of(alloc, String::from_str(alloc, "ids")?, owned(alloc, ids)?)
+}
+
+fn listed(alloc: Global, ids: &[&str]) -> Result<Share, MemoryFault> {
+    Share::whole().listed(alloc, list_of(alloc, ids)?)
+}
+
+// Whether just these were met nowhere, once this one was met.
+fn tells_unmet(list: &IdentifierList, met: &[u8], unmet: &[Option<&str>]) -> bool {
+    list.note_met(met);
+    list.len() == unmet.len()
+        && unmet
+            .iter()
+            .enumerate()
+            .all(|(at, id)| list.unmet_at(at) == *id)
+}
+
+const LISTS: &[Row] = &[
+    Row::Stands(&[], b"abc", false),
+    Row::Stands(&["abc"], b"abc", true),
+    Row::Stands(&["ab", "abcd"], b"abc", false),
+    Row::Stands(&["c", "b", "a"], b"a", true),
+    Row::Stands(&["c", "b", "a"], b"b", true),
+    Row::Stands(&["c", "b", "a"], b"c", true),
+    Row::Stands(&["c", "b", "a"], b"bb", false),
+    Row::Stands(&["z", "\u{e9}"], b"\xc3\xa9", true),
+    Row::Unmet(&[], b"a", &[]),
+    Row::Unmet(&["c", "a", "b", "a"], b"a", &[None, Some("b"), Some("c")]),
+    Row::Unmet(&["b", "b"], b"c", &[Some("b")]),
+];
+
+#[test]
+fn lists_of_identifiers_are_as_the_table_says(rt: HostRuntime) {
+    all_hold(&rt, rt.alloc(), "lists of identifiers", LISTS);
+}
