@@ -145,6 +145,7 @@ class Looking(Case):
             stores.build(f"{folder}/{name}", entries)
         if self.stands is not None:
             program.run(folder, ["migrate", *MEANT, self.stands, "before"])
+        stores.build(folder, {"ids": b"uc1.abd\n"})
         with open(f"{folder}/log", "wb") as log:
             log.write(program.run(folder, ["migrate", *MEANT, "--dry-run", "s", "d"])[0][1])
         self.was, self.store = stores.read_tree(f"{folder}/before"), stores.read_tree(f"{folder}/s")
@@ -248,6 +249,7 @@ OPTIONS = [
     ([], []),
     (["--gather", "--verbose"], ["--sync"]),
     (["--share", "1/2"], []),
+    (["--list", "ids"], []),
     (["--progress", "always"], ["--expect", "log", "--interval", "86400"]),
     (["--event", "ev"], []),
 ]
@@ -274,6 +276,7 @@ CASES = [
     Checking(),
     *cases_over(None),
     *cases_over("small"),
+    Looking("an audit --extra, of an object that is ignored in the store", ["audit", "--extra", "--ignore", "ab"], "s", ()),
 ]
 
 

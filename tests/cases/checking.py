@@ -13,7 +13,7 @@ from tally import needs
 
 DENIED = "Permission denied (os error 13)"
 TOO_LONG = "File name too long (os error 36)"
-NAME = "a name in it is not UTF-8"
+NAME = "a name in it is not UTF-8: "
 
 
 def of_path(kind, path="", **beside):
@@ -205,14 +205,14 @@ def closed_to_others(program, folder):
 
 
 def names_that_are_no_text(program, folder):
-    """A folder with a name that isn't UTF-8 is told, and what lies in it isn't met; all other folders are."""
+    """A folder with a name that isn't UTF-8 is told with that name's bytes, and what lies in it isn't met; all other folders are."""
     tree = {"ab/c/obj/d/g": b"", "ab/c/obj/f": b"", "ad/e/obj/f": b"1"}
     build(f"{folder}/t", store(tree))
-    for path in ("ab/c/obj/d", "ad/e"):
-        with open(f"{folder}/t/pairtree_root/{path}/".encode() + b"\xe9\xff", "wb"):
+    for path, name in (("ab/c/obj/d", b"\xe9\xff"), ("ad/e", "é ".encode() + b"a\n\\\xff'z")):
+        with open(f"{folder}/t/pairtree_root/{path}/".encode() + name, "wb"):
             pass
     met = store({"ab/c/obj/d": DIR, "ab/c/obj/f": b"", "ad/e": DIR})
-    told = [unread("ab/c/obj/d", NAME), unread("ad/e", NAME)]
+    told = [unread("ab/c/obj/d", NAME + r"\xe9\xff"), unread("ad/e", NAME + r"\xc3\xa9 a\n\\\xff\'z")]
     return differs(answer=(checked(program, folder, "--read", source="t"), answer(*told, end(met, 2, 4, 1))))
 
 

@@ -53,7 +53,7 @@ def every_option(program):
 @functools.cache
 def made_of(path):
     """The man page, or the completions of a shell, as tools/fill.py makes them."""
-    return fill.made(text_of(fill.GRAMMAR))[path]
+    return fill.made(fill.grammar_text())[path]
 
 
 def part_of(path, command, option):
@@ -108,7 +108,7 @@ def known(program, folder):
 def told_once(program, folder):
     """An option that the grammar gets is in the man page and the completions, of its command alone; what can't be read is refused, and so is a text on none."""
     row = 'ArgSpec {\n        id: NEW,\n        form: Form::Word("W", &["one", "two"], "two"),\n        help: "It\'s [new]: so",\n    },\n    '
-    grammar = text_of(fill.GRAMMAR).replace("\nconst MIGRATE_TAKES", '\nconst NEW: &str = "brand-new";\n\nconst MIGRATE_TAKES')
+    grammar = fill.grammar_text().replace("\nconst MIGRATE_TAKES", '\nconst NEW: &str = "brand-new";\n\nconst MIGRATE_TAKES')
     made = fill.made(grammar.replace("const AUDIT_TAKES: &[ArgSpec] = &[\n    ", f"const AUDIT_TAKES: &[ArgSpec] = &[\n    {row}"))
     lines = {
         fill.PAGE: '.TP\n.BI \\-\\-brand\\-new " W"\nIt\'s [new]: so: \\fBone\\fR or \\fBtwo\\fR (the default).\n',
@@ -118,7 +118,7 @@ def told_once(program, folder):
     }
     faults = differs(**{path: (made[path].count(line), 1) for path, line in lines.items()})
     faults += differs(bash=("audit) options='--brand-new --digest" in made[fill.BASH], True), files=(set(made), set(lines)))
-    for wrong in (text_of(fill.GRAMMAR).replace("id: GATHER", "id = GATHER"), text_of(fill.GRAMMAR).replace('SHARE: &str = "share"', 'SHARE: &str = "part"')):
+    for wrong in (fill.grammar_text().replace("id: GATHER", "id = GATHER"), fill.grammar_text().replace('SHARE: &str = "share"', 'SHARE: &str = "part"')):
         try:
             fill.made(wrong)
             faults.append("a grammar that can't be read, or another one than the page's, was taken")

@@ -361,7 +361,7 @@ def gathering(program, folder):
     """What `--gather` does is said in the same sentence everywhere."""
     helped = subprocess.run([program, "migrate", "--help"], capture_output=True, check=True, timeout=120).stdout.decode()
     sentence = re.search(r"--gather\s+Carry (.*?) \[default", " ".join(helped.split()))[1]
-    made = fill.made(text_of(fill.GRAMMAR))
+    made = fill.made(fill.grammar_text())
     texts = {path: text_of(path) for path in ("docs/REFERENCE.md", "docs/GUIDE.md")} | {path: made[path] for path in (fill.PAGE, fill.ZSH, fill.FISH)}
     plain = {path: re.sub(r"\s+", " ", text).replace("'\\''", "'").replace("\\'", "'") for path, text in texts.items()}
     return [f"{path} doesn't say of --gather: {sentence}" for path, text in plain.items() if sentence not in text]

@@ -26,7 +26,7 @@ REASONS = ("missing", "extra", "kind", "bytes", "twin")
 BOTH = {"digest": "sha512", "tuple-size": 3, "tuples": 3, "gather": False, "share": "1/1", "only": [], "ignore": [], "verbose": False, "quiet": False}
 BOTH |= {"progress": "auto", "interval": 10}
 OF_RUN = {**BOTH, "created": MEANT[1], "name": MEANT[3], "message": "Migrated from Pairtree", "sync": False, "dry-run": False, "present-ok": False}
-OF_AUDIT = {**BOTH, "skips-ok": False}
+OF_AUDIT = {**BOTH, "skips-ok": False, "extra": False}
 
 
 def counts(words, given):
@@ -92,14 +92,14 @@ def of_a_run(program, folder):
 
 def of_every_option(program, folder):
     """What each option says is recorded."""
-    build(folder, {"old.log": b""})
+    build(folder, {"old.log": b"", "ids": b"abc\n"})
     words = ["--address", "mailto:a@b", "--message", "M \u00e9\n\"", "--digest", "sha256", "--tuple-size", "2", "--tuples", "1", "--gather"]
     words += ["--share", "2/2", "--only", "ab", "--only", "\u00e9", "--ignore", ".DS_Store", "--ignore", "Thumbs.db", "--sync", "-n", "--present-ok", "-v", "-q"]
-    words += ["--progress", "never", "--interval", "7", "--expect", "old.log", "--event", "./ev"]
+    words += ["--list", "ids", "--progress", "never", "--interval", "7", "--expect", "old.log", "--event", "./ev"]
     done = answer(program, folder, "migrate", *MEANT, *words, "s", "d")
     options = {**OF_RUN, "address": "mailto:a@b", "message": "M \u00e9\n\"", "digest": "sha256", "tuple-size": 2, "tuples": 1, "gather": True}
     options |= {"share": "2/2", "only": ["ab", "\u00e9"], "ignore": [".DS_Store", "Thumbs.db"], "sync": True, "dry-run": True, "present-ok": True, "verbose": True}
-    options |= {"quiet": True, "progress": "never", "interval": 7, "expect": "old.log", "event": "./ev"}
+    options |= {"list": "ids", "quiet": True, "progress": "never", "interval": 7, "expect": "old.log", "event": "./ev"}
     found, _, faults = recorded(f"{folder}/ev")
     faults += differs(options=(found["options"], options), status=(done[0], 0))
     done = answer(program, folder, "audit", "--skips-ok", "--share", "1/2", "--event", "ev2", "s", "d")

@@ -162,6 +162,22 @@ def one_audit(program, folder):
     return faults + differs(whys=(whys, [["kind", "1"], ["bytes", "2"], ["twin", "1"]]))
 
 
+def one_audit_with_extras(program, folder):
+    """An audit's log with what the root has and the store lacks, which are no objects of the store; and its table."""
+    entries = [sized("aa/obj", "aa", 5, kind="same"), {"as": "extra", "id": "ab", "to": stores.place("ab")}, {"as": "stray", "to": "a b"}]
+    counts = {"absent": 0, "differs": 0, "extra": 1, "same": 1, "skip": 0, "stray": 1}
+    names = logs(folder, audit=lines(*entries, {"as": "end", **counts}))
+    found, said = page(folder, *names)
+    lacking = [["ab", stores.place("ab"), "extra"], ["", "a b", "stray"]]
+    faults = differs(said=(said, (0, "")), numbers=(found.table("numbers"), [["audit.log", "audit", "end line", "1", "1", "5", "0"]]))
+    faults += differs(lacking=(found.table("lacking"), lacking), notes=(found.notes, ["Each log has its end line, and as many lines of each kind as that counts."]))
+    again, _ = page(folder, *names, *logs(folder, run=whole_log(skip("ab", "empty"))))
+    faults += differs(missing=(again.table("missing"), [["ab", "empty", "run.log"]]))
+    made = list(csv.DictReader(io.StringIO(report(folder, "--csv", *names)[1].decode())))
+    rows = [(row["as"], row["id"], row["to"], row["at"]) for row in made[1:]]
+    return faults + differs(table=(rows, [("extra", "ab", stores.place("ab"), ""), ("stray", "", "a b", "")]))
+
+
 def of_the_program(program, folder):
     """Over logs of the program: a rehearsal, a run, a second run by which a skip is mended, and an audit."""
     twin = {"^5/Cx/obj/f": b"12", "^5/cx/obj/f": b"12"}
@@ -460,6 +476,7 @@ def documented(program, folder):
 CASES = [
     Alone("the report of a run", one_run),
     Alone("the report of an audit", one_audit),
+    Alone("the report of an audit with extras", one_audit_with_extras),
     Alone("the report of the program's logs", of_the_program),
     Alone("the report of logs that are cut short", cut_short),
     Alone("the report names lines that are none", bad_lines),

@@ -215,6 +215,21 @@ def expected_of_audit(program, folder):
         with open(f"{folder}/log-{number}", "wb") as log:
             subprocess.run([program, *command, "s", "d"], cwd=folder, stdout=log, check=True, timeout=120)
         faults += ahead(program, folder, ["audit"], f"log-{number}")
+    return faults + expected_of_extras(program, folder)
+
+
+def expected_of_extras(program, folder):
+    """The log of an audit that tells what the root has beside counts as without that; and the text before its end line may be cut anywhere."""
+    strays = [f"{folder}/d/ocfl/{'é' * 100}-{number:03}" for number in range(200)]
+    faults = []
+    for cut in ("", "x"):
+        for stray in strays:
+            open(stray + cut, "wb").close()
+        with open(f"{folder}/log-extra{cut}", "wb") as log:
+            done = subprocess.run([program, "audit", "--extra", "s", "d"], cwd=folder, stdout=log, timeout=120)
+        for stray in strays:
+            os.remove(stray + cut)
+        faults += differs(status=(done.returncode, 1)) + ahead(program, folder, ["audit"], f"log-extra{cut}")
     return faults
 
 

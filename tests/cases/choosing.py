@@ -1,0 +1,207 @@
+"""Cases of `--list`: which objects are carried, rehearsed and audited by a list of identifiers, what is told of those that were met
+nowhere, and which lists are refused."""
+
+import json
+import os
+import random
+import shutil
+import subprocess
+import time
+
+from alone import Alone, differs
+from running import MEANT
+from sharing import audited, joined, random_store, share_number, told
+from stores import DIR, Link, build, differences, read_tree, store
+
+STORE = store({"aa/obj/f": b"1", "ab/obj/f": b"2", "ac/obj/f": b"3", "xx": DIR}, b"ark:/1/")
+UNMET = "pairtree2ocfl: met nowhere: "
+TOO_LONG = "the identifier has more than 65536 bytes"
+
+
+def made(program, folder, dest, *words, command="migrate"):
+    """The status of a run or an audit into a folder below, its lines and what it tells beside them."""
+    os.makedirs(f"{folder}/{dest}", exist_ok=True)
+    meant = MEANT if command == "migrate" else ()
+    done = subprocess.run([program, command, *meant, *words, "s", dest], cwd=folder, capture_output=True, timeout=300)
+    return done.returncode, done.stdout.splitlines(), done.stderr.decode()
+
+
+def listed(folder, content, name="list"):
+    """The words of a list of these bytes."""
+    with open(f"{folder}/{name}", "wb") as file:
+        file.write(content)
+    return ["--list", name]
+
+
+def carried(lines):
+    """The identifiers that the lines of a run tell as carried."""
+    entries = [json.loads(line) for line in lines]
+    return [entry["id"] for entry in entries if entry["as"] == "done"]
+
+
+def stands_in(line, ids):
+    """The line is of an object whose identifier is one of these, or of what has none; the end line isn't meant."""
+    entry = json.loads(line)
+    return entry["as"] != "end" and ("id" not in entry or entry["id"] in ids)
+
+
+def lists_of(seed):
+    """Of a random store each list tells those of one run's lines that it chooses, and an audit of it too; lists that divide the store
+    leave, joined, what one run leaves. With `--share` both hold, and each share tells its own unmet identifiers alone."""
+    chance = random.Random(seed)
+
+    def test(program, folder):
+        shutil.rmtree(f"{folder}/s")
+        build(f"{folder}/s", random_store(chance, links=False))
+        whole, faults = made(program, folder, "whole"), []
+        wholly = audited(program, folder, "whole")
+        ids = [json.loads(line)["id"] for line in whole[1] if b'"id"' in line]
+        chance.shuffle(ids)
+        cut = chance.randrange(len(ids) + 1)
+        for number, part in enumerate((ids[:cut], ids[cut:]), 1):
+            absent = [f"none {chance.random()}" for _ in range(chance.randrange(4))]
+            words = listed(folder, "".join(f"{identifier}\n" for identifier in part + absent + part[:1]).encode(), f"list {number}")
+            unmet = "".join(f"{UNMET}{identifier}\n" for identifier in sorted(absent))
+            done = made(program, folder, f"{number}", *words)
+            lines = [line for line in whole[1] if stands_in(line, part)]
+            status = int(bool(absent) or any(b'"as":"done"' not in line for line in lines))
+            faults += differs(chosen=(done, (status, [*lines, done[1][-1]], unmet)))
+            faults += differs(rehearsed=(made(program, folder, "none", *words, "--dry-run"), done))
+            audit = made(program, folder, f"{number}", *words, command="audit")
+            faults += differs(audited=((audit[1][:-1], audit[2]), ([line for line in wholly if stands_in(line, part)], unmet)))
+            halves = [made(program, folder, f"half {half}", *words, "--share", f"{half}/2") for half in (1, 2)]
+            faults += differs(halves=(told([half[1] for half in halves]), told([done[1]])))
+            for half in (1, 2):
+                own = "".join(f"{UNMET}{identifier}\n" for identifier in sorted(absent) if share_number(identifier, 2) == half)
+                faults += differs(unmet_of_the_share=(halves[half - 1][2], own))
+        faults += joined(folder, 2)
+        return faults + list(differences(read_tree(f"{folder}/1"), read_tree(f"{folder}/whole")))
+
+    return Alone(f"lists over a random store, {seed}", test)
+
+
+# Lists, other words, the objects that are carried, and what is met nowhere.
+CHOSEN = [
+    (b"", [], [], []),
+    (b"ark:/1/aa\n", [], ["ark:/1/aa"], []),
+    (b"ark:/1/aa", [], ["ark:/1/aa"], []),
+    (b"ark:/1/ab\r\nark:/1/aa\r\n", [], ["ark:/1/aa", "ark:/1/ab"], []),
+    (b"ark:/1/ab\nark:/1/ab\nark:/1/ab\n", [], ["ark:/1/ab"], []),
+    (b"ark:/1/a\nark:/1/aaa\naa\n", [], [], ["aa", "ark:/1/a", "ark:/1/aaa"]),
+    (b"ark:/1/aa\n", ["--only", "ark:/1/ac"], ["ark:/1/aa", "ark:/1/ac"], []),
+    (b"none\n", ["--only", "ark:/1/a"], ["ark:/1/aa", "ark:/1/ab", "ark:/1/ac"], ["none"]),
+    (b"ark:/1/xx\n", [], [], ["ark:/1/xx"]),
+    ("é\n".encode(), [], [], ["é"]),
+    (b"a\\b\x07\n", ["--quiet"], [], ["a\\\\b\\u{7}"]),
+    (b" ark:/1/aa\n", [], [], [" ark:/1/aa"]),
+    (b"ark:/1/aa\r", [], [], ["ark:/1/aa\\u{d}"]),
+    (b"n" * 65536 + b"\r\n", [], [], ["n" * 65536]),
+]
+
+
+def chosen(program, folder):
+    """An identifier is compared as a whole, by its bytes, with the store's prefix. One that stands twice counts once; `--only` adds what
+    begins so. What was met nowhere is told, and the status is 1 where it would be 0."""
+    shutil.rmtree(f"{folder}/s")
+    build(f"{folder}/s", STORE)
+    faults = []
+    for number, (content, words, ids, unmet) in enumerate(CHOSEN):
+        status, lines, errors = made(program, folder, f"{number}", *words, *listed(folder, content))
+        found = (status, carried(lines), errors)
+        faults += differs(**{repr(content[:20]): (found, (1, ids, "".join(f"{UNMET}{identifier}\n" for identifier in unmet)))})
+    return faults
+
+
+def statuses(program, folder):
+    """Where all else is well, 1 tells that an identifier was met nowhere: of a run, a rehearsal and an audit. A fault's status stays."""
+    both, alone, faults = listed(folder, b"abc\nnone\n", "both"), listed(folder, b"abc\n", "alone"), []
+    for number, (words, wanted) in enumerate(((both, (1, f"{UNMET}none\n")), (alone, (0, "")))):
+        found = {"rehearsal": made(program, folder, f"{number}", "-n", *words), "run": made(program, folder, f"{number}", *words)}
+        found["audit"] = made(program, folder, f"{number}", *words, command="audit")
+        faults += differs(**{f"{name} {words}": (answer[::2], wanted) for name, answer in found.items()})
+    build(f"{folder}/f", {"staging": DIR})
+    status, _, errors = made(program, folder, "f", *both)
+    return faults + differs(fault=((status, errors), (3, "pairtree2ocfl: fault 7: a staging directory is left in the destination\n")))
+
+
+def reserved(program, folder):
+    """An identifier whose place is the root's own was met: its line tells why it isn't carried."""
+    shutil.rmtree(f"{folder}/s")
+    build(f"{folder}/s", store({"ex/te/ns/io/ns/obj/f": b"1"}))
+    words = ["--tuples", "0", "--tuple-size", "0", *listed(folder, b"extensions\n")]
+    status, lines, errors = made(program, folder, "d", *words)
+    causes = [json.loads(line).get("cause") for line in lines]
+    return differs(reserved=((status, causes, errors), (1, ["reserved", None], "")))
+
+
+# Lists that are refused, with the line and why.
+BAD = [
+    (b"\n", 1, "the identifier is empty"),
+    (b"\r\n", 1, "the identifier is empty"),
+    (b"abc\n\nabc\n", 2, "the identifier is empty"),
+    (b"abc\nabc\n\r\n", 3, "the identifier is empty"),
+    (b"abc\n\xff\n", 2, "the identifier is not UTF-8"),
+    (b"abc\n\xc3", 2, "the identifier is not UTF-8"),
+    (b"abc\n" + b"n" * 65537, 2, TOO_LONG),
+    (b"n" * 65537 + b"\n\n", 1, TOO_LONG),
+    (b"n" * 65537 + b"\xff", 1, TOO_LONG),
+    ("é".encode() * 32768 + b"n\n", 1, TOO_LONG),
+]
+
+
+def bad_lines(program, folder):
+    """A line that is no identifier refuses the list, by the list's path and the line's number, before anything is asked of the folders."""
+    faults = []
+    for content, number, why in BAD:
+        for command in ("migrate", "audit"):
+            found = made(program, folder, "d", *listed(folder, content), "--event", "ev", command=command)
+            faults += differs(**{f"{command} {content[:9]!r}": (found, (2, [], f"pairtree2ocfl: list: line {number}: {why}\n"))})
+    return faults + differs(left=(sorted(os.listdir(folder)), ["d", "list", "s"]), root=(os.listdir(f"{folder}/d"), []))
+
+
+def unreadable(program, folder):
+    """A list that can't be read is refused by its path and the reason; the other words are judged before."""
+    build(folder, {"to nothing": Link("nothing"), "a\nb": DIR})
+    gone = "No such file or directory (os error 2)"
+    of_words = "pairtree2ocfl: --ignore is not the name of a file or folder\n"
+    faults = differs(order=(made(program, folder, "d", "--list", "nothing", "--ignore", "a/b"), (2, [], of_words)))
+    for name, shown, why in (("nothing", "nothing", gone), ("to nothing", "to nothing", gone), ("", "", gone), ("a\nb", "a\\u{a}b", "Is a directory (os error 21)")):
+        for command in ("migrate", "audit"):
+            found = made(program, folder, "d", "--list", name, command=command)
+            faults += differs(**{f"{command} {name!r}": (found, (2, [], f"pairtree2ocfl: {shown}: {why}\n"))})
+    twice = made(program, folder, "d", "--list", "a", "--list", "b")
+    return faults + differs(twice=((twice[0], twice[1], "--list" in twice[2]), (2, [], True)))
+
+
+def followed(program, folder):
+    """A list may be a link, or a pipe."""
+    listed(folder, b"abc\n", "real")
+    build(folder, {"link": Link("real")})
+    faults = differs(link=(carried(made(program, folder, "1", "--list", "link")[1]), ["abc"]))
+    command = [program, "migrate", *MEANT, "--list", "/dev/stdin", "s", "2"]
+    os.mkdir(f"{folder}/2")
+    done = subprocess.run(command, cwd=folder, capture_output=True, input=b"abc\nnone", timeout=60)
+    return faults + differs(pipe=((done.returncode, carried(done.stdout.splitlines()), done.stderr.decode()), (1, ["abc"], f"{UNMET}none\n")))
+
+
+def large(program, folder):
+    """A list of 100,000 identifiers is read, sorted, searched and told in less than a minute, on a machine under any load."""
+    ids = [f"ark:/13030/{number * 7919 % 100003:06d}" for number in range(100000)]
+    words = listed(folder, "\n".join(["abc", *ids]).encode())
+    began = time.monotonic()
+    status, lines, errors = made(program, folder, "d", *words)
+    took = time.monotonic() - began
+    wanted = "".join(f"{UNMET}{identifier}\n" for identifier in sorted(set(ids)))
+    return differs(large=((status, carried(lines), errors == wanted), (1, ["abc"], True)), quick=(took < 60, True))
+
+
+CASES = [
+    *(lists_of(seed) for seed in range(20)),
+    Alone("objects chosen by a list", chosen),
+    Alone("the status where an identifier was met nowhere", statuses),
+    Alone("a listed identifier whose place is reserved", reserved),
+    Alone("lists with a bad line", bad_lines),
+    Alone("lists that can't be read", unreadable),
+    Alone("a list that is a link or a pipe", followed),
+    Alone("a long list", large),
+]

@@ -1,0 +1,240 @@
+"""Cases of `audit --extra`: what the root has and the store lacks is planted, and each line of it is told, and no other."""
+
+import json
+import os
+import shutil
+import subprocess
+
+from alone import Alone, differs
+from auditing import audit, fresh, migrate
+from running import as_nobody, timeless
+from stores import ABC, DIR, FIFO, ONE, Link, build, object_files, place, read_tree, store, stored, text_of
+
+OBJECT = "0=ocfl_object_1.1"
+ABD = place("abd")
+FIRST = place("abc").split("/", maxsplit=1)[0]
+TWO = {"ab/c/obj/a.txt": b"abc", "ab/d/obj/f": b"1"}
+
+
+def extra(identifier, layout=(3, 3)):
+    """The line of an object that the store lacks."""
+    return {"as": "extra", "id": identifier, "to": place(identifier, layout)}
+
+
+def stray(path):
+    """The line of what is no part of the root or of an object."""
+    return {"as": "stray", "to": path}
+
+
+def at(path, files):
+    """An object's files at a path of the root."""
+    return {f"ocfl/{path}/{name}": content for name, content in files.items()}
+
+
+def with_id(path, text):
+    """An object at a path of the root with this inventory."""
+    return {f"ocfl/{path}/{OBJECT}": b"", f"ocfl/{path}/inventory.json": text}
+
+
+# What is planted behind a run over a store with the object abc alone, and the lines that it makes.
+PLANTED = {
+    "nothing": ({}, []),
+    "an object": (stored("abd", ABC), [extra("abd")]),
+    "three objects": ({**stored("abd", ABC), **stored("x", {}), **stored("é", ABC)}, [extra("é"), extra("x"), extra("abd")]),
+    "an object of OCFL 1.0": (
+        {f"ocfl/{ABD}/{'0=ocfl_object_1.0' if name == OBJECT else name}": content for name, content in object_files("abd", ABC).items()},
+        [extra("abd")],
+    ),
+    "an object whose contents are gone": (with_id(ABD, text_of({"id": "abd"})), [extra("abd")]),
+    "an object in an object": (at(f"{place('abc')}/v1/more", object_files("abd", ABC)), []),
+    "a file in the root": ({"ocfl/a": b""}, [stray("a")]),
+    "a file among the tuples": ({f"ocfl/{FIRST}/f": b""}, [stray(f"{FIRST}/f")]),
+    "files in a folder without an object": ({"ocfl/x/y/f": b"", "ocfl/x/g": b""}, [stray("x/g"), stray("x/y/f")]),
+    "an empty folder": ({"ocfl/x": DIR}, [stray("x")]),
+    "an empty folder among the tuples": ({f"ocfl/{FIRST}/x": DIR}, [stray(f"{FIRST}/x")]),
+    "a folder as deep as objects": ({"ocfl/a/b/c/d/e/f": b"", "ocfl/a/b/c/g": b""}, [stray("a/b/c/d"), stray("a/b/c/g")]),
+    "an object deeper than objects": (at("a/b/c/d/e", object_files("abd", ABC)), [stray("a/b/c/d")]),
+    "an object at another place": (at("x", object_files("abd", ABC)), [stray("x")]),
+    "a second copy of an object": (at(f"{FIRST}/abc", object_files("abc", ABC)), [stray(f"{FIRST}/abc")]),
+    "an object with another's identifier": (at(ABD, object_files("abe", ABC)), [stray(ABD)]),
+    "an object without an inventory": ({f"ocfl/{ABD}/{OBJECT}": b""}, [stray(ABD)]),
+    "an inventory that isn't JSON": (with_id(ABD, b"{"), [stray(ABD)]),
+    "an inventory that isn't a text": (with_id(ABD, b'{"id":"\xff"}'), [stray(ABD)]),
+    "an identifier that isn't a text": (with_id(ABD, text_of({"id": 1})), [stray(ABD)]),
+    "an empty identifier": (with_id(ABD, text_of({"id": ""})), [stray(ABD)]),
+    "an inventory without an identifier": (with_id(ABD, text_of({"head": "v1"})), [stray(ABD)]),
+    "a folder for the inventory": ({f"ocfl/{ABD}/{OBJECT}": b"", f"ocfl/{ABD}/inventory.json": DIR}, [stray(ABD)]),
+    "a folder for the declaration": ({f"ocfl/{ABD}/{OBJECT}": DIR, f"ocfl/{ABD}/f": b""}, [stray(ABD)]),
+    "a link": ({"ocfl/a": Link("0=ocfl_1.1")}, [stray("a")]),
+    "a link to an object": ({f"ocfl/{FIRST}/l": Link(f"../{place('abc')}")}, [stray(f"{FIRST}/l")]),
+    "a named pipe": ({"ocfl/p": FIFO}, [stray("p")]),
+    "what is the root's own": (
+        {"ocfl/ocfl_1.1.md": b"", "ocfl/ocfl_1.1.html": b"", "ocfl/extensions/a/b": b"", "ocfl/extensions/c": DIR, "staging": DIR, "more": b""},
+        [],
+    ),
+    "names of the root's own elsewhere": (
+        {"ocfl/ocfl_1.1.md": DIR, f"ocfl/{FIRST}/extensions/f": b"", f"ocfl/{FIRST}/ocfl_layout.json": b""},
+        [stray(f"{FIRST}/extensions/f"), stray(f"{FIRST}/ocfl_layout.json"), stray("ocfl_1.1.md")],
+    ),
+}
+
+# What is planted where the store and the options are others: the store, what is planted behind the run, the options of both, those of the audit alone,
+# the lines, and whether the objects of the store are told as ever.
+OTHERS = {
+    "two tuples of two digits": (ONE, stored("abd", ABC, (2, 2)), ("--tuple-size", "2", "--tuples", "2"), (), [extra("abd", (2, 2))]),
+    "no tuples": (ONE, {**stored("abd", ABC, (3, 0)), "ocfl/x/f": b""}, ("--tuple-size", "0", "--tuples", "0"), (), [extra("abd", (3, 0)), stray("x")]),
+    "sha256": (ONE, stored("abd", ABC, algorithm="sha256"), ("--digest", "sha256"), (), [extra("abd")]),
+    "a prefix": (
+        store({"ab/c/obj/a.txt": b"abc"}, b"ark:/"),
+        {**stored("abc", ABC), **stored("ark:/abd", ABC)},
+        (),
+        (),
+        [extra("ark:/abd"), extra("abc")],
+    ),
+    "a store with other names than the identifier's": (store({"a^/2f/obj/f": b"1"}), {}, (), (), [extra("a/")]),
+    "a folder that is gathered": (store({"ab/d/f": b"1"}), {}, ("--gather",), (), []),
+    "an ignored folder": (store(TWO), {}, (), ("--ignore", "d"), [extra("abd")]),
+    "an ignored name": (ONE, {"ocfl/.DS_Store": b""}, ("--ignore", ".DS_Store"), (), [stray(".DS_Store")]),
+    "--only": (ONE, {**stored("abd", ABC), **stored("xyz", ABC), "ocfl/a": b""}, (), ("--only", "ab"), [extra("abd"), stray("a")]),
+    "--list": (ONE, {**stored("abd", ABC), **stored("xyz", ABC), "ocfl/a": b"", "ids": b"abc\nabd\n"}, (), ("--list", "d/ids"), [extra("abd"), stray("a")]),
+}
+
+
+def in_order(entries):
+    """The lines in the order of the walk."""
+    return sorted(entries, key=lambda entry: [name.encode() for name in entry["to"].split("/")])
+
+
+def with_extras(plain, entries):
+    """The log of an audit with these lines before its end line, which counts them."""
+    *lines, end = plain.splitlines(keepends=True)
+    counts = {kind: sum(entry["as"] == kind for entry in entries) for kind in ("extra", "stray")}
+    told = [text_of(entry) + b"\n" for entry in in_order(entries)]
+    return b"".join([*lines, *told, text_of({**json.loads(end), **counts}) + b"\n"])
+
+
+def told(program, folder, name, entries, *words):
+    """What `--extra` tells otherwise than it should, beside what an audit tells without it; and what it changed."""
+    before = read_tree(folder)
+    status, plain, err = audit(program, folder, *words)
+    wanted = (1 if entries else status), with_extras(plain, entries), err
+    faults = differs(**{name: (audit(program, folder, "--extra", *words), wanted)})
+    return faults + differs(**{f"{name}, changed": (read_tree(folder) == before, True)})
+
+
+def of_planted(name):
+    """What is told of one thing that is planted."""
+
+    def case(program, folder):
+        planted, entries = PLANTED[name]
+        migrate(program, folder)
+        build(f"{folder}/d", planted)
+        return told(program, folder, name, entries)
+
+    return case
+
+
+def of_other(name):
+    """The same with another store, and other options."""
+
+    def case(program, folder):
+        entries, planted, both, words, lines = OTHERS[name]
+        fresh(folder, entries)
+        migrate(program, folder, *both)
+        build(f"{folder}/d", planted)
+        return told(program, folder, name, lines, *both, *words)
+
+    return case
+
+
+def no_root(program, folder):
+    """Where there is no root nothing is told of one."""
+    return told(program, folder, "no root", [])
+
+
+def of_a_skipped_object(program, folder):
+    """An object that a run passes over stands in the store: nothing is told of it where the root has it. One that can't be an object doesn't."""
+    migrate(program, folder)
+    build(f"{folder}/d", stored("abd", ABC))
+    build(f"{folder}/s/pairtree_root", {"ab/d/obj/f": Link("none")})
+    faults = told(program, folder, "other", [])
+    build(f"{folder}/s/pairtree_root", {"ab/d/second": DIR})
+    return faults + told(program, folder, "split", [extra("abd")])
+
+
+def of_shares(program, folder):
+    """The shares tell together what one audit tells: of each object the share of its identifier, and of the rest the first."""
+    fresh(folder, store(TWO))
+    migrate(program, folder)
+    names = [f"n{number}" for number in range(12)]
+    for name in names:
+        build(f"{folder}/d", stored(name, ABC))
+    misplaced = {f"x/{name}": name for name in names[:4]}
+    for path, name in misplaced.items():
+        build(f"{folder}/d", at(path, object_files(name, ABC)))
+    build(f"{folder}/d", {"ocfl/a": b"", "ocfl/b": DIR, **with_id("c", b"")})
+    entries = [*(extra(name) for name in names), *(stray(path) for path in (*misplaced, "a", "b", "c"))]
+    faults, found = told(program, folder, "whole", entries), []
+    for number in (1, 2, 3):
+        status, out, err = audit(program, folder, "--extra", "--share", f"{number}/3")
+        lines = [line for line in map(json.loads, out.splitlines()) if line["as"] in ("extra", "stray")]
+        faults += differs(**{f"{number}": ((status, err), (1, b""))})
+        faults += told(program, folder, f"share {number}", lines, "--share", f"{number}/3")
+        faults += differs(unnamed=([line["to"] for line in lines if line["to"] in "abc"], ["a", "b", "c"] if number == 1 else []))
+        found += lines
+    return faults + differs(together=(in_order(found), in_order(entries)))
+
+
+def statuses(program, folder):
+    """Status 0 only where nothing is extra or stray; --skips-ok changes that of skips alone."""
+    fresh(folder, store({"ab/c/obj/a.txt": b"abc", "ab/d": DIR}))
+    migrate(program, folder)
+    found = [audit(program, folder, "--extra", *words)[0] for words in ((), ("--skips-ok",))]
+    build(f"{folder}/d", {"ocfl/a": b""})
+    found += [audit(program, folder, *words)[0] for words in (("--skips-ok",), ("--extra", "--skips-ok"))]
+    os.remove(f"{folder}/d/ocfl/a")
+    build(f"{folder}/d", stored("abd", ABC))
+    return differs(statuses=([*found, audit(program, folder, "--extra", "--skips-ok")[0]], [1, 0, 0, 1, 1]))
+
+
+def beside_the_log(program, folder):
+    """The summary and the event count both kinds; and the end line tells --expect how many lines there may be."""
+    migrate(program, folder)
+    build(f"{folder}/d", {**stored("abd", ABC), "ocfl/a": b"", "ocfl/b": DIR})
+    status, out, err = audit(program, folder, "--extra", "--verbose", "--event", f"{folder}/ev")
+    said = b"pairtree2ocfl: 1 same, 0 absent, 0 different, 1 extra, 2 stray, 0 skipped, 1 file, 3 bytes\n"
+    with open(f"{folder}/ev", "rb") as file:
+        event = json.load(file)
+    faults = differs(summary=((status, timeless(err)), (1, said)), option=(event["options"]["extra"], True))
+    faults += differs(lines=(event["lines"], {"absent": 0, "differs": 0, "extra": 1, "same": 1, "skip": 0, "stray": 2}))
+    build(folder, {"log": out})
+    words = ("--progress", "always", "--interval", "0", "--quiet", "--expect", f"{folder}/log")
+    return faults + differs(expected=(audit(program, folder, *words)[2], b""))
+
+
+def unreadable(program, folder):
+    """What can't be read of the root is fault 2, and the log has no end line; root, who can read all, asks as another user."""
+    migrate(program, folder)
+    build(f"{folder}/d", {"ocfl/a": b"", "ocfl/z/f": b""})
+    shutil.copy(program, f"{folder}/program")
+    subprocess.run(["chmod", "-R", "a+rX", folder], check=True)
+    status, plain, _ = audit(program, folder)
+    os.chmod(f"{folder}/d/ocfl/z", 0)
+    command = [*(() if os.geteuid() else as_nobody()), f"{folder}/program", "audit", "--extra", f"{folder}/s", f"{folder}/d"]
+    done = subprocess.run(command, capture_output=True, timeout=120, check=False)
+    os.chmod(f"{folder}/d/ocfl/z", 0o755)
+    front = plain.splitlines(keepends=True)[0] + text_of(stray("a")) + b"\n"
+    wanted = (3, front, b"pairtree2ocfl: fault 2: cannot read the destination\n")
+    return differs(status=(status, 0), unreadable=((done.returncode, done.stdout, done.stderr), wanted))
+
+
+CASES = [
+    *(Alone(f"audit: extra, {name}", of_planted(name)) for name in PLANTED),
+    *(Alone(f"audit: extra, {name}", of_other(name)) for name in OTHERS),
+    Alone("audit: extra, no root", no_root),
+    Alone("audit: extra, an object that is skipped", of_a_skipped_object),
+    Alone("audit: extra, shares", of_shares),
+    Alone("audit: extra, statuses", statuses),
+    Alone("audit: extra, summary, event and --expect", beside_the_log),
+    Alone("audit: extra, what can't be read", unreadable),
+]
