@@ -1,10 +1,11 @@
 #!/usr/bin/env python3
 """Makes one HTML page of logs of pairtree2ocfl: of runs, rehearsals and audits. Python 3.6 or later, and nothing else.
 
-The page has no script and loads nothing, so it can be mailed, printed and kept. It has the numbers of objects, files and bytes, the lines by
-kind, the skips by cause with what to do about each, the sizes of the objects, each folder that was skipped, what an audit found absent or
-different, twins (several folders of one identifier), and the objects that lost empty folders. By its lines a log is told to be that of a run (or
-of a rehearsal, whose lines are the same) or of an audit; one whose last line isn't an end line is told to be cut short.
+The page has no script and loads nothing, so it can be mailed, printed and kept. It has the numbers of objects, files and bytes, the lines
+by kind, the skips by cause with what to do about each, the sizes of the objects, each folder that was skipped, what an audit found absent
+or different, or extra or stray in the root, twins (several folders of one identifier), and the objects that lost empty folders. By its
+lines a log is told to be that of a run (or of a rehearsal, whose lines are the same) or of an audit; one whose last line isn't an end line
+is told to be cut short.
 
 Several logs are taken for those of one store, in the order in which they were written. Then the page tells what is still missing: the folders
 that the last log that names them skipped, and that no log has as done, present or same; and those that the last log that names them tells to be
@@ -45,8 +46,12 @@ KEYS = {
     "absent": ("at", "id", "to"),
     "differs": ("at", "id", "path", "to", "why"),
     "skip": ("at", "cause"),
+    "extra": ("id", "to"),
+    "stray": ("to",),
 }
-ENDS = {"run": {"done", "present", "skip"}, "audit": {"absent", "differs", "same", "skip"}}
+# The keys of an end line, and of which log it is.
+AUDIT = ("absent", "differs", "same", "skip")
+ENDS = {("done", "present", "skip"): "run", AUDIT: "audit", (*AUDIT, "extra", "stray"): "audit"}
 COLUMNS = ("as", "at", "id", "to", "files", "bytes", "empty", "cause", "path", "why")
 NUMBERS = ("bytes", "empty", "files")
 TEXT = r'"([^"\\\x00-\x1f]*)"'
@@ -67,9 +72,9 @@ def form_of(kind):
 
 # By the first letters of the kind, which stand at the same place in every line but an audit's end line.
 FORMS = {kind[:4].encode(): (kind, form_of(kind)) for kind in KEYS}
-ID_AT = {kind: keys.index("id") for kind, keys in KEYS.items() if "id" in keys}
+ID_AT = {kind: keys.index("id") for kind, keys in KEYS.items() if {"at", "id"} <= set(keys)}
 # How lines begin that tell of nothing that is wanting.
-STANDS = tuple(f'{{"as":"{kind}"'.encode() for kind in ("done", "present", "same", "differs"))
+STANDS = tuple(f'{{"as":"{kind}"'.encode() for kind in ("done", "present", "same", "differs", "extra", "stray"))
 
 
 def parsed(line):
@@ -88,7 +93,7 @@ def by_json(line):
         entry = json.loads(line.decode())
         kind = entry.pop("as")
         if kind == "end":
-            what = next(what for what, keys in ENDS.items() if keys == set(entry))
+            what = next(what for keys, what in ENDS.items() if set(keys) == set(entry))
             return kind, (what, {key: int(value_of("files", value)) for key, value in entry.items()})
         if set(KEYS[kind]) != set(entry):
             raise ValueError
@@ -246,8 +251,8 @@ class Log:
 
     def what(self):
         """What it is the log of, by its lines."""
-        kinds = {"run": ("done", "present"), "audit": ("same", "absent", "differs")}
-        found = [what for what in ENDS if what in self.ended_as or any(self.kinds[kind] for kind in kinds[what])]
+        kinds = {"run": ("done", "present"), "audit": ("same", "absent", "differs", "extra", "stray")}
+        found = [what for what in kinds if what in self.ended_as or any(self.kinds[kind] for kind in kinds[what])]
         return " and ".join(found).replace("run", "run or rehearsal") or "not told by its lines"
 
 
@@ -256,7 +261,7 @@ class Report:
 
     def __init__(self, paths, most):
         self.logs, self.most = [Log(path) for path in paths], most
-        self.skipped, self.unlike, self.lost, self.twins, self.missing = (Rows(most) for _ in range(5))
+        self.skipped, self.unlike, self.lacking, self.lost, self.twins, self.missing = (Rows(most) for _ in range(6))
         twins = Keys(set().union(*parts) for parts in zip(*[self.read(log).parts for log in self.logs]))
         sites = Sites() if len(paths) > 1 and any(log.kinds["skip"] or log.kinds["absent"] for log in self.logs) else None
         if twins or sites:
@@ -274,6 +279,9 @@ class Report:
             log.kinds[kind] += 1
             if kind == "skip":
                 self.take_skip(log, *values)
+                continue
+            if kind not in ID_AT:
+                self.lacking.add(values[0] if kind == "extra" else b"", values[-1], kind, log)
                 continue
             twins.note(values[ID_AT[kind]], values[0])
             if kind in ("done", "same"):
@@ -309,7 +317,7 @@ class Report:
                 identifier = values[ids[kind]] if kind in ids else None
                 if identifier is not None and hash(identifier) in twins and (identifier in found or len(found) < self.most):
                     found.setdefault(identifier, {})[values[0]] = (kind, log)
-                if sites and kind != "end":
+                if sites and "at" in KEYS.get(kind, ()):
                     sites.note(kind, values[0])
         for identifier, folders in found.items():
             self.twins.rows += [(identifier, at, *row) for at, row in folders.items() if len(folders) > 1]

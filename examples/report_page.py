@@ -11,6 +11,8 @@ MEANINGS = {
     "absent": "Nothing stands at its place.",
     "differs": "Something else stands at its place.",
     "skip": "The folder was passed over.",
+    "extra": "The store has no such object.",
+    "stray": "It is no part of the root or of an object at its place.",
 }
 # Each is a heading of the guide too.
 ADVICE = {
@@ -70,7 +72,7 @@ tfoot { font-weight: 600; }
 #sizes .bar { width: 70%; }
 .bar i { display: block; height: .85rem; margin-top: .27rem; min-width: 1px; background: var(--bar); -webkit-print-color-adjust: exact; print-color-adjust: exact; }
 .done, .same { --bar: var(--done); } .present { --bar: var(--present); } .absent { --bar: var(--absent); }
-.skip, #causes { --bar: var(--skip); } .differs, #whys { --bar: var(--differs); }
+.skip, .extra, .stray, #causes { --bar: var(--skip); } .differs, #whys { --bar: var(--differs); }
 code, bdi { font-family: ui-monospace, monospace; font-size: .95em; white-space: pre-wrap; overflow-wrap: anywhere; }
 footer { margin-top: 3rem; font-size: .9rem; }
 @media print { body { max-width: none; padding: 0; font-size: 10pt; } table { font-size: 8.5pt; } .wide { overflow: visible; }
@@ -155,7 +157,7 @@ class Page:
 
     def sections(self):
         yield from (self.tiles(), self.notes(), self.by_log(), self.missing(), self.by_kind(), self.by_cause(), self.by_why(), self.by_size())
-        yield from (self.skipped(), self.unlike(), self.twins(), self.lost())
+        yield from (self.skipped(), self.unlike(), self.lacking(), self.twins(), self.lost())
 
     def link(self, heading, text):
         """A link to a heading of the guide."""
@@ -261,6 +263,10 @@ a run: what it alone has as done isn't told here, so leave its log out."""
         title = f"Absent or different: The path is where the object first differs; without one it is the place itself. {self.link('after', 'What to do.')}"
         heads = ["Identifier", "Folder", "Place", "Path", "What"]
         return self.listed("unlike", self.report.unlike, title, heads, lambda *values: cells(*map(told, values)))
+
+    def lacking(self):
+        title = f"In the root alone: What stands in the root and the store lacks. {self.link('after', 'What to do.')}"
+        return self.listed("lacking", self.report.lacking, title, ["Identifier", "Place", "What"], lambda *values: cells(*map(told, values)))
 
     def twins(self):
         found = self.report.twins

@@ -13,7 +13,7 @@ import sys
 from typing import NamedTuple
 
 TOP = os.path.dirname(os.path.dirname(os.path.abspath(__file__)))
-GRAMMAR = "crates/pt_cli/src/grammar.rt"
+IDS, GRAMMAR = (f"crates/pt_cli/src/{name}.rt" for name in ("ids", "grammar"))
 PAGE = "man/pairtree2ocfl.1"
 BASH, ZSH, FISH = (f"completions/{name}" for name in ("pairtree2ocfl.bash", "_pairtree2ocfl", "pairtree2ocfl.fish"))
 
@@ -54,6 +54,11 @@ def text_of(path):
 
 
 # The grammar.
+
+
+def grammar_text():
+    """The text of the ids and of the rows that have them."""
+    return text_of(IDS) + text_of(GRAMMAR)
 
 
 def arg_of(row, constants):
@@ -266,7 +271,7 @@ def made(grammar):
 
 def write(folder):
     """Writes the files into a folder."""
-    for path, text in made(text_of(GRAMMAR)).items():
+    for path, text in made(grammar_text()).items():
         with open(f"{folder}/{os.path.basename(path)}", "w", encoding="utf-8") as file:
             file.write(text)
 
