@@ -70,9 +70,10 @@ def is_help_on_audit(text):
 
 
 def is_help_on_check(text):
-    """The help of `check`, whose line on each trouble says what it is, and nothing of a destination."""
-    words = (b"unreadable", b"missing", b"prefix", b"doubtful", b"spelling", b"deep", b"long", b"desktop", b"root, empty, split, past, name, utf8, other", b"end")
-    return b"Usage: pairtree2ocfl check [OPTIONS] <SOURCE>" in text and all(b"\n  " + word in text for word in words) and b"DEST" not in text
+    """The help of `check`, which takes a source alone, and whose line on each trouble says what it is."""
+    words = (b"unreadable", b"missing", b"prefix", b"doubtful", b"spelling", b"deep", b"long", b"many", b"large", b"place", b"desktop", b"end")
+    said = all(b"\n  %s  " % word in text for word in words) and b"\n  root, empty, split, past, name, utf8, other\n" in text
+    return said and b"Usage: pairtree2ocfl check [OPTIONS] <SOURCE>\n" in text and b"<DEST>  " not in text.partition(b"Options:")[0]
 
 
 def is_version(text):

@@ -96,7 +96,7 @@ OTHERS = {
     "an ignored folder": (store(TWO), {}, (), ("--ignore", "d"), [extra("abd")]),
     "an ignored name": (ONE, {"ocfl/.DS_Store": b""}, ("--ignore", ".DS_Store"), (), [stray(".DS_Store")]),
     "--only": (ONE, {**stored("abd", ABC), **stored("xyz", ABC), "ocfl/a": b""}, (), ("--only", "ab"), [extra("abd"), stray("a")]),
-    "--list": (ONE, {**stored("abd", ABC), **stored("xyz", ABC), "ocfl/a": b"", "ids": b"abc\nabd\n"}, (), ("--list", "d/ids"), [extra("abd"), stray("a")]),
+    "--list": (ONE, {**stored("abd", ABC), **stored("xyz", ABC), "ocfl/a": b"", "ids": b"abc\nabd\n"}, (), ("--list", "{folder}/d/ids"), [extra("abd"), stray("a")]),
 }
 
 
@@ -139,6 +139,7 @@ def of_other(name):
 
     def case(program, folder):
         entries, planted, both, words, lines = OTHERS[name]
+        words = [word.format(folder=folder) for word in words]
         fresh(folder, entries)
         migrate(program, folder, *both)
         build(f"{folder}/d", planted)
@@ -178,7 +179,7 @@ def of_shares(program, folder):
     for number in (1, 2, 3):
         status, out, err = audit(program, folder, "--extra", "--share", f"{number}/3")
         lines = [line for line in map(json.loads, out.splitlines()) if line["as"] in ("extra", "stray")]
-        faults += differs(**{f"{number}": ((status, err), (1, b""))})
+        faults += differs(**{f"{number}": ((status, err), (int(bool(lines)), b""))})
         faults += told(program, folder, f"share {number}", lines, "--share", f"{number}/3")
         faults += differs(unnamed=([line["to"] for line in lines if line["to"] in "abc"], ["a", "b", "c"] if number == 1 else []))
         found += lines
