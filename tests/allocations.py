@@ -26,6 +26,10 @@ from tally import Lacking, Skipped, Tally, faults_of
 
 OUT_OF_MEMORY = b"pairtree2ocfl: fault 4: out of memory\n"
 
+# How it is told that an identifier of a list was met nowhere, and what is told in its place where there is no memory for that.
+UNMET = b"pairtree2ocfl: met nowhere: "
+UNSHOWN = (UNMET + b"an identifier that there is no memory to show\n", b"pairtree2ocfl: it is not known which identifiers were met nowhere\n")
+
 # A name that is too long by a byte to be held in the value of a name, a longer one, and the longest that there is.
 LONGER, LONG, LONGEST = "b" * 22, "c" * 36, "d" * 255
 
@@ -97,12 +101,16 @@ class Case:
             return False, ["it was not made"]
         if self.is_passed_over(answer):
             return True, []
-        return False, [] if self.is_want(answer) else [f"the answer is {stores.shown(answer)}"]
+        return False, [] if self.is_want(answer) or self.is_unshown(answer) else [f"the answer is {stores.shown(answer)}"]
 
     def is_passed_over(self, answer):
         """Whether all is answered as where nothing is refused, if a notice is left out."""
         notices = iter(self.whole[2].splitlines())
         return answer[:2] == self.whole[:2] and all(line in notices for line in answer[2].splitlines())
+
+    def is_unshown(self, answer):
+        """Whether all is answered as where nothing is refused, but which identifier was met nowhere."""
+        return answer[:2] == self.whole[:2] and self.whole[2].startswith(UNMET) and answer[2] in UNSHOWN
 
     def is_want(self, answer):
         """Whether want of memory is answered, and no other fault, after a front of what is written."""
@@ -145,7 +153,7 @@ class Looking(Case):
             stores.build(f"{folder}/{name}", entries)
         if self.stands is not None:
             program.run(folder, ["migrate", *MEANT, self.stands, "before"])
-        stores.build(folder, {"ids": b"uc1.abd\n"})
+        stores.build(folder, {"ids": b"uc1.abd\nuc1.none\n"})
         with open(f"{folder}/log", "wb") as log:
             log.write(program.run(folder, ["migrate", *MEANT, "--dry-run", "s", "d"])[0][1])
         self.was, self.store = stores.read_tree(f"{folder}/before"), stores.read_tree(f"{folder}/s")
@@ -206,7 +214,7 @@ class Writing(Looking):
         forget_events(folder)
         answer, _ = program.run(folder, self.words)
         entries = [rewritten(entry, beside) for entry in self.entries()]
-        status = int(any(entry["as"] != "done" for entry in entries))
+        status = int(UNMET in self.whole[2] or any(entry["as"] != "done" for entry in entries))
         if answer[:2] != (status, stores.whole_log(*entries)):
             yield f"the second run answers {stores.shown(answer)}"
         yield from stores.differences(stores.read_tree(f"{folder}/d"), self.left)
