@@ -1,5 +1,7 @@
-//! Whole runs over a system in memory, by the program's own call. They print a line for each: that all is as it should be, or what isn't.
+//! Whole runs and audits over a system in memory, by the program's own calls. They print a line for each: that all is as it should be, or what isn't.
 
+mod audits;
+mod beside;
 mod case;
 mod demo;
 mod expected;
@@ -16,6 +18,7 @@ const ROWS: &[(&str, Row)] = &[
     ("rehearsed before", Row::RehearseBefore),
     ("rehearsed after", Row::RehearseAfter),
     ("stopped and carried again", Row::Stop),
+    ("audited both ways, and stopped at each call", Row::Audit),
 ];
 
 /// Tries each row over each case.

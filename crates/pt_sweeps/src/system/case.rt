@@ -1,7 +1,8 @@
 //! What a case is: a store, and what runs over it must tell and leave.
+use crate::system::beside;
 use crate::system::texts::{DECLARATION, OF_ROOT};
-use pt_memory::MemDest;
-use pt_memory::texts::{add, path, tree};
+use pt_memory::texts::{Plants, add, path, tree};
+use pt_memory::{MemDest, MemSource};
 use std::alloc::Global;
 
 /// A store, and what runs over it must tell and leave. All of it was computed apart from the program.
@@ -41,12 +42,26 @@ impl Case {
     /// The root that holds each object whole, and nothing else.
     pub fn root(&self, alloc: Global) -> Option<MemDest> {
         let mut root = tree(alloc, OF_ROOT).ok()?;
+        self.plant_objects(alloc, &mut root)?;
+        Some(root)
+    }
+
+    /// A root to read that holds each object whole, and what no store here has.
+    pub fn root_with_more(&self, alloc: Global) -> Option<MemSource> {
+        let mut root = MemSource::new(alloc);
+        add(alloc, &mut root, OF_ROOT).ok()?;
+        self.plant_objects(alloc, &mut root)?;
+        add(alloc, &mut root, beside::PLANTED).ok()?;
+        Some(root)
+    }
+
+    fn plant_objects<T: Plants>(&self, alloc: Global, root: &mut T) -> Option<()> {
         for met in self.met {
             if let Met::Object(object) = met {
-                object.plant(alloc, &mut root)?;
+                object.plant(alloc, root)?;
             }
         }
-        Some(root)
+        Some(())
     }
 }
 
@@ -59,7 +74,7 @@ impl Object {
     }
 
     // Plants what OCFL 1.1 wants of it: its declaration, and for itself and its one version the inventory with its sidecar.
-    fn plant(&self, alloc: Global, root: &mut MemDest) -> Option<()> {
+    fn plant<T: Plants>(&self, alloc: Global, root: &mut T) -> Option<()> {
         self.put(alloc, root, "", (DECLARATION, "ocfl_object_1.1\n"))?;
         for above in ["", "v1/"] {
             self.put(alloc, root, above, ("inventory.json", self.inventory))?;
@@ -72,10 +87,10 @@ impl Object {
     }
 
     // Plants one file of it, by its path below a folder of it.
-    fn put(
+    fn put<T: Plants>(
         &self,
         alloc: Global,
-        root: &mut MemDest,
+        root: &mut T,
         above: &str,
         file: (&str, &str),
     ) -> Option<()> {

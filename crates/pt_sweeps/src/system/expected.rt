@@ -1,4 +1,5 @@
-//! What a run over a case must tell, by the root that it finds.
+//! What a run over a case must tell, by the root that it finds; and an audit of a root that has more.
+use crate::system::beside;
 use crate::system::case::{Case, Met};
 use pt_memory::MemDest;
 use std::alloc::{AllocError, Global};
@@ -33,6 +34,34 @@ impl Case {
         log.push_str(counts.last_line(alloc).ok()?.as_str()).ok()?;
         let status = counts.status();
         Some(Expected { status, log })
+    }
+
+    /// What an audit of both ways must tell of a root with each object whole, and with what is planted beside them.
+    pub fn tells_audit(&self, alloc: Global) -> Option<Expected> {
+        let mut log = String::new(alloc);
+        let (mut same, mut skip) = (0u32, 0u32);
+        for met in self.met {
+            match met {
+                Met::Skip(line) => {
+                    log.push_str(line).ok()?;
+                    skip = skip.wrapping_add(1);
+                }
+                Met::Object(object) => {
+                    log.push_str("{\"as\":\"same\"").ok()?;
+                    log.push_str(object.done.strip_prefix("{\"as\":\"done\"")?)
+                        .ok()?;
+                    same = same.wrapping_add(1);
+                }
+            }
+        }
+        log.push_str(beside::LINES).ok()?;
+        let end = format!(in alloc;
+            "{{\"absent\":0,\"as\":\"end\",\"differs\":0,{},\"same\":{same},\"skip\":{skip},{}}}\n",
+            beside::EXTRA,
+            beside::STRAY
+        );
+        log.push_str(end.ok()?.as_str()).ok()?;
+        Some(Expected { status: 1, log })
     }
 }
 

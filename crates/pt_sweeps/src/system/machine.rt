@@ -1,8 +1,10 @@
-//! A machine whose two folders are in memory, and runs by the program's own call on it.
+//! A machine whose two folders are in memory, and runs and audits by the program's own calls on it.
 ghost use Rattle.std.specs.Prelude.{⊤};
 
 use pt_guard::{Claim, FileId, LockAttempt, Places};
-use pt_host::{Feedback, Host, HostIo, Progress, RunOptions, Syncs, run_guarded};
+use pt_host::{
+    AuditOptions, Feedback, Host, HostIo, Progress, RunOptions, Syncs, audit_guarded, run_guarded,
+};
 use pt_memory::{MemDest, MemSource};
 use pt_memory_system::{Faults, MemorySystem};
 use pt_move::Job;
@@ -130,8 +132,54 @@ pub fn carry(rt: &HostRuntime, faults: &Faults, ran: &mut RunResult, rehearse: b
 
 // The status of a run on a machine.
 fn status_of(rt: &HostRuntime, machine: &mut Machine<'_>, rehearse: bool) -> Option<u8> {
-    let options = make_options(rt.alloc(), rehearse)?;
+    let options = run_options(rt.alloc(), rehearse)?;
     Some(run_guarded(rt, machine, options, "store", "root"))
+}
+
+/// What an audit answers.
+#[derive(Drop)]
+pub struct AuditResult {
+    pub status: u8,
+    pub log: Vec<u8>,
+}
+
+/// Holds a root against a store, both ways. None where the machine can't be made.
+pub fn audit(
+    rt: &HostRuntime,
+    faults: &Faults,
+    store: MemSource,
+    root: MemSource,
+) -> Option<AuditResult> {
+    let alloc = rt.alloc();
+    let mut machine = Machine {
+        alloc,
+        devices: HostIo {
+            store: only_read(alloc, faults, "store", store)?,
+            folder: only_read(alloc, faults, "root", root)?,
+            output: Vec::new(alloc),
+        },
+    };
+    let options = audit_options(alloc)?;
+    let status = audit_guarded(rt, &mut machine, options, "store", "root");
+    let log = machine.devices.output;
+    Some(AuditResult { status, log })
+}
+
+// A system of this folder, whose calls change nothing there.
+fn only_read<'a>(
+    alloc: Global,
+    faults: &'a Faults,
+    name: &'static str,
+    folder: MemSource,
+) -> Option<MemorySystem<'a>> {
+    MemorySystem::new(
+        alloc,
+        faults,
+        name,
+        folder,
+        "elsewhere",
+        MemDest::new(alloc),
+    )
 }
 
 // Gives what a run left on a machine.
@@ -164,8 +212,8 @@ fn make_system(
     MemorySystem::new(alloc, faults, "store", store, "root", root)
 }
 
-// A run with the greatest limits and three tuples of three digits.
-fn make_options(alloc: Global, rehearse: bool) -> Option<RunOptions> {
+// A job with the greatest limits and three tuples of three digits.
+fn make_job(alloc: Global) -> Option<Job> {
     let meta = Meta::of(
         alloc,
         "2024-05-01T12:00:00Z",
@@ -173,27 +221,43 @@ fn make_options(alloc: Global, rehearse: bool) -> Option<RunOptions> {
         None,
         "Migrated from Pairtree",
     );
-    let job = Job {
+    Some(Job {
         meta: meta.ok()?,
         layout: Layout::default_form(),
         algorithm: Algorithm::Sha512,
         limits: Limits::greatest(),
         gather: false,
         share: Share::whole(),
-    };
+    })
+}
+
+// Nothing is shown or recorded beside the log.
+const NOTHING_SHOWN: Feedback = Feedback {
+    verbose: false,
+    quiet: false,
+    progress: Progress::Never,
+    interval: 10,
+    expected: None,
+    event: None,
+};
+
+fn run_options(alloc: Global, rehearse: bool) -> Option<RunOptions> {
     Some(RunOptions {
-        job,
+        job: make_job(alloc)?,
         ignored: Ignored::new(alloc),
         sync: false,
         rehearse,
         present_ok: false,
-        feedback: Feedback {
-            verbose: false,
-            quiet: false,
-            progress: Progress::Never,
-            interval: 10,
-            expected: None,
-            event: None,
-        },
+        feedback: NOTHING_SHOWN,
+    })
+}
+
+fn audit_options(alloc: Global) -> Option<AuditOptions> {
+    Some(AuditOptions {
+        job: make_job(alloc)?,
+        ignored: Ignored::new(alloc),
+        skips_ok: false,
+        extra: true,
+        feedback: NOTHING_SHOWN,
     })
 }

@@ -1,4 +1,5 @@
 //! The rows: what runs over a case leave, held against what they should.
+use crate::system::audits::check_audits;
 use crate::system::case::Case;
 use crate::system::expected::Expected;
 use crate::system::machine::{RunResult, carry};
@@ -28,6 +29,8 @@ pub enum Row {
     RehearseAfter,
     /// A run stopped at each call in turn, each time followed by one that nothing stops.
     Stop,
+    /// An audit of both ways, of a root that has more than the store: stopped at each call in turn, and whole.
+    Audit,
 }
 
 /// Tries a row over a case.
@@ -43,6 +46,7 @@ fn try_row_on(rt: &HostRuntime, case: &Case, row: Row, ran: &mut RunResult) -> O
         Row::RehearseBefore => check_rehearsal_before(rt, case, ran),
         Row::RehearseAfter => check_rehearsal_after(rt, case, ran),
         Row::Stop => check_each_stop(rt, case, ran),
+        Row::Audit => check_audits(rt, case),
     }
 }
 
@@ -94,8 +98,8 @@ fn check_each_stop(rt: &HostRuntime, case: &Case, ran: &mut RunResult) -> Option
     Some(Found::Otherwise("the run never ends"))
 }
 
-// How a run ends that is to be stopped: as it should, otherwise, or without being stopped.
-enum Stop {
+/// How a run ends that is to be stopped: as it should, otherwise, or without being stopped.
+pub enum Stop {
     Well,
     Otherwise(&'static str),
     Past,
