@@ -273,7 +273,10 @@ const REFUSED: Readings = &[
     (&["pairtree2ocfl", "check", "S", "D"], 2),
     (&["pairtree2ocfl", "check", "--gather", "S"], 2),
     (&["pairtree2ocfl", "check", "--ignore=a/b", "S"], 10),
-    (&["pairtree2ocfl", "check", "--tuples=0", "--ignore=a/b", "S"], 7),
+    (
+        &["pairtree2ocfl", "check", "--tuples=0", "--ignore=a/b", "S"],
+        7,
+    ),
     (&["pairtree2ocfl", "carry"], 2),
     (&["pairtree2ocfl", "names", ""], 5),
 ];
