@@ -161,8 +161,18 @@ pub fn audit(
     };
     let options = audit_options(alloc)?;
     let status = audit_guarded(rt, &mut machine, options, "store", "root");
-    let log = machine.devices.output;
+    let log = log_of(machine);
     Some(AuditResult { status, log })
+}
+
+// The log that a machine got.
+fn log_of(machine: Machine<'_>) -> Vec<u8> {
+    let HostIo {
+        store: _store,
+        folder: _folder,
+        output,
+    } = machine.devices;
+    output
 }
 
 // A system of this folder, whose calls change nothing there.
