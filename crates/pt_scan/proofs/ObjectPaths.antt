@@ -1,11 +1,10 @@
 -- Paths in an object, from the trail that leads to where the scan stands.
 use Rattle.std.proofs.Common.{◌≡◌, ◌<◌, ◌≤◌, ℕ, ◌+◌, ◌-◌, Bool, true, false, List, [], ◌∷◌, ◌++◌, refl, sym, ap, ◌∙◌, length, cond, drop, take, arith, zero, suc}
-use Rattle.std.specs.Prelude.{Option, None, Some, IsSome, ◌&&◌, option_to_list}
-use Rattle.std.specs.Option.{option_map}
+use Rattle.std.specs.Prelude.{Option, None, Some, IsSome, ◌&&◌}
 use Rattle.std.proofs.lemmas.List.{drop_at, length-append, length-drop, length-take-le, take_all, take_at}
 use Rattle.std.proofs.lemmas.Bool.{and_parts, eqb-false}
 use Rattle.pt_state.proofs.Words.{Item, Path, current_entry, is_dir_entry, names_to, parent, trail_path, Frame, logical_path, to_site, Object}
-use Rattle.pt_walk.specs.Trail.{are_outer, entry_at, is_frame, is_trail, name_at}
+use Rattle.pt_walk.specs.Trail.{are_outer, entry_at, is_frame, is_trail}
 use Rattle.pt_walk.proofs.TrailSteps.{outer_names, path_splits}
 use Rattle.pt_plan.specs.Object.{names_before}
 use Rattle.pt_plan.specs.TurnScan.{is_in_site, own_listings}
@@ -44,6 +43,9 @@ names_outside (suc k) trail is some =
 
 -- ---- the logical path
 
+drop_next : (k : ℕ) (x : List ℕ) (xs : Path) → drop (k + 1) (x ∷ xs) ≡ drop k xs
+drop_next k x xs = search (arith)
+
 first_of : (object : Object) (trail : List Frame) → IsSite object trail → 0 < own_listings object trail → length trail - own_listings object trail ≡ names_before object
 unfolding IsSite
 first_of object trail (some, long) own = by object.gathered own
@@ -51,6 +53,24 @@ first_of object trail (some, long) own = by object.gathered own
     by : (gathered : Bool) → 0 < cond gathered (length trail - object.site + 1) (length trail - object.site) → length trail - cond gathered (length trail - object.site + 1) (length trail - object.site) ≡ cond gathered (object.site - 1) object.site
     by true own = omega (arith, some, long)
     by false own = omega (arith, some, long)
+
+-- the listings behind the names before it are the object's own
+pub own_is : (object : Object) (trail : List Frame) (n first k : ℕ) → IsSite object trail → n ≡ length trail → first ≡ names_before object → k ≡ n - first → k ≡ own_listings object trail
+unfolding IsSite
+own_is object trail n first k (some, long) n_is begin k_is = k_is ∙ (λ i. n_is i - begin i) ∙ by object.gathered
+  where
+    by : (gathered : Bool) → length trail - cond gathered (object.site - 1) object.site ≡ cond gathered (length trail - object.site + 1) (length trail - object.site)
+    by true = omega (arith, some, long)
+    by false = refl
+
+-- they are no more than the trail's
+pub before_within : (object : Object) (trail : List Frame) (n first : ℕ) → IsSite object trail → n ≡ length trail → first ≡ names_before object → first ≤ n
+unfolding IsSite
+before_within object trail n first (some, long) n_is begin = by object.gathered begin
+  where
+    by : (gathered : Bool) → first ≡ cond gathered (object.site - 1) object.site → first ≤ n
+    by true e = omega (arith, e, n_is, long)
+    by false e = omega (arith, e, n_is, long)
 
 module _ (object : Object) (trail : List Frame) (is : is_trail trail ≡ true) (site : IsSite object trail) (own : 0 < own_listings object trail) (entry : Path) (first : ℕ) (at : entry ≡ names_to trail) (begin : first ≡ names_before object) where
   abbrev inner : ℕ
@@ -67,6 +87,16 @@ module _ (object : Object) (trail : List Frame) (is : is_trail trail ≡ true) (
       rest_is ∙ take_all (length names - first) (drop first names) (let short = length-drop first names in omega (arith, short))
       ∙ (λ i. drop (sym before i) ((names_is ∙ at ∙ path_splits inner trail) i))
       ∙ drop_at (names_to (drop inner trail)) (names_to (take inner trail)) (length trail - inner) outside
+
+  -- and behind the name of `pairtree_root`
+  pub logical_below : (root : List ℕ) (next : ℕ) (names rest : Path) → next ≡ first + 1 → names ≡ root ∷ entry → rest ≡ take (length names - next) (drop next names) → rest ≡ logical_path object trail
+  logical_below root next names rest next_is names_is rest_is =
+      logical_is entry rest refl
+      (rest_is ∙ (λ i. take (length (names_is i) - next_is i) (drop (next_is i) (names_is i)))
+      ∙ (λ i. take (shorter i) (drop_next first root entry i)))
+    where
+      shorter : length (root ∷ entry) - (first + 1) ≡ length entry - first
+      shorter = omega (arith)
 
   -- it begins within the path
   pub logical_within : first ≤ length entry
@@ -122,4 +152,4 @@ left_some object trail left in_site is (some, long) own place not left_is = rw l
     by (frame ∷ []) is long own outside = absurd (eqb-false 1 object.site outside (omega (arith, some, long)))
     by (frame ∷ outer ∷ frames) is long own outside = entry (entry_at outer) (and_parts (is_dir_entry (entry_at outer)) (are_outer frames) (and_parts (is_frame outer) (is_dir_entry (entry_at outer) && are_outer frames) (and_parts (is_frame frame) (are_outer (outer ∷ frames)) is).1).1).0
 
-pub ruleset paths = (taken_long, left_some, logical_is, logical_within, site_is, site_within, site_some)
+pub ruleset paths = (taken_long, left_some, logical_below, logical_is, logical_within, site_is, site_within, site_some)

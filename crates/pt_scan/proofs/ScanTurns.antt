@@ -131,9 +131,9 @@ pub one_too_many : (s : State) (object : Object) → IsAtFile s.trail → s.job.
 unfolding IsAtFile GivesUp
 one_too_many s object (name, at) many = λ fed. MeetsLimit _ object name at (or_left _ _ (le-leb s.job.limits.files (length s.rows) many))
 
-pub may_open_entry : (told : Option Reading) (trail : List Frame) (entry path : Path) → MayOpen told trail → IsAtFile trail → entry ≡ names_to trail → path ≡ in_pairtree entry → CanOpen told path
+pub may_open_entry : (told : Option Reading) (trail : List Frame) (path : Path) → MayOpen told trail → IsAtFile trail → path ≡ in_pairtree (names_to trail) → CanOpen told path
 unfolding MayOpen IsAtFile
-may_open_entry told trail entry path may (name, at) names there = rw (there ∙ ap in_pairtree names) (may name at)
+may_open_entry told trail path may (name, at) there = rw there (may name at)
 
 -- a test of the logical path's length
 module _ (s : State) (object : Object) (names : Path) (most : ℕ) (longer : Bool) (is : longer ≡ nat_lt most (length (joined names))) (limit : most ≡ s.job.limits.path_bytes) (there : names ≡ logical_path object s.trail) where
@@ -144,12 +144,12 @@ module _ (s : State) (object : Object) (names : Path) (most : ℕ) (longer : Boo
   unfolding IsAtFile GivesUp
   path_too_long (name, at) long = λ fed. MeetsLimit _ object name at (or_right (nat_le s.job.limits.files (length s.rows)) _ (long_is ∙ long))
 
-  pub opened_file : (s' : State) (a b : DeviceStates) (entry path : Path) → IsAtFile s.trail → length s.rows < s.job.limits.files → longer ≡ false → Did (asks (Opens path)) a b → entry ≡ names_to s.trail → path ≡ in_pairtree entry → HasBeenFed s.job.algorithm s'.hasher [] → KeepsAll s s' → Turned (phase.Carrying object stage.Scan) s s' a b (Ok (phase.Carrying object (stage.Read 0)))
+  pub opened_file : (s' : State) (a b : DeviceStates) (path : Path) → IsAtFile s.trail → length s.rows < s.job.limits.files → longer ≡ false → Did (asks (Opens path)) a b → path ≡ in_pairtree (names_to s.trail) → HasBeenFed s.job.algorithm s'.hasher [] → KeepsAll s s' → Turned (phase.Carrying object stage.Scan) s s' a b (Ok (phase.Carrying object (stage.Read 0)))
   unfolding IsAtFile
-  opened_file s' a b entry path (name, at) few short did entry_at path_at fed_none keeps =
+  opened_file s' a b path (name, at) few short did path_at fed_none keeps =
       went a b (λ fed. [])
       (λ fed was. Scan (OpensFile _ object name at (or_from _ _ (lt-leb s.job.limits.files (length s.rows) few) (long_is ∙ short))))
-      (rw (path_at ∙ ap in_pairtree entry_at) at did) refl (λ fed was. fed_none) keeps
+      (rw path_at at did) refl (λ fed was. fed_none) keeps
 
 -- ---- the end of a listing
 

@@ -1,7 +1,6 @@
 -- The turns that look whether the source is a Pairtree store, from their calls.
-use Rattle.std.proofs.Common.{◌≡◌, ◌≤◌, ◌-◌, ◌+◌, ℕ, zero, suc, List, [], ◌∷◌, refl, sym, ap, ◌∙◌, true, false, drop, length, arith}
-use Rattle.std.specs.Prelude.{Option, None, Some, Ok, Err, IsErrAnd, slice_get, cond, Bool}
-use Rattle.std.specs.Str.{bytes_eq}
+use Rattle.std.proofs.Common.{◌≡◌, ℕ, List, [], ◌∷◌, refl, sym, ap, true, false}
+use Rattle.std.specs.Prelude.{Option, None, Some, Ok, Err, IsErrAnd}
 use Rattle.std.specs.String.{string_bytes}
 use Rattle.pt_name.specs.Prefix.{prefix_refusal, without_line_ends}
 use Rattle.pt_state.proofs.Words.{Answer, Did, Next, GoesOn, Start, Lists, DeviceStates, asks, Fault, Turned, KeepsAll, counts_of, held_of, job_of, Path, Reading, CanOpen, Kind}

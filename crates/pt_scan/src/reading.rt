@@ -2,21 +2,21 @@
 ghost use Rattle.std.specs.Prelude.{◌≡◌, ◌<◌, ◌+◌, IfOk, [], length};
 ghost use Rattle.pt_plan.specs.Turn.{Did};
 ghost use Rattle.pt_plan.specs.DeviceStates.{DeviceStates, Reads, asks};
+ghost use Rattle.pt_plan.specs.TurnScan.{logical_path as logical_path_of};
 ghost use Rattle.pt_plan.specs.declared.phase.Phase.TheVariants as phase;
 ghost use Rattle.pt_plan.specs.declared.phase.Stage.TheVariants as stage;
 ghost use Rattle.pt_tree.specs.Source.{CanRead};
 ghost use Rattle.pt_state.specs.Outside.{Turned};
 ghost use Rattle.pt_state.specs.Turns.{EndsTurn, TakesTurn};
 ghost use Rattle.pt_scan.specs.Blocks.{IsNextBlock, KeepsBlock};
-ghost use Rattle.pt_scan.specs.Scanning.{CanPassOver, CanReadOn};
+ghost use Rattle.pt_scan.specs.Scanning.{CanPassOver, CanReadOn, IsAtEntry};
 
-use crate::scanning::{give_up, logical_names};
+use crate::scanning::give_up;
 use pt_object::Hasher;
 use pt_plan::{Fault, Object, Phase, Stage};
-use pt_state::paths::entry_path;
 use pt_state::{Io, State};
-use pt_tree::NamePath;
-use pt_walk::Cause;
+use pt_tree::{MemoryFault, NamePath};
+use pt_walk::{Cause, Trail};
 use std::mem;
 
 /// Reads one block of the open file, of which so many bytes were read, at most 2^43. The block is fed to the hasher, and
@@ -73,15 +73,22 @@ fn end_file(state: &mut State, object: Object, bytes: u64) -> Result<Phase, Faul
         (phase.Carrying object (stage.Read bytes)) state.old state.new before after result }
     ensures scans { IfOk result (λ next. next ≡ phase.Carrying object stage.Scan) }
 {
-    let entry = entry_path(&state.trail)?;
-    let names = logical_names(&object, &state.trail, &entry);
-    let path = NamePath::shared(state.alloc, names)?;
+    let names = logical_path(&object, &state.trail)?;
+    let path = NamePath::shared(state.alloc, names.names())?;
     let hasher = mem::replace(&mut state.hasher, Hasher::start(state.job.algorithm));
     let digest = hasher.end();
     state.rows.push(&path, &digest, bytes)?;
     state.contents.note(&digest, &path)?;
     state.trail.advance();
     Ok(Phase::Carrying(object, Stage::Scan))
+}
+
+// The logical path of the file at the trail's place. The names that lead to the object aren't made for it.
+fn logical_path(object: &Object, trail: &Trail) -> Result<NamePath, MemoryFault>
+    requires there { IsAtEntry object.now trail.now }
+    ensures { IfOk result (λ path. path ≡ logical_path_of object.now trail.now) }
+{
+    trail.inner_path(trail.len() - object.names_before())
 }
 
 // Passes over the object, of which a file is too long.

@@ -2,6 +2,7 @@
 ghost use Rattle.std.specs.Prelude.{◌≡◌, ◌<◌, ◌+◌, ◌-◌, ◌==◌, ◌&&◌, ◌^◌, IfOk, IsTrue, None, Ok, cond, drop, false, length, nat_lt, not};
 ghost use Rattle.pt_plan.specs.Enabled.{MayEnter, MayOpen};
 ghost use Rattle.pt_plan.specs.TurnScan.{is_in_site as is_in_site_of, logical_path as logical_path_of, to_site};
+ghost use Rattle.pt_plan.specs.TurnWalk.{in_pairtree};
 ghost use Rattle.pt_plan.specs.DeviceStates.{DeviceStates};
 ghost use Rattle.pt_plan.specs.declared.phase.Phase.{Phase};
 ghost use Rattle.pt_plan.specs.declared.phase.Phase.TheVariants as phase;
@@ -17,7 +18,7 @@ use crate::walking::listed_path;
 use pt_object::Hasher;
 use pt_plan::{Fault, Object, Part, Phase, Stage};
 use pt_state::lines::put_skip;
-use pt_state::paths::{entry_path, in_pairtree};
+use pt_state::paths::entry_in_pairtree;
 use pt_state::site::back_to_site;
 use pt_state::{Io, State};
 use pt_tree::{Kind, MemoryFault, Name, NamePath};
@@ -155,25 +156,24 @@ fn meet_file<O: Io>(state: &mut State, object: Object, out: &mut O) -> Result<Ph
     if state.rows.len() as u64 >= state.job.limits.files() {
         return pass_object(state, object, Cause::Limit, out);
     }
-    let entry = entry_path(&state.trail)?;
-    let logical = logical_names(&object, &state.trail, &entry);
+    let path = entry_in_pairtree(state.alloc, &state.trail, 0)?;
+    let logical = logical_names(&object, &state.trail, &path);
     if is_longer(logical, state.job.limits.path_bytes()) {
         return pass_object(state, object, Cause::Limit, out);
     }
-    let path = in_pairtree(entry)?;
     out.open(&path)?;
     state.hasher = Hasher::start(state.job.algorithm);
     Ok(Phase::Carrying(object, Stage::Read(0)))
 }
 
-// Of the path of the entry at the trail's place, the names of the logical path: those behind the object's directory.
-pub(crate) fn logical_names<'a>(object: &Object, trail: &Trail, entry: &'a NamePath) -> &'a [Name]
-    requires names { entry.now ≡ names_to trail.now }
+// Of the path in the source of the entry at the trail's place, the names of the logical path: those behind the object's directory.
+fn logical_names<'a>(object: &Object, trail: &Trail, path: &'a NamePath) -> &'a [Name]
+    requires names { path.now ≡ in_pairtree (names_to trail.now) }
     requires there { IsAtEntry object.now trail.now }
     ensures { result.now ≡ logical_path_of object.now trail.now }
 {
     let _listings = trail.len();
-    &entry.names()[object.names_before()..]
+    &path.names()[object.names_before() + 1..]
 }
 
 // Whether the names with `/` between have more bytes than so many.

@@ -1,7 +1,8 @@
 -- The last of a list is the first of its reverse.
-use Rattle.std.proofs.Common.{◌≡◌, ℕ, List, [], ◌∷◌, ◌++◌, ◌-◌, length, get_or, set, take, arith, ◌∙◌, ap, sym, length-append}
+use Rattle.std.proofs.Common.{◌≡◌, ℕ, List, [], ◌∷◌, ◌++◌, ◌-◌, length, get_or, set, take, drop, arith, ◌∙◌, ap, sym, length-append, inl, inr}
 use Rattle.std.specs.Prelude.{reverse}
-use Rattle.std.proofs.lemmas.List.{reverse-append, reverse-reverse}
+use Rattle.std.proofs.lemmas.Bool.{cases_lt}
+use Rattle.std.proofs.lemmas.List.{length-drop, length-reverse, reverse-append, reverse-reverse, take-append-drop, take_all, take_at}
 use Rattle.std.proofs.Math.Seq.{set-append_seam, get_or-append_seam, take-append_seam, take-nil}
 use Rattle.pt_walk.specs.declared.frame.Frame.{Frame}
 use Rattle.pt_walk.specs.Trail.{names_to, parent, trail_path}
@@ -37,3 +38,21 @@ reverse-take_front n xs (f ∷ fs) len e =
 -- the names at the places of all but it
 pub names_to-front : (n : ℕ) (frames trail : List Frame) → n ≡ length frames → reverse frames ≡ trail → names_to (reverse (take (n - 1) frames)) ≡ trail_path trail
 names_to-front n frames trail len view = ap names_to (reverse-take_front n frames trail len view)
+
+-- the last so many are the first of the reverse
+reverse-drop : {X : Type 0} → (k : ℕ) (xs : List X) → reverse (drop (length xs - k) xs) ≡ take k (reverse xs)
+reverse-drop k xs =
+    let m = length xs - k in
+    let parts : reverse xs ≡ reverse (drop m xs) ++ reverse (take m xs) = ap reverse (sym (take-append-drop m xs)) ∙ reverse-append (take m xs) (drop m xs) in
+    let long = length-reverse (drop m xs) ∙ length-drop m xs in
+    elim (cases_lt k (length xs)) [
+      | inl few ↦ sym (ap (λ l. take k l) parts ∙ take_at (reverse (drop m xs)) (reverse (take m xs)) k (omega (arith, long, few)))
+      | inr all ↦
+          let none : m ≡ 0 = omega (arith, all) in
+          let whole = length-reverse xs in
+          ap (λ i. reverse (drop i xs)) none ∙ sym (take_all k (reverse xs) (omega (arith, whole, all)))
+    ]
+
+-- the names at the places of the innermost
+pub names_to-inner : (n k : ℕ) (frames trail : List Frame) → n ≡ length frames → reverse frames ≡ trail → names_to (reverse (drop (n - k) frames)) ≡ names_to (take k trail)
+names_to-inner n k frames trail len view = ap (λ i. names_to (reverse (drop (i - k) frames))) len ∙ ap names_to (reverse-drop k frames) ∙ ap (λ l. names_to (take k l)) view

@@ -1,8 +1,8 @@
-ghost use Rattle.std.specs.Prelude.{◌≡◌, ◌==◌, ◌++◌, ◌<◌, ◌≤◌, ◌*◌, ◌-◌, ◌^◌, [], Some, IfOk, IsTrue, OnOk, OnErr, IsSome, cond, length};
+ghost use Rattle.std.specs.Prelude.{◌≡◌, ◌==◌, ◌++◌, ◌<◌, ◌≤◌, ◌*◌, ◌-◌, ◌^◌, [], Some, IfOk, IsTrue, OnOk, OnErr, IsSome, cond, length, reverse, take};
 ghost use Rattle.std.specs.Option.{option_copied};
 ghost use Rattle.pt_tree.specs.Listing.{items_lent};
 ghost use Rattle.pt_walk.specs.Sites.{at_of};
-ghost use Rattle.pt_walk.specs.Trail.{advanced, can_enter, current_entry, entered, entries_held, has_place, innermost_listing, is_trail, parent, sought, trail_path};
+ghost use Rattle.pt_walk.specs.Trail.{advanced, can_enter, current_entry, entered, entries_held, has_place, innermost_listing, is_trail, names_to, parent, sought, trail_path};
 ghost use Rattle.pt_walk.specs.declared.site.At.TheVariants as at;
 
 use crate::At;
@@ -120,11 +120,18 @@ impl Trail {
         ensures { IfOk result (λ path. path ≡ above ++ trail_path self.now) }
     {
         let outer = self.frames.len().saturating_sub(1);
-        let mut path = above;
-        for frame in &self.frames[..outer] {
-            frame.add_name(&mut path)?;
-        }
-        Ok(path)
+        with_names(above, &self.frames[..outer])
+    }
+
+    /// The names at the places of so many of the innermost listings, or of all where there are fewer, the innermost last: the end of the
+    /// path to the entry at the trail's place, made without the names in front of it. `Memory` where a growth was refused.
+    pub fn inner_path(&self, listings: usize) -> Result<NamePath, MemoryFault>
+        ensures { IfOk result (λ path. path ≡ names_to (take listings self.now)) }
+    {
+        let outer = self.frames.len().saturating_sub(listings);
+        let inner = &self.frames[outer..];
+        let path = NamePath::with_room(*self.frames.allocator(), inner.len())?;
+        with_names(path, inner)
     }
 
     /// Where the directory of the innermost listing stands as a site, by the last name of `path`, which isn't made: it is the
@@ -154,6 +161,17 @@ impl Trail {
         }
         total
     }
+}
+
+// A path with the names at the places of these listings behind it, of which the innermost is the last.
+fn with_names(above: NamePath, frames: &[Frame]) -> Result<NamePath, MemoryFault>
+    ensures { IfOk result (λ path. path ≡ above ++ names_to (reverse frames.now)) }
+{
+    let mut path = above;
+    for frame in frames {
+        frame.add_name(&mut path)?;
+    }
+    Ok(path)
 }
 
 // Where a site with this name stands.
