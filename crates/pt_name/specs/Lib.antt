@@ -6,5 +6,6 @@ pub mod Tuples
 pub mod Layout
 pub mod Place
 pub mod Share
+pub mod ShareFields
 pub mod Prefix
 pub mod Reading

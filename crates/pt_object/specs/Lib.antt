@@ -14,6 +14,7 @@ pub mod InventoryLaws
 pub mod Keys
 pub mod Later
 pub mod Meta
+pub mod MetaFields
 pub mod MetaParts
 pub mod Moment
 pub mod Object

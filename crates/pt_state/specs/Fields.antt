@@ -14,7 +14,7 @@ use Rattle.pt_state.specs.declared.state.State.{State}
 pub record Fields : Type 0 where
   -- where memory is asked for
   pub alloc : Global
-  -- what was asked of the run, which stays as it is
+  -- what was asked of the run; nothing of it changes but which identifiers of a list are noted as met
   pub job : Job
   -- the one text: the prefix of the identifiers, at most 1,024 bytes
   pub prefix : String Global
