@@ -258,7 +258,7 @@ OPTIONS = [
     (["--gather", "--verbose"], ["--sync"]),
     (["--share", "1/2"], []),
     (["--list", "ids"], []),
-    (["--progress", "always"], ["--expect", "log", "--interval", "86400"]),
+    (["--progress", "always", "--expect", "log", "--interval", "86400"], []),
     (["--event", "ev"], []),
 ]
 NOTICES = ("--verbose", "--progress", "always", "--expect", "log")
