@@ -1,9 +1,10 @@
 -- Whether a file may be made at a path.
-use Rattle.std.specs.Prelude.{◌≡◌, ◌⊎◌, ◌==◌, ◌||◌, ℕ, Bool, true, false, List, Option, Some, None, Result, Ok, Err, length, codes, if◌then◌else◌}
+use Rattle.std.specs.Prelude.{◌≡◌, ◌⊎◌, ◌==◌, ◌||◌, ℕ, Bool, false, List, Option, Some, None, MatchBool, Result, Ok, Err, length, codes, if◌then◌else◌}
 use Rattle.std.specs.Path.{path_file_name, path_parent}
 use Rattle.std.specs.Str.{bytes_eq}
 use Rattle.pt_guard.specs.Apart.{Ends, Folders, InEither, LiesIn, OrElse, folders_of}
 use Rattle.pt_guard.specs.PlaceCall.{PlaceCall}
+use Rattle.pt_guard.specs.declared.apart.FilePlace as own
 use Rattle.pt_guard.specs.declared.apart.Nesting.{Nesting}
 use Rattle.pt_guard.specs.declared.apart.Nesting.TheVariants.{Apart, Inside, Unknown, Wanting}
 use Rattle.pt_guard.specs.declared.file.FileFault.{FileFault}
@@ -19,22 +20,37 @@ abbrev pub is_named_so : Option (List ℕ) → Bool
 is_named_so None = false
 is_named_so (Some name) = bytes_eq name (codes "ocfl") || bytes_eq name (codes "staging")
 
+-- where a file is to be made: its folder, and whether it has the name of what a destination is to hold
+pub record FilePlace : Type 0 where
+  pub folder : List ℕ
+  pub is_named : Bool
+
+-- that of a file that is asked about
+abbrev pub place_of : own.FilePlace → FilePlace
+place_of place = record { folder = place.folder.now; is_named = place.is_named }
+
+-- that of a file at a path
+abbrev pub place_at : List ℕ → FilePlace
+place_at file = record {
+  folder = folder_in (path_parent file);
+  is_named = is_named_so (path_file_name file);
+}
+
 module _ {S L : Type 0} (does : S → PlaceCall L → S → Type 0) where
   -- a file of such a name is asked for in the destination too
-  abbrev pub FindsNamed : Bool → List ℕ → List ℕ → S → S → Nesting → Type 0
-  FindsNamed true folder dest = LiesIn does folder dest
-  FindsNamed false folder dest = Ends Apart
+  abbrev pub FindsNamed : FilePlace → List ℕ → S → S → Nesting → Type 0
+  FindsNamed place dest old new lie =
+      MatchBool place.is_named (LiesIn does place.folder dest old new lie) (Ends Apart old new lie)
 
   -- asked one after another, until one isn't apart: the folder of a file in the store or its `pairtree_root`, in one of what the destination
   -- is to hold, and, where the file has the name of one of these, in the destination
-  abbrev pub FindsFile : Folders → List ℕ → Bool → S → S → Nesting → Type 0
-  FindsFile at folder named = OrElse (InEither does folder (at.source, at.tree))
-      (OrElse (InEither does folder (at.root, at.staging)) (FindsNamed named folder at.dest))
+  abbrev pub FindsFile : Folders → FilePlace → S → S → Nesting → Type 0
+  FindsFile at place = OrElse (InEither does place.folder (at.source, at.tree))
+      (OrElse (InEither does place.folder (at.root, at.staging)) (FindsNamed place at.dest))
 
   -- the same of a file at a path, beside a store and a destination
   abbrev pub FileLies : List ℕ × List ℕ → List ℕ → S → S → Nesting → Type 0
-  FileLies folders file = FindsFile (folders_of folders.0 folders.1) (folder_in (path_parent file))
-      (is_named_so (path_file_name file))
+  FileLies folders file = FindsFile (folders_of folders.0 folders.1) (place_at file)
 
   -- a file may be made there where it lies apart of all; memory was wanting for a text before anything was asked, or for an answer of the system
   abbrev pub JudgesFile : List ℕ × List ℕ → List ℕ → S → S → Result (Unit {0}) FileFault → Type 0

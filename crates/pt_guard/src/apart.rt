@@ -3,7 +3,7 @@ ghost use Rattle.std.specs.Prelude.{◌≡◌, ◌++◌, IfErr, IfOk, codes, str
 ghost use Rattle.std.specs.IoError.{error_kind};
 ghost use Rattle.std.specs.Path.{path_buf_bytes};
 ghost use Rattle.pt_guard.specs.Apart.{Climbs, Finds, InEither, IsHeld, IsUnresolved, LiesIn, Overlaps, folders_in, folders_of, lie_of};
-ghost use Rattle.pt_guard.specs.FilePlace.{FindsFile, FindsNamed};
+ghost use Rattle.pt_guard.specs.FilePlace.{FindsFile, FindsNamed, place_of};
 
 use crate::places::{FileId, Places, is_wanting};
 use std::alloc::{AllocError, Global};
@@ -152,7 +152,7 @@ pub(crate) fn surroundings<S: Places>(
 ) -> Result<Nesting, AllocError>
     ensures err { IfErr result (λ _. system.new ≡ system.old) }
     ensures ok { IfOk result (λ lie.
-        FindsFile S.does (folders_of source.now dest.now) file.entry.folder.now file.entry.is_named
+        FindsFile S.does (folders_of source.now dest.now) (place_of file.entry)
         system.old system.new lie) }
 {
     let inner = inner_paths(alloc, source, dest)?;
@@ -207,7 +207,7 @@ impl<'a> RunPaths<'a> {
 
     // How the folder of a file lies to them.
     fn first_around<S: Places>(&self, system: &mut S, alloc: Global, file: FilePlace<'_>) -> Nesting
-        ensures { FindsFile S.does (folders_in self.now) file.entry.folder.now file.entry.is_named
+        ensures { FindsFile S.does (folders_in self.now) (place_of file.entry)
             system.old system.new result }
     {
         match in_either(system, alloc, file.folder, (self.source, self.tree)) {
@@ -244,8 +244,7 @@ fn in_either<S: Places>(system: &mut S, alloc: Global, inner: &str, outers: (&st
 
 // How a file that has the name of what a destination is to hold lies to the destination; another is apart from it.
 fn named_in<S: Places>(system: &mut S, alloc: Global, file: FilePlace<'_>, dest: &str) -> Nesting
-    ensures { FindsNamed S.does file.entry.is_named file.entry.folder.now dest.now
-        system.old system.new result }
+    ensures { FindsNamed S.does (place_of file.entry) dest.now system.old system.new result }
 {
     if file.is_named {
         lies_in(system, alloc, file.folder, dest)
