@@ -263,9 +263,11 @@ struct InnerPaths {
 
 // Those of a store and a destination at these paths.
 fn inner_paths(alloc: Global, source: &str, dest: &str) -> Result<InnerPaths, AllocError>
-    ensures tree { IfOk result (λ inner. string_bytes inner.tree ≡ source.now ++ codes "/pairtree_root") }
+    ensures tree { IfOk result (λ inner.
+        string_bytes inner.tree ≡ source.now ++ codes "/pairtree_root") }
     ensures root { IfOk result (λ inner. string_bytes inner.root ≡ dest.now ++ codes "/ocfl") }
-    ensures staging { IfOk result (λ inner. string_bytes inner.staging ≡ dest.now ++ codes "/staging") }
+    ensures staging { IfOk result (λ inner.
+        string_bytes inner.staging ≡ dest.now ++ codes "/staging") }
 {
     let tree = below(alloc, source, TREE)?;
     let root = below(alloc, dest, ROOT)?;
