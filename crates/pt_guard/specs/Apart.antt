@@ -7,7 +7,7 @@ use Rattle.std.specs.declared.io.ErrorKind.{ErrorKind}
 use Rattle.std.specs.declared.io.ErrorKind.TheVariants.{OutOfMemory}
 use Rattle.pt_guard.specs.Paths.{Place}
 use Rattle.pt_guard.specs.PlaceCall.{PlaceCall, Identify, Resolve}
-use Rattle.pt_guard.specs.declared.apart.Climb.{Climb}
+use Rattle.pt_guard.specs.declared.apart.AncestorSearch.{AncestorSearch}
 use Rattle.pt_guard.specs.declared.apart.Nesting.{Nesting}
 use Rattle.pt_guard.specs.declared.apart.RunPaths.{RunPaths}
 use Rattle.pt_guard.specs.Wanting.{IsWanting}
@@ -65,25 +65,25 @@ folders_of source dest = record {
 
 module _ {S L : Type 0} (does : S → PlaceCall L → S → Type 0) where
   -- what a path leads to and each folder above it is asked for, at most so many, until one is this folder; where one can't be told it is unknown
-  abbrev pub ClimbsTo : FileId → ℕ → List ℕ → S → S → Nesting → Type 0
-  ClimbsTo target zero path old new lie = Ends Unknown old new lie
-  ClimbsTo target (suc left) path old new lie = (a : Result FileId Error) × (mid : S)
+  abbrev pub SearchesFor : FileId → ℕ → List ℕ → S → S → Nesting → Type 0
+  SearchesFor target zero path old new lie = Ends Unknown old new lie
+  SearchesFor target (suc left) path old new lie = (a : Result FileId Error) × (mid : S)
       × does old (Identify path a) mid
       × MatchResult a (λ found. (same : Bool) × (IsTrue same ↔ (found ≡ target))
       × MatchBool same (Ends Inside mid new lie)
       ((more : Bool) × (IsTrue more ↔ IsSome (path_parent path))
-      × MatchBool more (ClimbsTo target left (unwrap_or (path_parent path) path) mid new lie)
+      × MatchBool more (SearchesFor target left (unwrap_or (path_parent path) path) mid new lie)
       (Ends Apart mid new lie)))
       (λ error. Ends (lie_of Unknown (error_kind error)) mid new lie)
 
   -- the same of a folder that is looked for, with how many are asked for at most
-  abbrev pub Climbs : Climb → List ℕ → S → S → Nesting → Type 0
-  Climbs climb = ClimbsTo climb.target climb.left
+  abbrev pub SearchesAncestors : AncestorSearch → List ℕ → S → S → Nesting → Type 0
+  SearchesAncestors search = SearchesFor search.target search.left
 
   -- the folder at a path is asked for, and it and those above the resolved path are compared
   abbrev pub IsHeld : List ℕ → List ℕ → S → S → Nesting → Type 0
   IsHeld outer place old new lie = (a : Result FileId Error) × (mid : S) × does old (Identify outer a) mid
-      × MatchResult a (λ target. ClimbsTo target (length place) place mid new lie)
+      × MatchResult a (λ target. SearchesFor target (length place) place mid new lie)
       (λ error. Ends (lie_of Unknown (error_kind error)) mid new lie)
 
   -- of a path that leads nowhere: it is unknown where something stands at it, and apart where nothing does

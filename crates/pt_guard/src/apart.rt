@@ -2,7 +2,7 @@
 ghost use Rattle.std.specs.Prelude.{◌≡◌, ◌++◌, IfErr, IfOk, codes, string_bytes};
 ghost use Rattle.std.specs.IoError.{error_kind};
 ghost use Rattle.std.specs.Path.{path_buf_bytes};
-ghost use Rattle.pt_guard.specs.Apart.{Climbs, Finds, InEither, IsHeld, IsUnresolved, LiesIn, Overlaps, folders_in, folders_of, lie_of};
+ghost use Rattle.pt_guard.specs.Apart.{Finds, InEither, IsHeld, IsUnresolved, LiesIn, Overlaps, SearchesAncestors, folders_in, folders_of, lie_of};
 ghost use Rattle.pt_guard.specs.FilePlace.{FindsFile, FindsNamed, place_of};
 
 use crate::places::{FileId, Places, is_wanting};
@@ -42,28 +42,28 @@ fn nesting_of_error(error: &io::Error, otherwise: Nesting) -> Nesting
 
 // A folder that is looked for on the way up from a path, and how many paths are asked of at most.
 #[derive(Clone, Copy)]
-struct Climb {
+struct AncestorSearch {
     target: FileId,
     left: usize,
 }
 
 // Whether a path leads to a folder, or to something that lies in it; asked of the path and of each folder above.
-fn has_ancestor<S: Places>(system: &mut S, path: PathBuf, climb: Climb) -> Nesting
-    ensures { Climbs S.does climb (path_buf_bytes path) system.old system.new result }
+fn has_ancestor<S: Places>(system: &mut S, path: PathBuf, search: AncestorSearch) -> Nesting
+    ensures { SearchesAncestors S.does search (path_buf_bytes path) system.old system.new result }
 {
-    if climb.left == 0 {
+    if search.left == 0 {
         return Nesting::Unknown;
     }
     match system.identify(path.as_str()) {
         Ok(found) => {
-            if found == climb.target {
+            if found == search.target {
                 return Nesting::Inside;
             }
             let mut above = path;
             if above.pop() {
-                let target = climb.target;
-                let left = climb.left - 1;
-                has_ancestor(system, above, Climb { target, left })
+                let target = search.target;
+                let left = search.left - 1;
+                has_ancestor(system, above, AncestorSearch { target, left })
             } else {
                 Nesting::Apart
             }
@@ -79,7 +79,7 @@ fn held_against<S: Places>(system: &mut S, inner: PathBuf, outer: &str) -> Nesti
     match system.identify(outer) {
         Ok(target) => {
             let left = inner.as_str().len();
-            has_ancestor(system, inner, Climb { target, left })
+            has_ancestor(system, inner, AncestorSearch { target, left })
         }
         Err(error) => nesting_of_error(&error, Nesting::Unknown),
     }
