@@ -72,7 +72,7 @@ def is_help_on_audit(text):
 def is_help_on_check(text):
     """The help of `check`, which takes a source alone, and whose line on each trouble says what it is."""
     words = (b"unreadable", b"missing", b"prefix", b"doubtful", b"spelling", b"deep", b"long", b"many", b"large", b"place", b"desktop", b"end")
-    said = all(b"\n  %s  " % word in text for word in words) and b"\n  root, empty, split, past, name, utf8, other\n" in text
+    said = all(b"\n  %s  " % word in text for word in words) and b"\n  root, empty, split, past, name, utf8, reserved, other\n" in text
     return said and b"Usage: pairtree2ocfl check [OPTIONS] <SOURCE>\n" in text and b"<DEST>  " not in text.partition(b"Options:")[0]
 
 

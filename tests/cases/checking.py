@@ -306,6 +306,35 @@ def as_a_run_into_it(program, folder):
     return faults
 
 
+NO_TUPLES = ("--tuple-size", "0", "--tuples", "0")
+
+# Prefixes of a store, the names of a site with an object, and what is told of the store without tuples, in order.
+RESERVED = {
+    "the identifier": (None, "ex/te/ns/io/ns", ["reserved"]),
+    "a part behind a prefix": (b"exten\n", "si/on/s", ["reserved"]),
+    "the same behind another prefix": (b"extend", "si/on/s", []),
+    "with another spelling": (None, "^6/5x/te/ns/io/ns", ["spelling", "reserved"]),
+    "a bad prefix, which counts as none": (b"a\xff", "ex/te/ns/io/ns", ["prefix", "reserved"]),
+    "a longer identifier": (None, "ex/te/ns/io/ns/a", []),
+}
+
+
+def a_place_of_the_roots_own(program, folder):
+    """Without tuples the identifier is told whose place is `extensions`, whether a destination is named or not; with tuples none is."""
+    faults = []
+    for number, (name, (prefix, site, told)) in enumerate(RESERVED.items()):
+        tree = store({f"{site}/obj/f": b"1"}, prefix)
+        build(folder, {f"t{number}": DIR})
+        build(f"{folder}/t{number}", tree)
+        entries = [{"as": "prefix", "path": "pairtree_prefix"} if kind == "prefix" else of_path(kind, site) for kind in told]
+        others = [entry for entry in entries if entry["as"] != "reserved"]
+        sites = site.count("/") + 2
+        for words, wanted in ((NO_TUPLES, entries), (("--dest", "D", *NO_TUPLES), entries), ((), others), (("--dest", "D"), others)):
+            answered = checked(program, folder, *words, source=f"t{number}")
+            faults += differs(**{f"{name} {words}": (answered, answer(*wanted, end(tree, len(wanted), sites, 1)))})
+    return faults
+
+
 def deep_folders(program, folder):
     """A folder more than 600 below pairtree_root is told, and not listed."""
     chain = {count: "/".join(["ab"] * count) for count in (600, 601)}
@@ -396,6 +425,7 @@ CASES = [
         ("long paths", long_paths),
         ("many files", many_files),
         ("paths that are too long in a destination", long_in_a_destination),
+        ("an identifier whose place is the root's own", a_place_of_the_roots_own),
         ("deep folders", deep_folders),
         ("what is counted", counting),
         ("files that can't be read", failing_reads),

@@ -1,12 +1,16 @@
 -- What a check that told nothing has met.
 use Rattle.std.proofs.Common.{◌≡◌, ◌≤◌, ◌∙◌, ◌==◌, ◌+◌, ℕ, suc, Bool, true, false, cond, min, length, List, [], ◌∷◌, ◌++◌, Option, None, Some, inl, inr, refl, sym, ap, subst, arith}
-use Rattle.std.proofs.lemmas.Bool.{eqb-false}
-use Rattle.std.specs.Prelude.{◌⊎◌, ⊤, take}
+use Rattle.std.proofs.lemmas.Bool.{eqb-false, ltb-false}
+use Rattle.std.proofs.lemmas.List.{length-take, take_all}
+use Rattle.std.specs.Option.{option_and_then, option_map}
+use Rattle.std.specs.Prelude.{◌⊎◌, ⊤, nat_lt, take, unwrap_or}
+use Rattle.std.specs.Str.{is_utf8}
+use Rattle.pt_check.proofs.Visiting.{kind_found}
 use Rattle.pt_check.specs.Clean.{AreCleanBytes, IsClean, IsCleanEntry, IsCleanFolder, IsCleanPrefix, IsCleanStore, QuietCheckMeansCleanStore, below_root, file_count}
 use Rattle.pt_check.specs.Counting.{with_bytes, with_entry, with_object, with_object_begun}
 use Rattle.pt_check.specs.Lines.{Told}
-use Rattle.pt_check.specs.Prefix.{prefix_trouble}
-use Rattle.pt_check.specs.Visits.{Enters, Folder, Judges, LooksAll, Meets, Opens, Puts, ReadsPrefix, Seen, Tells, TellsFailure, TellsIf, Visits, VisitsFolder, begun, count_trouble, counting, ended, entry_trouble, finding_of, folder_in, folder_trouble, has_object, missing, prefix_path, room_trouble, root_folder, size_trouble, with_folder}
+use Rattle.pt_check.specs.Prefix.{prefix_trouble, trouble_of_prefix}
+use Rattle.pt_check.specs.Visits.{Enters, Folder, Judges, LooksAll, Meets, Opens, Puts, ReadsPrefix, Seen, Tells, TellsFailure, TellsIf, Visits, VisitsFolder, begun, count_trouble, counting, ended, entry_trouble, finding_of, folder_in, folder_trouble, has_object, missing, prefix_path, reserved_trouble, room_trouble, root_folder, size_trouble, with_folder}
 use Rattle.pt_check.specs.Within.{below, starts_object}
 use Rattle.pt_check.specs.declared.numbers.Numbers.{Numbers}
 use Rattle.pt_check.specs.declared.trouble.Trouble.{Trouble}
@@ -14,10 +18,13 @@ use Rattle.pt_check.specs.declared.trouble.Trouble.TheVariants as trouble
 use Rattle.pt_check.specs.declared.wants.Wants.{Wants}
 use Rattle.pt_check.specs.declared.within.Within.{Within}
 use Rattle.pt_check.specs.declared.within.Within.TheVariants as within
-use Rattle.pt_plan.specs.Store.{pairtree_root, prefix_file, version_file}
+use Rattle.pt_name.specs.Prefix.{prefix_refusal, without_line_ends}
+use Rattle.pt_name.specs.declared.prefix.PrefixFault.{PrefixFault}
+use Rattle.pt_name.specs.declared.prefix.PrefixFault.TheVariants as fault
+use Rattle.pt_plan.specs.Store.{pairtree_root, prefix_file, prefix_in, prefix_of, version_file}
 use Rattle.pt_plan.specs.TurnStart.{is_dir_kind, is_file_kind, kind_in}
 use Rattle.pt_tree.specs.Failures.{greatest_count}
-use Rattle.pt_tree.specs.Forest.{Forest, none, file, other, dir, listing_of}
+use Rattle.pt_tree.specs.Forest.{Forest, Node, File, Dir, Other, none, file, other, dir, as_file, find, kind_of, listing_of, node_at}
 use Rattle.pt_tree.specs.Listing.{Item}
 use Rattle.pt_tree.specs.Path.{Path, joined}
 use Rattle.pt_tree.specs.declared.kind.Kind.{Kind}
@@ -148,32 +155,36 @@ folder_held within.Past holds n = refl
 folder_held (within.Object before) holds n = refl
 folder_held within.Beside holds n = refl
 
-judged : (folder : Folder) (items : List Item) (a m : Seen) → Judges folder.path folder.here items a m → told_by m ≡ 0
-    → (folder_trouble folder.here (finding_of folder.here items) folder.path ≡ None) × Quiet a m × (m.numbers.held ≡ a.numbers.held)
-judged folder items a m judges nothing =
+judged : (wants : Wants) (folder : Folder) (items : List Item) (a m : Seen) → Judges wants folder.path folder.prefix folder.here items a m → told_by m ≡ 0
+    → ((folder_trouble folder.here (finding_of folder.here items) folder.path ≡ None)
+    × (reserved_trouble wants.layout folder.prefix (finding_of folder.here items) folder.path ≡ None)) × Quiet a m × (m.numbers.held ≡ a.numbers.held)
+judged wants folder items a m (n, judges, places) nothing =
     let what = finding_of folder.here items in
-    let clean = tells_if folder.path (folder_trouble folder.here what folder.path) (counting (with_folder folder.here (has_object what)) a) m judges nothing in (
-      clean.0,
-      counted (with_folder folder.here (has_object what)) a m (folder_told folder.here (has_object what)) clean.1 nothing,
-      ap held_by clean.1 ∙ folder_held folder.here (has_object what) a.numbers,
+    let free = tells_if folder.path (reserved_trouble wants.layout folder.prefix what folder.path) n m places nothing in
+    let before : told_by n ≡ 0 = ap told_by (sym free.1) ∙ nothing in
+    let clean = tells_if folder.path (folder_trouble folder.here what folder.path) (counting (with_folder folder.here (has_object what)) a) n judges before in
+    let same = free.1 ∙ clean.1 in (
+      (clean.0, free.0),
+      counted (with_folder folder.here (has_object what)) a m (folder_told folder.here (has_object what)) same nothing,
+      ap held_by same ∙ folder_held folder.here (has_object what) a.numbers,
     )
 
 -- of a folder that was entered
-abbrev Entered : Folder → List Item → (Seen → Type 0) → Seen → Seen → Type 0
-Entered folder items P a b = IsCleanFolder folder items × Quiet a b × ((m : Seen) × (m.numbers.held ≡ a.numbers.held) × P m)
+abbrev Entered : Wants → Folder → List Item → (Seen → Type 0) → Seen → Seen → Type 0
+Entered wants folder items P a b = IsCleanFolder wants folder items × Quiet a b × ((m : Seen) × (m.numbers.held ≡ a.numbers.held) × P m)
 
-entered : (folder : Folder) (items : List Item) (visits : Seen → Seen → Type 0) (P : Seen → Type 0) (a b : Seen) → ((m : Seen) → visits m b → Quiet m b × P m)
-    → Enters folder items visits a b → told_by b ≡ 0 → Entered folder items P a b
-entered folder items visits P a b on enters nothing = by (folder.left == 0) refl enters
+entered : (wants : Wants) (folder : Folder) (items : List Item) (visits : Seen → Seen → Type 0) (P : Seen → Type 0) (a b : Seen) → ((m : Seen) → visits m b → Quiet m b × P m)
+    → Enters wants folder items visits a b → told_by b ≡ 0 → Entered wants folder items P a b
+entered wants folder items visits P a b on enters nothing = by (folder.left == 0) refl enters
   where
-    by : (t : Bool) → (folder.left == 0) ≡ t → cond t (Tells (Told folder.path trouble.Deep) a b) (TellsFailure folder.path a b ⊎ ((m : Seen) × Judges folder.path folder.here items a m × visits m b))
-        → Entered folder items P a b
+    by : (t : Bool) → (folder.left == 0) ≡ t → cond t (Tells (Told folder.path trouble.Deep) a b) (TellsFailure folder.path a b ⊎ ((m : Seen) × Judges wants folder.path folder.prefix folder.here items a m × visits m b))
+        → Entered wants folder items P a b
     by true is tells = absurd (puts_told _ a b tells nothing)
     by false is (inl fails) = absurd (fails_told folder.path a b fails nothing)
     by false is (inr (m, judges, visited)) =
         let rest = on m visited in
-        let first = judged folder items a m judges rest.0.0 in
-        ((is, first.0), (first.1.0, rest.0.1 ∙ first.1.1), (m, first.2, rest.1))
+        let first = judged wants folder items a m judges rest.0.0 in
+        ((is, first.0.0, first.0.1), (first.1.0, rest.0.1 ∙ first.1.1), (m, first.2, rest.1))
 
 begun_told : (t : Bool) (n : Numbers) → (cond t (with_object_begun n) n).told ≡ n.told
 begun_told true n = refl
@@ -249,7 +260,7 @@ quiet wants folder holds (dir name inside after) a b (m, meets, n, enters, rest)
     let start = counting (begun it.here folder.here) m in
     let later = quiet wants folder holds after (counting (ended it.here folder.here m.numbers.bytes) n) b rest nothing in
     let ends : told_by n ≡ 0 = sym (ended_told (starts_object it.here folder.here) m.numbers.bytes n.numbers) ∙ later.0.0 in
-    let entering = entered it items (Visits wants it holds_it inside) (λ s. IsClean wants it holds_it inside × Fills it.here count s n) start n (λ s visited. let all = quiet wants it holds_it inside s n visited ends in (all.0, (all.1, all.2))) enters ends in
+    let entering = entered wants it items (Visits wants it holds_it inside) (λ s. IsClean wants it holds_it inside × Fills it.here count s n) start n (λ s visited. let all = quiet wants it holds_it inside s n visited ends in (all.0, (all.1, all.2))) enters ends in
     let begins : told_by m ≡ 0 = sym (begun_told (starts_object it.here folder.here) m.numbers) ∙ entering.1.0 in
     let meeting = met wants folder name kind.Dir a m meets begins in
     let within_it = entering.2 in
@@ -259,18 +270,53 @@ quiet wants folder holds (dir name inside after) a b (m, meets, n, enters, rest)
       dir_fills folder.here holds name (length (joined it.path)) m.numbers.bytes count (file_count after) a m n b meeting.2 fills later.2,
     )
 
-prefix_read : (k : Option Kind) (bytes : List ℕ) (a b : Seen) → ReadsPrefix k bytes a b → told_by b ≡ 0 → IsCleanPrefix k bytes × Quiet a b
-prefix_read None bytes a b same nothing = (tt, (ap told_by (sym same) ∙ nothing, ap (λ (s : Seen). s.failed) same))
-prefix_read (Some kind.File) bytes a b (inl tells) nothing =
-    let clean = tells_if prefix_path (prefix_trouble (take 8192 bytes)) a b tells nothing in
-    (clean.0, (ap told_by (sym clean.1) ∙ nothing, ap (λ (s : Seen). s.failed) clean.1))
-prefix_read (Some kind.File) bytes a b (inr fails) nothing = absurd (fails_told prefix_path a b fails nothing)
-prefix_read (Some kind.Dir) bytes a b puts nothing = absurd (puts_told _ a b puts nothing)
-prefix_read (Some kind.Other) bytes a b puts nothing = absurd (puts_told _ a b puts nothing)
+-- a prefix has at most 1024 bytes
+prefix_short : (bytes : List ℕ) → prefix_refusal bytes ≡ None → length bytes ≤ 1024
+prefix_short bytes good = by (nat_lt 1024 (length bytes)) refl good
+  where
+    by : (long : Bool) → nat_lt 1024 (length bytes) ≡ long → cond long (Some fault.TooLong) (cond (is_utf8 (without_line_ends bytes)) None (Some fault.NotUtf8)) ≡ None
+        → length bytes ≤ 1024
+    by true is good = absurd (cc)
+    by false is good = ltb-false 1024 (length bytes) is
+
+no_refusal : (refused : Option PrefixFault) (prefix : List ℕ) → trouble_of_prefix refused prefix ≡ None → refused ≡ None
+no_refusal None prefix silent = refl
+no_refusal (Some why) prefix silent = absurd (cc)
+
+-- where there is nothing to tell of its front, the file was read whole
+read_whole : (bytes : List ℕ) → prefix_trouble (take 8192 bytes) ≡ None → take 8192 bytes ≡ bytes
+read_whole bytes silent =
+    let few = prefix_short (take 8192 bytes) (no_refusal (prefix_refusal (take 8192 bytes)) (without_line_ends (take 8192 bytes)) silent) in
+    let long = length-take 8192 bytes in
+    take_all 8192 bytes (omega (arith, few, long))
+
+-- the prefix that is known is that of a run
+prefix_read : (o : Option Node) (k : Option Kind) (bytes prefix : List ℕ) (a b : Seen) → k ≡ option_map kind_of o → bytes ≡ unwrap_or (option_and_then as_file o) []
+    → ReadsPrefix k bytes prefix a b → told_by b ≡ 0 → IsCleanPrefix k bytes × Quiet a b × (prefix ≡ prefix_in o)
+prefix_read None None bytes prefix a b is all (same, none_is) nothing = (tt, (ap told_by (sym same) ∙ nothing, ap (λ (s : Seen). s.failed) same), none_is)
+prefix_read (Some node) None bytes prefix a b is all reads nothing = absurd (cc)
+prefix_read (Some (File held)) (Some kind.File) bytes prefix a b is all (inl (tells, known)) nothing =
+    let clean = tells_if prefix_path (prefix_trouble (take 8192 bytes)) a b tells nothing in (
+      clean.0,
+      (ap told_by (sym clean.1) ∙ nothing, ap (λ (s : Seen). s.failed) clean.1),
+      known ∙ ap (λ (l : List ℕ). prefix_in (Some (File l))) (read_whole bytes clean.0 ∙ all),
+    )
+prefix_read None (Some kind.File) bytes prefix a b is all (inl tells) nothing = absurd (cc)
+prefix_read (Some (Dir inside)) (Some kind.File) bytes prefix a b is all (inl tells) nothing = absurd (cc)
+prefix_read (Some Other) (Some kind.File) bytes prefix a b is all (inl tells) nothing = absurd (cc)
+prefix_read o (Some kind.File) bytes prefix a b is all (inr fails) nothing = absurd (fails_told prefix_path a b fails.0 nothing)
+prefix_read o (Some kind.Dir) bytes prefix a b is all puts nothing = absurd (puts_told _ a b puts.0 nothing)
+prefix_read o (Some kind.Other) bytes prefix a b is all puts nothing = absurd (puts_told _ a b puts.0 nothing)
 
 is_there : (b : Bool) → missing b ≡ None → b ≡ true
 is_there true e = refl
 is_there false e = absurd (cc)
+
+bytes_found : (o : Option Node) → unwrap_or (option_and_then as_file (option_and_then (λ n. node_at n []) o)) [] ≡ unwrap_or (option_and_then as_file o) []
+bytes_found None = refl
+bytes_found (Some (File bytes)) = refl
+bytes_found (Some (Dir inside)) = refl
+bytes_found (Some Other) = refl
 
 pub clean_store : QuietCheckMeansCleanStore
 clean_store wants tree numbers a b checks nothing = by checks.looks
@@ -284,29 +330,34 @@ clean_store wants tree numbers a b checks nothing = by checks.looks
     inside : Forest
     inside = below_root tree
 
-    holds : Bool
-    holds = has_object (finding_of root_folder.here (listing_of inside))
+    holds : List ℕ → Bool
+    holds prefix = has_object (finding_of (root_folder prefix).here (listing_of inside))
 
-    visited : (m : Seen) (t : Bool) → cond t (VisitsFolder wants root_folder inside m last) (Tells (Told (pairtree_root ∷ []) trouble.Missing) m last)
-        → (t ≡ true) × IsCleanFolder root_folder (listing_of inside) × Quiet m last × IsClean wants root_folder holds inside
-    visited m true enters =
-        let all = entered root_folder (listing_of inside) (Visits wants root_folder holds inside) (λ s. IsClean wants root_folder holds inside) m last (λ s visits. let it = quiet wants root_folder holds inside s last visits quiet_last in (it.0, it.1)) enters quiet_last in
-        (refl, all.0, all.1, all.2.2)
-    visited m false tells = absurd (puts_told _ m last tells quiet_last)
+    AreClean : List ℕ → Type 0
+    AreClean prefix = IsCleanFolder wants (root_folder prefix) (listing_of inside) × IsClean wants (root_folder prefix) (holds prefix) inside
+
+    visited : (prefix : List ℕ) (m : Seen) (t : Bool) → cond t (VisitsFolder wants (root_folder prefix) inside m last) (Tells (Told (pairtree_root ∷ []) trouble.Missing) m last)
+        → (t ≡ true) × AreClean prefix × Quiet m last
+    visited prefix m true enters =
+        let root = root_folder prefix in
+        let all = entered wants root (listing_of inside) (Visits wants root (holds prefix) inside) (λ s. IsClean wants root (holds prefix) inside) m last (λ s visits. let it = quiet wants root (holds prefix) inside s last visits quiet_last in (it.0, it.1)) enters quiet_last in
+        (refl, (all.0, all.2.2), all.1)
+    visited prefix m false tells = absurd (puts_told _ m last tells quiet_last)
 
     by : LooksAll wants tree a last ⊎ TellsFailure [] a last → IsCleanStore wants tree × (b.failed ≡ a.failed)
     by (inr fails) = absurd (fails_told [] a last fails quiet_last)
-    by (inl (n, prefix, (m, version, rest))) =
-        let root = visited m (is_dir_kind (kind_in (listing_of tree) pairtree_root)) rest in
+    by (inl (n, prefix, reads, (m, version, rest))) =
+        let root = visited prefix m (is_dir_kind (kind_in (listing_of tree) pairtree_root)) rest in
         let marked = tells_if (version_file ∷ []) (missing (is_file_kind (kind_in (listing_of tree) version_file))) n m version root.2.0 in
         let before : told_by n ≡ 0 = ap told_by (sym marked.1) ∙ root.2.0 in
-        let first = prefix_read (kind_in (listing_of tree) prefix_file) (bytes_at tree prefix_path) a n prefix before in (
+        let first = prefix_read (find tree prefix_file) (kind_in (listing_of tree) prefix_file) (bytes_at tree prefix_path) prefix a n (kind_found tree prefix_file) (bytes_found (find tree prefix_file)) reads before in
+        let clean : AreClean (prefix_of tree) = subst AreClean first.2 root.1 in (
           record {
             prefix = first.0;
             version = is_there (is_file_kind (kind_in (listing_of tree) version_file)) marked.0;
             root = root.0;
-            top = root.1;
-            inside = root.3;
+            top = clean.0;
+            inside = clean.1;
           },
           checks.failed ∙ root.2.1 ∙ ap (λ (s : Seen). s.failed) marked.1 ∙ first.1.1,
         )

@@ -2,10 +2,9 @@
 use Rattle.std.proofs.Common.{◌≡◌, ℕ, Bool, true, false, List, [], ◌∷◌, sym, ap, ◌∙◌, subst, cond, inl, inr}
 use Rattle.std.specs.Io.KnownBytes.{Appends}
 use Rattle.std.specs.Option.{ForSome}
-use Rattle.std.specs.Prelude.{◌⊎◌, Option, Some, take}
+use Rattle.std.specs.Prelude.{Option, Some, take}
 use Rattle.pt_check.specs.Lines.{End, Told, line_text}
-use Rattle.pt_check.specs.Prefix.{prefix_trouble}
-use Rattle.pt_check.specs.Visits.{Checks, Folder, Looks, LooksAll, ReadsPrefix, Seen, Tells, TellsFailure, TellsIf, VisitsFolder, missing, prefix_path, root_folder}
+use Rattle.pt_check.specs.Visits.{Checks, Folder, Looks, LooksAll, ReadsFront, ReadsPrefix, Seen, Tells, TellsFailure, TellsIf, VisitsFolder, missing, prefix_path, root_folder}
 use Rattle.pt_check.specs.declared.numbers.Numbers.{Numbers}
 use Rattle.pt_check.specs.declared.trouble.Trouble.TheVariants as trouble
 use Rattle.pt_check.specs.declared.wants.Wants.{Wants}
@@ -26,20 +25,20 @@ lists_top : (t : Forest) (items : List Item) → listing_at t [] ≡ Some items 
 lists_top t items lists = let same : Some (listing_of t) ≡ Some items = lists in cc
 
 -- what a store must have was looked for, and `pairtree_root` visited
-pub looked : (here there : Option Forest) (wants again : Wants) (items : List Item) (version root : Path) (left : ℕ) (a m b : Seen)
+pub looked : (here there : Option Forest) (wants again : Wants) (prefix : List ℕ) (items : List Item) (version root : Path) (left : ℕ) (a m b : Seen)
     → ForSome here (λ t. listing_at t [] ≡ Some items) → version ≡ version_file ∷ [] → root ≡ pairtree_root ∷ [] → left ≡ 601
     → TellsIf version (missing (is_file_kind (kind_in items version_file))) a m → is_dir_kind (kind_in items pairtree_root) ≡ true → there ≡ here → again ≡ wants
-    → ForSome there (λ t. VisitsFolder again (record { path = root; here = within.Site at.Root; left = left }) (inside_at t root) m b)
-    → ForSome here (λ t. Looks wants t a b)
-looked here there wants again items version root left a m b lists version_is root_is left_is tells is same same_wants visits t told =
+    → ForSome there (λ t. VisitsFolder again (record { path = root; prefix = prefix; here = within.Site at.Root; left = left }) (inside_at t root) m b)
+    → ForSome here (λ t. Looks wants prefix t a b)
+looked here there wants again prefix items version root left a m b lists version_is root_is left_is tells is same same_wants visits t told =
     let top = lists_top t items (lists t told) in
-    let folder : Path → Folder = λ p. record { path = p; here = within.Site at.Root; left = 601 } in
+    let folder : Path → Folder = λ p. record { path = p; prefix = prefix; here = within.Site at.Root; left = 601 } in
     let visited : VisitsFolder again (folder root) (inside_at t root) m b =
-    subst (λ (n : ℕ). VisitsFolder again (record { path = root; here = within.Site at.Root; left = n }) (inside_at t root) m b) left_is (visits t (same ∙ told)) in
-    let named : VisitsFolder again root_folder (inside_at t (pairtree_root ∷ [])) m b =
+    subst (λ (n : ℕ). VisitsFolder again (record { path = root; prefix = prefix; here = within.Site at.Root; left = n }) (inside_at t root) m b) left_is (visits t (same ∙ told)) in
+    let named : VisitsFolder again (root_folder prefix) (inside_at t (pairtree_root ∷ [])) m b =
     subst (λ (p : Path). VisitsFolder again (folder p) (inside_at t p) m b) root_is visited in
-    let whole : VisitsFolder wants root_folder (inside_at t (pairtree_root ∷ [])) m b =
-    subst (λ (r : Wants). VisitsFolder r root_folder (inside_at t (pairtree_root ∷ [])) m b) same_wants named in
+    let whole : VisitsFolder wants (root_folder prefix) (inside_at t (pairtree_root ∷ [])) m b =
+    subst (λ (r : Wants). VisitsFolder r (root_folder prefix) (inside_at t (pairtree_root ∷ [])) m b) same_wants named in
     let first : TellsIf (version_file ∷ []) (missing (is_file_kind (kind_in items version_file))) a m =
     subst (λ (p : Path). TellsIf p (missing (is_file_kind (kind_in items version_file))) a m) version_is tells in (
       m,
@@ -47,32 +46,33 @@ looked here there wants again items version root left a m b lists version_is roo
       by (is_dir_kind (kind_in (listing_of t) pairtree_root)) (ap (λ (l : List Item). is_dir_kind (kind_in l pairtree_root)) (sym top) ∙ is) whole,
     )
   where
-    by : (d : Bool) → d ≡ true → VisitsFolder wants root_folder (inside_at t (pairtree_root ∷ [])) m b
-        → cond d (VisitsFolder wants root_folder (inside_at t (pairtree_root ∷ [])) m b) (Tells (Told (pairtree_root ∷ []) trouble.Missing) m b)
+    by : (d : Bool) → d ≡ true → VisitsFolder wants (root_folder prefix) (inside_at t (pairtree_root ∷ [])) m b
+        → cond d (VisitsFolder wants (root_folder prefix) (inside_at t (pairtree_root ∷ [])) m b) (Tells (Told (pairtree_root ∷ []) trouble.Missing) m b)
     by true d whole = whole
     by false d whole = absurd (cc)
 
 -- the file of the prefix was read
-pub prefix_step : (here : Option Forest) (what : Option Kind) (path : Path) (a b : Seen) → what ≡ Some kind.File → path ≡ prefix_path
-    → ForSome here (λ t. TellsIf path (prefix_trouble (take 8192 (bytes_at t path))) a b ⊎ TellsFailure path a b)
-    → ForSome here (λ t. ReadsPrefix what (bytes_at t prefix_path) a b)
-prefix_step here what path a b is path_is reads t told =
-    let named : TellsIf prefix_path (prefix_trouble (take 8192 (bytes_at t prefix_path))) a b ⊎ TellsFailure prefix_path a b =
-    subst (λ (p : Path). TellsIf p (prefix_trouble (take 8192 (bytes_at t p))) a b ⊎ TellsFailure p a b) path_is (reads t told) in
-    subst (λ (k : Option Kind). ReadsPrefix k (bytes_at t prefix_path) a b) (sym is) named
+pub prefix_step : (here : Option Forest) (what : Option Kind) (path : Path) (prefix : List ℕ) (a b : Seen) → what ≡ Some kind.File → path ≡ prefix_path
+    → ForSome here (λ t. ReadsFront path (take 8192 (bytes_at t path)) prefix a b)
+    → ForSome here (λ t. ReadsPrefix what (bytes_at t prefix_path) prefix a b)
+prefix_step here what path prefix a b is path_is reads t told =
+    let named : ReadsFront prefix_path (take 8192 (bytes_at t prefix_path)) prefix a b =
+    subst (λ (p : Path). ReadsFront p (take 8192 (bytes_at t p)) prefix a b) path_is (reads t told) in
+    subst (λ (k : Option Kind). ReadsPrefix k (bytes_at t prefix_path) prefix a b) (sym is) named
 
 -- the prefix was looked at before
-pub looked_all : (here there : Option Forest) (wants again : Wants) (items : List Item) (a m n last : Seen) → ForSome here (λ t. listing_at t [] ≡ Some items)
+pub looked_all : (here there : Option Forest) (wants again : Wants) (prefix : List ℕ) (items : List Item) (a m n last : Seen) → ForSome here (λ t. listing_at t [] ≡ Some items)
     → m ≡ a → there ≡ here → again ≡ wants
-    → ForSome here (λ t. ReadsPrefix (kind_in items prefix_file) (bytes_at t prefix_path) m n) → ForSome there (λ t. Looks again t n last)
+    → ForSome here (λ t. ReadsPrefix (kind_in items prefix_file) (bytes_at t prefix_path) prefix m n) → ForSome there (λ t. Looks again prefix t n last)
     → ForSome here (λ t. LooksAll wants t a last)
-looked_all here there wants again items a m n last lists begun same same_wants prefix looks t told =
+looked_all here there wants again prefix items a m n last lists begun same same_wants reads looks t told =
     let top = lists_top t items (lists t told) in
     let bytes = bytes_at t prefix_path in
-    let first : ReadsPrefix (kind_in items prefix_file) bytes a n = subst (λ (s : Seen). ReadsPrefix (kind_in items prefix_file) bytes s n) begun (prefix t told) in (
+    let first : ReadsPrefix (kind_in items prefix_file) bytes prefix a n = subst (λ (s : Seen). ReadsPrefix (kind_in items prefix_file) bytes prefix s n) begun (reads t told) in (
       n,
-      subst (λ (l : List Item). ReadsPrefix (kind_in l prefix_file) bytes a n) top first,
-      subst (λ (r : Wants). Looks r t n last) same_wants (looks t (same ∙ told)),
+      prefix,
+      subst (λ (l : List Item). ReadsPrefix (kind_in l prefix_file) bytes prefix a n) top first,
+      subst (λ (r : Wants). Looks r prefix t n last) same_wants (looks t (same ∙ told)),
     )
 
 -- then the numbers were told

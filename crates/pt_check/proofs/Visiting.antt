@@ -128,7 +128,7 @@ kind_one true node k rest later is same = ap (λ (x : Kind). Some x) is
 kind_one false node k rest later is same = same
 
 -- the kind that is listed of a name is that of what stands there
-kind_found : (f : Forest) (name : List ℕ) → kind_in (listing_of f) name ≡ option_map kind_of (find f name)
+pub kind_found : (f : Forest) (name : List ℕ) → kind_in (listing_of f) name ≡ option_map kind_of (find f name)
 kind_found none name = refl
 kind_found (file n bytes after) name = kind_one (bytes_eq n name) (File bytes) kind.File (kind_in (listing_of after) name) (find after name) refl (kind_found after name)
 kind_found (other n after) name = kind_one (bytes_eq n name) Other kind.Other (kind_in (listing_of after) name) (find after name) refl (kind_found after name)
@@ -169,12 +169,12 @@ pub in_same : (P : Forest → Type 0) (old new : Option Forest) → new ≡ old 
 in_same P old new same holds tree is = holds tree (sym same ∙ is)
 
 -- a folder that isn't too deep is told as unreadable, or visited
-pub enters : (folder : Folder) (items : List Item) (visits : Seen → Seen → Type 0) (a b : Seen) → (folder.left ≡ 0 → ⊥)
-    → TellsFailure folder.path a b ⊎ ((m : Seen) × Judges folder.path folder.here items a m × visits m b) → Enters folder items visits a b
-enters folder items visits a b some does = by (folder.left == 0) (ne_eqb folder.left 0 some)
+pub enters : (wants : Wants) (folder : Folder) (items : List Item) (visits : Seen → Seen → Type 0) (a b : Seen) → (folder.left ≡ 0 → ⊥)
+    → TellsFailure folder.path a b ⊎ ((m : Seen) × Judges wants folder.path folder.prefix folder.here items a m × visits m b) → Enters wants folder items visits a b
+enters wants folder items visits a b some does = by (folder.left == 0) (ne_eqb folder.left 0 some)
   where
     by : (t : Bool) → t ≡ false → cond t (Tells (Told folder.path trouble.Deep) a b)
-        (TellsFailure folder.path a b ⊎ ((m : Seen) × Judges folder.path folder.here items a m × visits m b))
+        (TellsFailure folder.path a b ⊎ ((m : Seen) × Judges wants folder.path folder.prefix folder.here items a m × visits m b))
     by true is = absurd (cc)
     by false is = does
 
@@ -184,12 +184,12 @@ pub dir_step : (told : Option Reading) → IsProperTold told → (wants again : 
     → slice_get items place ≡ Some (name, what) → what ≡ kind.Dir → entry ≡ folder.path ++ name ∷ [] → inside ≡ below folder.here holds name (length (joined entry))
     → ForSome (tree_in told) (λ t. VisitedTo wants folder holds t place first now) → Meets wants entry folder.here (name, what) now met → there ≡ tree_in told → again ≡ wants
     → start ≡ counting (begun inside folder.here) met
-    → ForSome there (λ t. VisitsFolder again (record { path = entry; here = inside; left = folder.left - 1 }) (inside_at t entry) start after)
+    → ForSome there (λ t. VisitsFolder again (record { path = entry; prefix = folder.prefix; here = inside; left = folder.left - 1 }) (inside_at t entry) start after)
     → final ≡ counting (ended inside folder.here met.numbers.bytes) after
     → ForSome (tree_in told) (λ t. VisitedTo wants folder holds t (place + 1) first final)
 dir_step told proper wants again folder holds items place name what entry inside first now met start after final there listed at is_dir entry_is inside_is to meets there_is same_wants start_is visits final_is tree is =
     let path : Path = folder.path ++ name ∷ [] in
-    let make : Path → Within → Folder = λ q w. record { path = q; here = w; left = folder.left - 1 } in
+    let make : Path → Within → Folder = λ q w. record { path = q; prefix = folder.prefix; here = w; left = folder.left - 1 } in
     let whole : inside ≡ below folder.here holds name (length (joined path)) = inside_is ∙ ap (λ (q : Path). below folder.here holds name (length (joined q))) entry_is in
     let it : make entry inside ≡ folder_in folder holds name = ap (λ (q : Path). make q inside) entry_is ∙ ap (make path) whole in
     let visited : VisitsFolder again (make entry inside) (inside_at tree entry) start after = visits tree (there_is ∙ is) in
@@ -252,12 +252,12 @@ inside_lists top path items listed = by (dir_at top path) listed
 
 -- at the end of its listing a folder was visited
 pub all_step : (told : Option Reading) (wants : Wants) (folder : Folder) (holds : Bool) (items : List Item) (place : ℕ) (a first now : Seen)
-    → ForSome (tree_in told) (λ t. listing_at t folder.path ≡ Some items) → length items ≤ place → (folder.left ≡ 0 → ⊥) → Judges folder.path folder.here items a first
+    → ForSome (tree_in told) (λ t. listing_at t folder.path ≡ Some items) → length items ≤ place → (folder.left ≡ 0 → ⊥) → Judges wants folder.path folder.prefix folder.here items a first
     → holds ≡ has_object (finding_of folder.here items) → ForSome (tree_in told) (λ t. VisitedTo wants folder holds t place first now)
     → ForSome (tree_in told) (λ t. VisitsFolder wants folder (inside_at t folder.path) a now)
 all_step told wants folder holds items place a first now listed past some judges holds_is to tree is =
     let lists : items ≡ listing_of (inside_at tree folder.path) = sym (inside_lists tree folder.path items (listed tree is)) in
-    let judged : Judges folder.path folder.here (listing_of (inside_at tree folder.path)) a first = subst (λ (l : List Item). Judges folder.path folder.here l a first) lists judges in
+    let judged : Judges wants folder.path folder.prefix folder.here (listing_of (inside_at tree folder.path)) a first = subst (λ (l : List Item). Judges wants folder.path folder.prefix folder.here l a first) lists judges in
     let all : Visits wants folder holds (inside_at tree folder.path) first now = visited_all wants folder holds tree items place first now (listed tree is) (past_end items place past) (to tree is) in
     let held : holds ≡ has_object (finding_of folder.here (listing_of (inside_at tree folder.path))) = holds_is ∙ ap (λ (l : List Item). has_object (finding_of folder.here l)) lists in
-    enters folder (listing_of (inside_at tree folder.path)) (Visits wants folder (has_object (finding_of folder.here (listing_of (inside_at tree folder.path)))) (inside_at tree folder.path)) a now some (inr (first, judged, subst (λ (h : Bool). Visits wants folder h (inside_at tree folder.path) first now) held all))
+    enters wants folder (listing_of (inside_at tree folder.path)) (Visits wants folder (has_object (finding_of folder.here (listing_of (inside_at tree folder.path)))) (inside_at tree folder.path)) a now some (inr (first, judged, subst (λ (h : Bool). Visits wants folder h (inside_at tree folder.path) first now) held all))

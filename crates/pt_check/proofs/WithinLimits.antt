@@ -3,7 +3,7 @@ use Rattle.std.proofs.Common.{◌≡◌, ◌≤◌, ◌∙◌, ◌+◌, ◌-◌,
 use Rattle.std.specs.Prelude.{◌≢◌, ◌&&◌, ⊤, not, option_map, map, slice_get, unwrap_or}
 use Rattle.std.proofs.lemmas.Bool.{eqb-false, le-ltb, lt-leb, ltb-false, ltb-true, or_from}
 use Rattle.std.proofs.lemmas.List.{length-append}
-use Rattle.pt_check.specs.Clean.{AreCleanBytes, Each, IsClean, IsCleanEntry, IsCleanFolder, IsNotSkippedForLimit, NoRunSkipsForLimit, file_count}
+use Rattle.pt_check.specs.Clean.{AreCleanBytes, Each, IsClean, IsCleanEntry, IsCleanFolder, IsCleanStore, IsNotSkippedForLimit, NoRunSkipsForLimit, file_count}
 use Rattle.pt_check.specs.Counting.{plus}
 use Rattle.pt_check.specs.Visits.{Folder, finding_of, folder_trouble, has_object, name_trouble}
 use Rattle.pt_check.specs.Within.{below_site, beside_shorties, starts_object}
@@ -16,6 +16,7 @@ use Rattle.pt_check.proofs.Others.{each_both}
 use Rattle.pt_name.specs.Identifying.{identifier_at}
 use Rattle.pt_name.specs.declared.identifying.Refusal.{Refusal}
 use Rattle.pt_name.specs.declared.identifying.Refusal.TheVariants as refusal
+use Rattle.pt_name.specs.Tuples.{Tuples}
 use Rattle.pt_plan.specs.Items.{Interior, Named, PairtreeObject, Skip, Verdict, cause_of, encapsulated, is_ours, item_of, verdict_by_finding, verdict_by_identifier, verdict_by_visit, verdict_of, verdict_on_candidate}
 use Rattle.pt_plan.specs.Job.{Job, form_of}
 use Rattle.pt_plan.specs.Store.{pairtree_root, prefix_of, sites_in_root}
@@ -62,6 +63,46 @@ not_told : (t : Bool) (it : Trouble) (rest : Option Trouble) → cond t (Some it
 not_told true it rest e = absurd (cc)
 not_told false it rest e = refl
 
+-- ---- what is found of a site
+
+pub leads_to : (w : At) (name : List ℕ) → is_last w ≡ false → below_site w name ≡ within.Site (cond (length name == 1) at.Last at.Pair)
+leads_to at.Root name is = refl
+leads_to at.Pair name is = refl
+leads_to at.Last name is = absurd (cc)
+
+abbrev pub is_told : At → Finding → Path → Option Trouble
+is_told w f path = folder_trouble (within.Site w) f path
+
+same_below : (w : At) (how : Form) (items : List Item) (path : Path) (l : List (ℕ × Kind)) → is_told w (found_below form.Plain items l) path ≡ None
+    → found_below how items l ≡ found_below form.Plain items l
+same_below w how items path [] silent = refl
+same_below w how items path ((i, kind.Dir) ∷ []) silent = refl
+same_below w how items path ((i, kind.File) ∷ []) silent = absurd (cc)
+same_below w how items path ((i, kind.Other) ∷ []) silent = absurd (cc)
+same_below w how items path (first ∷ second ∷ others) silent = absurd (cc)
+
+pub same_found : (w : At) (how : Form) (items : List Item) (path : Path) → is_told w (found items w form.Plain) path ≡ None → found items w how ≡ found items w form.Plain
+same_found at.Root how items path silent = refl
+same_found at.Pair how items path silent = same_below at.Pair how items path (non_shorties items) silent
+same_found at.Last how items path silent = same_below at.Last how items path (non_shorties items) silent
+
+no_gathered_below : (items : List Item) (l : List (ℕ × Kind)) → found_below form.Plain items l ≡ finding.Gathered → ⊥
+no_gathered_below [] [] e = absurd (cc)
+no_gathered_below (x ∷ items) [] e = absurd (cc)
+no_gathered_below items ((i, kind.Dir) ∷ []) e = absurd (cc)
+no_gathered_below items ((i, kind.File) ∷ []) e = absurd (cc)
+no_gathered_below items ((i, kind.Other) ∷ []) e = absurd (cc)
+no_gathered_below items (first ∷ second ∷ others) e = absurd (cc)
+
+no_gathered_at_top : (l : List (ℕ × Kind)) → found_at_top l ≡ finding.Gathered → ⊥
+no_gathered_at_top [] e = absurd (cc)
+no_gathered_at_top (x ∷ l) e = absurd (cc)
+
+pub no_gathered : (w : At) (items : List Item) → found items w form.Plain ≡ finding.Gathered → ⊥
+no_gathered at.Root items e = no_gathered_at_top (non_shorties items) e
+no_gathered at.Pair items e = no_gathered_below items (non_shorties items) e
+no_gathered at.Last items e = no_gathered_below items (non_shorties items) e
+
 -- ---- the entries of an object
 
 abbrev FineEntry : ℕ → Entry → Type 0
@@ -69,9 +110,9 @@ FineEntry depth (path, File bytes) = (nat_lt 4000 (length (joined path)) ≡ fal
 FineEntry depth (path, Dir inside) = depth + length path ≤ 600
 FineEntry depth (path, Other) = ⊤
 
--- a folder in an object whose own path is this, below a folder of this name
-abbrev inner : List ℕ → Path → Path → ℕ → Folder
-inner top own path left = record { path = top ∷ path; here = within.Object (plus (length (joined (top ∷ own))) 1); left = left }
+-- a folder in an object whose own path is this, below a folder of this name, in a store of this prefix
+abbrev inner : List ℕ → List ℕ → Path → Path → ℕ → Folder
+inner prefix top own path left = record { path = top ∷ path; prefix = prefix; here = within.Object (plus (length (joined (top ∷ own))) 1); left = left }
 
 short_enough : (before bytes rest : ℕ) → nat_lt (plus (plus before 1) 4000) bytes ≡ false → bytes ≡ before + suc rest → nat_lt 4000 rest ≡ false
 short_enough before bytes rest is whole =
@@ -79,11 +120,11 @@ short_enough before bytes rest is whole =
     le-ltb 4000 rest (omega (arith, most, whole))
 
 -- a check that reads files whole
-abbrev read_whole : Option ℕ → Wants
-read_whole room = record { reads = true; room = room }
+abbrev read_whole : Option ℕ → Tuples → Wants
+read_whole room layout = record { reads = true; room = room; layout = layout }
 
-module _ (room : Option ℕ) where
-  fine_file : (top : List ℕ) (own rel : Path) (left : ℕ) (name bytes : List ℕ) → IsCleanEntry (read_whole room) (inner top own (own ++ rel) left) name kind.File → AreCleanBytes true bytes
+module _ (room : Option ℕ) (layout : Tuples) (start : List ℕ) where
+  fine_file : (top : List ℕ) (own rel : Path) (left : ℕ) (name bytes : List ℕ) → IsCleanEntry (read_whole room layout) (inner start top own (own ++ rel) left) name kind.File → AreCleanBytes true bytes
       → FineEntry (length own) (rel ++ name ∷ [], File bytes)
   fine_file top own rel left name bytes entry read =
       let all = length (joined (top ∷ ((own ++ rel) ++ name ∷ []))) in
@@ -95,7 +136,7 @@ module _ (room : Option ℕ) where
       )
 
   fine_entries : (top : List ℕ) (own rel : Path) (left : ℕ) (holds : Bool) (tree : Forest) → left + length (own ++ rel) ≡ 601
-      → IsClean (read_whole room) (inner top own (own ++ rel) left) holds tree → Each (FineEntry (length own)) (entries_in rel tree)
+      → IsClean (read_whole room layout) (inner start top own (own ++ rel) left) holds tree → Each (FineEntry (length own)) (entries_in rel tree)
   fine_entries top own rel left holds none deep clean = tt
   fine_entries top own rel left holds (file name bytes after) deep clean =
       (fine_file top own rel left name bytes clean.0 clean.1, fine_entries top own rel left holds after deep clean.2)
@@ -107,8 +148,8 @@ module _ (room : Option ℕ) where
       let whole = length-append own (rel ++ name ∷ []) in
       let fits : length own + length (rel ++ name ∷ []) ≤ 600 = omega (arith, some, deep, long, longer) in
       let deeper : (left - 1) + length (own ++ (rel ++ name ∷ [])) ≡ 601 = omega (arith, some, deep, long, longer, whole) in
-      let there : IsClean (read_whole room) (inner top own (own ++ (rel ++ name ∷ [])) (left - 1)) false inside =
-      subst (λ (p : Path). IsClean (read_whole room) (inner top own p (left - 1)) false inside) (append_assoc own rel (name ∷ [])) clean.3 in (
+      let there : IsClean (read_whole room layout) (inner start top own (own ++ (rel ++ name ∷ [])) (left - 1)) false inside =
+      subst (λ (p : Path). IsClean (read_whole room layout) (inner start top own p (left - 1)) false inside) (append_assoc own rel (name ∷ [])) clean.3 in (
         fits,
         each_both (FineEntry (length own)) (entries_in (rel ++ name ∷ []) inside) (entries_in rel after) (fine_entries top own (rel ++ name ∷ []) (left - 1) false inside deeper there)
             (fine_entries top own rel left holds after deep clean.4),
@@ -161,12 +202,12 @@ module _ (room : Option ℕ) where
       bad_no_limit (Some cause.Other) (path, Other) (first_bad greatest_limits depth held others) (λ e. absurd (cc)) (first_fine depth held others fine.1 few)
 
   fine_object : (top : List ℕ) (own : Path) (left : ℕ) (holds : Bool) (inside : Forest) → left + length own ≡ 601 → (left ≡ 0 → ⊥)
-      → IsClean (read_whole room) (inner top own own left) holds inside → file_count inside ≤ 1000000
+      → IsClean (read_whole room layout) (inner start top own own left) holds inside → file_count inside ≤ 1000000
       → IsNoLimit (cause_of greatest_limits (record { at = own; gathered = false; inside = inside }))
   fine_object top own left holds inside deep some clean few =
       let fits : nat_lt 600 (length own) ≡ false = le-ltb 600 (length own) (omega (arith, deep, some)) in
       let whole = append-nil own in
-      let there : IsClean (read_whole room) (inner top own (own ++ []) left) holds inside = subst (λ (p : Path). IsClean (read_whole room) (inner top own p left) holds inside) (sym whole) clean in
+      let there : IsClean (read_whole room layout) (inner start top own (own ++ []) left) holds inside = subst (λ (p : Path). IsClean (read_whole room layout) (inner start top own p left) holds inside) (sym whole) clean in
       let long : left + length (own ++ []) ≡ 601 = ap (λ (p : Path). left + length p) whole ∙ deep in
       let count = files_count [] inside in
       by (nat_lt 600 (length own)) fits (first_fine (length own) 0 (entries_in [] inside) (fine_entries top own [] left holds inside long there) (omega (arith, count, few)))
@@ -180,12 +221,12 @@ module _ (room : Option ℕ) where
 
   -- the folder of a site, below a folder of this name
   abbrev site_folder : List ℕ → Path → ℕ → Folder
-  site_folder top path left = record { path = top ∷ path; here = within.Site (at_of path); left = left }
+  site_folder top path left = record { path = top ∷ path; prefix = start; here = within.Site (at_of path); left = left }
 
   -- there is nothing to tell of a site that is listed
   abbrev CleanSite : List ℕ → Path → Forest → Type 0
-  CleanSite top path inside = (left : ℕ) × (left + length path ≡ 601) × IsCleanFolder (site_folder top path left) (listing_of inside)
-      × IsClean (read_whole room) (site_folder top path left) (has_object (finding_of (within.Site (at_of path)) (listing_of inside))) inside
+  CleanSite top path inside = (left : ℕ) × (left + length path ≡ 601) × IsCleanFolder (read_whole room layout) (site_folder top path left) (listing_of inside)
+      × IsClean (read_whole room layout) (site_folder top path left) (has_object (finding_of (within.Site (at_of path)) (listing_of inside))) inside
 
   abbrev FineVisit : List ℕ → Path → Visit → Type 0
   FineVisit top path (Listed inside) = CleanSite top path inside
@@ -195,15 +236,10 @@ module _ (room : Option ℕ) where
   abbrev FineSite : List ℕ → Site → Type 0
   FineSite top site = FineVisit top site.0 site.1
 
-  leads_to : (w : At) (name : List ℕ) → is_last w ≡ false → below_site w name ≡ within.Site (cond (length name == 1) at.Last at.Pair)
-  leads_to at.Root name is = refl
-  leads_to at.Pair name is = refl
-  leads_to at.Last name is = absurd (cc)
-
   -- what a check finds of a folder in a site, and of all that stands in it
   abbrev Met : List ℕ → Path → ℕ → Forest → Within → Type 0
-  Met top path left inside here = let it : Folder = record { path = top ∷ path; here = here; left = left } in
-      IsCleanFolder it (listing_of inside) × IsClean (read_whole room) it (has_object (finding_of here (listing_of inside))) inside
+  Met top path left inside here = let it : Folder = record { path = top ∷ path; prefix = start; here = here; left = left } in
+      IsCleanFolder (read_whole room layout) it (listing_of inside) × IsClean (read_whole room layout) it (has_object (finding_of here (listing_of inside))) inside
 
   fine_shorty : (top : List ℕ) (path : Path) (left : ℕ) (name : List ℕ) (inside : Forest) → left + length path ≡ 601
       → Met top (path ++ name ∷ []) (left - 1) inside (below_site (at_of path) name)
@@ -231,7 +267,7 @@ module _ (room : Option ℕ) where
   abbrev in_site : At → Bool → List ℕ → ℕ → Bool → Within
   in_site w holds name bytes short = cond short (below_site w name) (beside_shorties holds bytes)
 
-  fine_sites : (top : List ℕ) (path : Path) (left : ℕ) (holds : Bool) (tree : Forest) → left + length path ≡ 601 → IsClean (read_whole room) (site_folder top path left) holds tree
+  fine_sites : (top : List ℕ) (path : Path) (left : ℕ) (holds : Bool) (tree : Forest) → left + length path ≡ 601 → IsClean (read_whole room layout) (site_folder top path left) holds tree
       → Each (FineSite top) (sites_in 600 path tree)
   fine_sites top path left holds none deep clean = tt
   fine_sites top path left holds (file name bytes after) deep clean = fine_sites top path left holds after deep clean.2
@@ -253,41 +289,6 @@ module _ (room : Option ℕ) where
       by false is met on = tt
       by true is met on =
           fine_shorty top path left name inside deep (subst (λ (s : Bool). Met top (path ++ name ∷ []) (left - 1) inside (in_site (at_of path) holds name bytes s)) is met) on
-
-  -- ---- what is found of a site
-
-  abbrev is_told : At → Finding → Path → Option Trouble
-  is_told w f path = folder_trouble (within.Site w) f path
-
-  same_below : (w : At) (how : Form) (items : List Item) (path : Path) (l : List (ℕ × Kind)) → is_told w (found_below form.Plain items l) path ≡ None
-      → found_below how items l ≡ found_below form.Plain items l
-  same_below w how items path [] silent = refl
-  same_below w how items path ((i, kind.Dir) ∷ []) silent = refl
-  same_below w how items path ((i, kind.File) ∷ []) silent = absurd (cc)
-  same_below w how items path ((i, kind.Other) ∷ []) silent = absurd (cc)
-  same_below w how items path (first ∷ second ∷ others) silent = absurd (cc)
-
-  same_found : (w : At) (how : Form) (items : List Item) (path : Path) → is_told w (found items w form.Plain) path ≡ None → found items w how ≡ found items w form.Plain
-  same_found at.Root how items path silent = refl
-  same_found at.Pair how items path silent = same_below at.Pair how items path (non_shorties items) silent
-  same_found at.Last how items path silent = same_below at.Last how items path (non_shorties items) silent
-
-  no_gathered_below : (items : List Item) (l : List (ℕ × Kind)) → found_below form.Plain items l ≡ finding.Gathered → ⊥
-  no_gathered_below [] [] e = absurd (cc)
-  no_gathered_below (x ∷ items) [] e = absurd (cc)
-  no_gathered_below items ((i, kind.Dir) ∷ []) e = absurd (cc)
-  no_gathered_below items ((i, kind.File) ∷ []) e = absurd (cc)
-  no_gathered_below items ((i, kind.Other) ∷ []) e = absurd (cc)
-  no_gathered_below items (first ∷ second ∷ others) e = absurd (cc)
-
-  no_gathered_at_top : (l : List (ℕ × Kind)) → found_at_top l ≡ finding.Gathered → ⊥
-  no_gathered_at_top [] e = absurd (cc)
-  no_gathered_at_top (x ∷ l) e = absurd (cc)
-
-  no_gathered : (w : At) (items : List Item) → found items w form.Plain ≡ finding.Gathered → ⊥
-  no_gathered at.Root items e = no_gathered_at_top (non_shorties items) e
-  no_gathered at.Pair items e = no_gathered_below items (non_shorties items) e
-  no_gathered at.Last items e = no_gathered_below items (non_shorties items) e
 
   -- ---- the verdict on a site
 
@@ -319,7 +320,7 @@ module _ (room : Option ℕ) where
   item_from (suc i) (other name after) = item_from i after
   item_from (suc i) (dir name inside after) = item_from i after
 
-  clean_from : (folder : Folder) (holds : Bool) (i : ℕ) (tree : Forest) → IsClean (read_whole room) folder holds tree → IsClean (read_whole room) folder holds (entries_from i tree)
+  clean_from : (folder : Folder) (holds : Bool) (i : ℕ) (tree : Forest) → IsClean (read_whole room layout) folder holds tree → IsClean (read_whole room layout) folder holds (entries_from i tree)
   clean_from folder holds zero tree clean = clean
   clean_from folder holds (suc i) none clean = clean
   clean_from folder holds (suc i) (file name bytes after) clean = clean_from folder holds i after clean.2
@@ -329,11 +330,11 @@ module _ (room : Option ℕ) where
   module _ (job : Job) (prefix : List ℕ) (top : List ℕ) where
     -- what a check finds of an object's folder in its site
     abbrev MetObject : Path → ℕ → Forest → At → Within → Type 0
-    MetObject own left inside w here = let it : Folder = record { path = top ∷ own; here = here; left = left } in
-        IsCleanFolder it (listing_of inside) × (starts_object here (within.Site w) ≡ true → file_count inside ≤ 1000000)
-        × IsClean (read_whole room) it (has_object (finding_of here (listing_of inside))) inside
+    MetObject own left inside w here = let it : Folder = record { path = top ∷ own; prefix = start; here = here; left = left } in
+        IsCleanFolder (read_whole room layout) it (listing_of inside) × (starts_object here (within.Site w) ≡ true → file_count inside ≤ 1000000)
+        × IsClean (read_whole room layout) it (has_object (finding_of here (listing_of inside))) inside
 
-    fine_candidate : (path : Path) (left : ℕ) (tree : Forest) → left + length path ≡ 601 → IsClean (read_whole room) (site_folder top path left) true tree
+    fine_candidate : (path : Path) (left : ℕ) (tree : Forest) → left + length path ≡ 601 → IsClean (read_whole room layout) (site_folder top path left) true tree
         → ((name : List ℕ) → first_item tree ≡ Some (name, kind.Dir) → is_short name ≡ false) → FineVerdict (verdict_on_candidate job prefix path (encapsulated path tree))
     fine_candidate path left none deep clean long = tt
     fine_candidate path left (file name bytes after) deep clean long = tt
@@ -350,7 +351,7 @@ module _ (room : Option ℕ) where
         (fine_object top own (left - 1) false inside sum some met.2 (met.1 refl))
 
     fine_finding : (path : Path) (left : ℕ) (inside : Forest) (f : Finding) → left + length path ≡ 601 → found (listing_of inside) (at_of path) form.Plain ≡ f
-        → is_told (at_of path) f (top ∷ path) ≡ None → IsClean (read_whole room) (site_folder top path left) (has_object f) inside → FineVerdict (verdict_by_finding job prefix path inside f)
+        → is_told (at_of path) f (top ∷ path) ≡ None → IsClean (read_whole room layout) (site_folder top path left) (has_object f) inside → FineVerdict (verdict_by_finding job prefix path inside f)
     fine_finding path left inside finding.Interior deep is silent clean = tt
     fine_finding path left inside (finding.Skip why) deep is silent clean = absurd (cc)
     fine_finding path left inside finding.Gathered deep is silent clean = absurd (no_gathered (at_of path) (listing_of inside) is)
@@ -396,9 +397,14 @@ module _ (room : Option ℕ) where
       ((601, refl, met.0, met.1), fine_sites top [] 601 (has_object (finding_of (within.Site at.Root) (listing_of inside))) inside refl met.1)
 
 pub none_for_limit : NoRunSkipsForLimit
-none_for_limit room job tree limits clean =
+none_for_limit wants job tree reads limits clean =
+    let room = wants.room in
+    let layout = wants.layout in
+    let start = prefix_of tree in
     let root = dir_at tree (pairtree_root ∷ []) in
-    let fine : Each (FineSite room pairtree_root) (sites_in_root 600 root) = fine_root room pairtree_root root (clean.top, clean.inside) in
+    let whole : wants ≡ read_whole room layout = ap (λ (b : Bool). record { reads = b; room = room; layout = layout }) reads in
+    let read : IsCleanStore (read_whole room layout) tree = subst (λ (w : Wants). IsCleanStore w tree) whole clean in
+    let fine : Each (FineSite room layout start pairtree_root) (sites_in_root 600 root) = fine_root room layout start pairtree_root root (read.top, read.inside) in
     let depth : 600 ≡ job.limits.depth = sym (ap (λ (l : Bounds). l.depth) limits) in
-    fine_items room job (prefix_of tree) pairtree_root limits (sites_in_root job.limits.depth root)
-    (subst (λ (d : ℕ). Each (FineSite room pairtree_root) (sites_in_root d root)) depth fine)
+    fine_items room layout start job start pairtree_root limits (sites_in_root job.limits.depth root)
+    (subst (λ (d : ℕ). Each (FineSite room layout start pairtree_root) (sites_in_root d root)) depth fine)

@@ -1,14 +1,14 @@
 -- A store of which a check has nothing to tell.
 use Rattle.std.specs.Prelude.{◌≡◌, ◌≢◌, ◌≤◌, ◌+◌, ◌==◌, ◌||◌, ⊤, ℕ, suc, Bool, true, false, cond, length, take, List, [], ◌∷◌, ◌++◌, Option, None, Some}
 use Rattle.pt_check.specs.Prefix.{prefix_trouble}
-use Rattle.pt_check.specs.Visits.{Checks, Folder, Seen, entry_trouble, finding_of, folder_in, folder_trouble, has_object, prefix_path, room_trouble, root_folder, size_trouble}
+use Rattle.pt_check.specs.Visits.{Checks, Folder, Seen, entry_trouble, finding_of, folder_in, folder_trouble, has_object, prefix_path, reserved_trouble, room_trouble, root_folder, size_trouble}
 use Rattle.pt_check.specs.Within.{starts_object}
 use Rattle.pt_check.specs.declared.numbers.Numbers.{Numbers}
 use Rattle.pt_check.specs.declared.wants.Wants.{Wants}
 use Rattle.pt_check.specs.declared.within.Within.{Within}
 use Rattle.pt_plan.specs.Items.{Item as WalkItem, Named, PairtreeObject, Skip, cause_of, items}
 use Rattle.pt_plan.specs.Job.{Job}
-use Rattle.pt_plan.specs.Store.{pairtree_root, prefix_file, version_file}
+use Rattle.pt_plan.specs.Store.{pairtree_root, prefix_file, prefix_of, version_file}
 use Rattle.pt_plan.specs.TurnStart.{is_dir_kind, is_file_kind, kind_in}
 use Rattle.pt_tree.specs.Forest.{Forest, none, file, other, dir, listing_of}
 use Rattle.pt_tree.specs.Listing.{Item}
@@ -26,9 +26,10 @@ IsCleanEntry wants folder name what = let bytes = length (joined (folder.path ++
     × (room_trouble wants.room folder.here what bytes ≡ None)
 
 -- nor of a folder that lists these entries: it isn't too deep either
-abbrev pub IsCleanFolder : Folder → List Item → Type 0
-IsCleanFolder folder items =
-    ((folder.left == 0) ≡ false) × (folder_trouble folder.here (finding_of folder.here items) folder.path ≡ None)
+abbrev pub IsCleanFolder : Wants → Folder → List Item → Type 0
+IsCleanFolder wants folder items = let what = finding_of folder.here items in
+    ((folder.left == 0) ≡ false) × (folder_trouble folder.here what folder.path ≡ None)
+    × (reserved_trouble wants.layout folder.prefix what folder.path ≡ None)
 
 -- nor of the bytes of a file, if they are read
 abbrev pub AreCleanBytes : Bool → List ℕ → Type 0
@@ -56,7 +57,7 @@ IsClean wants folder holds (other name after) =
     IsCleanEntry wants folder name kind.Other × IsClean wants folder holds after
 IsClean wants folder holds (dir name inside after) =
     let it = folder_in folder holds name in
-    IsCleanEntry wants folder name kind.Dir × IsCleanFolder it (listing_of inside)
+    IsCleanEntry wants folder name kind.Dir × IsCleanFolder wants it (listing_of inside)
     × HasRoom it folder.here inside
     × IsClean wants it (has_object (finding_of it.here (listing_of inside))) inside
     × IsClean wants folder holds after
@@ -72,13 +73,17 @@ IsCleanPrefix (Some kind.Other) bytes = ⊥
 abbrev pub below_root : Forest → Forest
 below_root tree = inside_at tree (pairtree_root ∷ [])
 
+-- the folder `pairtree_root` of a store
+abbrev pub root_of : Forest → Folder
+root_of tree = root_folder (prefix_of tree)
+
 -- nor of a store: its top has all that it must have
 pub record IsCleanStore (wants : Wants) (tree : Forest) : Type 0 where
   pub prefix : IsCleanPrefix (kind_in (listing_of tree) prefix_file) (bytes_at tree prefix_path)
   pub version : is_file_kind (kind_in (listing_of tree) version_file) ≡ true
   pub root : is_dir_kind (kind_in (listing_of tree) pairtree_root) ≡ true
-  pub top : IsCleanFolder root_folder (listing_of (below_root tree))
-  pub inside : IsClean wants root_folder (has_object (finding_of root_folder.here (listing_of (below_root tree))))
+  pub top : IsCleanFolder wants (root_of tree) (listing_of (below_root tree))
+  pub inside : IsClean wants (root_of tree) (has_object (finding_of (root_of tree).here (listing_of (below_root tree))))
       (below_root tree)
 
 -- a check of a store that ended well and told nothing met one of which there is nothing to tell, and its source failed at nothing
@@ -123,6 +128,5 @@ IsNotSkippedForLimit job item = (item.verdict ≢ Skip cause.Limit)
 -- are read whole
 abbrev pub NoRunSkipsForLimit : Type 0
 NoRunSkipsForLimit =
-    (room : Option ℕ) (job : Job) (tree : Forest) → job.limits ≡ greatest_limits
-    → IsCleanStore (record { reads = true; room = room }) tree
-    → Each (IsNotSkippedForLimit job) (items job tree)
+    (wants : Wants) (job : Job) (tree : Forest) → wants.reads ≡ true → job.limits ≡ greatest_limits
+    → IsCleanStore wants tree → Each (IsNotSkippedForLimit job) (items job tree)

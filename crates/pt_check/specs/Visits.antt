@@ -16,11 +16,17 @@ use Rattle.pt_check.specs.declared.wants.Wants.{Wants}
 use Rattle.pt_check.specs.declared.within.Within.{Within}
 use Rattle.pt_check.specs.declared.within.Within.TheVariants as within
 use Rattle.pt_name.specs.Clean.{cleaned}
+use Rattle.pt_name.specs.Identifying.{identification_of}
 use Rattle.pt_name.specs.Reading.{reading_of}
-use Rattle.pt_plan.specs.Store.{pairtree_root, prefix_file, version_file}
+use Rattle.pt_name.specs.Share.{whole}
+use Rattle.pt_name.specs.Tuples.{Tuples}
+use Rattle.pt_name.specs.declared.identifying.Identification.{Identification}
+use Rattle.pt_name.specs.declared.identifying.Identification.TheVariants as answer
+use Rattle.pt_name.specs.declared.identifying.Refusal.TheVariants as refusal
+use Rattle.pt_plan.specs.Store.{pairtree_root, prefix_file, prefix_in, version_file}
 use Rattle.pt_plan.specs.TurnStart.{is_dir_kind, is_file_kind, kind_in}
 use Rattle.pt_tree.specs.Failures.{HasRisen}
-use Rattle.pt_tree.specs.Forest.{Forest, none, file, other, dir, listing_of}
+use Rattle.pt_tree.specs.Forest.{Forest, File, none, file, other, dir, listing_of}
 use Rattle.pt_tree.specs.Listing.{Item}
 use Rattle.pt_tree.specs.Path.{Path, joined}
 use Rattle.pt_tree.specs.Source.{Reading}
@@ -135,6 +141,28 @@ folder_trouble _ (finding.Skip why) path = Some (trouble.Skipped why)
 folder_trouble _ (finding.Candidate i) path = trouble_of_names (concat (drop 1 path))
 folder_trouble _ finding.Gathered path = None
 
+-- what is told of an object of which this is said: no run carries it, since its place is the storage root's own
+abbrev pub reserved_by : Identification → Option Trouble
+reserved_by (answer.Refused refusal.Malformed) = None
+reserved_by (answer.Refused refusal.NotUtf8) = None
+reserved_by (answer.Refused refusal.Reserved) = Some (trouble.Skipped cause.Reserved)
+reserved_by answer.OtherShare = None
+reserved_by (answer.Candidate it) = None
+
+-- the same by the names of its site, which read its identifier behind a prefix, where its place has these tuples
+abbrev pub reserved_at : Tuples → List ℕ → Path → Option Trouble
+reserved_at tuples prefix [] = None
+reserved_at tuples prefix (name ∷ names) =
+    reserved_by (identification_of tuples whole prefix (name ∷ names))
+
+-- what is told of a folder that is found to be this, in a store of this prefix, by its place: only without tuples is one the root's own
+abbrev pub reserved_trouble : Tuples → List ℕ → Finding → Path → Option Trouble
+reserved_trouble tuples prefix finding.Interior path = None
+reserved_trouble tuples prefix (finding.Skip why) path = None
+reserved_trouble tuples prefix (finding.Candidate i) path =
+    cond (tuples.count == 0) (reserved_at tuples prefix (drop 1 path)) None
+reserved_trouble tuples prefix finding.Gathered path = None
+
 -- a site is counted, with an object or without
 abbrev pub with_folder : Within → Bool → Numbers → Numbers
 with_folder (within.Site at) holds numbers = with_site holds numbers
@@ -142,11 +170,13 @@ with_folder within.Past holds numbers = numbers
 with_folder (within.Object before) holds numbers = numbers
 with_folder within.Beside holds numbers = numbers
 
--- a folder that lists these entries is judged: it is counted, and told if there is trouble
-abbrev pub Judges : Path → Within → List Item → Seen → Seen → Type 0
-Judges path here items a b =
+-- a folder in a store of this prefix that lists these entries is judged: it is counted, and told if there is trouble
+abbrev pub Judges : Wants → Path → List ℕ → Within → List Item → Seen → Seen → Type 0
+Judges wants path prefix here items a b =
     let what = finding_of here items in
-    TellsIf path (folder_trouble here what path) (counting (with_folder here (has_object what)) a) b
+    (m : Seen)
+    × TellsIf path (folder_trouble here what path) (counting (with_folder here (has_object what)) a) m
+    × TellsIf path (reserved_trouble wants.layout prefix what path) m b
 
 -- ---- an entry
 
@@ -212,9 +242,11 @@ OpensIf reads path kind.Other bytes a b = b ≡ a
 
 -- ---- the walk
 
--- a folder of a store as a check comes to it: its path, what it is, and how many folders may stand one in another from it on
+-- a folder of a store as a check comes to it: its path, the prefix of the store as it is known, what the folder is, and how many
+-- folders may stand one in another from it on
 pub record Folder : Type 0 where
   pub path : Path
+  pub prefix : List ℕ
   pub here : Within
   pub left : ℕ
 
@@ -224,6 +256,7 @@ folder_in folder holds name =
     let path = folder.path ++ name ∷ [] in
     record {
       path = path;
+      prefix = folder.prefix;
       here = below folder.here holds name (length (joined path));
       left = folder.left - 1;
     }
@@ -238,9 +271,9 @@ ended here above before after = cond (starts_object here above) (with_object bef
 
 -- a folder is met that lists these entries, by what is then done with them: it is too deep and told so, it can't be listed
 -- and that is told, or it is judged and its entries are visited
-abbrev pub Enters : Folder → List Item → (Seen → Seen → Type 0) → Seen → Seen → Type 0
-Enters folder items visits a b = cond (folder.left == 0) (Tells (Told folder.path trouble.Deep) a b)
-    (TellsFailure folder.path a b ⊎ ((m : Seen) × Judges folder.path folder.here items a m × visits m b))
+abbrev pub Enters : Wants → Folder → List Item → (Seen → Seen → Type 0) → Seen → Seen → Type 0
+Enters wants folder items visits a b = cond (folder.left == 0) (Tells (Told folder.path trouble.Deep) a b)
+    (TellsFailure folder.path a b ⊎ ((m : Seen) × Judges wants folder.path folder.prefix folder.here items a m × visits m b))
 
 -- the entries of a folder, which has an object or not, are visited one after another, each once, and all that stands in them
 abbrev pub Visits : Wants → Folder → Bool → Forest → Seen → Seen → Type 0
@@ -257,14 +290,14 @@ Visits wants folder holds (dir name inside after) a b =
     let it = folder_in folder holds name in
     let holds_it = has_object (finding_of it.here (listing_of inside)) in
     (m : Seen) × Meets wants it.path folder.here (name, kind.Dir) a m
-    × (n : Seen) × Enters it (listing_of inside) (Visits wants it holds_it inside)
+    × (n : Seen) × Enters wants it (listing_of inside) (Visits wants it holds_it inside)
     (counting (begun it.here folder.here) m) n
     × Visits wants folder holds after (counting (ended it.here folder.here m.numbers.bytes) n) b
 
 -- a folder of the store and all that stands in it are visited
 abbrev pub VisitsFolder : Wants → Folder → Forest → Seen → Seen → Type 0
 VisitsFolder wants folder inside =
-    Enters folder (listing_of inside)
+    Enters wants folder (listing_of inside)
     (Visits wants folder (has_object (finding_of folder.here (listing_of inside))) inside)
 
 -- ---- a store
@@ -274,40 +307,47 @@ abbrev pub missing : Bool → Option Trouble
 missing true = None
 missing false = Some trouble.Missing
 
--- the folder `pairtree_root`, below which a run walks folders as deep as its limit
-abbrev pub root_folder : Folder
-root_folder = record {
+-- the folder `pairtree_root` of a store of this prefix, below which a run walks folders as deep as its limit
+abbrev pub root_folder : List ℕ → Folder
+root_folder prefix = record {
   path = pairtree_root ∷ [];
+  prefix = prefix;
   here = within.Site at.Root;
   left = greatest_limits.depth + 1;
 }
 
 -- at the top of a store stand the version's file and `pairtree_root` (Pairtree 0.1): it is told where one doesn't, and the second is visited
-abbrev pub Looks : Wants → Forest → Seen → Seen → Type 0
-Looks wants tree a b =
+abbrev pub Looks : Wants → List ℕ → Forest → Seen → Seen → Type 0
+Looks wants prefix tree a b =
     (m : Seen) × TellsIf (version_file ∷ []) (missing (is_file_kind (kind_in (listing_of tree) version_file))) a m
     × cond (is_dir_kind (kind_in (listing_of tree) pairtree_root))
-    (VisitsFolder wants root_folder (inside_at tree (pairtree_root ∷ [])) m b)
+    (VisitsFolder wants (root_folder prefix) (inside_at tree (pairtree_root ∷ [])) m b)
     (Tells (Told (pairtree_root ∷ []) trouble.Missing) m b)
 
 -- the path of the prefix file
 abbrev pub prefix_path : Path
 prefix_path = prefix_file ∷ []
 
--- where a file stands at the name of the prefix, its front is read, and told by what it is; or it is told that it can't be. What is no
--- file there is told too.
-abbrev pub ReadsPrefix : Option Kind → List ℕ → Seen → Seen → Type 0
-ReadsPrefix None bytes a b = b ≡ a
-ReadsPrefix (Some kind.File) bytes a b =
-    TellsIf prefix_path (prefix_trouble (take 8192 bytes)) a b ⊎ TellsFailure prefix_path a b
-ReadsPrefix (Some kind.Dir) bytes a b = Tells (Told prefix_path trouble.Prefix) a b
-ReadsPrefix (Some kind.Other) bytes a b = Tells (Told prefix_path trouble.Prefix) a b
+-- the front of a file of a prefix is read, and told by what it is; or it is told that it can't be. The prefix that is then known is empty
+-- where the front is none.
+abbrev pub ReadsFront : Path → List ℕ → List ℕ → Seen → Seen → Type 0
+ReadsFront path front prefix a b =
+    TellsIf path (prefix_trouble front) a b × (prefix ≡ prefix_in (Some (File front)))
+    ⊎ TellsFailure path a b × (prefix ≡ [])
+
+-- where a file stands at the name of the prefix, its front is read. What is no file there is told, and no prefix.
+abbrev pub ReadsPrefix : Option Kind → List ℕ → List ℕ → Seen → Seen → Type 0
+ReadsPrefix None bytes prefix a b = (b ≡ a) × (prefix ≡ [])
+ReadsPrefix (Some kind.File) bytes prefix a b = ReadsFront prefix_path (take 8192 bytes) prefix a b
+ReadsPrefix (Some kind.Dir) bytes prefix a b = Tells (Told prefix_path trouble.Prefix) a b × (prefix ≡ [])
+ReadsPrefix (Some kind.Other) bytes prefix a b = Tells (Told prefix_path trouble.Prefix) a b × (prefix ≡ [])
 
 -- what the top lists is looked at: the prefix, and then what a store must have
 abbrev pub LooksAll : Wants → Forest → Seen → Seen → Type 0
 LooksAll wants tree a b =
-    (m : Seen) × ReadsPrefix (kind_in (listing_of tree) prefix_file) (bytes_at tree prefix_path) a m
-    × Looks wants tree m b
+    (m : Seen) × (prefix : List ℕ)
+    × ReadsPrefix (kind_in (listing_of tree) prefix_file) (bytes_at tree prefix_path) prefix a m
+    × Looks wants prefix tree m b
 
 -- a store is checked whole: what its top lists is looked at, or that can't be listed and is told; and at the end stands the line of
 -- these numbers

@@ -1,21 +1,21 @@
 //! The walk of a check over all that lies below a folder of a store.
 ghost use Rattle.std.specs.Io.KnownBytes.{Appends};
-ghost use Rattle.std.specs.Prelude.{◌≡◌, ◌⊎◌, [], length, take, IfOk, IsSome, OnOk, MatchOption, Some};
+ghost use Rattle.std.specs.Prelude.{◌≡◌, [], length, string_bytes, take, IfOk, IsSome, OnOk, MatchOption, Some};
 ghost use Rattle.std.specs.Option.{ForSome};
 ghost use Rattle.pt_check.specs.Counting.{no_numbers};
 ghost use Rattle.pt_check.specs.Faults.{LogFailsAs};
 ghost use Rattle.pt_check.specs.Lines.{End, Told, line_text};
-ghost use Rattle.pt_check.specs.Prefix.{prefix_trouble};
 ghost use Rattle.pt_plan.specs.Store.{prefix_file};
 ghost use Rattle.pt_plan.specs.TurnStart.{kind_in as kind_in_items};
 ghost use Rattle.pt_tree.specs.Path.{joined};
-ghost use Rattle.pt_check.specs.Visits.{Checks, Judges, Keeps, Looks, Meets, Opens, OpensIf, Puts, ReadsPrefix, Tells, TellsFailure, TellsIf, TellsUnread, VisitsFolder, begun, ended, finding_of as finding_of_items, has_object as has_object_in, missing as missing_by, prefix_path, seen_by, tree_by};
+ghost use Rattle.pt_check.specs.Visits.{Checks, Judges, Keeps, Looks, Meets, Opens, OpensIf, Puts, ReadsFront, ReadsPrefix, Tells, TellsFailure, TellsIf, TellsUnread, VisitsFolder, begun, ended, finding_of as finding_of_items, has_object as has_object_in, missing as missing_by, prefix_path, seen_by, tree_by, with_folder};
 ghost use Rattle.pt_tree.specs.Forest.{dir_at, file_at, listing_at};
 ghost use Rattle.pt_tree.specs.declared.kind.Kind.TheVariants as kind;
 ghost use Rattle.pt_walk.specs.Left.{bytes_at, inside_at};
 
 use crate::judging::{
-    count_trouble, entry_trouble, finding_of, folder_trouble, room_trouble, size_trouble,
+    count_trouble, entry_trouble, finding_of, folder_trouble, has_object, reserved_trouble,
+    room_trouble, size_trouble,
 };
 use crate::lines::{end_line, trouble_line, unreadable_line};
 use crate::prefix::open_prefix;
@@ -25,7 +25,7 @@ use pt_object::WellKnownName;
 use pt_plan::Fault;
 use pt_plan::kinds::{is_dir, is_file, kind_in};
 use pt_tree::{Kind, KnownName, Listing, Log, MemoryFault, Name, NamePath, Source, TreeFault};
-use pt_walk::{At, Finding, Limits};
+use pt_walk::{At, Limits};
 use std::alloc::Global;
 
 /// Why a source failed.
@@ -92,8 +92,8 @@ impl<S: Source, L: Log, E: Explains<S> + Drop> Check<S, L, E> {
         let top = NamePath::new(self.alloc);
         match self.list(&top)? {
             Some(listing) => {
-                self.look_at_prefix(&listing)?;
-                self.look(&listing)?;
+                let prefix = self.look_at_prefix(&listing)?;
+                self.look(&listing, prefix.as_str())?;
                 self.tell_numbers()
             }
             None => self.tell_numbers(),
@@ -108,48 +108,56 @@ impl<S: Source, L: Log, E: Explains<S> + Drop> Check<S, L, E> {
         (self.source, self.log)
     }
 
-    // Looks at the file of the prefix, where the top of a store lists one.
-    fn look_at_prefix(&mut self, listing: &Listing) -> Result<(), Fault>
+    // Looks at the file of the prefix, where the top of a store lists one. Gives the prefix, empty where none is known.
+    fn look_at_prefix(&mut self, listing: &Listing) -> Result<String, Fault>
         requires { ForSome (tree_by S.told self.old)
             (λ tree. listing_at tree [] ≡ Some listing.now) }
-        ensures looked { OnOk result (ForSome (tree_by S.told self.old)
+        ensures looked { IfOk result (λ prefix. ForSome (tree_by S.told self.old)
             (λ tree. ReadsPrefix (kind_in_items listing.now prefix_file) (bytes_at tree prefix_path)
+            (string_bytes prefix)
             (seen_by S.failed L.told self.old) (seen_by S.failed L.told self.new))) }
         ensures keeps { Keeps S.told S.keeps L.told self.old self.new }
         ensures fault { LogFailsAs (L.failed self.old.log) (L.failed self.new.log) result }
     {
         let path = NamePath::of_known(self.alloc, &[WellKnownName::PrefixFile])?;
         match kind_in(listing, WellKnownName::PrefixFile.text().as_bytes()) {
-            None => Ok(()),
+            None => Ok(String::new(self.alloc)),
             Some(Kind::File) => self.read_prefix(&path),
-            Some(_) => self.tell(&path, Trouble::Prefix),
+            Some(_) => {
+                self.tell(&path, Trouble::Prefix)?;
+                Ok(String::new(self.alloc))
+            }
         }
     }
 
-    // Reads the front of the prefix file, and tells what there is to tell of it, or that it can't be read.
-    fn read_prefix(&mut self, path: &NamePath) -> Result<(), Fault>
-        requires { ForSome (tree_by S.told self.old) (λ tree. IsSome (file_at tree path.now)) }
-        ensures read { OnOk result (ForSome (tree_by S.told self.old)
-            (λ tree. TellsIf path.now (prefix_trouble (take 8192 (bytes_at tree path.now)))
-            (seen_by S.failed L.told self.old) (seen_by S.failed L.told self.new)
-            ⊎ TellsFailure path.now (seen_by S.failed L.told self.old)
-            (seen_by S.failed L.told self.new))) }
+    // Reads the front of the prefix file, and tells what there is to tell of it, or that it can't be read. Gives the prefix, as above.
+    fn read_prefix(&mut self, file: &NamePath) -> Result<String, Fault>
+        requires { ForSome (tree_by S.told self.old) (λ tree. IsSome (file_at tree file.now)) }
+        ensures read { IfOk result (λ prefix. ForSome (tree_by S.told self.old)
+            (λ tree. ReadsFront file.now (take 8192 (bytes_at tree file.now)) (string_bytes prefix)
+            (seen_by S.failed L.told self.old) (seen_by S.failed L.told self.new))) }
         ensures keeps { Keeps S.told S.keeps L.told self.old self.new }
         ensures fault { LogFailsAs (L.failed self.old.log) (L.failed self.new.log) result }
     {
-        match open_prefix(self.alloc, &mut self.source, path) {
-            Ok(trouble) => self.tell_if(path, trouble),
-            Err(TreeFault::Device) => self.tell_failure(path),
+        match open_prefix(self.alloc, &mut self.source, file) {
+            Ok(front) => {
+                self.tell_if(file, front.trouble)?;
+                Ok(front.prefix)
+            }
+            Err(TreeFault::Device) => {
+                self.tell_failure(file)?;
+                Ok(String::new(self.alloc))
+            }
             Err(TreeFault::Memory) => Err(Fault::Memory),
         }
     }
 
-    // Looks at what the top of a store lists, and visits `pairtree_root`.
-    fn look(&mut self, listing: &Listing) -> Result<(), Fault>
+    // Looks at what the top of a store of this prefix lists, and visits `pairtree_root`.
+    fn look(&mut self, listing: &Listing, prefix: &str) -> Result<(), Fault>
         requires { ForSome (tree_by S.told self.old)
             (λ tree. listing_at tree [] ≡ Some listing.now) }
         ensures looked { OnOk result (ForSome (tree_by S.told self.old)
-            (λ tree. Looks self.old.wants tree
+            (λ tree. Looks self.old.wants prefix.now tree
             (seen_by S.failed L.told self.old) (seen_by S.failed L.told self.new))) }
         ensures keeps { Keeps S.told S.keeps L.told self.old self.new }
         ensures fault { LogFailsAs (L.failed self.old.log) (L.failed self.new.log) result }
@@ -161,6 +169,7 @@ impl<S: Source, L: Log, E: Explains<S> + Drop> Check<S, L, E> {
         if is_dir(kind_in(listing, WellKnownName::PairtreeRoot.text().as_bytes())) {
             self.visit(
                 &root,
+                prefix,
                 Within::Site(At::Root),
                 Limits::greatest().depth() + 1,
             )
@@ -186,13 +195,20 @@ impl<S: Source, L: Log, E: Explains<S> + Drop> Check<S, L, E> {
         }
     }
 
-    // A folder at a path, which is this, and below which folders may stand so deep, and all that lies in it. What can't be read
-    // is told, and passed. `Log` where a line couldn't be put, `Memory` where a growth was refused.
-    fn visit(&mut self, path: &NamePath, within: Within, left: u64) -> Result<(), Fault>
+    // A folder at a path in a store of this prefix, which is this, and below which folders may stand so deep, and all that lies in it.
+    // What can't be read is told, and passed. `Log` where a line couldn't be put, `Memory` where a growth was refused.
+    fn visit(
+        &mut self,
+        path: &NamePath,
+        prefix: &str,
+        within: Within,
+        left: u64,
+    ) -> Result<(), Fault>
         requires { ForSome (tree_by S.told self.old) (λ tree. IsSome (dir_at tree path.now)) }
         ensures visited { OnOk result (ForSome (tree_by S.told self.old)
             (λ tree. VisitsFolder self.old.wants
-            (record { path = path.now; here = within; left = left }) (inside_at tree path.now)
+            (record { path = path.now; prefix = prefix.now; here = within; left = left })
+            (inside_at tree path.now)
             (seen_by S.failed L.told self.old) (seen_by S.failed L.told self.new))) }
         ensures keeps { Keeps S.told S.keeps L.told self.old self.new }
         ensures fault { LogFailsAs (L.failed self.old.log) (L.failed self.new.log) result }
@@ -203,7 +219,7 @@ impl<S: Source, L: Log, E: Explains<S> + Drop> Check<S, L, E> {
         let Some(listing) = self.list(path)? else {
             return Ok(());
         };
-        let has_object = self.judge(path, within, &listing)?;
+        let has_object = self.judge(path, prefix, within, &listing)?;
         for i in 0..listing.len() {
             let Some((name, kind)) = listing.get(i) else {
                 continue;
@@ -213,7 +229,7 @@ impl<S: Source, L: Log, E: Explains<S> + Drop> Check<S, L, E> {
             if let Kind::Dir = kind {
                 let inside = within.below(has_object, name, bytes);
                 let before = self.begin(inside, within);
-                self.visit(&entry, inside, left - 1)?;
+                self.visit(&entry, prefix, inside, left - 1)?;
                 self.end(inside, within, before);
                 continue;
             }
@@ -260,9 +276,26 @@ impl<S: Source, L: Log, E: Explains<S> + Drop> Check<S, L, E> {
         }
     }
 
-    // Judges a folder by what it lists: it is counted, and told if there is trouble. Gives whether it has an object.
-    fn judge(&mut self, path: &NamePath, within: Within, listing: &Listing) -> Result<bool, Fault>
-        ensures judged { OnOk result (Judges path.now within listing.now
+    // Counts a site.
+    fn count(&mut self, within: Within, has_object: bool)
+        ensures numbers { self.new.numbers ≡ with_folder within has_object self.old.numbers }
+        ensures rest { self.new ≡ record self.old { numbers = self.new.numbers } }
+    {
+        if let Within::Site(_) = within {
+            self.numbers = self.numbers.with_site(has_object);
+        }
+    }
+
+    // Judges a folder of a store of this prefix by what it lists: it is counted, and told if there is trouble. Gives whether it has an
+    // object.
+    fn judge(
+        &mut self,
+        path: &NamePath,
+        prefix: &str,
+        within: Within,
+        listing: &Listing,
+    ) -> Result<bool, Fault>
+        ensures judged { OnOk result (Judges self.old.wants path.now prefix.now within listing.now
             (seen_by S.failed L.told self.old) (seen_by S.failed L.told self.new)) }
         ensures object { IfOk result (λ holds. holds
             ≡ has_object_in (finding_of_items within listing.now)) }
@@ -270,11 +303,12 @@ impl<S: Source, L: Log, E: Explains<S> + Drop> Check<S, L, E> {
         ensures fault { LogFailsAs (L.failed self.old.log) (L.failed self.new.log) result }
     {
         let finding = finding_of(within, listing);
-        let has_object = matches!(finding, Finding::Candidate(_));
-        if let Within::Site(_) = within {
-            self.numbers = self.numbers.with_site(has_object);
-        }
+        let has_object = has_object(finding);
+        self.count(within, has_object);
+        let layout = self.wants.layout;
         let trouble = folder_trouble(self.alloc, within, finding, path)?;
+        self.tell_if(path, trouble)?;
+        let trouble = reserved_trouble(layout, prefix, finding, path)?;
         self.tell_if(path, trouble)?;
         Ok(has_object)
     }

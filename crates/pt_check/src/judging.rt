@@ -3,10 +3,12 @@
 
 ghost use Rattle.std.specs.Prelude.{◌≡◌, drop, IfOk};
 ghost use Rattle.std.specs.List.{concat};
-ghost use Rattle.pt_check.specs.Visits.{count_trouble as count_trouble_of, entry_trouble as entry_trouble_of, finding_of as finding_of_items, folder_trouble as folder_trouble_of, is_long as is_long_path, is_of_desktop as is_of_desktop_name, name_trouble as name_trouble_of, room_trouble as room_trouble_of, size_trouble as size_trouble_of, spelling_trouble as spelling_trouble_of, trouble_of_names};
+ghost use Rattle.pt_check.specs.Visits.{count_trouble as count_trouble_of, entry_trouble as entry_trouble_of, finding_of as finding_of_items, folder_trouble as folder_trouble_of, has_object as has_object_in, is_long as is_long_path, is_of_desktop as is_of_desktop_name, name_trouble as name_trouble_of, reserved_at as reserved_at_place, reserved_by as reserved_by_answer, reserved_trouble as reserved_trouble_of, room_trouble as room_trouble_of, size_trouble as size_trouble_of, spelling_trouble as spelling_trouble_of, trouble_of_names};
 
 use crate::{Trouble, Within};
-use pt_name::{UncleanFault, clean, concatenate, unclean};
+use pt_name::{
+    Identification, Layout, Refusal, Share, UncleanFault, clean, concatenate, identify, unclean,
+};
 use pt_tree::{Kind, Listing, MemoryFault, Name, NamePath};
 use pt_walk::{Cause, Finding, Form, Limits, judge};
 use std::alloc::Global;
@@ -19,6 +21,13 @@ pub(crate) fn finding_of(within: Within, listing: &Listing) -> Finding
         Within::Site(at) => judge(listing, at, Form::Plain),
         _ => Finding::Interior,
     }
+}
+
+/// Whether what is found to be this has an object.
+pub(crate) fn has_object(finding: Finding) -> bool
+    ensures { result ≡ has_object_in finding }
+{
+    matches!(finding, Finding::Candidate(_))
 }
 
 /// What is told of a folder at a path from the store's folder on, which is found to be this.
@@ -62,6 +71,50 @@ fn spelling_trouble(alloc: Global, text: &[u8], id: &str) -> Result<Option<Troub
         Ok(None)
     } else {
         Ok(Some(Trouble::Spelling))
+    }
+}
+
+/// What is told of a folder that is found to be this, by its place in a destination of this layout, in a store of this prefix.
+pub(crate) fn reserved_trouble(
+    layout: Layout,
+    prefix: &str,
+    finding: Finding,
+    path: &NamePath,
+) -> Result<Option<Trouble>, MemoryFault>
+    ensures { IfOk result (λ trouble. trouble
+        ≡ reserved_trouble_of layout prefix.now finding path.now) }
+{
+    match finding {
+        Finding::Candidate(_) if layout.count() == 0 => reserved_at(layout, prefix, path),
+        _ => Ok(None),
+    }
+}
+
+// What is told of the identifier of a site with an object, by its place: a run keeps that free for the root's own use.
+fn reserved_at(
+    layout: Layout,
+    prefix: &str,
+    path: &NamePath,
+) -> Result<Option<Trouble>, MemoryFault>
+    ensures { IfOk result (λ trouble. trouble
+        ≡ reserved_at_place layout prefix.now (drop 1 path.now)) }
+{
+    let names = names_below(path);
+    if names.is_empty() {
+        return Ok(None);
+    }
+    let below = NamePath::new(path.allocator()).followed_by(names)?;
+    let said = identify(&below, prefix, layout, &Share::whole())?;
+    Ok(reserved_by(&said))
+}
+
+// What is told of an object of which this is said.
+fn reserved_by(said: &Identification) -> Option<Trouble>
+    ensures { result ≡ reserved_by_answer said.now }
+{
+    match said {
+        Identification::Refused(Refusal::Reserved) => Some(Trouble::Skipped(Cause::Reserved)),
+        _ => None,
     }
 }
 

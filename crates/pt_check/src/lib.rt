@@ -9,10 +9,11 @@
 //!   names, a folder before its entries. Each file is opened, and read whole where that is wanted. Where a folder can't be listed or a file
 //!   opened or read, its path is told with a reason, the source's count of failures rose, and the walk goes on with the next entry (`Enters`,
 //!   `Opens`). A folder deeper below pairtree_root than the limit of a run, 600, is told, and not listed.
-//! - At each folder and entry exactly what `folder_trouble`, `count_trouble`, `entry_trouble` and `room_trouble` say of it is told, each by a
-//!   line of its own (`Tells`): the cause for which a run without `--gather` passes a site over, names that aren't those of the identifier's
-//!   own pairpath, the first file over the limit of an object, names that desktops leave, links and special files, and paths in an object that
-//!   are too long, for a run or for the room that a destination has. Of a file that was read it is what `size_trouble` says of its length.
+//! - At each folder and entry exactly what `folder_trouble`, `reserved_trouble`, `count_trouble`, `entry_trouble` and `room_trouble` say of it
+//!   is told, each by a line of its own (`Tells`): the cause for which a run without `--gather` passes a site over, names that aren't those of
+//!   the identifier's own pairpath, the first file over the limit of an object, names that desktops leave, links and special files, and paths
+//!   in an object that are too long, for a run or for the room that a destination has. `reserved` is that of the layout that is asked for, and
+//!   of the prefix as it was read, empty where none is known. Of a file that was read it is what `size_trouble` says of its length.
 //! - The numbers are those of what was visited (`with_site`, `with_entry`, `with_bytes`, `with_object`); `told` is that of the lines. The last
 //!   line has them, and they are the answer.
 //! - Where it told nothing there is nothing to tell of the store, and no call of the source failed (`QuietCheckMeansCleanStore`). No run over
@@ -25,8 +26,8 @@
 //! names follow from the text that they join to. And between two entries a check holds the listings on the way to where it stands, and numbers:
 //! nothing grows with the objects.
 //!
-//! Not told is the cause `reserved`, and without reading whole the length of a file. Of a folder in which a name isn't UTF-8 the reason tells that,
-//! and its entries aren't visited.
+//! Not told is, without reading whole, the length of a file. Of a folder in which a name isn't UTF-8 the reason tells that, and its entries
+//! aren't visited.
 #![tactic(auto)]
 
 mod checking;

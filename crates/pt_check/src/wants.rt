@@ -1,3 +1,5 @@
+use pt_name::Layout;
+
 /// What is asked of a check.
 #[derive(Clone, Copy, Debug, PartialEq, Eq)]
 pub struct Wants {
@@ -5,4 +7,6 @@ pub struct Wants {
     pub reads: bool,
     /// How many bytes the path of a file in its object may have in a destination; None where none is named.
     pub room: Option<u64>,
+    /// How the places in a destination are cut.
+    pub layout: Layout,
 }

@@ -67,7 +67,7 @@ Each line says under "as" what is at "path" in the source:
   large       it has more than 8 TiB (with --read)
   place       its path would be too long in DEST (with --dest)
   desktop     it is one of what desktops leave: .DS_Store, Thumbs.db, desktop.ini, ._*
-  root, empty, split, past, name, utf8, other
+  root, empty, split, past, name, utf8, reserved, other
               a run doesn't carry it, for the cause that migrate gives
   end         the last line: how much there is of all that was met
 

@@ -44,11 +44,13 @@ store_checked words call ground = store_tree call.options.ignored (words.store g
 abbrev pub unbegun : Option (List ℕ) → Seen
 unbegun held = record { failed = 0; held = held; numbers = no_numbers }
 
--- what these options want of a check: where a destination is named, its room is that of the folder at that path
+-- what these options want of a check: where a destination is named, its room is that of the folder at that path; and places are of the
+-- layout, whether one is named or not
 abbrev pub wants_of : CheckOptions → Wants
 wants_of options = record {
   reads = options.reads;
   room = option_map (λ dest. room_in dest options.layout) options.dest;
+  layout = options.layout;
 }
 
 -- a check went over this tree from an output to what that then holds, with what `run` of pt_check promises of it

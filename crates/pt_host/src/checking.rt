@@ -95,6 +95,7 @@ fn wants_of(options: &CheckOptions) -> Wants
     Wants {
         reads: options.reads,
         room,
+        layout: options.layout,
     }
 }
 

@@ -48,7 +48,7 @@ pub struct CheckOptions {
     pub ignored: Ignored,
     /// The path of the folder in which a run would make the root, if one is named. Nothing of it is looked at.
     pub dest: Option<Text>,
-    /// How the places in it would be cut.
+    /// How the places in a destination would be cut, whether one is named or not.
     pub layout: Layout,
 }
 

@@ -4,6 +4,7 @@
 use pt_check::{Check, Devices, Explains, Wants};
 use pt_memory::texts::store;
 use pt_memory::{MemLog, MemSource};
+use pt_name::Layout;
 use pt_tree::MemoryFault;
 use std::alloc::Global;
 
@@ -17,11 +18,12 @@ impl Explains<MemSource> for ItFailed {
     }
 }
 
-// A check: the store's entries, how many calls of it pass, the room of a destination, and the log.
+// A check: the store's entries, how many calls of it pass, the room of a destination, whether its places have tuples, and the log.
 struct Row {
     entries: &'static str,
     calls: Option<u64>,
     room: Option<u64>,
+    has_tuples: bool,
     log: &'static str,
 }
 
@@ -29,6 +31,7 @@ const WHOLE: Row = Row {
     entries: " ab/c/obj/f=abc",
     calls: None,
     room: None,
+    has_tuples: true,
     log: "{\"as\":\"end\",\"bytes\":3,\"files\":1,\"folders\":3,\"largest\":3,\"longest\":24,\"objects\":1,\"sites\":3,\"told\":0}\n",
 };
 
@@ -36,6 +39,7 @@ const TWO_OBJECTS: Row = Row {
     entries: " ab/c/obj/f=abc ab/d/obj/f=de ab/d/obj/g=fg ab/d/obj/h/i=hi",
     calls: None,
     room: None,
+    has_tuples: true,
     log: "{\"as\":\"end\",\"bytes\":9,\"files\":4,\"folders\":6,\"largest\":6,\"longest\":26,\"objects\":2,\"sites\":4,\"told\":0}\n",
 };
 
@@ -43,6 +47,7 @@ const STRAY: Row = Row {
     entries: " ab/c/.DS_Store=x ab/c/obj/f=abc",
     calls: None,
     room: None,
+    has_tuples: true,
     log: "{\"as\":\"split\",\"path\":\"pairtree_root/ab/c\"}\n{\"as\":\"desktop\",\"path\":\"pairtree_root/ab/c/.DS_Store\"}\n{\"as\":\"end\",\"bytes\":4,\"files\":2,\"folders\":3,\"largest\":0,\"longest\":28,\"objects\":0,\"sites\":3,\"told\":2}\n",
 };
 
@@ -50,6 +55,7 @@ const OTHER: Row = Row {
     entries: " ab/c/obj/l?",
     calls: None,
     room: None,
+    has_tuples: true,
     log: "{\"as\":\"other\",\"path\":\"pairtree_root/ab/c/obj/l\"}\n{\"as\":\"end\",\"bytes\":0,\"files\":0,\"folders\":3,\"largest\":0,\"longest\":24,\"objects\":1,\"sites\":3,\"told\":1}\n",
 };
 
@@ -57,6 +63,7 @@ const BAD_NAME: Row = Row {
     entries: " ^z/c/obj/f=",
     calls: None,
     room: None,
+    has_tuples: true,
     log: "{\"as\":\"name\",\"path\":\"pairtree_root/^z/c\"}\n{\"as\":\"end\",\"bytes\":0,\"files\":1,\"folders\":3,\"largest\":0,\"longest\":24,\"objects\":1,\"sites\":3,\"told\":1}\n",
 };
 
@@ -65,6 +72,7 @@ const SPELLING: Row = Row {
     entries: " ^6/1b/obj/f=",
     calls: None,
     room: None,
+    has_tuples: true,
     log: "{\"as\":\"spelling\",\"path\":\"pairtree_root/^6/1b\"}\n{\"as\":\"end\",\"bytes\":0,\"files\":1,\"folders\":3,\"largest\":0,\"longest\":25,\"objects\":1,\"sites\":3,\"told\":1}\n",
 };
 
@@ -72,6 +80,7 @@ const PAST: Row = Row {
     entries: " a/bc/obj/f=",
     calls: None,
     room: None,
+    has_tuples: true,
     log: "{\"as\":\"past\",\"path\":\"pairtree_root/a/bc\"}\n{\"as\":\"end\",\"bytes\":0,\"files\":1,\"folders\":3,\"largest\":0,\"longest\":24,\"objects\":0,\"sites\":2,\"told\":1}\n",
 };
 
@@ -80,6 +89,7 @@ const FAILING: Row = Row {
     entries: " ab/c/obj/f=abc de/f/obj/g=de",
     calls: Some(3),
     room: None,
+    has_tuples: true,
     log: "{\"as\":\"unreadable\",\"path\":\"pairtree_root/ab/c\",\"reason\":\"it failed\"}\n{\"as\":\"unreadable\",\"path\":\"pairtree_root/de\",\"reason\":\"it failed\"}\n{\"as\":\"end\",\"bytes\":0,\"files\":0,\"folders\":3,\"largest\":0,\"longest\":18,\"objects\":0,\"sites\":2,\"told\":2}\n",
 };
 
@@ -88,14 +98,24 @@ const ROOM: Row = Row {
     entries: " ab/c/obj/d/f=abc ab/c/obj/ff=de ad/e/obj/longer/",
     calls: None,
     room: Some(2),
+    has_tuples: true,
     log: "{\"as\":\"place\",\"path\":\"pairtree_root/ab/c/obj/d/f\"}\n{\"as\":\"end\",\"bytes\":5,\"files\":2,\"folders\":8,\"largest\":5,\"longest\":29,\"objects\":2,\"sites\":5,\"told\":1}\n",
+};
+
+// Without tuples the place of `extensions` is the root's own.
+const RESERVED: Row = Row {
+    entries: " ex/te/ns/io/ns/obj/f=",
+    calls: None,
+    room: None,
+    has_tuples: false,
+    log: "{\"as\":\"reserved\",\"path\":\"pairtree_root/ex/te/ns/io/ns\"}\n{\"as\":\"end\",\"bytes\":0,\"files\":1,\"folders\":6,\"largest\":0,\"longest\":34,\"objects\":1,\"sites\":6,\"told\":1}\n",
 };
 
 // The store of no entry lacks nothing; a source of nothing lacks the version's file and `pairtree_root`.
 const EMPTY: &str =
     "{\"as\":\"missing\",\"path\":\"pairtree_version0_1\"}\n{\"as\":\"missing\",\"path\":\"pairtree_root\"}\n{\"as\":\"end\",\"bytes\":0,\"files\":0,\"folders\":0,\"largest\":0,\"longest\":0,\"objects\":0,\"sites\":0,\"told\":2}\n";
 
-const ROWS: [Row; 9] = [
+const ROWS: [Row; 10] = [
     WHOLE,
     TWO_OBJECTS,
     STRAY,
@@ -105,16 +125,30 @@ const ROWS: [Row; 9] = [
     PAST,
     FAILING,
     ROOM,
+    RESERVED,
 ];
 
-// Whether a check that reads each file whole ends well, and its log is this.
-fn tells(alloc: Global, source: MemSource, room: Option<u64>, log: &str) -> bool {
+// What is wanted of a check that reads each file whole.
+fn wants(room: Option<u64>, has_tuples: bool) -> Wants {
+    let layout = match Layout::of(0, 0) {
+        Ok(flat) if !has_tuples => flat,
+        _ => Layout::default_form(),
+    };
+    Wants {
+        reads: true,
+        room,
+        layout,
+    }
+}
+
+// Whether a check of which this is wanted ends well, and its log is this.
+fn tells(alloc: Global, source: MemSource, wants: Wants, log: &str) -> bool {
     let devices = Devices {
         source,
         log: MemLog::new(alloc),
         explains: ItFailed,
     };
-    let mut check = Check::new(alloc, devices, Wants { reads: true, room });
+    let mut check = Check::new(alloc, devices, wants);
     let ran = check.run();
     let (_, held) = check.into_devices();
     ran.is_ok() && held.bytes() == log.as_bytes()
@@ -124,7 +158,7 @@ fn holds(alloc: Global, row: &Row) -> bool {
     match store(alloc, row.entries) {
         Ok(mut source) => {
             source.fuse(row.calls);
-            tells(alloc, source, row.room, row.log)
+            tells(alloc, source, wants(row.room, row.has_tuples), row.log)
         }
         Err(_) => false,
     }
@@ -138,5 +172,12 @@ fn each_trouble_is_told_in_its_place(rt: HostRuntime) {
 
 #[test]
 fn what_a_store_must_have_is_told_as_missing(rt: HostRuntime) {
-    assert!(rt; tells(rt.alloc(), MemSource::new(rt.alloc()), None, EMPTY));
+    assert!(rt;
+        tells(
+            rt.alloc(),
+            MemSource::new(rt.alloc()),
+            wants(None, true),
+            EMPTY
+        )
+    );
 }

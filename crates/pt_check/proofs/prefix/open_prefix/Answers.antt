@@ -1,5 +1,8 @@
 use Rattle.std.proofs.Common.{ap, ◌∙◌}
+use Rattle.std.specs.Prelude.{ℕ, List, Some}
 use Rattle.pt_check.specs.Prefix.{prefix_trouble}
+use Rattle.pt_plan.specs.Store.{prefix_in}
+use Rattle.pt_tree.specs.Forest.{File}
 use Rattle.pt_check.proofs.Blocks.{front_read, is_opened, may_open}
 use Rattle.pt_check.proofs.prefix.open_prefix.Goals as goal
 
@@ -12,4 +15,9 @@ next-requires g c = is_opened (g.S.Source.told c.args.source.now) (g.S.Source.to
 pub returns-clause-trouble : goal.returns-clause-trouble
 returns-clause-trouble g c =
     let front = front_read (g.S.Source.told c.args.source.now) (g.S.Source.told c.open.new.self) c.args.path.now c.next.new.block.items c.requires c.in_ok-open.ensures.opened c.in_ok-next.ensures.block in
-    λ tree told. c.in_ok-prefix_trouble.ensures ∙ ap prefix_trouble (c.as_slice.ensures.value ∙ front tree told)
+    λ tree told. c.in_ok-front_of.ensures.trouble ∙ ap prefix_trouble (c.as_slice.ensures.value ∙ front tree told)
+
+pub returns-clause-prefix : goal.returns-clause-prefix
+returns-clause-prefix g c =
+    let front = front_read (g.S.Source.told c.args.source.now) (g.S.Source.told c.open.new.self) c.args.path.now c.next.new.block.items c.requires c.in_ok-open.ensures.opened c.in_ok-next.ensures.block in
+    λ tree told. c.in_ok-front_of.ensures.prefix ∙ ap (λ (l : List ℕ). prefix_in (Some (File l))) (c.as_slice.ensures.value ∙ front tree told)

@@ -20,7 +20,7 @@ visit-requires g t c κs within =
     let same_tree = begins.tree ∙ c.meet.ensures.keeps.tree ∙ c.loop-i.invariant.keeps.tree in
     let stands = dir_there here (g.met.S.Source.proper c.args.self.now.source) c.args.path.now c.in_ok-entry.entry c.in-Some.listing c.loop-i.i c.in-Some-get.name.now c.in-Some-get.kind
     (tree_by g.S.Source.told c.begin-before.new.self) listed (sym c.in-Some-get.ensures) c.in-Dir.is c.in_ok-entry.ensures same_tree in
-    (omega (arith, c.if-left-eq0.false, c.decreases), (within.0, (within.1.0, (within.1.1, stands))))
+    (omega (arith, c.if-left-eq0.false, c.requires.1.0), (within.0, (within.1.0, (within.1.1, stands))))
 
 pub returns-in_err-visit-clause-keeps : goal.returns-in_err-visit-clause-keeps
 returns-in_err-visit-clause-keeps g t c =
@@ -38,7 +38,7 @@ loop-i-preserved-in-Dir g t c =
     let listed : ForSome (tree_in here) (λ t. listing_at t c.args.path.now ≡ Some c.in-Some.listing) = rw c.in-Some.is at c.in_ok-listing.ensures.listed in
     let same_tree = begins.tree ∙ c.meet.ensures.keeps.tree ∙ c.loop-i.invariant.keeps.tree in
     let same_wants = begins.wants ∙ c.meet.ensures.keeps.wants ∙ c.loop-i.invariant.keeps.wants in
-    let folder : Folder = record { path = c.args.path.now; here = c.args.within; left = c.args.left } in
+    let folder : Folder = record { path = c.args.path.now; prefix = c.args.prefix.now; here = c.args.within; left = c.args.left } in
     let inside_is = c.below-inside.ensures ∙ ap (λ (n : ℕ). below c.args.within c.in_ok-has_object.has_object c.in-Some-get.name.now n) c.in_ok-bytes.ensures.length in
     let meets = subst (λ (w : Wants). Meets w c.in_ok-entry.entry c.args.within (c.in-Some-get.name.now, c.in-Some-get.kind) (seen_by g.S.Source.failed g.L.Log.told c.loop-i.self) (seen_by g.S.Source.failed g.L.Log.told c.meet.new.self)) c.loop-i.invariant.keeps.wants c.in_ok-bytes.ensures.met in
     let start_is = counts c.meet.new.self c.begin-before.new.self _ c.begin-before.ensures.rest c.begin-before.ensures.numbers in
@@ -70,7 +70,7 @@ loop-i-preserved g t c =
     let here = g.S.Source.told c.args.self.now.source in
     let listed : ForSome (tree_in here) (λ t. listing_at t c.args.path.now ≡ Some c.in-Some.listing) = rw c.in-Some.is at c.in_ok-listing.ensures.listed in
     let same_tree = c.meet.ensures.keeps.tree ∙ c.loop-i.invariant.keeps.tree in
-    let folder : Folder = record { path = c.args.path.now; here = c.args.within; left = c.args.left } in
+    let folder : Folder = record { path = c.args.path.now; prefix = c.args.prefix.now; here = c.args.within; left = c.args.left } in
     let meets = subst (λ (w : Wants). Meets w c.in_ok-entry.entry c.args.within (c.in-Some-get.name.now, c.in-Some-get.kind) (seen_by g.S.Source.failed g.L.Log.told c.loop-i.self) (seen_by g.S.Source.failed g.L.Log.told c.meet.new.self)) c.loop-i.invariant.keeps.wants c.in_ok-bytes.ensures.met in
     record {
       keeps = keeps_on g.S.Source.told g.S.Source.keeps g.L.Log.told g.met.S.Source.keeps_on _ _ _ (keeps_on g.S.Source.told g.S.Source.keeps g.L.Log.told g.met.S.Source.keeps_on _ _ _ c.loop-i.invariant.keeps c.meet.ensures.keeps) c.visit_leaf.ensures.keeps;
@@ -85,9 +85,10 @@ pub returns-clause-visited : goal.returns-clause-visited
 returns-clause-visited g t c =
     let here = g.S.Source.told c.args.self.now.source in
     let listed : ForSome (tree_in here) (λ t. listing_at t c.args.path.now ≡ Some c.in-Some.listing) = rw c.in-Some.is at c.in_ok-listing.ensures.listed in
-    let folder : Folder = record { path = c.args.path.now; here = c.args.within; left = c.args.left } in
+    let folder : Folder = record { path = c.args.path.now; prefix = c.args.prefix.now; here = c.args.within; left = c.args.left } in
     let same = c.in_ok-listing.ensures.same (ap is_some c.in-Some.is) in
-    let judged = subst (λ (s : Seen). Judges c.args.path.now c.args.within c.in-Some.listing s (seen_by g.S.Source.failed g.L.Log.told c.judge.new.self)) same c.in_ok-has_object.ensures.judged in
+    let judged = subst (λ (s : Seen). Judges c.list.new.self.wants c.args.path.now c.args.prefix.now c.args.within c.in-Some.listing s (seen_by g.S.Source.failed g.L.Log.told c.judge.new.self)) same c.in_ok-has_object.ensures.judged in
+    let asked = subst (λ (w : Wants). Judges w c.args.path.now c.args.prefix.now c.args.within c.in-Some.listing (seen_by g.S.Source.failed g.L.Log.told c.args.self.now) (seen_by g.S.Source.failed g.L.Log.told c.judge.new.self)) c.list.ensures.keeps.wants judged in
     all_step here c.args.self.now.wants folder c.in_ok-has_object.has_object c.in-Some.listing c.loop-i.i (seen_by g.S.Source.failed g.L.Log.told c.args.self.now)
-    (seen_by g.S.Source.failed g.L.Log.told c.judge.new.self) (seen_by g.S.Source.failed g.L.Log.told c.loop-i.self) listed (omega (arith, c.len-i-end.ensures.len, c.loop-i-test.false)) c.if-left-eq0.false judged
+    (seen_by g.S.Source.failed g.L.Log.told c.judge.new.self) (seen_by g.S.Source.failed g.L.Log.told c.loop-i.self) listed (omega (arith, c.len-i-end.ensures.len, c.loop-i-test.false)) c.if-left-eq0.false asked
     c.in_ok-has_object.ensures.object c.loop-i.invariant.visited

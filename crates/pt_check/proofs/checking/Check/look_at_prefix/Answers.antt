@@ -1,7 +1,7 @@
 use Rattle.std.proofs.Common.{ap, sym, subst, ℕ, List, Some, ◌≡◌, ◌∙◌}
-use Rattle.std.proofs.lemmas.Result.{on_ok_weaker}
+use Rattle.std.proofs.lemmas.Result.{IfOk-weaker}
 use Rattle.std.specs.Option.{ForSome}
-use Rattle.std.specs.Prelude.{IsSome}
+use Rattle.std.specs.Prelude.{IsSome, string_bytes}
 use Rattle.pt_check.specs.Visits.{seen_by, tree_by}
 use Rattle.pt_check.proofs.Stepping.{prefix_step}
 use Rattle.pt_check.proofs.Visiting.{file_at_top}
@@ -25,6 +25,6 @@ returns-in-Some-File-clause-looked g c =
     let named : c.kind_in.result ≡ kind_in c.args.listing.now prefix_file =
     c.kind_in.ensures ∙ ap (λ (n : List ℕ). kind_in c.args.listing.now n) (c.as_bytes.ensures.value ∙ c.text.ensures) in
     let here : kind_in c.args.listing.now prefix_file ≡ Some kind.File = sym named ∙ c.in-Some-File.is ∙ ap Some c.in-Some-File.field-0-is in
-    on_ok_weaker c.read_prefix.result
-    (prefix_step (tree_by g.S.Source.told c.args.self.now) (kind_in c.args.listing.now prefix_file) c.in_ok-path.path
+    IfOk-weaker c.read_prefix.result _ _
+    (λ prefix. prefix_step (tree_by g.S.Source.told c.args.self.now) (kind_in c.args.listing.now prefix_file) c.in_ok-path.path (string_bytes prefix)
     (seen_by g.S.Source.failed g.L.Log.told c.args.self.now) (seen_by g.S.Source.failed g.L.Log.told c.read_prefix.new.self) here c.in_ok-path.ensures) c.read_prefix.ensures.read

@@ -1,7 +1,7 @@
-use Rattle.std.proofs.Common.{ap, subst, is_some, ◌≡◌, ◌∙◌, [], Some}
+use Rattle.std.proofs.Common.{ap, subst, is_some, ℕ, List, ◌≡◌, ◌∙◌, [], Some}
 use Rattle.std.specs.Option.{ForSome}
-use Rattle.std.specs.Prelude.{IfOk, OnOk, Result, Ok, Err}
-use Rattle.pt_check.specs.Visits.{TellsFailure, seen_by, tree_by}
+use Rattle.std.specs.Prelude.{IfOk, OnOk, Result, Ok, Err, string_bytes}
+use Rattle.pt_check.specs.Visits.{Looks, TellsFailure, seen_by, tree_by}
 use Rattle.pt_tree.specs.Forest.{Forest, listing_at}
 use Rattle.pt_tree.specs.Path.{Path}
 use Rattle.pt_check.proofs.Keeping.{keeps_on}
@@ -40,15 +40,17 @@ returns-in-Some-clause-checked g c =
     let first : ForSome (tree_by g.S.Source.told c.args.self.now) (λ t. listing_at t [] ≡ Some c.in-Some.listing) =
     subst (λ (p : Path). ForSome (tree_by g.S.Source.told c.args.self.now) (λ t. listing_at t p ≡ Some c.in-Some.listing)) c.new-top.ensures there in
     let listed = in_same (λ (t : Forest). listing_at t [] ≡ Some c.in-Some.listing) (tree_by g.S.Source.told c.args.self.now) (tree_by g.S.Source.told c.list.new.self) c.list.ensures.keeps.tree first in
+    let looks = subst (λ (p : List ℕ). ForSome (tree_by g.S.Source.told c.look_at_prefix.new.self) (λ t. Looks c.look_at_prefix.new.self.wants p t
+    (seen_by g.S.Source.failed g.L.Log.told c.look_at_prefix.new.self) (seen_by g.S.Source.failed g.L.Log.told c.look.new.self))) c.as_str.ensures.value c.in_ok-look-in-Some.ensures.looked in
     of_answer c.tell_numbers.result _ _ _ c.tell_numbers.ensures.numbers c.tell_numbers.ensures.told
     (λ numbers is held. checked (tree_by g.S.Source.told c.args.self.now) (tree_by g.S.Source.told c.list.new.self) c.args.self.now.wants c.list.new.self.wants numbers
     (seen_by g.S.Source.failed g.L.Log.told c.args.self.now)
     (seen_by g.S.Source.failed g.L.Log.told c.look.new.self) (seen_by g.S.Source.failed g.L.Log.told c.tell_numbers.new.self)
     c.list.ensures.keeps.tree c.list.ensures.keeps.wants
-    (looked_all (tree_by g.S.Source.told c.list.new.self) (tree_by g.S.Source.told c.look_at_prefix.new.self) c.list.new.self.wants c.look_at_prefix.new.self.wants c.in-Some.listing
+    (looked_all (tree_by g.S.Source.told c.list.new.self) (tree_by g.S.Source.told c.look_at_prefix.new.self) c.list.new.self.wants c.look_at_prefix.new.self.wants (string_bytes c.in_ok-prefix-in-Some.prefix) c.in-Some.listing
     (seen_by g.S.Source.failed g.L.Log.told c.args.self.now) (seen_by g.S.Source.failed g.L.Log.told c.list.new.self) (seen_by g.S.Source.failed g.L.Log.told c.look_at_prefix.new.self)
     (seen_by g.S.Source.failed g.L.Log.told c.look.new.self) listed (c.in_ok-listing.ensures.same (ap is_some c.in-Some.is))
-    c.look_at_prefix.ensures.keeps.tree c.look_at_prefix.ensures.keeps.wants c.in_ok-look_at_prefix-in-Some.ensures.looked c.in_ok-look-in-Some.ensures.looked) is
+    c.look_at_prefix.ensures.keeps.tree c.look_at_prefix.ensures.keeps.wants c.in_ok-prefix-in-Some.ensures.looked looks) is
     (ap g.S.Source.failed c.tell_numbers.ensures.source) c.tell_numbers.ensures.counted held)
 
 pub returns-in-Some-clause-keeps : goal.returns-in-Some-clause-keeps

@@ -1,0 +1,40 @@
+use Rattle.std.proofs.Common.{ap, subst, Bool, ◌≡◌, ◌∙◌}
+use Rattle.std.specs.Prelude.{Option}
+use Rattle.pt_check.specs.Visits.{Seen, TellsIf, finding_of, folder_trouble, has_object, reserved_trouble, seen_by, with_folder}
+use Rattle.pt_check.specs.declared.trouble.Trouble.{Trouble}
+use Rattle.pt_name.specs.Tuples.{Tuples}
+use Rattle.pt_walk.specs.declared.site.Finding.{Finding}
+use Rattle.pt_check.proofs.Keeping.{ends_on, keeps_on, recounted}
+use Rattle.pt_check.proofs.checking.Check.judge.Goals as goal
+
+pub returns-in_err-tell_if-2-clause-keeps : goal.returns-in_err-tell_if-2-clause-keeps
+returns-in_err-tell_if-2-clause-keeps g c =
+    let on = keeps_on g.S.Source.told g.S.Source.keeps g.L.Log.told g.met.S.Source.keeps_on in
+    let counts = ends_on g.S.Source.told g.S.Source.keeps g.L.Log.told g.met.S.Source.is_kept c.args.self.now c.count.new.self _ c.count.ensures.rest in
+    on _ _ _ (on _ _ _ counts c.tell_if.ensures.keeps) c.tell_if-2.ensures.keeps
+
+pub returns-clause-judged : goal.returns-clause-judged
+returns-clause-judged g c =
+    let path = c.args.path.now in
+    let what = finding_of c.args.within c.args.listing.now in
+    let a = seen_by g.S.Source.failed g.L.Log.told c.args.self.now in
+    let n = seen_by g.S.Source.failed g.L.Log.told c.count.new.self in
+    let m = seen_by g.S.Source.failed g.L.Log.told c.tell_if.new.self in
+    let b = seen_by g.S.Source.failed g.L.Log.told c.tell_if-2.new.self in
+    let holds = c.has_object-has_object.ensures ∙ ap has_object c.finding_of-finding.ensures in
+    let counts = recounted g.S.Source.failed g.L.Log.told c.args.self.now c.count.new.self _ c.count.ensures.rest (c.count.ensures.numbers ∙ ap (λ (h : Bool). with_folder c.args.within h a.numbers) holds) in
+    let layout : c.count.new.self.wants.layout ≡ c.args.self.now.wants.layout = ap (λ s. s.wants.layout) c.count.ensures.rest in
+    let first = c.in_ok-trouble.ensures ∙ ap (λ (f : Finding). folder_trouble c.args.within f path) c.finding_of-finding.ensures in
+    let second = c.in_ok-trouble-2.ensures ∙ ap (λ (f : Finding). reserved_trouble c.count.new.self.wants.layout c.args.prefix.now f path) c.finding_of-finding.ensures
+    ∙ ap (λ (l : Tuples). reserved_trouble l c.args.prefix.now what path) layout in
+    let tells : TellsIf path (folder_trouble c.args.within what path) n m = subst (λ (o : Option Trouble). TellsIf path o n m) first c.in_ok-tell_if.ensures.told in (
+      m,
+      subst (λ (s : Seen). TellsIf path (folder_trouble c.args.within what path) s m) counts tells,
+      subst (λ (o : Option Trouble). TellsIf path o m b) second c.in_ok-tell_if-2.ensures.told,
+    )
+
+pub returns-clause-keeps : goal.returns-clause-keeps
+returns-clause-keeps g c =
+    let on = keeps_on g.S.Source.told g.S.Source.keeps g.L.Log.told g.met.S.Source.keeps_on in
+    let counts = ends_on g.S.Source.told g.S.Source.keeps g.L.Log.told g.met.S.Source.is_kept c.args.self.now c.count.new.self _ c.count.ensures.rest in
+    on _ _ _ (on _ _ _ counts c.tell_if.ensures.keeps) c.tell_if-2.ensures.keeps
