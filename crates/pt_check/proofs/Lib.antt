@@ -1,4 +1,5 @@
 mod Keeping
+mod Kept
 mod NamesRead
 pub mod LineTexts
 mod Blocks

@@ -130,3 +130,13 @@ abbrev pub NoRunSkipsForLimit : Type 0
 NoRunSkipsForLimit =
     (wants : Wants) (job : Job) (tree : Forest) → wants.reads ≡ true → job.limits ≡ greatest_limits
     → IsCleanStore wants tree → Each (IsNotSkippedForLimit job) (items job tree)
+
+-- an item isn't passed over since the place of its identifier is the storage root's own
+abbrev pub IsNotSkippedForReserved : WalkItem → Type 0
+IsNotSkippedForReserved item = item.verdict ≢ Skip cause.Reserved
+
+-- no run with the tuples that a check was told passes anything over for that cause in a store of which there is nothing to tell
+abbrev pub NoRunSkipsForReserved : Type 0
+NoRunSkipsForReserved =
+    (wants : Wants) (job : Job) (tree : Forest) → wants.layout ≡ job.tuples → IsCleanStore wants tree
+    → Each IsNotSkippedForReserved (items job tree)

@@ -1,5 +1,5 @@
 //! What follows of a check from its promises. Each law is the contract of a function that does nothing.
-ghost use Rattle.pt_check.specs.Clean.{NoRunSkipsForLimit, NoRunSkipsForOther, QuietCheckMeansCleanStore};
+ghost use Rattle.pt_check.specs.Clean.{NoRunSkipsForLimit, NoRunSkipsForOther, NoRunSkipsForReserved, QuietCheckMeansCleanStore};
 
 /// Where a check ended well and told nothing there is nothing to tell of its store, as its source told it; and no call of that failed.
 pub fn quiet_check_means_clean_store()
@@ -14,4 +14,9 @@ pub fn no_run_skips_for_other()
 /// No run with the limits of a check passes anything over for `limit` in a store of which there is nothing to tell, its files read whole.
 pub fn no_run_skips_for_limit()
     ensures { NoRunSkipsForLimit }
+{}
+
+/// No run with the tuples of a check passes anything over for `reserved` in a store of which there is nothing to tell.
+pub fn no_run_skips_for_reserved()
+    ensures { NoRunSkipsForReserved }
 {}

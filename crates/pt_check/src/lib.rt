@@ -18,7 +18,8 @@
 //!   line has them, and they are the answer.
 //! - Where it told nothing there is nothing to tell of the store, and no call of the source failed (`QuietCheckMeansCleanStore`). No run over
 //!   such a store passes an object over for `other` (`NoRunSkipsForOther`). None with the greatest limits of pt_walk, which the check holds
-//!   things against, passes anything over for `limit` where the files were read whole (`NoRunSkipsForLimit`).
+//!   things against, passes anything over for `limit` where the files were read whole (`NoRunSkipsForLimit`), and none with the tuples of the
+//!   check's layout anything for `reserved` (`NoRunSkipsForReserved`).
 //! - It answers `Log` only where the log's count of failures rose, `Memory` only where it stayed, and no other fault (`LogFailsAs`).
 //! - Whatever it answers, the source tells the same tree as before, and what stood in the log stands (`Keeps`).
 //!
