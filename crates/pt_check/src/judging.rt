@@ -1,8 +1,10 @@
 //! What is told of a folder and of an entry, by what a check sees of them.
 #![tactic(auto, using(crate::proofs::NamesRead::names_read))]
 
-ghost use Rattle.std.specs.Prelude.{◌≡◌, drop, IfOk};
+ghost use Rattle.std.specs.Prelude.{◌≡◌, ◌<◌, drop, length, IfOk};
 ghost use Rattle.std.specs.List.{concat};
+ghost use Rattle.pt_name.specs.Identifying.{identification_of};
+ghost use Rattle.pt_name.specs.Share.{whole};
 ghost use Rattle.pt_check.specs.Visits.{count_trouble as count_trouble_of, entry_trouble as entry_trouble_of, finding_of as finding_of_items, folder_trouble as folder_trouble_of, has_object as has_object_in, is_long as is_long_path, is_of_desktop as is_of_desktop_name, name_trouble as name_trouble_of, reserved_at as reserved_at_place, reserved_by as reserved_by_answer, reserved_trouble as reserved_trouble_of, room_trouble as room_trouble_of, size_trouble as size_trouble_of, spelling_trouble as spelling_trouble_of, trouble_of_names};
 
 use crate::{Trouble, Within};
@@ -52,10 +54,24 @@ fn identifier_trouble(alloc: Global, path: &NamePath) -> Result<Option<Trouble>,
     ensures { IfOk result (λ trouble. trouble
         ≡ trouble_of_names (concat (drop 1 path.now))) }
 {
+    let text = text_below(alloc, path)?;
+    text_trouble(alloc, text.as_slice())
+}
+
+// The names of a path behind the first, joined by nothing.
+fn text_below(alloc: Global, path: &NamePath) -> Result<Vec<u8>, MemoryFault>
+    ensures { IfOk result (λ text. text.items ≡ concat (drop 1 path.now)) }
+{
     let below = NamePath::new(alloc).followed_by(names_below(path))?;
-    let text = concatenate(alloc, &below)?;
-    match unclean(alloc, &text) {
-        Ok(id) => spelling_trouble(alloc, &text, id.as_str()),
+    concatenate(alloc, &below)
+}
+
+// What is told of the text that the names of a site join to.
+fn text_trouble(alloc: Global, text: &[u8]) -> Result<Option<Trouble>, MemoryFault>
+    ensures { IfOk result (λ trouble. trouble ≡ trouble_of_names text.now) }
+{
+    match unclean(alloc, text) {
+        Ok(id) => spelling_trouble(alloc, text, id.as_str()),
         Err(UncleanFault::Malformed) => Ok(Some(Trouble::Skipped(Cause::Name))),
         Err(UncleanFault::NotUtf8) => Ok(Some(Trouble::Skipped(Cause::Utf8))),
         Err(UncleanFault::Memory) => Err(MemoryFault::Memory),
@@ -104,13 +120,28 @@ fn reserved_at(
         return Ok(None);
     }
     let below = NamePath::new(path.allocator()).followed_by(names)?;
-    let said = identify(&below, prefix, layout, &Share::whole())?;
-    Ok(reserved_by(&said))
+    reserved_below(layout, prefix, &below)
+}
+
+// The same of the path of a site below `pairtree_root`.
+fn reserved_below(
+    layout: Layout,
+    prefix: &str,
+    below: &NamePath,
+) -> Result<Option<Trouble>, MemoryFault>
+    requires { 0 < length below.now }
+    ensures { IfOk result (λ trouble. trouble
+        ≡ reserved_by_answer (identification_of layout whole prefix.now below.now)) }
+{
+    match identify(below, prefix, layout, &Share::whole()) {
+        Ok(said) => Ok(reserved_by(said)),
+        Err(fault) => Err(fault),
+    }
 }
 
 // What is told of an object of which this is said.
-fn reserved_by(said: &Identification) -> Option<Trouble>
-    ensures { result ≡ reserved_by_answer said.now }
+fn reserved_by(said: Identification) -> Option<Trouble>
+    ensures { result ≡ reserved_by_answer said }
 {
     match said {
         Identification::Refused(Refusal::Reserved) => Some(Trouble::Skipped(Cause::Reserved)),
