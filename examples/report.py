@@ -1,5 +1,5 @@
 #!/usr/bin/env python3
-"""Makes one HTML page of logs of pairtree2ocfl: of runs, rehearsals and audits. Python 3.6 or later, and nothing else.
+"""Makes one HTML page of logs and events of pairtree2ocfl: of runs, rehearsals and audits. Python 3.6 or later, and nothing else.
 
 The page has no script and loads nothing, so it can be mailed, printed and kept. It has the numbers of objects, files and bytes, the lines
 by kind, the skips by cause with what to do about each, the sizes of the objects, each folder that was skipped, what an audit found absent
@@ -12,13 +12,17 @@ that the last log that names them skipped, and that no log has as done, present 
 absent. Leave the logs of rehearsals out there, whose done lines nobody can tell from a run's. The other numbers are added up over all logs, so what
 two logs name counts twice.
 
-`--csv` writes the lines as a table (RFC 4180), without the end lines. A spreadsheet may take a value that begins with = + - or @ for a formula.
+What `--event FILE` recorded may stand among the logs, in any order. A file is taken for an event by what it holds, not by its name: one JSON object
+with the keys of an event. The page has a row for each: what was done, on which folders, with which options, when, and how it ended. What one doesn't
+tell is left empty there.
+
+`--csv` writes the lines as a table (RFC 4180), without the end lines and the events. A spreadsheet may take a value that begins with = + - or @ for a formula.
 
 Of each line of the log at hand 12 bytes are held in memory, and then, of several logs, 8 of each line of all; to that come the lists. A log is read
-once, and up to twice more where there are twins or several logs. So it has to be a file, and no pipe.
+once, and up to twice more where there are twins or several logs. So it has to be a file, and no pipe. Of events one at a time is held.
 
 The status is 0 where the page or the table was written; 1 where it was, but a line is none of a log, which standard error names by file and number;
-2 where the words are wrong, a log can't be read, or the output can't be written or is one of the logs.
+2 where the words are wrong, a log or an event can't be read, or the output can't be written or is one of these.
 """
 
 import argparse
@@ -52,6 +56,9 @@ KEYS = {
 # The keys of an end line, and of which log it is.
 AUDIT = ("absent", "differs", "same", "skip")
 ENDS = {("done", "present", "skip"): "run", AUDIT: "audit", (*AUDIT, "extra", "stray"): "audit"}
+# The keys by which an event is told from a log, and how many bytes one has at most: about as many as a command line may have.
+EVENT = {"as", "begin", "dest", "options", "source"}
+LONGEST = 1 << 22
 COLUMNS = ("as", "at", "id", "to", "files", "bytes", "empty", "cause", "path", "why")
 NUMBERS = ("bytes", "empty", "files")
 TEXT = r'"([^"\\\x00-\x1f]*)"'
@@ -130,6 +137,21 @@ def entries(path, refuse=lambda number, line: None, wanted=None):
                 refuse(number, line)
             else:
                 yield entry
+
+
+def event_in(path):
+    """The event that a file is: one JSON object with the keys of one, and nothing behind it. `None` of a log, of which a line or two are read."""
+    with open(path, "rb") as file:
+        text = file.readline(LONGEST)
+        # What another program wrote anew may go on in the next line; a line of a log doesn't.
+        if not text.rstrip().endswith(b"}"):
+            text += file.read(LONGEST - len(text))
+        try:
+            event = json.loads(text.decode())
+        except (ValueError, RecursionError):
+            return None
+        is_event = isinstance(event, dict) and EVENT <= set(event) and not any(line.strip() for line in file)
+        return event if is_event else None
 
 
 def may_name(line, twins):
@@ -257,10 +279,10 @@ class Log:
 
 
 class Report:
-    """What is on the page. The logs are read up to three times, so that little has to be held."""
+    """What is on the page. The logs are read up to three times, and the events twice, so that little has to be held."""
 
-    def __init__(self, paths, most):
-        self.logs, self.most = [Log(path) for path in paths], most
+    def __init__(self, paths, recorded, most):
+        self.logs, self.recorded, self.most = [Log(path) for path in paths], recorded, most
         self.skipped, self.unlike, self.lacking, self.lost, self.twins, self.missing = (Rows(most) for _ in range(6))
         twins = Keys(set().union(*parts) for parts in zip(*[self.read(log).parts for log in self.logs]))
         sites = Sites() if len(paths) > 1 and any(log.kinds["skip"] or log.kinds["absent"] for log in self.logs) else None
@@ -336,6 +358,11 @@ class Report:
             self.missing.add(*row)
         self.missing.count = len(missing)
 
+    def events(self):
+        """The path of each event and what it tells: nothing, where its file was changed since."""
+        for path in self.recorded:
+            yield path, event_in(path) or {}
+
     def total(self, name):
         """The numbers of this name, added up over all logs."""
         return sum((getattr(log, name) for log in self.logs), collections.Counter())
@@ -368,14 +395,14 @@ def status_of(logs):
 
 
 def check(paths, output):
-    """Sees to it that each log is a file, and none is the output."""
+    """Sees to it that each log and each event is a file, and none is the output."""
     out = os.stat(output) if output and os.path.exists(output) else None if output else os.fstat(1)
     for path in paths:
         found = os.stat(path)
         if not stat.S_ISREG(found.st_mode):
             raise Refused(f"{shown(path)}: it is no file")
         if out and os.path.samestat(found, out):
-            raise Refused(f"{shown(path)}: it is a log, and the output too")
+            raise Refused(f"{shown(path)}: it is {'an event' if event_in(path) else 'a log'}, and the output too")
 
 
 def guide_from(folder):
@@ -398,7 +425,7 @@ def count(text):
 def parser():
     """The words that the script takes."""
     whole = argparse.ArgumentParser(prog="report.py", description=__doc__, formatter_class=argparse.RawDescriptionHelpFormatter, allow_abbrev=False)
-    whole.add_argument("logs", metavar="LOG", nargs="+", help="a log of a run, a rehearsal or an audit")
+    whole.add_argument("logs", metavar="LOG", nargs="+", help="a log of a run, a rehearsal or an audit, or its event")
     whole.add_argument("-o", "--output", metavar="FILE", help="where the page or the table goes; to standard output unless given")
     whole.add_argument("--csv", action="store_true", help="write the lines as a table in place of the page")
     whole.add_argument("--guide", metavar="URL", help="where the guide is, for the links to it; unless given, what came with this script")
@@ -410,8 +437,10 @@ def run(words):
     """Does what the words ask for, and gives the status."""
     asked = parser().parse_args(words)
     check(asked.logs, asked.output)
-    report = None if asked.csv else Report(asked.logs, asked.limit)
-    logs = report.logs if report else [Log(path) for path in asked.logs]
+    told = [(path, bool(event_in(path))) for path in asked.logs]
+    paths, recorded = ([path for path, is_event in told if is_event == wanted] for wanted in (False, True))
+    report = None if asked.csv else Report(paths, recorded, asked.limit)
+    logs = report.logs if report else [Log(path) for path in paths]
     how = {"encoding": "utf-8", "errors": "backslashreplace", "newline": "", "closefd": bool(asked.output)}
     with open(asked.output or 1, "w", **how) as out:
         if report:

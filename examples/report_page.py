@@ -1,8 +1,9 @@
 """The page that report.py writes: its style, its words and its sections.
 
-Whatever comes from a log, or is the name of one, goes through `told`, and so is escaped."""
+Whatever comes from a log or an event, or is the name of one, goes through `told`, and so is escaped."""
 
 import html
+import shlex
 
 MEANINGS = {
     "done": "The object was carried.",
@@ -68,6 +69,7 @@ tfoot { font-weight: 600; }
 #numbers td:first-child { min-width: 8rem; }
 #numbers .n, #kinds .n, #causes .n, #whys .n, #sizes .n { width: 1%; }
 #kinds td:first-child, #causes td:first-child, #whys td:first-child, #sizes td:first-child { width: 1%; white-space: nowrap; }
+@media screen { #events td { min-width: 6rem; } #events td:nth-child(5) { min-width: 22rem; } }
 .bar { width: 30%; min-width: 7rem; }
 #sizes .bar { width: 70%; }
 .bar i { display: block; height: .85rem; margin-top: .27rem; min-width: 1px; background: var(--bar); -webkit-print-color-adjust: exact; print-color-adjust: exact; }
@@ -83,7 +85,7 @@ footer { margin-top: 3rem; font-size: .9rem; }
 <h1>Report of pairtree2ocfl</h1>
 """
 TAIL = r"""<footer>
-<p>Folders are named from below <code>pairtree_root</code>. In them and in identifiers, what can't be seen or turns the direction of the text is shown
+<p>Folders of objects are named from below <code>pairtree_root</code>. What can't be seen or turns the direction of a text is shown everywhere
 as <code>\u{..}</code> with its number in hex, and <code>\</code> is doubled.</p>
 </footer>
 </body>
@@ -117,6 +119,41 @@ def power_of_ten(digits):
     return f"{10 ** ((digits - 1) % 3)} {['B', 'kB', 'MB', 'GB', 'TB', 'PB', 'EB'][(digits - 1) // 3]}"
 
 
+def member(entry, name, kind=str):
+    """A member of an event where it is there and of this kind; else an empty one."""
+    value = entry.get(name)
+    return value if isinstance(value, kind) else kind()
+
+
+def number(value):
+    """A number of an event, or nothing where it is none."""
+    return f"{value:,}" if type(value) is int and value >= 0 else ""
+
+
+def as_words(options):
+    """The options of an event as words of a command: a flag that is set by its name alone, and one of several values once for each."""
+    words = []
+    for name, value in options.items():
+        for it in value if isinstance(value, list) else [value]:
+            if it is True:
+                words.append(f"--{name}")
+            elif isinstance(it, str) or type(it) is int:
+                words.append(f"--{name} {shlex.quote(str(it))}")
+    return " ".join(words)
+
+
+def as_counts(lines):
+    """The lines of an event, by kind."""
+    return ", ".join(f"{number(count)} {kind}" for kind, count in lines.items() if number(count))
+
+
+def as_fault(fault):
+    """The fault of an event as standard error tells it, with the path and the reason where it has them."""
+    what, text, path, reason = number(fault.get("number")), *(member(fault, key) for key in ("text", "path", "reason"))
+    told_in = (": ".join(filter(None, pair)) for pair in ((what and f"fault {what}", text), (path, reason)))
+    return "; ".join(filter(None, told_in))
+
+
 def cells(*texts):
     return [f"<td>{text}</td>" for text in texts]
 
@@ -148,15 +185,17 @@ class Page:
         self.kinds, self.causes, self.whys, self.sizes = map(report.total, ("kinds", "causes", "whys", "sizes"))
 
     def pieces(self):
-        names, more = [told(log.path) for log in self.report.logs[:10]], len(self.report.logs) - 10
+        paths = [log.path for log in self.report.logs] + self.report.recorded
+        more = f" and {len(paths) - 10:,} more" if len(paths) > 10 else ""
         yield HEAD
-        yield f'<p class="soft">Of {", ".join(names)}{f" and {more:,} more logs" if more > 0 else ""}.</p>\n'
+        yield f'<p class="soft">Of {", ".join(map(told, paths[:10]))}{more}.</p>\n'
         for section in self.sections():
             yield from section
         yield TAIL
 
     def sections(self):
-        yield from (self.tiles(), self.notes(), self.by_log(), self.missing(), self.by_kind(), self.by_cause(), self.by_why(), self.by_size())
+        yield from (self.tiles(), self.notes(), self.by_log()) if self.report.logs else ()
+        yield from (self.events(), self.missing(), self.by_kind(), self.by_cause(), self.by_why(), self.by_size())
         yield from (self.skipped(), self.unlike(), self.lacking(), self.twins(), self.lost())
 
     def link(self, heading, text):
@@ -212,6 +251,25 @@ class Page:
             words = [word for word in meanings if self.report.total(name)[word]]
             rows = (cells(told(log.path)) + numbers(*(getattr(log, name)[word] for word in words)) for log in self.report.logs)
             yield from table(f"{name}-by-log", [title, *("#" + word for word in words)], rows) if words else ()
+
+    def events(self):
+        """A row for each event: what was done, and how it ended."""
+        if self.report.recorded:
+            stopped, fault = self.link("stopping-it", "stopped"), self.link("after-a-fault", "What to do after a fault.")
+            yield f"<h2>Events: {len(self.report.recorded):,}</h2>\n<p>What <code>--event</code> recorded. Without an end it was {stopped}, "
+            yield f"is still under way, or couldn't record its end. {fault}</p>\n"
+            heads = ["Event", "What", "SOURCE", "DEST", "Options", "Begin", "End", "#Status", "Lines", "#Files", "#Bytes", "Fault"]
+            yield from table("events", heads, (self.event(*it) for it in self.report.events()))
+
+    @staticmethod
+    def event(path, event):
+        """The cells of an event. What is unknown in it is left empty."""
+        folders = [member(member(event, key, dict), "given") for key in ("source", "dest")]
+        end = told(member(event, "end")) if "end" in event or not event else "no end"
+        counted = [f'<td class="n">{number(event.get(key))}</td>' for key in ("status", "files", "bytes")]
+        begun = cells(*map(told, (path, member(event, "as"), *folders, as_words(member(event, "options", dict)), member(event, "begin"))), end)
+        lines, fault = (cells(told(text)) for text in (as_counts(member(event, "lines", dict)), as_fault(member(event, "fault", dict))))
+        return begun + counted[:1] + lines + counted[1:] + fault
 
     def counted(self, title, name, heads, of, meanings):
         """A section with a bar for each of these words that a log has."""

@@ -1,4 +1,5 @@
-"""Tests of examples/report.py: its page and its table, over logs that the tests write and over those of the program, held against values worked out by hand."""
+"""Tests of examples/report.py: its page and its table, over logs and events that the tests write and over those of the program, held against values
+worked out by hand."""
 
 import ast
 import collections
@@ -13,6 +14,7 @@ import sys
 import documents
 import stores
 from alone import Alone, differs, run
+from running import MEANT
 from stores import DIR, Link, build, done, lines, present, skip, whole_log
 
 TOP = os.path.dirname(os.path.dirname(os.path.dirname(os.path.abspath(__file__))))
@@ -197,6 +199,102 @@ def of_the_program(program, folder):
     return faults + differs(causes=(found.table("causes-by-log"), causes))
 
 
+def recorded(program, folder, name, *words, dest="d"):
+    """The log of a command, with its event in a file beside it; gives the event."""
+    done = subprocess.run([program, *words, "--event", f"{name}.json", "s", dest], cwd=folder, capture_output=True, timeout=120)
+    build(folder, {f"{name}.log": done.stdout})
+    with open(f"{folder}/{name}.json", "rb") as file:
+        return json.load(file)
+
+
+OF_AUDIT = "0 absent, 0 differs, 0 extra, 1 same, 0 skip, 0 stray"
+
+
+def row_of(name, event, words, *ends):
+    """The row of an event over the folder s: its options as words, and how it ended."""
+    return [name, event["as"], "s", event["dest"]["given"], words, event["begin"], event.get("end", "no end"), *ends]
+
+
+def of_events(program, folder):
+    """Events stand among logs in any order, whatever their names, a row each; the logs are told as without them, and so is the table."""
+    build(folder, {"left/staging": DIR})
+    chosen = ("migrate", *MEANT[:2], "--name", "Ada <b>", "--only", "ab", "--only", "it's")
+    begun = ["--created 2024-05-01T12:00:00Z --digest sha512", "--interval 10 --message 'Migrated from Pairtree' --name"]
+    ended = "--progress auto --share 1/1 --tuple-size 3 --tuples 3"
+    named = f"""{begun[1]} 'Ada <b>' --only ab --only 'it'"'"'s' {ended}"""
+    rehearsal, made = recorded(program, folder, "rehearsal", *chosen, "--dry-run"), recorded(program, folder, "run", *chosen)
+    audit, fault = recorded(program, folder, "audit", "audit", "--extra"), recorded(program, folder, "fault", "migrate", *MEANT, dest="left")
+    killed = {key: it for key, it in made.items() if key not in ("bytes", "end", "files", "lines", "skips", "status")}
+    build(folder, {"killed.log": stores.text_of(killed) + b"\n"})
+    found, said = page(folder, "killed.log", "rehearsal.log", "audit.json", "run.log", "run.json", "audit.log", "fault.json", "rehearsal.json")
+    plain, _ = page(folder, "rehearsal.log", "run.log", "audit.log")
+    staging = "fault 7: a staging directory is left in the destination; left/staging: it stands there already"
+    rows = [
+        row_of("killed.log", killed, f"{begun[0]} --event run.json {named}", "", "", "", "", ""),
+        row_of("audit.json", audit, f"--digest sha512 --event audit.json --extra --interval 10 {ended}", "0", OF_AUDIT, "1", "3", ""),
+        row_of("run.json", made, f"{begun[0]} --event run.json {named}", "0", "1 done, 0 present, 0 skip", "1", "3", ""),
+        row_of("fault.json", fault, f"{begun[0]} --event fault.json {begun[1]} Ada {ended}", "3", "0 done, 0 present, 0 skip", "0", "0", staging),
+        row_of("rehearsal.json", rehearsal, f"{begun[0]} --dry-run --event rehearsal.json {named}", "0", "1 done, 0 present, 0 skip", "1", "3", ""),
+    ]
+    faults = differs(said=(said, (0, "")), events=(found.table("events"), rows), heading=("Events: 5" in found.headings, True))
+    faults += differs(rest=({**found.tables, "events": None}, {**plain.tables, "events": None}), tops=((found.tiles, found.notes), (plain.tiles, plain.notes)))
+    tables = [report(folder, "--csv", "run.log", *names, "audit.log") for names in (["run.json", "killed.log"], [])]
+    faults += differs(table=(tables[0], tables[1]), status=(tables[0][0], 0))
+    single, said = page(folder, "run.json")
+    return faults + differs(single=((said, list(single.tables), single.headings, single.tiles, single.notes), ((0, ""), ["events"], ["Events: 1"], [], [])))
+
+
+EVENT = {"as": "run", "begin": "2024-05-01T12:00:00Z", "dest": {"given": "d"}, "options": {}, "source": {"given": "s"}}
+
+# What an event has otherwise than the least one, and its cells from the second on: what is unknown is empty.
+EVENTS = [
+    ({}, ["run", "s", "d", "", "2024-05-01T12:00:00Z", "no end", "", "", "", "", ""]),
+    (
+        {"as": 1, "begin": None, "dest": "d", "options": [], "source": {"given": 1}}
+        | {"end": 5, "status": True, "lines": [], "files": -1, "bytes": 1.5, "fault": "x"},
+        [""] * 11,
+    ),
+    (
+        {"as": "more", "dest": {}, "end": "", "status": 9, "lines": {"done": 1000, "skip": "2", "new": 3}, "files": 1234, "bytes": 10**20, "fault": {}},
+        ["more", "s", "", "", "2024-05-01T12:00:00Z", "", "9", "1,000 done, 3 new", "1,234", "100,000,000,000,000,000,000", ""],
+    ),
+    (
+        {"options": {"a": None, "b": {"x": 1}, "c": [], "d": "", "e": ["x y", 2], "f": False, "g": True}, "fault": {"number": 4, "text": "out of memory"}},
+        ["run", "s", "d", "--d '' --e 'x y' --e 2 --g", "2024-05-01T12:00:00Z", "no end", "", "", "", "", "fault 4: out of memory"],
+    ),
+    (
+        {"as": "<b>", "begin": "\u202e", "source": {"given": "\ud800\n"}, "lines": {"<i>": 1}, "options": {"<p>": "\\"}}
+        | {"fault": {"path": "<s>", "reason": "é"}, "more": 1},
+        ["<b>", "\\u{d800}\\u{a}", "d", "--<p> '\\\\'", "\\u{202e}", "no end", "", "1 <i>", "", "", "<s>: é"],
+    ),
+]
+
+
+def unknown_in_events(program, folder):
+    """What an event doesn't tell, or tells otherwise, is an empty cell; and its texts are texts on the page. Its JSON may be set in any form."""
+    faults = []
+    for change, cells in EVENTS:
+        texts = [json.dumps({**EVENT, **change}, indent=indent).encode() + end for indent, end in ((None, b""), (1, b"\n"), (None, b"\r\n\n"))]
+        names = logs(folder, **{f"e{number}": text for number, text in enumerate([*texts, b"\n" + texts[0]])})
+        found, said = page(folder, *names)
+        raw = {it for it in report(folder, *names)[1].decode() if not it.isprintable() and it != "\n"}
+        faults += differs(**{f"{change}": ((said, found.table("events"), raw), ((0, ""), [[name, *cells] for name in names], set()))})
+        faults += differs(tags=({tag for tag, _ in found.tags} & {"s", "script"}, set()))
+    return faults
+
+
+def no_events(program, folder):
+    """What lacks a key of an event, isn't one object or has more behind it is none: its lines are those of a log, or are named."""
+    text, faults = json.dumps(EVENT).encode(), []
+    others = [json.dumps({key: it for key, it in EVENT.items() if key != left}).encode() for left in EVENT]
+    others += [text + behind for behind in (b"\n" + text, b"\n" + whole_log(*RUN), b" x", b",")] + [b"[" + text + b"]", b"[" * 5000, b"\xff" + text]
+    for other in others:
+        found, said = page(folder, *logs(folder, no=other))
+        faults += differs(**{f"{other[:90]}": ((said[0], "no.log:1: it is no line of a log" in said[1], "events" in found.tables), (1, True, False))})
+    found, said = page(folder, *logs(folder, behind=whole_log(*RUN) + text + b"\n"))
+    return faults + differs(behind=((said, "events" in found.tables), ((1, f"report.py: behind.log:{len(RUN) + 2}: it is no line of a log\n"), False)))
+
+
 def cut_short(program, folder):
     """A log without an end line, with lines behind it, or with a part of a line at its end is told to be cut short; one whose counts are others, too."""
     line = stores.text_of(done("aa/obj", "aa", {"f": b"1"}))
@@ -359,7 +457,8 @@ def escaped(program, folder):
 
 def alone(program, folder):
     """The page loads nothing and has no script: it has links to the guide alone."""
-    found, _ = page(folder, *logs(folder, run=whole_log(*RUN)), "--guide", 'https://example.org/guide?a="&b')
+    names = logs(folder, run=whole_log(*RUN), event=stores.text_of(EVENT))
+    found, _ = page(folder, *names, "--guide", 'https://example.org/guide?a="&b')
     kinds = {(tag, name) for tag, attributes in found.tags for name in attributes if name in ("src", "href", "action", "data") or name.startswith("on")}
     policy = [attributes["content"] for tag, attributes in found.tags if tag == "meta" and attributes.get("http-equiv") == "Content-Security-Policy"]
     faults = differs(kinds=(kinds, {("a", "href")}), policy=(policy, ["default-src 'none'; style-src 'unsafe-inline'"]))
@@ -369,7 +468,7 @@ def alone(program, folder):
 def guided(program, folder):
     """Each link leads to a heading of the guide that is there, from where the page stands; also where the script is installed."""
     entries = [skip(f"s{number}", cause) for number, cause in enumerate(CAUSES)] + [sized("a/obj", "a", 1, empty=1), present("b/obj", "a"), absent("c/obj", "c")]
-    logs(folder, run=lines(*entries))
+    logs(folder, run=lines(*entries), event=stores.text_of(EVENT))
     os.makedirs(f"{folder}/some where/else")
     subprocess.run(["sh", f"{TOP}/tools/install.sh", program, f"{folder}/root/usr"], check=True, capture_output=True, timeout=120)
     subprocess.run(["sh", f"{TOP}/tools/install.sh", program, f"{folder}/archive", "."], check=True, capture_output=True, timeout=120)
@@ -377,7 +476,7 @@ def guided(program, folder):
     installed, archived = (f"{folder}/{name}/share/pairtree2ocfl/report.py" for name in ("root/usr", "archive"))
     guides = {SCRIPT: f"{TOP}/docs", installed: f"{folder}/root/usr/share/doc/pairtree2ocfl/docs", archived: f"{folder}/archive/docs"}
     for script, guide in guides.items():
-        faults += differs(written=(report(folder, "run.log", "-o", "some where/else/report.html", script=script), (0, b"", "")))
+        faults += differs(written=(report(folder, "run.log", "event.log", "-o", "some where/else/report.html", script=script), (0, b"", "")))
         with open(f"{folder}/some where/else/report.html", "rb") as file:
             links = [it.replace("%20", " ").split("#") for it in Page(file.read()).links]
         faults += differs(guides=({os.path.realpath(f"{folder}/some where/else/{path}") for path, _ in links}, {os.path.realpath(f"{guide}/GUIDE.md")}))
@@ -417,7 +516,7 @@ def limited(program, folder):
 
 def refused(program, folder):
     """Wrong words, a log that isn't a file or isn't there, and an output that fails or is a log are refused with status 2, and a log is never written over."""
-    logs(folder, run=whole_log(*RUN))
+    logs(folder, run=whole_log(*RUN), event=stores.text_of(EVENT))
     build(folder, {"fifo": stores.FIFO, "folder": DIR, "link.log": Link("run.log")})
     before, faults = stores.read_tree(folder), []
     for words, part in {
@@ -430,6 +529,7 @@ def refused(program, folder):
         ("run.log", "fifo"): "report.py: fifo: it is no file",
         ("run.log", "-o", "run.log"): "report.py: run.log: it is a log, and the output too",
         ("--csv", "run.log", "-o", "link.log"): "report.py: run.log: it is a log, and the output too",
+        ("run.log", "event.log", "-o", "event.log"): "report.py: event.log: it is an event, and the output too",
         ("run.log", "-o", "none/page.html"): "report.py: none/page.html: No such file",
         ("run.log", "-o", "folder"): "report.py: folder: Is a directory",
     }.items():
@@ -443,7 +543,7 @@ def refused(program, folder):
 def helps(program, folder):
     """Help has each option and the statuses; the script needs nothing newer than Python 3.6."""
     status, text, said = report(folder, "--help")
-    words = ("--output", "--csv", "--guide", "--limit", "The status is 0", "12 bytes")
+    words = ("--output", "--csv", "--guide", "--limit", "--event", "The status is 0", "12 bytes")
     faults = differs(help=((status, said, [it for it in words if it not in text.decode()]), (0, "", [])))
     for name in ("report.py", "report_page.py"):
         with open(f"{TOP}/examples/{name}", encoding="utf-8") as file:
@@ -451,18 +551,26 @@ def helps(program, folder):
     return faults
 
 
+def peak(folder, *words):
+    """The most memory that the script holds, in kB."""
+    script = f"import re, sys\nsys.path.insert(0, {os.path.dirname(SCRIPT)!r})\nimport report\nreport.run(sys.argv[1:])\n"
+    script += "print(re.search(r'VmHWM:\\s+([0-9]+) kB', open('/proc/self/status').read())[1])"
+    return int(subprocess.run([sys.executable, "-B", "-c", script, *words], cwd=folder, capture_output=True, check=True, timeout=240).stdout)
+
+
 def in_little_memory(program, folder):
-    """Of 200,000 lines, each a twin of another, only hashes are held."""
+    """Of 200,000 lines, each a twin of another, only hashes are held; of events one at a time."""
     pair = lines(sized("AT/obj", "identifier AT", 1), present("AT^/obj", "identifier AT"))
     with open(f"{folder}/long.log", "wb") as log:
         log.writelines(pair.replace(b"AT", b"%d" % number) for number in range(100000))
-    script = f"import re, sys\nsys.path.insert(0, {os.path.dirname(SCRIPT)!r})\nimport report\nreport.run(sys.argv[1:])\n"
-    script += "print(re.search(r'VmHWM:\\s+([0-9]+) kB', open('/proc/self/status').read())[1])"
-    command = [sys.executable, "-B", "-c", script, "long.log", "--limit", "100", "-o", "long.html"]
-    ended = subprocess.run(command, cwd=folder, capture_output=True, check=True, timeout=240)
+    held = peak(folder, "long.log", "--limit", "100", "-o", "long.html")
     with open(f"{folder}/long.html", "rb") as file:
         twins = [heading for heading in Page(file.read()).headings if heading.startswith("Twins")]
-    return differs(twins=(twins, ["Twins: 100,000"]), memory=(int(ended.stdout) < 40000, True))
+    event = {**EVENT, "options": {"only": [f"identifier {number}" for number in range(30000)]}}
+    names = logs(folder, **{f"e{number}": stores.text_of(event) for number in range(30)})
+    events = peak(folder, *names, "-o", "events.html")
+    written = os.path.getsize(f"{folder}/events.html") > 10**7
+    return differs(twins=(twins, ["Twins: 100,000"]), memory=(held < 40000, True), events=((events < 40000, written), (True, True)))
 
 
 def documented(program, folder):
@@ -470,7 +578,7 @@ def documented(program, folder):
     texts = {path: documents.text_of(path) for path in ("README.md", "docs/GUIDE.md", "man/pairtree2ocfl.1.in", "CHANGELOG.md", "CONTRIBUTING.md")}
     faults = [f"{path} doesn't name report.py" for path, text in texts.items() if "report.py" not in text]
     guide = next((part for part in texts["docs/GUIDE.md"].split("\n\n") if "report.py" in part), "")
-    return faults + [f"GUIDE doesn't tell of {word}" for word in ("--csv", "what is still missing") if word not in guide]
+    return faults + [f"GUIDE doesn't tell of {word}" for word in ("--csv", "what is still missing", "--event") if word not in guide]
 
 
 CASES = [
@@ -478,6 +586,9 @@ CASES = [
     Alone("the report of an audit", one_audit),
     Alone("the report of an audit with extras", one_audit_with_extras),
     Alone("the report of the program's logs", of_the_program),
+    Alone("the report of events", of_events),
+    Alone("what is unknown in the report's events", unknown_in_events),
+    Alone("the report takes nothing else for an event", no_events),
     Alone("the report of logs that are cut short", cut_short),
     Alone("the report names lines that are none", bad_lines),
     Alone("the report of other forms of JSON", by_json),
