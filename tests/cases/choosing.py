@@ -1,9 +1,10 @@
 """Cases of `--list`: which objects are carried, rehearsed and audited by a list of identifiers, what is told of those that were met
-nowhere, and which lists are refused."""
+nowhere, and which lists are refused; and what is asked of objects that neither it nor `--only` chooses."""
 
 import json
 import os
 import random
+import re
 import shutil
 import subprocess
 import time
@@ -11,7 +12,8 @@ import time
 from alone import Alone, differs
 from running import MEANT
 from sharing import audited, joined, random_store, share_number, told
-from stores import DIR, Link, build, differences, read_tree, store
+from stores import DIR, Link, build, differences, place, read_tree, store, with_folders
+from tally import needs
 
 STORE = store({"aa/obj/f": b"1", "ab/obj/f": b"2", "ac/obj/f": b"3", "xx": DIR}, b"ark:/1/")
 UNMET = "pairtree2ocfl: met nowhere: "
@@ -184,6 +186,62 @@ def followed(program, folder):
     return faults + differs(pipe=((done.returncode, carried(done.stdout.splitlines()), done.stderr.decode()), (1, ["abc"], f"{UNMET}none\n")))
 
 
+# A store by the identifiers of its objects: what lies in the site of each. One stands above another, and one is an object with `--gather` alone.
+SITES = {
+    "aa": {"obj/file": b"1", "obj/more/file": b"2"},
+    "ab": {"obj/file": b"3", "obj/more/file": b"4"},
+    "abcd": {"obj/file": b"5"},
+    "ac": {"file": b"6", "more/file": b"7"},
+    "ad": {"obj/link": Link("none")},
+}
+PLACES = {identifier: re.sub("(?<=..)(?=..)", "/", identifier) for identifier in SITES}
+
+
+def touched(chosen):
+    """The paths of the store that are to be named in calls, and those that are to be opened: each site is listed, and what is chosen read."""
+    tree = with_folders({f"{PLACES[identifier]}/{path}": held for identifier, files in SITES.items() for path, held in files.items()})
+    named, opened = set(), set()
+    for path in tree:
+        names = path.split("/")
+        site = [name for name in names if len(name) < 3]
+        read = len(site) == len(names) or "".join(site) in chosen
+        opened |= {path} if read else set()
+        named |= {path} if read or len(names) == len(site) + 1 else set()
+    return named, opened
+
+
+def traced(program, folder, command, *words):
+    """The paths of the store that a command named in calls and those that it opened, and the identifiers whose places it named."""
+    meant = MEANT if command[0] == "migrate" else ()
+    trace = ["strace", "-f", "-o", f"{folder}/trace", "-s", "4096", "-e", "trace=%file"]
+    done = subprocess.run([*trace, program, *command, *meant, *words, "s", "d"], cwd=folder, capture_output=True, timeout=120)
+    if done.returncode not in (0, 1):
+        raise OSError(f"{command} {words}: {done.returncode} {done.stderr!r}")
+    with open(f"{folder}/trace", encoding="utf-8", errors="replace") as file:
+        lines = file.read().splitlines()
+    named = [(line, path) for line in lines for path in re.findall('"s/pairtree_root/([^"]*)"', line)]
+    found = {path for _, path in named}, {path for line, path in named if re.search(r"\bopen(at2?)?\(", line)}
+    return *found, {identifier for identifier in SITES if any(place(identifier) in line for line in lines)}
+
+
+def unopened(program, folder):
+    """What isn't chosen costs its listing alone: of an object that neither `--only` nor a list chooses no file and no folder is opened, nor
+    anything in its folder or its place asked for, by a run, its rehearsal and an audit."""
+    needs("strace")
+    shutil.rmtree(f"{folder}/s")
+    build(f"{folder}/s", store({f"{PLACES[identifier]}/{path}": held for identifier, files in SITES.items() for path, held in files.items()}))
+    both, one = listed(folder, b"abcd\naa\n", "both"), listed(folder, b"aa\n", "one")
+    faults, chosen = [], {"aa", "abcd"}
+    for words in (("--only", "aa", "--only", "abc"), both, (*one, "--only", "abcd")):
+        for gather in ((), ("--gather",)):
+            for command in (["migrate", "-n"], ["migrate"], ["audit"]):
+                found = traced(program, folder, command, *words, *gather)
+                faults += differs(**{f"{command} {words} {gather}": (found, (*touched(chosen), chosen))})
+            shutil.rmtree(f"{folder}/d")
+            os.mkdir(f"{folder}/d")
+    return faults + differs(gathered=(traced(program, folder, ["migrate"], "--gather", "--only", "ac"), (*touched({"ac"}), {"ac"})))
+
+
 def large(program, folder):
     """A list of 100,000 identifiers is read, sorted, searched and told in less than a minute, on a machine under any load."""
     ids = [f"ark:/13030/{number * 7919 % 100003:06d}" for number in range(100000)]
@@ -203,5 +261,6 @@ CASES = [
     Alone("lists with a bad line", bad_lines),
     Alone("lists that can't be read", unreadable),
     Alone("a list that is a link or a pipe", followed),
+    Alone("nothing is opened of what isn't chosen", unopened),
     Alone("a long list", large),
 ]
