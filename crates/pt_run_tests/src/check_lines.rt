@@ -129,7 +129,7 @@ const ROWS: [Row; 10] = [
 ];
 
 // What is wanted of a check that reads each file whole.
-fn wants(room: Option<u64>, has_tuples: bool) -> Wants {
+fn wanted(room: Option<u64>, has_tuples: bool) -> Wants {
     let layout = match Layout::of(0, 0) {
         Ok(flat) if !has_tuples => flat,
         _ => Layout::default_form(),
@@ -158,7 +158,7 @@ fn holds(alloc: Global, row: &Row) -> bool {
     match store(alloc, row.entries) {
         Ok(mut source) => {
             source.fuse(row.calls);
-            tells(alloc, source, wants(row.room, row.has_tuples), row.log)
+            tells(alloc, source, wanted(row.room, row.has_tuples), row.log)
         }
         Err(_) => false,
     }
