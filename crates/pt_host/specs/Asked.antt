@@ -26,19 +26,20 @@ list_of (Run options) = options.job.share.list
 list_of (Audit options) = options.job.share.list
 
 module _ {H : Type 0} (words : MachineWords H) (asks : Option (List ℕ) → Type 0) (folders : List ℕ × List ℕ) where
-  -- it is made between a store and a destination, once it may begin
-  abbrev pub MakesAlone : Asked → H → H → ℕ → Type 0
-  MakesAlone (Run options) = Carries words asks (run_call options folders.0 folders.1)
-  MakesAlone (Audit options) = Compares words asks (audit_call options folders.0 folders.1)
+  -- it is made between a store and a destination, once it may begin: from the machine before it to the one after it, which are a pair
+  abbrev pub MakesAlone : Asked → H × H → ℕ → Type 0
+  MakesAlone (Run options) hosts = Carries words asks (run_call options folders.0 folders.1) hosts.0 hosts.1
+  MakesAlone (Audit options) hosts = Compares words asks (audit_call options folders.0 folders.1) hosts.0 hosts.1
 
   -- the same, with a list or without one
-  abbrev pub Makes : Asked → H → H → ℕ → Type 0
-  Makes asked = OfList (list_of asked) (MakesAlone asked)
+  abbrev pub Makes : Asked → H × H → ℕ → Type 0
+  Makes asked hosts = OfList (list_of asked) (λ old new. MakesAlone asked (old, new)) hosts.0 hosts.1
 
   -- the same, recorded where a file is named for its event
-  abbrev pub Records : Asked → H → H → ℕ → Type 0
-  Records asked = IsRecorded words folders (event_of asked) (Makes asked)
+  abbrev pub Records : Asked → H × H → ℕ → Type 0
+  Records asked hosts = IsRecorded words folders (event_of asked) (λ old new. Makes asked (old, new)) hosts.0 hosts.1
 
   -- the guard, with the lock that it asks for, what is asked for, with its event, and the lock
-  abbrev pub MakesGuarded : Asked → H → H → ℕ → Type 0
-  MakesGuarded asked = GuardsRecord words (claim_of asked) folders (event_of asked) (Makes asked)
+  abbrev pub MakesGuarded : Asked → H × H → ℕ → Type 0
+  MakesGuarded asked hosts =
+      GuardsRecord words (claim_of asked) folders (event_of asked) (λ old new. Makes asked (old, new)) hosts.0 hosts.1

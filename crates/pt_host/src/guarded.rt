@@ -28,7 +28,7 @@ pub(crate) fn make_guarded<R, H: Host>(
 where
     R: Reads + Clock + Eprint + AllocGlobal + Terminals,
     ensures { MakesGuarded ⟦<H as Machine>⟧.words (AsksEnd R.ends rt.now)
-        (folders.entry.store.now, folders.entry.folder.now) asked host.old host.new result }
+        (folders.entry.store.now, folders.entry.folder.now) asked (host.old, host.new) result }
 {
     match check_guard(rt, host, &asked, folders) {
         Ok(Ok(lock)) => {
@@ -75,7 +75,7 @@ fn record<R, H: Host>(rt: &R, host: &mut H, asked: Asked, folders: Folders<'_>) 
 where
     R: Reads + Clock + Eprint + AllocGlobal + Terminals,
     ensures { Records ⟦<H as Machine>⟧.words (AsksEnd R.ends rt.now)
-        (folders.entry.store.now, folders.entry.folder.now) asked host.old host.new result }
+        (folders.entry.store.now, folders.entry.folder.now) asked (host.old, host.new) result }
 {
     let path = asked.event();
     match begin_event(rt, host, path, &asked, folders) {
@@ -92,7 +92,7 @@ fn make<R, H: Host>(rt: &R, host: &mut H, asked: Asked, folders: Folders<'_>) ->
 where
     R: Reads + Clock + Eprint + AllocGlobal + Terminals,
     ensures { Makes ⟦<H as Machine>⟧.words (AsksEnd R.ends rt.now)
-        (folders.entry.store.now, folders.entry.folder.now) asked host.old host.new result.status }
+        (folders.entry.store.now, folders.entry.folder.now) asked (host.old, host.new) result.status }
 {
     let sought = asked.sought();
     let Ending { status, outcome } = make_alone(rt, host, asked, folders);
@@ -105,7 +105,7 @@ fn make_alone<R, H: Host>(rt: &R, host: &mut H, asked: Asked, folders: Folders<'
 where
     R: Reads + Clock + Eprint + AllocGlobal + Terminals,
     ensures { MakesAlone ⟦<H as Machine>⟧.words (AsksEnd R.ends rt.now)
-        (folders.entry.store.now, folders.entry.folder.now) asked host.old host.new result.status }
+        (folders.entry.store.now, folders.entry.folder.now) asked (host.old, host.new) result.status }
 {
     match asked {
         Asked::Run(options) => carry(rt, host, options, folders),
