@@ -92,7 +92,8 @@ fn make<R, H: Host>(rt: &R, host: &mut H, asked: Asked, folders: Folders<'_>) ->
 where
     R: Reads + Clock + Eprint + AllocGlobal + Terminals,
     ensures { Makes ⟦<H as Machine>⟧.words (AsksEnd R.ends rt.now)
-        (folders.entry.store.now, folders.entry.folder.now) asked (host.old, host.new) result.status }
+        (folders.entry.store.now, folders.entry.folder.now) asked (host.old, host.new)
+        result.status }
 {
     let sought = asked.sought();
     let Ending { status, outcome } = make_alone(rt, host, asked, folders);
@@ -105,7 +106,8 @@ fn make_alone<R, H: Host>(rt: &R, host: &mut H, asked: Asked, folders: Folders<'
 where
     R: Reads + Clock + Eprint + AllocGlobal + Terminals,
     ensures { MakesAlone ⟦<H as Machine>⟧.words (AsksEnd R.ends rt.now)
-        (folders.entry.store.now, folders.entry.folder.now) asked (host.old, host.new) result.status }
+        (folders.entry.store.now, folders.entry.folder.now) asked (host.old, host.new)
+        result.status }
 {
     match asked {
         Asked::Run(options) => carry(rt, host, options, folders),
