@@ -176,7 +176,7 @@ fn what_a_store_must_have_is_told_as_missing(rt: HostRuntime) {
         tells(
             rt.alloc(),
             MemSource::new(rt.alloc()),
-            wants(None, true),
+            wanted(None, true),
             EMPTY
         )
     );
