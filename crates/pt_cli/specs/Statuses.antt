@@ -38,29 +38,29 @@ Declines machine words.Tuples = Refuses 2
 Declines machine words.Share = Refuses 2
 Declines machine words.Ignored = Refuses 2
 
--- what the list of a migration takes, where one is named, and the run with that
+-- what the list of a migration takes, where one is named, and the run with that; the machine before it and the one after it are a pair
 abbrev pub MakesRun : {H : Type 0} → MachineWords H → (Option Text → Type 0)
-    → (Text → Result (Vec ℕ Global) Error → Type 0) → MigrateArgs → H → H → ℕ → Type 0
-MakesRun machine asks gives asked old new status =
+    → (Text → Result (Vec ℕ Global) Error → Type 0) → MigrateArgs → H × H → ℕ → Type 0
+MakesRun machine asks gives asked hosts status =
     (taken : Result Job ℕ) × TakesList gives asked.list asked.options.job taken
     × MakesListed (λ job. Runs machine asks
-    (run_call (record asked.options { job = job }) asked.source asked.dest)) taken old new status
+    (run_call (record asked.options { job = job }) asked.source asked.dest)) taken hosts.0 hosts.1 status
 
 -- the same of an audit
 abbrev pub MakesAudit : {H : Type 0} → MachineWords H → (Option Text → Type 0)
-    → (Text → Result (Vec ℕ Global) Error → Type 0) → AuditArgs → H → H → ℕ → Type 0
-MakesAudit machine asks gives asked old new status =
+    → (Text → Result (Vec ℕ Global) Error → Type 0) → AuditArgs → H × H → ℕ → Type 0
+MakesAudit machine asks gives asked hosts status =
     (taken : Result Job ℕ) × TakesList gives asked.list asked.options.job taken
     × MakesListed (λ job. Audits machine asks
-    (audit_call (record asked.options { job = job }) asked.source asked.dest)) taken old new status
+    (audit_call (record asked.options { job = job }) asked.source asked.dest)) taken hosts.0 hosts.1 status
 
 -- what is done at a command: its call is made, with what its words ask for, and its status is the program's; `names` alone may ask for the input
 abbrev pub Obeys : {H : Type 0} → MachineWords H → Beside H → Command
     → H → H → ℕ → Type 0
-Obeys machine beside (Names asked) = TellsAsked machine beside.input asked
-Obeys machine beside (Migrate asked) = MakesRun machine beside.asks beside.gives asked
-Obeys machine beside (Audit asked) = MakesAudit machine beside.asks beside.gives asked
-Obeys machine beside (Check asked) = ChecksStore machine (check_call asked.options asked.source)
+Obeys machine beside (Names asked) old new = TellsAsked machine beside.input asked old new
+Obeys machine beside (Migrate asked) old new = MakesRun machine beside.asks beside.gives asked (old, new)
+Obeys machine beside (Audit asked) old new = MakesAudit machine beside.asks beside.gives asked (old, new)
+Obeys machine beside (Check asked) old new = ChecksStore machine (check_call asked.options asked.source) old new
 
 -- what is done where the words were answered so
 abbrev pub Does : {H : Type 0} → MachineWords H → Beside H

@@ -146,7 +146,7 @@ fn make_run<R, H: Host>(rt: &R, host: &mut H, asked: Migrate) -> u8
 where
     R: Reads + Clock + Eprint + AllocGlobal + Terminals,
     ensures { MakesRun ⟦<H as Machine>⟧.words (AsksEnd R.ends rt.now) (R.gives rt.now)
-        asked host.old host.new result }
+        asked (host.old, host.new) result }
 {
     let Migrate {
         options,
@@ -168,7 +168,7 @@ fn make_audit<R, H: Host>(rt: &R, host: &mut H, asked: Audit) -> u8
 where
     R: Reads + Clock + Eprint + AllocGlobal + Terminals,
     ensures { MakesAudit ⟦<H as Machine>⟧.words (AsksEnd R.ends rt.now) (R.gives rt.now)
-        asked host.old host.new result }
+        asked (host.old, host.new) result }
 {
     let Audit {
         options,
