@@ -155,7 +155,7 @@ folder_held within.Past holds n = refl
 folder_held (within.Object before) holds n = refl
 folder_held within.Beside holds n = refl
 
-judged : (wants : Wants) (folder : Folder) (items : List Item) (a m : Seen) → Judges wants folder.path folder.prefix folder.here items a m → told_by m ≡ 0
+judged : (wants : Wants) (folder : Folder) (items : List Item) (a m : Seen) → Judges wants (folder.path, folder.prefix) folder.here items a m → told_by m ≡ 0
     → ((folder_trouble folder.here (finding_of folder.here items) folder.path ≡ None)
     × (reserved_trouble wants.layout folder.prefix (finding_of folder.here items) folder.path ≡ None)) × Quiet a m × (m.numbers.held ≡ a.numbers.held)
 judged wants folder items a m (n, judges, places) nothing =
@@ -177,7 +177,7 @@ entered : (wants : Wants) (folder : Folder) (items : List Item) (visits : Seen �
     → Enters wants folder items visits a b → told_by b ≡ 0 → Entered wants folder items P a b
 entered wants folder items visits P a b on enters nothing = by (folder.left == 0) refl enters
   where
-    by : (t : Bool) → (folder.left == 0) ≡ t → cond t (Tells (Told folder.path trouble.Deep) a b) (TellsFailure folder.path a b ⊎ ((m : Seen) × Judges wants folder.path folder.prefix folder.here items a m × visits m b))
+    by : (t : Bool) → (folder.left == 0) ≡ t → cond t (Tells (Told folder.path trouble.Deep) a b) (TellsFailure folder.path a b ⊎ ((m : Seen) × Judges wants (folder.path, folder.prefix) folder.here items a m × visits m b))
         → Entered wants folder items P a b
     by true is tells = absurd (puts_told _ a b tells nothing)
     by false is (inl fails) = absurd (fails_told folder.path a b fails nothing)

@@ -170,11 +170,11 @@ in_same P old new same holds tree is = holds tree (sym same ∙ is)
 
 -- a folder that isn't too deep is told as unreadable, or visited
 pub enters : (wants : Wants) (folder : Folder) (items : List Item) (visits : Seen → Seen → Type 0) (a b : Seen) → (folder.left ≡ 0 → ⊥)
-    → TellsFailure folder.path a b ⊎ ((m : Seen) × Judges wants folder.path folder.prefix folder.here items a m × visits m b) → Enters wants folder items visits a b
+    → TellsFailure folder.path a b ⊎ ((m : Seen) × Judges wants (folder.path, folder.prefix) folder.here items a m × visits m b) → Enters wants folder items visits a b
 enters wants folder items visits a b some does = by (folder.left == 0) (ne_eqb folder.left 0 some)
   where
     by : (t : Bool) → t ≡ false → cond t (Tells (Told folder.path trouble.Deep) a b)
-        (TellsFailure folder.path a b ⊎ ((m : Seen) × Judges wants folder.path folder.prefix folder.here items a m × visits m b))
+        (TellsFailure folder.path a b ⊎ ((m : Seen) × Judges wants (folder.path, folder.prefix) folder.here items a m × visits m b))
     by true is = absurd (cc)
     by false is = does
 
@@ -252,12 +252,12 @@ inside_lists top path items listed = by (dir_at top path) listed
 
 -- at the end of its listing a folder was visited
 pub all_step : (told : Option Reading) (wants : Wants) (folder : Folder) (holds : Bool) (items : List Item) (place : ℕ) (a first now : Seen)
-    → ForSome (tree_in told) (λ t. listing_at t folder.path ≡ Some items) → length items ≤ place → (folder.left ≡ 0 → ⊥) → Judges wants folder.path folder.prefix folder.here items a first
+    → ForSome (tree_in told) (λ t. listing_at t folder.path ≡ Some items) → length items ≤ place → (folder.left ≡ 0 → ⊥) → Judges wants (folder.path, folder.prefix) folder.here items a first
     → holds ≡ has_object (finding_of folder.here items) → ForSome (tree_in told) (λ t. VisitedTo wants folder holds t place first now)
     → ForSome (tree_in told) (λ t. VisitsFolder wants folder (inside_at t folder.path) a now)
 all_step told wants folder holds items place a first now listed past some judges holds_is to tree is =
     let lists : items ≡ listing_of (inside_at tree folder.path) = sym (inside_lists tree folder.path items (listed tree is)) in
-    let judged : Judges wants folder.path folder.prefix folder.here (listing_of (inside_at tree folder.path)) a first = subst (λ (l : List Item). Judges wants folder.path folder.prefix folder.here l a first) lists judges in
+    let judged : Judges wants (folder.path, folder.prefix) folder.here (listing_of (inside_at tree folder.path)) a first = subst (λ (l : List Item). Judges wants (folder.path, folder.prefix) folder.here l a first) lists judges in
     let all : Visits wants folder holds (inside_at tree folder.path) first now = visited_all wants folder holds tree items place first now (listed tree is) (past_end items place past) (to tree is) in
     let held : holds ≡ has_object (finding_of folder.here (listing_of (inside_at tree folder.path))) = holds_is ∙ ap (λ (l : List Item). has_object (finding_of folder.here l)) lists in
     enters wants folder (listing_of (inside_at tree folder.path)) (Visits wants folder (has_object (finding_of folder.here (listing_of (inside_at tree folder.path)))) (inside_at tree folder.path)) a now some (inr (first, judged, subst (λ (h : Bool). Visits wants folder h (inside_at tree folder.path) first now) held all))

@@ -170,13 +170,13 @@ with_folder within.Past holds numbers = numbers
 with_folder (within.Object before) holds numbers = numbers
 with_folder within.Beside holds numbers = numbers
 
--- a folder in a store of this prefix that lists these entries is judged: it is counted, and told if there is trouble
-abbrev pub Judges : Wants → Path → List ℕ → Within → List Item → Seen → Seen → Type 0
-Judges wants path prefix here items a b =
+-- a folder at a path in a store of this prefix, which are a pair, that lists these entries is judged: it is counted, and told if there is trouble
+abbrev pub Judges : Wants → Path × List ℕ → Within → List Item → Seen → Seen → Type 0
+Judges wants at here items a b =
     let what = finding_of here items in
     (m : Seen)
-    × TellsIf path (folder_trouble here what path) (counting (with_folder here (has_object what)) a) m
-    × TellsIf path (reserved_trouble wants.layout prefix what path) m b
+    × TellsIf at.0 (folder_trouble here what at.0) (counting (with_folder here (has_object what)) a) m
+    × TellsIf at.0 (reserved_trouble wants.layout at.1 what at.0) m b
 
 -- ---- an entry
 
@@ -273,7 +273,7 @@ ended here above before after = cond (starts_object here above) (with_object bef
 -- and that is told, or it is judged and its entries are visited
 abbrev pub Enters : Wants → Folder → List Item → (Seen → Seen → Type 0) → Seen → Seen → Type 0
 Enters wants folder items visits a b = cond (folder.left == 0) (Tells (Told folder.path trouble.Deep) a b)
-    (TellsFailure folder.path a b ⊎ ((m : Seen) × Judges wants folder.path folder.prefix folder.here items a m × visits m b))
+    (TellsFailure folder.path a b ⊎ ((m : Seen) × Judges wants (folder.path, folder.prefix) folder.here items a m × visits m b))
 
 -- the entries of a folder, which has an object or not, are visited one after another, each once, and all that stands in them
 abbrev pub Visits : Wants → Folder → Bool → Forest → Seen → Seen → Type 0

@@ -295,7 +295,7 @@ impl<S: Source, L: Log, E: Explains<S> + Drop> Check<S, L, E> {
         within: Within,
         listing: &Listing,
     ) -> Result<bool, Fault>
-        ensures judged { OnOk result (Judges self.old.wants path.now prefix.now within listing.now
+        ensures judged { OnOk result (Judges self.old.wants (path.now, prefix.now) within listing.now
             (seen_by S.failed L.told self.old) (seen_by S.failed L.told self.new)) }
         ensures object { IfOk result (λ holds. holds
             ≡ has_object_in (finding_of_items within listing.now)) }

@@ -87,8 +87,8 @@ returns-clause-visited g t c =
     let listed : ForSome (tree_in here) (λ t. listing_at t c.args.path.now ≡ Some c.in-Some.listing) = rw c.in-Some.is at c.in_ok-listing.ensures.listed in
     let folder : Folder = record { path = c.args.path.now; prefix = c.args.prefix.now; here = c.args.within; left = c.args.left } in
     let same = c.in_ok-listing.ensures.same (ap is_some c.in-Some.is) in
-    let judged = subst (λ (s : Seen). Judges c.list.new.self.wants c.args.path.now c.args.prefix.now c.args.within c.in-Some.listing s (seen_by g.S.Source.failed g.L.Log.told c.judge.new.self)) same c.in_ok-has_object.ensures.judged in
-    let asked = subst (λ (w : Wants). Judges w c.args.path.now c.args.prefix.now c.args.within c.in-Some.listing (seen_by g.S.Source.failed g.L.Log.told c.args.self.now) (seen_by g.S.Source.failed g.L.Log.told c.judge.new.self)) c.list.ensures.keeps.wants judged in
+    let judged = subst (λ (s : Seen). Judges c.list.new.self.wants (c.args.path.now, c.args.prefix.now) c.args.within c.in-Some.listing s (seen_by g.S.Source.failed g.L.Log.told c.judge.new.self)) same c.in_ok-has_object.ensures.judged in
+    let asked = subst (λ (w : Wants). Judges w (c.args.path.now, c.args.prefix.now) c.args.within c.in-Some.listing (seen_by g.S.Source.failed g.L.Log.told c.args.self.now) (seen_by g.S.Source.failed g.L.Log.told c.judge.new.self)) c.list.ensures.keeps.wants judged in
     all_step here c.args.self.now.wants folder c.in_ok-has_object.has_object c.in-Some.listing c.loop-i.i (seen_by g.S.Source.failed g.L.Log.told c.args.self.now)
     (seen_by g.S.Source.failed g.L.Log.told c.judge.new.self) (seen_by g.S.Source.failed g.L.Log.told c.loop-i.self) listed (omega (arith, c.len-i-end.ensures.len, c.loop-i-test.false)) c.if-left-eq0.false asked
     c.in_ok-has_object.ensures.object c.loop-i.invariant.visited
