@@ -14,7 +14,7 @@ two logs name counts twice.
 
 What `--event FILE` recorded may stand among the logs, in any order. A file is taken for an event by what it holds, not by its name: one JSON object
 with the keys of an event. The page has a row for each: what was done, on which folders, with which options, when, and how it ended. What one doesn't
-tell is left empty there.
+tell is left empty there; where it has no end, that is said.
 
 `--csv` writes the lines as a table (RFC 4180), without the end lines and the events. A spreadsheet may take a value that begins with = + - or @ for a formula.
 
@@ -56,9 +56,9 @@ KEYS = {
 # The keys of an end line, and of which log it is.
 AUDIT = ("absent", "differs", "same", "skip")
 ENDS = {("done", "present", "skip"): "run", AUDIT: "audit", (*AUDIT, "extra", "stray"): "audit"}
-# The keys by which an event is told from a log, and how many bytes one has at most: about as many as a command line may have.
+# The keys by which an event is told from a log, and how many bytes one has at most: more than a command line may have.
 EVENT = {"as", "begin", "dest", "options", "source"}
-LONGEST = 1 << 22
+LONGEST = 1 << 26
 COLUMNS = ("as", "at", "id", "to", "files", "bytes", "empty", "cause", "path", "why")
 NUMBERS = ("bytes", "empty", "files")
 TEXT = r'"([^"\\\x00-\x1f]*)"'
@@ -140,7 +140,7 @@ def entries(path, refuse=lambda number, line: None, wanted=None):
 
 
 def event_in(path):
-    """The event that a file is: one JSON object with the keys of one, and nothing behind it. `None` of a log, of which a line or two are read."""
+    """The event that a file is: one JSON object with the keys of one, and nothing behind it. `None` of a log, of which a line is read, or `LONGEST` bytes at most."""
     with open(path, "rb") as file:
         text = file.readline(LONGEST)
         # What another program wrote anew may go on in the next line; a line of a log doesn't.
