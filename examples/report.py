@@ -140,7 +140,7 @@ def entries(path, refuse=lambda number, line: None, wanted=None):
 
 
 def event_in(path):
-    """The event that a file is: one JSON object with the keys of one, and nothing behind it. `None` of a log, of which a line is read, or `LONGEST` bytes at most."""
+    """The event that a file is: one JSON object with the keys of one, and nothing behind it. `None` of a log, of which little is read."""
     with open(path, "rb") as file:
         text = file.readline(LONGEST)
         # What another program wrote anew may go on in the next line; a line of a log doesn't.
