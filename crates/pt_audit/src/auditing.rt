@@ -25,7 +25,7 @@ use crate::layout::check_layout;
 use crate::lines::{end_line, object_line};
 use crate::root_reader::RootReader;
 use crate::survey::{AtHand, Survey, SurveyEvent};
-use crate::twin::{behind, is_second};
+use crate::twin::{is_second, skip_prefix};
 use pt_compare::{Comparison, Root, Scanned, compare};
 use pt_move::{Job, Observer};
 use pt_plan::Fault;
@@ -431,7 +431,7 @@ fn finds_twin<S: Source>(
         Comparison::Same | Comparison::Absent => Ok(false),
         Comparison::Differs(_) => {
             let site = survey.site()?;
-            let own = behind(id.as_bytes(), survey.prefix().as_bytes());
+            let own = skip_prefix(id.as_bytes(), survey.prefix().as_bytes());
             let is_twin = is_second(source, survey.job(), &site, own).map_err(Fault::of_source)?;
             Ok(is_twin)
         }

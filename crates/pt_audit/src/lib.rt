@@ -60,4 +60,4 @@ pub use auditing::{Audited, audit, audit_objects};
 pub use counts::Counts;
 pub use pt_compare::{Comparison, Difference, Root, Why};
 pub use survey::{AtHand, Opened, Survey, SurveyEvent};
-pub use twin::{behind, object_stands, proper_site};
+pub use twin::{object_stands, proper_site, skip_prefix};

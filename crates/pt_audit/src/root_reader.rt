@@ -91,17 +91,17 @@ impl RootReader {
         ensures failures { ReadFailsAs result (R.failed root.old) (R.failed root.new) }
     {
         self.reads = false;
-        let Some(file) = survey.opened()? else {
+        let Some(file) = survey.opened_file()? else {
             return Ok(());
         };
         let names = file.path.names();
         let (from, logical) = names.split_at(file.before.min(names.len()));
         self.begin(from, file.place)?;
-        self.alike = self.alike.min(survey.stored());
-        if self.alike < survey.stored() {
+        self.alike = self.alike.min(survey.stored_count());
+        if self.alike < survey.stored_count() {
             return Ok(());
         }
-        let path = stored_at(self.alloc, file.place, logical)?;
+        let path = stored_path(self.alloc, file.place, logical)?;
         self.reads = open_standing(self.alloc, root, &mut self.folder, &path).map_err(
             Fault::of_dest,
         )?;
@@ -153,7 +153,7 @@ impl RootReader {
         if self.reads {
             self.reads = false;
             let ended = has_ended(root, &mut self.block).map_err(Fault::of_dest)?;
-            if ended && survey.stored() > self.alike {
+            if ended && survey.stored_count() > self.alike {
                 self.alike += 1;
             }
         }
@@ -180,7 +180,7 @@ impl RootReader {
 }
 
 // Where the content of a logical path is stored in the root, of an object at this place.
-fn stored_at(alloc: Global, place: &NamePath, path: &[Name]) -> Result<NamePath, MemoryFault>
+fn stored_path(alloc: Global, place: &NamePath, path: &[Name]) -> Result<NamePath, MemoryFault>
     ensures { IfOk result (λ whole. whole ≡ in_root place.now ++ in_content path.now) }
 {
     let content = content_path(alloc, path)?;

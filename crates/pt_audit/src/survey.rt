@@ -151,7 +151,7 @@ impl Survey {
         if self.state.counts.turns >= self.state.job.limits.turns() {
             return Err(Fault::Turns);
         }
-        self.phase = stepped(&mut self.state, here, source, log)?;
+        self.phase = step_phase(&mut self.state, here, source, log)?;
         Ok(seen_at(&self.phase))
     }
 
@@ -170,7 +170,7 @@ impl Survey {
     }
 
     /// The file that was opened, if one was; `Memory` where a growth was refused.
-    pub fn opened(&self) -> Result<Option<Opened<'_>>, MemoryFault>
+    pub fn opened_file(&self) -> Result<Option<Opened<'_>>, MemoryFault>
         ensures { IfOk result (IsOpened self.now) }
     {
         match &self.phase {
@@ -191,7 +191,7 @@ impl Survey {
     }
 
     /// How many files of the object are stored so far.
-    pub fn stored(&self) -> usize
+    pub fn stored_count(&self) -> usize
         ensures { result ≡ length self.now.state.contents }
     {
         self.state.contents.len()
@@ -236,7 +236,7 @@ impl Survey {
 }
 
 // Makes the turn of a phase, and gives the next one.
-fn stepped<S: Source, L: Log>(
+fn step_phase<S: Source, L: Log>(
     state: &mut State,
     here: Phase,
     source: &mut S,

@@ -91,7 +91,7 @@ pub fn proper_site(alloc: Global, id: &[u8]) -> Result<NamePath, MemoryFault>
 }
 
 /// What is behind so many bytes as a prefix has.
-pub fn behind<'a>(text: &'a [u8], prefix: &[u8]) -> &'a [u8]
+pub fn skip_prefix<'a>(text: &'a [u8], prefix: &[u8]) -> &'a [u8]
     ensures { result.now ≡ drop (length prefix.now) text.now }
 {
     let (_, rest) = text.split_at(prefix.len().min(text.len()));

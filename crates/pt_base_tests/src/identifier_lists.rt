@@ -32,7 +32,7 @@ fn list_of(alloc: Global, ids: &[&str]) -> Result<IdentifierList, AllocError> {
 }
 
 fn listed(alloc: Global, ids: &[&str]) -> Result<Share, MemoryFault> {
-    Share::whole().listed(alloc, list_of(alloc, ids)?)
+    Share::whole().with_list(alloc, list_of(alloc, ids)?)
 }
 
 // Whether just these were met nowhere, once this one was met.

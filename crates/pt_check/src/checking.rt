@@ -20,7 +20,7 @@ use crate::judging::{
 use crate::lines::{end_line, trouble_line, unreadable_line};
 use crate::prefix::open_prefix;
 use crate::reading::open_whole;
-use crate::{Devices, Numbers, Trouble, Wants, Within};
+use crate::{CheckDevices, Numbers, Trouble, Wants, Within};
 use pt_object::WellKnownName;
 use pt_plan::Fault;
 use pt_plan::kinds::{is_dir, is_file, kind_in};
@@ -58,13 +58,13 @@ fn missing(is_there: bool) -> Option<Trouble>
 
 impl<S: Source, L: Log, E: Explains<S> + Drop> Check<S, L, E> {
     /// A check of the store whose folder a source is, which tells a log. Nothing is counted yet.
-    pub fn new(alloc: Global, devices: Devices<S, L, E>, wants: Wants) -> Check<S, L, E>
+    pub fn new(alloc: Global, devices: CheckDevices<S, L, E>, wants: Wants) -> Check<S, L, E>
         ensures source { result.source ≡ devices.source }
         ensures log { result.log ≡ devices.log }
         ensures wants { result.wants ≡ wants }
         ensures numbers { result.numbers ≡ no_numbers }
     {
-        let Devices {
+        let CheckDevices {
             source,
             log,
             explains,

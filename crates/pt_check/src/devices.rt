@@ -1,6 +1,6 @@
 /// What a check is made over.
 #[derive(Drop)]
-pub struct Devices<S, L, E> {
+pub struct CheckDevices<S, L, E> {
     /// The source whose tree is the store.
     pub source: S,
     /// The log that is told.

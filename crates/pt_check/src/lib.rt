@@ -44,7 +44,7 @@ mod wants;
 mod within;
 
 pub use checking::{Check, Explains};
-pub use devices::Devices;
+pub use devices::CheckDevices;
 pub use numbers::Numbers;
 pub use trouble::Trouble;
 pub use wants::Wants;

@@ -35,11 +35,11 @@ pub record WritesNames (layout : Tuples) (prefix id : List ℕ) (old new : Optio
 -- the names that are asked for are written to the output that a machine lends, which is given back with all else as it was; and the status is by that
 abbrev pub TellsNames : {H : Type 0} → MachineWords H → NamesArgs → H → H → ℕ → Type 0
 TellsNames {H} words asked old new status =
-    (ground : HostIoOf words) × (lent : H) × words.host old (Lend ground) lent
+    (host_io : HostIoOf words) × (lent : H) × words.host old (Lend host_io) lent
     × (output : words.Output) × (written : Result (Unit {0}) NamesFault)
-    × WritesNames asked.layout asked.prefix asked.id (words.written.output ground.output)
+    × WritesNames asked.layout asked.prefix asked.id (words.written.output host_io.output)
     (words.written.output output) written
-    × words.host lent (TakeBack (record ground { output = output })) new
+    × words.host lent (TakeBack (record host_io { output = output })) new
     × (status ≡ names_status written)
 
 -- of writing the names of an input's lines: 0 where they were written, 2 for a line that is no identifier, else 3
@@ -55,11 +55,11 @@ list_status (Err list.Memory) = 3
 abbrev pub TellsAll : {H : Type 0} → MachineWords H → InputWords H → NamesArgs → H → H → ℕ → Type 0
 TellsAll {H} words beside asked old new status =
     (input : beside.Input) × (begun : H) × beside.gives old input begun
-    × (ground : HostIoOf words) × (lent : H) × words.host begun (Lend ground) lent
+    × (host_io : HostIoOf words) × (lent : H) × words.host begun (Lend host_io) lent
     × (rest : beside.Input) × (output : words.Output) × (listed : Result (Unit {0}) ListFault)
-    × ListsNames asked (beside.remaining input) (beside.remaining rest) (words.written.output ground.output)
+    × ListsNames asked (beside.remaining input) (beside.remaining rest) (words.written.output host_io.output)
     (words.written.output output) listed
-    × words.host lent (TakeBack (record ground { output = output })) new
+    × words.host lent (TakeBack (record host_io { output = output })) new
     × (status ≡ list_status listed)
 
 -- the names of the identifiers on the input are asked for, or those of an identifier
@@ -86,8 +86,8 @@ pub record WritesText (text : List ℕ) (old new : Option (List ℕ)) (written :
 -- a text is written to the output that a machine lends, which is given back with all else as it was; and the status is by that
 abbrev pub TellsText : {H : Type 0} → MachineWords H → List ℕ → H → H → ℕ → Type 0
 TellsText {H} words text old new status =
-    (ground : HostIoOf words) × (lent : H) × words.host old (Lend ground) lent
+    (host_io : HostIoOf words) × (lent : H) × words.host old (Lend host_io) lent
     × (output : words.Output) × (written : Result (Unit {0}) Error)
-    × WritesText text (words.written.output ground.output) (words.written.output output) written
-    × words.host lent (TakeBack (record ground { output = output })) new
+    × WritesText text (words.written.output host_io.output) (words.written.output output) written
+    × words.host lent (TakeBack (record host_io { output = output })) new
     × IsToldAs written status

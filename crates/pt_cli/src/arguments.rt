@@ -7,7 +7,7 @@ use crate::faults::Unread;
 use clap::ArgMatches;
 
 // What an argument gave that has to be there: the parser leaves none of these out.
-pub(crate) fn needed<T>(given: Option<T>) -> Result<T, Unread>
+pub(crate) fn require<T>(given: Option<T>) -> Result<T, Unread>
     ensures { result ≡ needed given }
 {
     match given {

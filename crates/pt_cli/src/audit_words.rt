@@ -7,7 +7,7 @@ use crate::arguments::{is_set, text};
 use crate::faults::Unread;
 use crate::feedback_words::{copy_of, feedback};
 use crate::ids::{EXTRA, LIST, SKIPS_OK};
-use crate::ignore_words::ignored;
+use crate::ignore_words::ignored_names;
 use crate::job_words::{folders, job, meta_of};
 use crate::{Audit, Command};
 use clap::ArgMatches;
@@ -38,7 +38,7 @@ fn audit_options(alloc: Global, matches: &ArgMatches<'_>) -> Result<AuditOptions
     ensures { ReadsAs (audit_options_in (rows_of (found_of matches.now))) result }
 {
     let job = job(alloc, matches, meta(alloc)?)?;
-    let ignored = ignored(alloc, matches)?;
+    let ignored = ignored_names(alloc, matches)?;
     let feedback = feedback(alloc, matches)?;
     Ok(AuditOptions {
         job,

@@ -3,13 +3,13 @@ ghost use Rattle.clap.specs.Words.{found_of, rows_of};
 ghost use Rattle.pt_cli.specs.Arguments.{ReadsAs};
 ghost use Rattle.pt_cli.specs.Options.{check_in};
 
-use crate::arguments::{is_set, needed, text};
+use crate::arguments::{is_set, require, text};
 use crate::faults::Unread;
 use crate::feedback_words::copy_of;
 use crate::ids::{INTO, READ, SOURCE};
-use crate::ignore_words::ignored;
+use crate::ignore_words::ignored_names;
 use crate::job_words::layout;
-use crate::{Check, Command, Text};
+use crate::{CheckArgs, Command, Text};
 use clap::ArgMatches;
 use pt_host::CheckOptions;
 use std::alloc::Global;
@@ -19,8 +19,8 @@ pub(crate) fn check_command(alloc: Global, matches: &ArgMatches<'_>) -> Result<C
     ensures { ReadsAs (check_in (rows_of (found_of matches.now))) result }
 {
     let layout = layout(matches)?;
-    let ignored = ignored(alloc, matches)?;
-    let source = needed(text(matches, SOURCE))?;
+    let ignored = ignored_names(alloc, matches)?;
+    let source = require(text(matches, SOURCE))?;
     let options = CheckOptions {
         reads: is_set(matches, READ),
         ignored,
@@ -28,5 +28,5 @@ pub(crate) fn check_command(alloc: Global, matches: &ArgMatches<'_>) -> Result<C
         layout,
     };
     let source = Text::of(alloc, source)?;
-    Ok(Command::Check(Check { options, source }))
+    Ok(Command::Check(CheckArgs { options, source }))
 }

@@ -12,7 +12,7 @@ pub enum Command {
     /// Hold a storage root against a Pairtree store.
     Audit(Audit),
     /// Tell what in a Pairtree store would stop a run or surprise its owner.
-    Check(Check),
+    Check(CheckArgs),
 }
 
 /// An identifier whose names are asked for.
@@ -54,7 +54,7 @@ pub struct Audit {
 
 /// A check, as the words ask for it.
 #[derive(Debug, Drop)]
-pub struct Check {
+pub struct CheckArgs {
     /// What the options say, or mean where they aren't given.
     pub options: CheckOptions,
     /// The folder that holds `pairtree_root`.

@@ -5,7 +5,7 @@ ghost use Rattle.pt_cli.specs.Arguments.{ReadsAs, progress_in, progress_of};
 ghost use Rattle.pt_cli.specs.Options.{feedback_in};
 
 use crate::Text;
-use crate::arguments::{is_set, needed, number, text};
+use crate::arguments::{is_set, number, require, text};
 use crate::faults::Unread;
 use crate::ids::{EVENT, EXPECT, INTERVAL, PROGRESS, QUIET, VERBOSE};
 use clap::ArgMatches;
@@ -18,7 +18,7 @@ pub(crate) fn feedback(alloc: Global, matches: &ArgMatches<'_>) -> Result<Feedba
     ensures { ReadsAs (feedback_in (rows_of (found_of matches.now))) result }
 {
     let progress = progress(matches)?;
-    let interval = needed(number(matches, INTERVAL))?;
+    let interval = require(number(matches, INTERVAL))?;
     Ok(Feedback {
         verbose: is_set(matches, VERBOSE),
         quiet: is_set(matches, QUIET),
@@ -33,7 +33,7 @@ pub(crate) fn feedback(alloc: Global, matches: &ArgMatches<'_>) -> Result<Feedba
 fn progress(matches: &ArgMatches<'_>) -> Result<Progress, Unread>
     ensures { result ≡ progress_in (rows_of (found_of matches.now)) }
 {
-    needed(progress_by_word(needed(text(matches, PROGRESS))?))
+    require(progress_by_word(require(text(matches, PROGRESS))?))
 }
 
 fn progress_by_word(word: &str) -> Option<Progress>

@@ -376,10 +376,10 @@ impl ArgSpec {
         match self.form {
             Form::Place => place(alloc, self.id),
             Form::Value(name) => option(alloc, self.id, name),
-            Form::Needed(name) => needed(alloc, self.id, name),
-            Form::Repeated(name) => repeated(alloc, self.id, name),
-            Form::RepeatedText(name) => repeated_text(alloc, self.id, name),
-            Form::Default(name, default) => defaulted(alloc, self.id, name, default),
+            Form::Needed(name) => needed_option(alloc, self.id, name),
+            Form::Repeated(name) => repeated_option(alloc, self.id, name),
+            Form::RepeatedText(name) => repeated_text_option(alloc, self.id, name),
+            Form::Default(name, default) => defaulted_option(alloc, self.id, name, default),
             Form::Number(name, default) => number(alloc, self.id, name, default),
             Form::Word(name, words, default) => word(alloc, self.id, name, words, default),
             Form::Flag => flag(alloc, self.id),
@@ -400,25 +400,25 @@ fn option<'a>(alloc: Global, id: &'a str, name: &'a str) -> Arg<'a>
     Arg::new(alloc, id).long(id).value_name(name)
 }
 
-fn needed<'a>(alloc: Global, id: &'a str, name: &'a str) -> Arg<'a>
+fn needed_option<'a>(alloc: Global, id: &'a str, name: &'a str) -> Arg<'a>
     ensures { IsLocal (needed_rule id.entry.now) result }
 {
     option(alloc, id, name).required(true)
 }
 
-fn repeated<'a>(alloc: Global, id: &'a str, name: &'a str) -> Arg<'a>
+fn repeated_option<'a>(alloc: Global, id: &'a str, name: &'a str) -> Arg<'a>
     ensures { IsLocal (repeated_rule id.entry.now) result }
 {
     option(alloc, id, name).action(ArgAction::Append)
 }
 
-fn repeated_text<'a>(alloc: Global, id: &'a str, name: &'a str) -> Arg<'a>
+fn repeated_text_option<'a>(alloc: Global, id: &'a str, name: &'a str) -> Arg<'a>
     ensures { IsLocal (repeated_text_rule id.entry.now) result }
 {
-    repeated(alloc, id, name).value_parser(ValueParser::NonEmptyString)
+    repeated_option(alloc, id, name).value_parser(ValueParser::NonEmptyString)
 }
 
-fn defaulted<'a>(alloc: Global, id: &'a str, name: &'a str, default: &'a str) -> Arg<'a>
+fn defaulted_option<'a>(alloc: Global, id: &'a str, name: &'a str, default: &'a str) -> Arg<'a>
     ensures { IsLocal (defaulted_rule id.entry.now default.entry.now) result }
 {
     option(alloc, id, name).default_value(default)
@@ -427,7 +427,7 @@ fn defaulted<'a>(alloc: Global, id: &'a str, name: &'a str, default: &'a str) ->
 fn number<'a>(alloc: Global, id: &'a str, name: &'a str, default: &'a str) -> Arg<'a>
     ensures { IsLocal (number_rule id.entry.now default.entry.now) result }
 {
-    defaulted(alloc, id, name, default).value_parser(value_parser!(u32))
+    defaulted_option(alloc, id, name, default).value_parser(value_parser!(u32))
 }
 
 fn word<'a>(
@@ -439,7 +439,7 @@ fn word<'a>(
 ) -> Arg<'a>
     ensures { IsLocal (word_rule id.entry.now words.entry default.entry.now) result }
 {
-    defaulted(alloc, id, name, default).value_parser(words)
+    defaulted_option(alloc, id, name, default).value_parser(words)
 }
 
 fn flag<'a>(alloc: Global, id: &'a str) -> Arg<'a>

@@ -14,7 +14,7 @@ use pt_tree::{Ignored, Name, NameFault};
 use std::alloc::Global;
 
 // The names that are left out: refused as `Ignored` where a text is none that an entry may have.
-pub(crate) fn ignored(alloc: Global, matches: &ArgMatches<'_>) -> Result<Ignored, Unread>
+pub(crate) fn ignored_names(alloc: Global, matches: &ArgMatches<'_>) -> Result<Ignored, Unread>
     ensures { ReadsAs (ignored_in (rows_of (found_of matches.now))) result }
 {
     match texts(matches, IGNORE) {

@@ -6,7 +6,7 @@ ghost use Rattle.pt_cli.specs.Arguments.{ReadsAs, algorithm_in, algorithm_of};
 ghost use Rattle.pt_cli.specs.Options.{described, folders_in, job_in, layout_in};
 
 use crate::Text;
-use crate::arguments::{is_set, needed, number, text, texts};
+use crate::arguments::{is_set, number, require, text, texts};
 use crate::faults::Unread;
 use crate::ids::{DEST, DIGEST, GATHER, ONLY, SHARE, SOURCE, TUPLE_SIZE, TUPLES};
 use crate::share_words::{share, with_only};
@@ -55,7 +55,7 @@ pub(crate) fn job(alloc: Global, matches: &ArgMatches<'_>, meta: Meta) -> Result
 fn algorithm(matches: &ArgMatches<'_>) -> Result<Algorithm, Unread>
     ensures { result ≡ algorithm_in (rows_of (found_of matches.now)) }
 {
-    needed(algorithm_by_word(needed(text(matches, DIGEST))?))
+    require(algorithm_by_word(require(text(matches, DIGEST))?))
 }
 
 fn algorithm_by_word(word: &str) -> Option<Algorithm>
@@ -72,8 +72,8 @@ fn algorithm_by_word(word: &str) -> Option<Algorithm>
 pub(crate) fn layout(matches: &ArgMatches<'_>) -> Result<Layout, Unread>
     ensures { result ≡ layout_in (rows_of (found_of matches.now)) }
 {
-    let size = needed(number(matches, TUPLE_SIZE))?;
-    let count = needed(number(matches, TUPLES))?;
+    let size = require(number(matches, TUPLE_SIZE))?;
+    let count = require(number(matches, TUPLES))?;
     Ok(Layout::of(size, count)?)
 }
 
@@ -81,7 +81,7 @@ pub(crate) fn layout(matches: &ArgMatches<'_>) -> Result<Layout, Unread>
 pub(crate) fn folders(alloc: Global, matches: &ArgMatches<'_>) -> Result<(Text, Text), Unread>
     ensures { ReadsAs (folders_in (rows_of (found_of matches.now))) result }
 {
-    let source = needed(text(matches, SOURCE))?;
-    let dest = needed(text(matches, DEST))?;
+    let source = require(text(matches, SOURCE))?;
+    let dest = require(text(matches, DEST))?;
     Ok((Text::of(alloc, source)?, Text::of(alloc, dest)?))
 }

@@ -52,7 +52,7 @@ mod share_words;
 mod started;
 mod words;
 
-pub use command::{Audit, Check, Command, Migrate, NamesArgs};
+pub use command::{Audit, CheckArgs, Command, Migrate, NamesArgs};
 pub use faults::WordsFault;
 pub use input::{HasInput, InputMachine};
 pub use list_fault::{BadLine, LineFault, ListFault};

@@ -8,7 +8,7 @@ use crate::BadLine;
 use crate::identifier_lines::identifiers_in;
 use pt_host::status::REFUSED;
 use pt_host::{Reads, end_with_fault};
-use pt_messages::escaped;
+use pt_messages::escape;
 use pt_move::{Fault, Job};
 use pt_name::{IdentifierList, Share};
 use pt_tree::MemoryFault;
@@ -62,7 +62,7 @@ fn share_of(
         Ok(ids) => {
             let name = String::from_str(alloc, path)?;
             let list = IdentifierList::of(alloc, name, ids)?;
-            Ok(Ok(share.listed(alloc, list)?))
+            Ok(Ok(share.with_list(alloc, list)?))
         }
         Err(bad) => Ok(Err(bad)),
     }
@@ -82,7 +82,7 @@ fn end_unread<R: Eprint + AllocGlobal>(rt: &R, path: &str, error: &io::Error) ->
 fn end_refused<R: Eprint + AllocGlobal>(rt: &R, path: &str, reason: &impl fmt::Display) -> u8
     ensures { (result ≡ 2) ⊎ (result ≡ 3) }
 {
-    let Ok(path) = escaped(rt.alloc(), path) else {
+    let Ok(path) = escape(rt.alloc(), path) else {
         return end_with_fault(rt, &Fault::Memory);
     };
     let _ = eprintln!(rt; "pairtree2ocfl: {path}: {reason}");

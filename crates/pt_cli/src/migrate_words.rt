@@ -3,11 +3,11 @@ ghost use Rattle.clap.specs.Words.{found_of, rows_of};
 ghost use Rattle.pt_cli.specs.Arguments.{ReadsAs};
 ghost use Rattle.pt_cli.specs.Options.{meta_in, migration_in, run_options_in};
 
-use crate::arguments::{is_set, needed, text};
+use crate::arguments::{is_set, require, text};
 use crate::faults::Unread;
 use crate::feedback_words::{copy_of, feedback};
 use crate::ids::{ADDRESS, CREATED, LIST, MESSAGE, NAME, PRESENT_OK, REHEARSE, SYNC};
-use crate::ignore_words::ignored;
+use crate::ignore_words::ignored_names;
 use crate::job_words::{folders, job, meta_of};
 use crate::{Command, Migrate};
 use clap::ArgMatches;
@@ -35,7 +35,7 @@ fn run_options(alloc: Global, matches: &ArgMatches<'_>) -> Result<RunOptions, Un
     ensures { ReadsAs (run_options_in (rows_of (found_of matches.now))) result }
 {
     let job = job(alloc, matches, meta(alloc, matches)?)?;
-    let ignored = ignored(alloc, matches)?;
+    let ignored = ignored_names(alloc, matches)?;
     let feedback = feedback(alloc, matches)?;
     Ok(RunOptions {
         job,
@@ -51,8 +51,8 @@ fn run_options(alloc: Global, matches: &ArgMatches<'_>) -> Result<RunOptions, Un
 fn meta(alloc: Global, matches: &ArgMatches<'_>) -> Result<Meta, Unread>
     ensures { ReadsAs (meta_in (rows_of (found_of matches.now))) result }
 {
-    let created = needed(text(matches, CREATED))?;
-    let name = needed(text(matches, NAME))?;
-    let message = needed(text(matches, MESSAGE))?;
+    let created = require(text(matches, CREATED))?;
+    let name = require(text(matches, NAME))?;
+    let message = require(text(matches, MESSAGE))?;
     meta_of(alloc, created, name, text(matches, ADDRESS), message)
 }

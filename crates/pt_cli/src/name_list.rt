@@ -151,7 +151,7 @@ impl NameLister {
             return self.take_line_end(asked);
         }
         if self.line.len() > LONGEST {
-            return Err(self.refused(LineFault::TooLong));
+            return Err(self.refuse_line(LineFault::TooLong));
         }
         self.line.push(byte)?;
         Ok(())
@@ -172,7 +172,7 @@ impl NameLister {
         ensures { IsFed (ended asked.now self.old self.old.line) self.new result }
     {
         if let Some(fault) = fault_in(&self.line) {
-            return Err(self.refused(fault));
+            return Err(self.refuse_line(fault));
         }
         add_names(self.alloc, &mut self.text, asked, &self.line)?;
         self.line.clear();
@@ -181,7 +181,7 @@ impl NameLister {
     }
 
     // The refusal of the line at hand.
-    fn refused(&self, fault: LineFault) -> ListFault
+    fn refuse_line(&self, fault: LineFault) -> ListFault
         ensures { result ≡ Line (record { number = self.now.number; fault = fault }) }
     {
         ListFault::Line(BadLine {

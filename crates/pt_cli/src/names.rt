@@ -82,7 +82,7 @@ fn two_lines(
     requires { 0 < length id.now }
     ensures { IfOk result (λ text. text.items ≡ names_text layout.now prefix.now id.now) }
 {
-    let place = layout.place_text(alloc, &behind(alloc, prefix, id)?)?;
+    let place = layout.place_text(alloc, &with_prefix(alloc, prefix, id)?)?;
     let mut text = pairpath(alloc, id)?;
     add_lines(&mut text, &place)?;
     Ok(text)
@@ -99,7 +99,7 @@ fn add_lines(text: &mut Vec<u8>, line: &[u8]) -> Result<(), MemoryFault>
 }
 
 // A prefix with an identifier behind.
-fn behind(alloc: Global, prefix: &[u8], id: &[u8]) -> Result<Vec<u8>, MemoryFault>
+fn with_prefix(alloc: Global, prefix: &[u8], id: &[u8]) -> Result<Vec<u8>, MemoryFault>
     ensures { IfOk result (λ whole. whole.items ≡ prefix.now ++ id.now) }
 {
     let mut whole = Vec::new(alloc);

@@ -29,14 +29,14 @@ where
         asked.now host.old host.new result }
 {
     let mut input = host.input();
-    let mut ground = host.lend();
-    let listed = list_names(rt.alloc(), asked, &mut input, &mut ground.output);
-    host.take_back(ground);
-    told(rt, listed)
+    let mut host_io = host.lend();
+    let listed = list_names(rt.alloc(), asked, &mut input, &mut host_io.output);
+    host.take_back(host_io);
+    report_list(rt, listed)
 }
 
 // Says why not all names were written, if they weren't, and gives the status.
-fn told(rt: &impl Eprint, listed: Result<(), ListFault>) -> u8
+fn report_list(rt: &impl Eprint, listed: Result<(), ListFault>) -> u8
     ensures { result ≡ list_status listed }
 {
     match listed {

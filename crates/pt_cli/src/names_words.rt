@@ -3,7 +3,7 @@ ghost use Rattle.clap.specs.Words.{found_of, rows_of};
 ghost use Rattle.pt_cli.specs.Arguments.{ReadsAs};
 ghost use Rattle.pt_cli.specs.Options.{names_in};
 
-use crate::arguments::{needed, text};
+use crate::arguments::{require, text};
 use crate::faults::Unread;
 use crate::ids::{ID, PREFIX};
 use crate::job_words::layout;
@@ -15,7 +15,7 @@ use std::alloc::Global;
 pub(crate) fn names_command(alloc: Global, matches: &ArgMatches<'_>) -> Result<Command, Unread>
     ensures { ReadsAs (names_in (rows_of (found_of matches.now))) result }
 {
-    let id = needed(text(matches, ID))?;
+    let id = require(text(matches, ID))?;
     if id.is_empty() {
         return Err(Unread::EmptyId);
     }

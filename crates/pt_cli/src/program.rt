@@ -11,7 +11,8 @@ use crate::listing::take_list;
 use crate::names_of_input::{is_of_input, write_names_of_input};
 use crate::started::Started;
 use crate::{
-    Audit, Check, Command, Migrate, NamesArgs, NamesFault, Text, WordsFault, names_to, read_words,
+    Audit, CheckArgs, Command, Migrate, NamesArgs, NamesFault, Text, WordsFault, names_to,
+    read_words,
 };
 use pt_host::status::{DONE, REFUSED};
 use pt_host::{
@@ -62,7 +63,7 @@ fn wordless(rt: &impl Eprint, error: &io::Error) -> u8
 {
     match error.kind() {
         io::ErrorKind::OutOfMemory => end_with_fault(rt, &Fault::Memory),
-        _ => refused(rt, "the arguments are not text"),
+        _ => refuse_words(rt, "the arguments are not text"),
     }
 }
 
@@ -124,14 +125,14 @@ fn refuse<R: Eprint, H: Host>(rt: &R, host: &mut H, fault: &WordsFault) -> u8
 fn tell<R: Eprint, H: Host>(rt: &R, host: &mut H, text: &Text) -> u8
     ensures { TellsText ⟦<H as Machine>⟧.words text.now host.old host.new result }
 {
-    let mut ground = host.lend();
-    let written = write_out(&mut ground.output, text.as_str().as_bytes());
-    host.take_back(ground);
-    told_text(rt, written)
+    let mut host_io = host.lend();
+    let written = write_out(&mut host_io.output, text.as_str().as_bytes());
+    host.take_back(host_io);
+    report_text(rt, written)
 }
 
 // The status of writing a text that was asked for. Nobody may read it any more: that is no failure.
-fn told_text(rt: &impl Eprint, written: io::Result<()>) -> u8
+fn report_text(rt: &impl Eprint, written: io::Result<()>) -> u8
     ensures { IsToldAs written result }
 {
     match written {
@@ -196,11 +197,11 @@ fn path_of(list: &Option<Text>) -> Option<&str>
 }
 
 // Makes the check that the words ask for, and gives its status.
-fn make_check<R: Eprint + AllocGlobal, H: Host>(rt: &R, host: &mut H, asked: Check) -> u8
+fn make_check<R: Eprint + AllocGlobal, H: Host>(rt: &R, host: &mut H, asked: CheckArgs) -> u8
     ensures { ChecksStore ⟦<H as Machine>⟧.words (check_call asked.options asked.source)
         host.old host.new result }
 {
-    let Check { options, source } = asked;
+    let CheckArgs { options, source } = asked;
     check_store(rt, host, options, source.as_str())
 }
 
@@ -223,26 +224,26 @@ fn write_names<R: Eprint + AllocGlobal, H: Host>(rt: &R, host: &mut H, asked: &N
     ensures { TellsNames ⟦<H as Machine>⟧.words asked.now host.old host.new result }
 {
     let (prefix, id) = (asked.prefix.as_str(), asked.id.as_str());
-    let mut ground = host.lend();
-    let written = names_to(rt.alloc(), &asked.layout, prefix, id, &mut ground.output);
-    host.take_back(ground);
-    told(rt, written)
+    let mut host_io = host.lend();
+    let written = names_to(rt.alloc(), &asked.layout, prefix, id, &mut host_io.output);
+    host.take_back(host_io);
+    report_names(rt, written)
 }
 
 // Says why the names weren't written, if they weren't, and gives the status.
-fn told(rt: &impl Eprint, written: Result<(), NamesFault>) -> u8
+fn report_names(rt: &impl Eprint, written: Result<(), NamesFault>) -> u8
     ensures { result ≡ names_status written }
 {
     match written {
         Ok(()) => DONE,
-        Err(NamesFault::Empty) => refused(rt, "the identifier is empty"),
+        Err(NamesFault::Empty) => refuse_words(rt, "the identifier is empty"),
         Err(NamesFault::Write) => end_with_fault(rt, &Fault::Log),
         Err(NamesFault::Memory) => end_with_fault(rt, &Fault::Memory),
     }
 }
 
 // Says why the words were refused.
-fn refused(rt: &impl Eprint, reason: &str) -> u8
+fn refuse_words(rt: &impl Eprint, reason: &str) -> u8
     ensures { result ≡ 2 }
 {
     let _ = eprintln!(rt; "pairtree2ocfl: {reason}");

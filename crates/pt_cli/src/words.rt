@@ -56,7 +56,7 @@ fn command(alloc: Global, matches: &ArgMatches<'_>) -> Result<Command, WordsFaul
 fn answer(alloc: Global, matches: &ArgMatches<'_>) -> Result<Command, Unread>
     ensures { ReadsAs (answer_to (subcommand_rows_of matches.now)) result }
 {
-    match entered(matches) {
+    match find_command(matches) {
         Some((NAMES, inner)) => names_command(alloc, inner),
         Some((MIGRATE, inner)) => migrate_command(alloc, inner),
         Some((AUDIT, inner)) => audit_command(alloc, inner),
@@ -66,7 +66,7 @@ fn answer(alloc: Global, matches: &ArgMatches<'_>) -> Result<Command, Unread>
 }
 
 // The command that the parser found, and what was found for its arguments.
-fn entered<'m, 'a>(matches: &'m ArgMatches<'a>) -> Option<(&'a str, &'m ArgMatches<'a>)>
+fn find_command<'m, 'a>(matches: &'m ArgMatches<'a>) -> Option<(&'a str, &'m ArgMatches<'a>)>
     ensures { option_map (λ p. (p.0.now, rows_of (found_of p.1.now))) result
         ≡ subcommand_rows_of matches.now }
 {

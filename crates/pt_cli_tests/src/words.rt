@@ -1,5 +1,5 @@
 //! Words of a command line: the commands that are read of them, the fault as which they are refused, and help.
-use pt_cli::{Audit, Check, Command, Migrate, NamesArgs, Text, WordsFault, read_words};
+use pt_cli::{Audit, CheckArgs, Command, Migrate, NamesArgs, Text, WordsFault, read_words};
 use pt_name::Layout;
 use pt_object::{Algorithm, Meta};
 use std::alloc::Global;
@@ -86,7 +86,7 @@ fn is_gathering(asked: &Audit) -> bool {
         && (asked.options.extra, asked.options.skips_ok) == (true, false)
 }
 
-fn is_reading(asked: &Check) -> bool {
+fn is_reading(asked: &CheckArgs) -> bool {
     let options = &asked.options;
     options.reads
         && options.ignored.names().len() == 1

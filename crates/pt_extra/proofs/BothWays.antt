@@ -16,11 +16,11 @@ use Rattle.pt_extra.proofs.Telling.{appends_on, front_more, front_on}
 use Rattle.pt_extra.specs.Audits.{AuditLogs, ExtraLogs, IsExtraLog, OfItems, PutsRest, TellsRest, WithRest, against_given, against_store, counts_of, found_extra, in_both, rest_text, with_found}
 use Rattle.pt_extra.specs.Counting.{no_numbers, with_findings}
 use Rattle.pt_extra.specs.Findings.{Against}
-use Rattle.pt_extra.specs.Lines.{Finding, last_text, texts}
+use Rattle.pt_extra.specs.Lines.{ExtraFinding, last_text, texts}
 use Rattle.pt_extra.specs.Walk.{Tells, TellsFront, against, found_in}
 use Rattle.pt_extra.specs.declared.auditing.AuditCounts.{AuditCounts}
-use Rattle.pt_extra.specs.declared.devices.Devices.{Devices}
-use Rattle.pt_extra.specs.declared.numbers.Numbers.{Numbers}
+use Rattle.pt_extra.specs.declared.devices.ExtraDevices.{ExtraDevices}
+use Rattle.pt_extra.specs.declared.numbers.ExtraNumbers.{ExtraNumbers}
 use Rattle.pt_extra.specs.declared.walking.Extras.{Extras}
 use Rattle.pt_plan.specs.DeviceStates.{Failures}
 use Rattle.pt_plan.specs.Job.{Job}
@@ -35,7 +35,7 @@ use Rattle.pt_tree.specs.declared.source.Source.{Ghosts as OfSource}
 -- ---- behind the objects' lines
 
 -- the lines of what is found, and then the end line
-pub puts_rest : (counts : Counts) (fs : List Finding) (a b c : Option (List ℕ)) (numbers : Numbers) (ran : Result AuditCounts Fault) → Appends a b (texts fs) → numbers ≡ with_findings fs no_numbers
+pub puts_rest : (counts : Counts) (fs : List ExtraFinding) (a b c : Option (List ℕ)) (numbers : ExtraNumbers) (ran : Result AuditCounts Fault) → Appends a b (texts fs) → numbers ≡ with_findings fs no_numbers
     → IfOk ran (λ told. (told ≡ record { counts = counts; numbers = numbers }) × Appends b c (last_text (record { counts = counts; numbers = numbers }))) → OnErr ran (AppendsFront b c (last_text (record { counts = counts; numbers = numbers }))) → PutsRest counts fs a c ran
 puts_rest counts fs a b c numbers (Ok told) first is puts part =
     let same : (record { counts = counts; numbers = numbers }) ≡ with_found counts fs = λ i. record { counts = counts; numbers = is i } in
@@ -45,15 +45,15 @@ puts_rest counts fs a b c numbers (Err why) first is puts part =
     front_on a b c (texts fs) (last_text (with_found counts fs)) first (subst (λ (k : AuditCounts). AppendsFront b c (last_text k)) same part)
 
 -- a walk that is to begin over these, with what an audit gave back
-pub record IsBegun {S R L : Type 0} (walk : Extras S R L) (devices : Devices S R L) (audited : Audited) : Type 0 where
+pub record IsBegun {S R L : Type 0} (walk : Extras S R L) (devices : ExtraDevices S R L) (audited : Audited) : Type 0 where
   devices_are : (walk.store ≡ devices.store) × (walk.root ≡ devices.root) × (walk.log ≡ devices.log)
   against_is : (walk.job ≡ audited.job) × (walk.prefix ≡ audited.prefix)
   numbers_are : walk.numbers ≡ no_numbers
 
-pub begun : {S R L : Type 0} {walk : Extras S R L} {devices : Devices S R L} {audited : Audited} → (walk.store ≡ devices.store) × (walk.root ≡ devices.root) × (walk.log ≡ devices.log) → (walk.job ≡ audited.job) × (walk.prefix ≡ audited.prefix) → walk.numbers ≡ no_numbers → IsBegun walk devices audited
+pub begun : {S R L : Type 0} {walk : Extras S R L} {devices : ExtraDevices S R L} {audited : Audited} → (walk.store ≡ devices.store) × (walk.root ≡ devices.root) × (walk.log ≡ devices.log) → (walk.job ≡ audited.job) × (walk.prefix ≡ audited.prefix) → walk.numbers ≡ no_numbers → IsBegun walk devices audited
 begun devices against numbers = record { devices_are = devices; against_is = against; numbers_are = numbers }
 
-module _ {S R L : Type 0} (store : OfSource S) (root : OfSource R) (log : OfLog L) (walk after : Extras S R L) (devices : Devices S R L) (audited : Audited) (it : IsBegun walk devices audited) where
+module _ {S R L : Type 0} (store : OfSource S) (root : OfSource R) (log : OfLog L) (walk after : Extras S R L) (devices : ExtraDevices S R L) (audited : Audited) (it : IsBegun walk devices audited) where
   start : AuditStart
   start = start_over (tree_in (store.told devices.store)) (tree_in (root.told devices.root)) (log.told devices.log)
 
@@ -61,7 +61,7 @@ module _ {S R L : Type 0} (store : OfSource S) (root : OfSource R) (log : OfLog 
   same s = λ i. record { job = job_of (it.against_is.0 i); prefix = string_bytes (it.against_is.1 i); store = s }
 
   -- it came to its end, and the end line was tried
-  pub tells_rest : (numbers : Numbers) (now : Option (List ℕ)) (ran : Result AuditCounts Fault) → Tells store root log found_in walk after → numbers ≡ after.numbers
+  pub tells_rest : (numbers : ExtraNumbers) (now : Option (List ℕ)) (ran : Result AuditCounts Fault) → Tells store root log found_in walk after → numbers ≡ after.numbers
       → IfOk ran (λ told. (told ≡ record { counts = audited.counts; numbers = numbers }) × Appends (log.told after.log) now (last_text (record { counts = audited.counts; numbers = numbers })))
       → OnErr ran (AppendsFront (log.told after.log) now (last_text (record { counts = audited.counts; numbers = numbers })))
       → TellsRest audited (start_over (tree_in (store.told devices.store)) (tree_in (root.told devices.root)) (log.told devices.log)) now ran

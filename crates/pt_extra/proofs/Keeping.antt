@@ -8,7 +8,7 @@ use Rattle.pt_audit.specs.Growing.{grows_none, grows_on}
 use Rattle.pt_compare.specs.Root.{tree_in}
 use Rattle.pt_extra.proofs.Telling.{front_none}
 use Rattle.pt_extra.specs.Findings.{Against}
-use Rattle.pt_extra.specs.Lines.{Finding, texts}
+use Rattle.pt_extra.specs.Lines.{ExtraFinding, texts}
 use Rattle.pt_extra.specs.Walk.{Keeps, Puts, Tells, TellsFront, against, seen_by}
 use Rattle.pt_extra.specs.declared.walking.Extras.{Extras}
 use Rattle.pt_plan.specs.DeviceStates.{Failures}
@@ -42,21 +42,21 @@ pub same_against : {S R L : Type 0} (store : OfSource S) (root : OfSource R) (lo
 same_against store root log a b s keeps = λ i. record { job = job_of (keeps.job i); prefix = string_bytes (keeps.prefix i); store = s }
 
 -- so what is told from there on is what is found from the start
-pub told_from : {S R L : Type 0} (store : OfSource S) (root : OfSource R) (log : OfLog L) (findings : Against → Forest → List Finding) (a b c : Extras S R L) → Keeps store root log a b → Tells store root log findings b c
+pub told_from : {S R L : Type 0} (store : OfSource S) (root : OfSource R) (log : OfLog L) (findings : Against → Forest → List ExtraFinding) (a b c : Extras S R L) → Keeps store root log a b → Tells store root log findings b c
     → ForSome (tree_in (store.told a.store)) (λ s. ForSome (tree_in (root.told a.root)) (λ r. Puts (findings (against a s) r) (seen_by log b) (seen_by log c)))
 told_from store root log findings a b c keeps tells = λ s is r there.
     subst (λ (x : Against). Puts (findings x r) (seen_by log b) (seen_by log c)) (same_against store root log a b s keeps)
     (tells s (keeps.store_stays.1 ∙ is) r (keeps.root_stays.1 ∙ there))
 
 -- the same of a front
-pub front_from : {S R L : Type 0} (store : OfSource S) (root : OfSource R) (log : OfLog L) (findings : Against → Forest → List Finding) (a b c : Extras S R L) → Keeps store root log a b → TellsFront store root log findings b c
+pub front_from : {S R L : Type 0} (store : OfSource S) (root : OfSource R) (log : OfLog L) (findings : Against → Forest → List ExtraFinding) (a b c : Extras S R L) → Keeps store root log a b → TellsFront store root log findings b c
     → ForSome (tree_in (store.told a.store)) (λ s. ForSome (tree_in (root.told a.root)) (λ r. AppendsFront (log.told b.log) (log.told c.log) (texts (findings (against a s) r))))
 front_from store root log findings a b c keeps front = λ s is r there.
     subst (λ (x : Against). AppendsFront (log.told b.log) (log.told c.log) (texts (findings x r))) (same_against store root log a b s keeps)
     (front s (keeps.store_stays.1 ∙ is) r (keeps.root_stays.1 ∙ there))
 
 -- where nothing was put it breaks off so
-pub stops_still : {S R L T : Type 0} (store : OfSource S) (root : OfSource R) (log : OfLog L) (findings : Against → Forest → List Finding) (a b : Extras S R L) (result : Result T Fault) → log.told b.log ≡ log.told a.log → OnErr result (TellsFront store root log findings a b)
+pub stops_still : {S R L T : Type 0} (store : OfSource S) (root : OfSource R) (log : OfLog L) (findings : Against → Forest → List ExtraFinding) (a b : Extras S R L) (result : Result T Fault) → log.told b.log ≡ log.told a.log → OnErr result (TellsFront store root log findings a b)
 stops_still store root log findings a b (Ok x) same = tt
 stops_still store root log findings a b (Err why) same = λ s is r there. subst (λ (l : Option (List ℕ)). AppendsFront (log.told a.log) l (texts (findings (against a s) r))) (sym same) (front_none (log.told a.log) (texts (findings (against a s) r)))
 

@@ -2,17 +2,17 @@
 use Rattle.std.proofs.Common.{◌≡◌, List, ℕ, [], ◌∷◌, ◌++◌, false, refl, ap, ◌∙◌}
 use Rattle.serde_json.specs.Data.{Data}
 use Rattle.serde_json.specs.Written.{compact_text, has_float}
-use Rattle.pt_extra.specs.Lines.{Finding, Stray, Extra, last_text, last_tree, line_text, line_tree}
+use Rattle.pt_extra.specs.Lines.{ExtraFinding, Stray, Extra, last_text, last_tree, line_text, line_tree}
 use Rattle.pt_extra.specs.declared.auditing.AuditCounts.{AuditCounts}
 
-no_float_in : (line : Finding) → has_float (line_tree line) ≡ false
+no_float_in : (line : ExtraFinding) → has_float (line_tree line) ≡ false
 no_float_in (Stray to) = refl
 no_float_in (Extra id to) = refl
 
-pub no_float : (line : Finding) (d : Data) → d ≡ line_tree line → has_float d ≡ false
+pub no_float : (line : ExtraFinding) (d : Data) → d ≡ line_tree line → has_float d ≡ false
 no_float line d is = ap has_float is ∙ no_float_in line
 
-pub text_is : (line : Finding) (d : Data) (text : List ℕ) → d ≡ line_tree line → text ≡ compact_text d ++ 10 ∷ [] → text ≡ line_text line
+pub text_is : (line : ExtraFinding) (d : Data) (text : List ℕ) → d ≡ line_tree line → text ≡ compact_text d ++ 10 ∷ [] → text ≡ line_text line
 text_is line d text is same = same ∙ ap (λ tree. compact_text tree ++ 10 ∷ []) is
 
 -- of the end line

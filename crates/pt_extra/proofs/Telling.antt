@@ -5,9 +5,9 @@ use Rattle.std.proofs.lemmas.List.{take-append-drop}
 use Rattle.std.specs.Io.KnownBytes.{Appends}
 use Rattle.std.specs.Prelude.{Option, None, Some}
 use Rattle.pt_extra.specs.Counting.{with_finding, with_findings}
-use Rattle.pt_extra.specs.Lines.{Finding, line_text, texts}
+use Rattle.pt_extra.specs.Lines.{ExtraFinding, line_text, texts}
 use Rattle.pt_extra.specs.Walk.{Puts, Seen}
-use Rattle.pt_extra.specs.declared.numbers.Numbers.{Numbers}
+use Rattle.pt_extra.specs.declared.numbers.ExtraNumbers.{ExtraNumbers}
 use Rattle.pt_tree.specs.Log.{AppendsFront}
 
 appends_none : (told : Option (List ℕ)) → Appends told told []
@@ -20,11 +20,11 @@ appends_on (Some xs) None c p q first second = absurd first
 appends_on (Some xs) (Some ys) None p q first second = absurd second
 appends_on (Some xs) (Some ys) (Some zs) p q first second = second ∙ ap (λ (l : List ℕ). l ++ q) first ∙ append_assoc xs p q
 
-pub texts_on : (fs gs : List Finding) → texts (fs ++ gs) ≡ texts fs ++ texts gs
+pub texts_on : (fs gs : List ExtraFinding) → texts (fs ++ gs) ≡ texts fs ++ texts gs
 texts_on [] gs = refl
 texts_on (f ∷ fs) gs = ap (λ (l : List ℕ). line_text f ++ l) (texts_on fs gs) ∙ sym (append_assoc (line_text f) (texts fs) (texts gs))
 
-counts_on : (fs gs : List Finding) (n : Numbers) → with_findings (fs ++ gs) n ≡ with_findings gs (with_findings fs n)
+counts_on : (fs gs : List ExtraFinding) (n : ExtraNumbers) → with_findings (fs ++ gs) n ≡ with_findings gs (with_findings fs n)
 counts_on [] gs n = refl
 counts_on (f ∷ fs) gs n = counts_on fs gs (with_finding f n)
 
@@ -50,14 +50,14 @@ pub puts_none : (a : Seen) → Puts [] a a
 puts_none a = record { held = appends_none a.held; numbers = refl }
 
 -- what is put twice
-pub puts_on : (fs gs : List Finding) (a b c : Seen) → Puts fs a b → Puts gs b c → Puts (fs ++ gs) a c
+pub puts_on : (fs gs : List ExtraFinding) (a b c : Seen) → Puts fs a b → Puts gs b c → Puts (fs ++ gs) a c
 puts_on fs gs a b c first second = record {
   held = subst (Appends a.held c.held) (sym (texts_on fs gs)) (appends_on a.held b.held c.held (texts fs) (texts gs) first.held second.held);
   numbers = second.numbers ∙ ap (with_findings gs) first.numbers ∙ sym (counts_on fs gs a.numbers);
 }
 
 -- one line
-pub puts_one : (f : Finding) (text : List ℕ) (a b : Seen) → text ≡ line_text f → Appends a.held b.held text → b.numbers ≡ with_finding f a.numbers → Puts (f ∷ []) a b
+pub puts_one : (f : ExtraFinding) (text : List ℕ) (a b : Seen) → text ≡ line_text f → Appends a.held b.held text → b.numbers ≡ with_finding f a.numbers → Puts (f ∷ []) a b
 puts_one f text a b is held numbers = record {
   held = subst (Appends a.held b.held) (is ∙ sym (append-nil (line_text f))) held;
   numbers = numbers;

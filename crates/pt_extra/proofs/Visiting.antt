@@ -6,7 +6,7 @@ use Rattle.pt_compare.specs.Root.{tree_in}
 use Rattle.pt_extra.proofs.Telling.{front_more, front_none, front_on, puts_none, puts_on, texts_on}
 use Rattle.pt_extra.specs.Findings.{Against, found_at, is_object, is_part, of_entries, of_leaf, of_object, of_unnamed}
 use Rattle.pt_extra.specs.Inventories.{id_of}
-use Rattle.pt_extra.specs.Lines.{Finding, texts}
+use Rattle.pt_extra.specs.Lines.{ExtraFinding, texts}
 use Rattle.pt_extra.specs.Walk.{Puts, Seen}
 use Rattle.pt_plan.specs.TurnWalk.{in_root}
 use Rattle.pt_tree.specs.Forest.{Forest, none, dir_at, is_proper, listing_at, listing_of}
@@ -62,7 +62,7 @@ next_stands told path entry items place name what there proper listed at is_dir 
 -- ---- the entries of a folder
 
 -- what is found of an entry
-abbrev of_entry : Against → Forest → Path → ℕ → List ℕ → Kind → List Finding
+abbrev of_entry : Against → Forest → Path → ℕ → List ℕ → Kind → List ExtraFinding
 of_entry c top path left name kind.File = of_leaf c path name kind.File
 of_entry c top path left name kind.Other = of_leaf c path name kind.Other
 of_entry c top path left name kind.Dir =
@@ -81,7 +81,7 @@ splits c top path left items place name kind.Dir proper listed at =
 
 -- so many entries of a folder were met, and what is found of them is told
 pub record FoundTo (c : Against) (path : Path) (left : ℕ) (inside : Forest) (place : ℕ) (a b : Seen) : Type 0 where
-  findings : List Finding
+  findings : List ExtraFinding
   puts : Puts findings a b
   rest : findings ++ of_entries c path left (entries_from place inside) ≡ of_entries c path left inside
 
@@ -98,7 +98,7 @@ found_more c top path left items place name here a b d proper listed at to puts 
     record {
       findings = to.findings ++ e;
       puts = puts_on to.findings e a b d to.puts puts;
-      rest = append_assoc to.findings e rest ∙ ap (λ (l : List Finding). to.findings ++ l) (sym (splits c top path left items place name here proper listed at)) ∙ to.rest;
+      rest = append_assoc to.findings e rest ∙ ap (λ (l : List ExtraFinding). to.findings ++ l) (sym (splits c top path left items place name here proper listed at)) ∙ to.rest;
     }
 
 -- where it is the root's own
@@ -106,7 +106,7 @@ pub found_part : (c : Against) (top : Forest) (path : Path) (left : ℕ) (items 
     → slice_get items place ≡ Some (name, here) → is_part path name here ≡ true → FoundTo c path left (inside_at top (in_root path)) place a b
     → FoundTo c path left (inside_at top (in_root path)) (place + 1) a b
 found_part c top path left items place name here a b proper listed at part to =
-    found_more c top path left items place name here a b b proper listed at to (subst (λ (l : List Finding). Puts l b b) (sym (by here part)) (puts_none b))
+    found_more c top path left items place name here a b b proper listed at to (subst (λ (l : List ExtraFinding). Puts l b b) (sym (by here part)) (puts_none b))
   where
     by : (here : Kind) → is_part path name here ≡ true → of_entry c top path left name here ≡ []
     by kind.File part = ap (λ (t : Bool). cond t [] (of_unnamed c (path ++ name ∷ []))) part
@@ -129,7 +129,7 @@ pub found_dir : (c : Against) (top : Forest) (path : Path) (left : ℕ) (items :
     → FoundTo c path left (inside_at top (in_root path)) (place + 1) a d
 found_dir c top path left items place name here entry a b d proper listed at is part entry_is to puts =
     found_more c top path left items place name here a b d proper listed at to
-    (subst (λ (l : List Finding). Puts l b d) (sym (dir_is c top path left name here entry is part entry_is)) puts)
+    (subst (λ (l : List ExtraFinding). Puts l b d) (sym (dir_is c top path left name here entry is part entry_is)) puts)
 
 -- where it is none
 leaf_is : (c : Against) (top : Forest) (path : Path) (left : ℕ) (name : List ℕ) (here : Kind) (entry : Path) → (here ≡ kind.Dir → ⊥) → is_part path name here ≡ false → entry ≡ path ++ name ∷ []
@@ -147,7 +147,7 @@ pub found_leaf : (c : Against) (top : Forest) (path : Path) (left : ℕ) (items 
     → FoundTo c path left (inside_at top (in_root path)) (place + 1) a d
 found_leaf c top path left items place name here entry a b d proper listed at leaf part entry_is to puts =
     found_more c top path left items place name here a b d proper listed at to
-    (subst (λ (l : List Finding). Puts l b d) (sym (leaf_is c top path left name here entry leaf part entry_is)) puts)
+    (subst (λ (l : List ExtraFinding). Puts l b d) (sym (leaf_is c top path left name here entry leaf part entry_is)) puts)
 
 -- ---- where it breaks off
 
@@ -160,7 +160,7 @@ stops_more c top path left items place name here a b last proper listed at to pa
     let rest = of_entries c path left (entries_from (place + 1) (inside_at top (in_root path))) in
     let whole : texts to.findings ++ (texts e ++ texts rest) ≡ texts (of_entries c path left (inside_at top (in_root path))) =
     ap (λ (l : List ℕ). texts to.findings ++ l) (sym (texts_on e rest)) ∙ sym (texts_on to.findings (e ++ rest))
-    ∙ ap texts (ap (λ (l : List Finding). to.findings ++ l) (sym (splits c top path left items place name here proper listed at)) ∙ to.rest) in
+    ∙ ap texts (ap (λ (l : List ExtraFinding). to.findings ++ l) (sym (splits c top path left items place name here proper listed at)) ∙ to.rest) in
     subst (AppendsFront a.held last) whole
     (front_on a.held b.held last (texts to.findings) (texts e ++ texts rest) to.puts.held (front_more b.held last (texts e) (texts rest) part))
 
@@ -184,7 +184,7 @@ found_all c top path left items place a b listed past to =
     let nothing = nothing_ahead top (in_root path) items place listed (past_end items place past) in
     let whole : to.findings ≡ of_entries c path left (inside_at top (in_root path)) =
     sym (append-nil to.findings) ∙ ap (λ (f : Forest). to.findings ++ of_entries c path left f) (sym nothing) ∙ to.rest in
-    subst (λ (l : List Finding). Puts l a b) whole to.puts
+    subst (λ (l : List ExtraFinding). Puts l a b) whole to.puts
 
 -- ---- a folder
 
@@ -211,29 +211,29 @@ folder_is c top path left items listed it =
 pub found_folder : (c : Against) (top : Forest) (path : Path) (left : ℕ) (items : List Item) (place : ℕ) (a b : Seen) → listing_at top (in_root path) ≡ Some items → IsWalked left items → length items ≤ place
     → FoundTo c path left (inside_at top (in_root path)) place a b → Puts (found_at c path left (inside_at top (in_root path))) a b
 found_folder c top path left items place a b listed it past to =
-    subst (λ (l : List Finding). Puts l a b) (sym (folder_is c top path left items listed it)) (found_all c top path left items place a b listed past to)
+    subst (λ (l : List ExtraFinding). Puts l a b) (sym (folder_is c top path left items listed it)) (found_all c top path left items place a b listed past to)
 
 -- where it breaks off in it: at an entry that is a folder, at one that is none, and before one
 pub stops_dir : (c : Against) (top : Forest) (path : Path) (left : ℕ) (items : List Item) (place : ℕ) (name : List ℕ) (here : Kind) (entry : Path) (a b : Seen) (last : Option (List ℕ)) → is_proper top ≡ true → listing_at top (in_root path) ≡ Some items
     → slice_get items place ≡ Some (name, here) → here ≡ kind.Dir → is_part path name here ≡ false → entry ≡ path ++ name ∷ [] → IsWalked left items → FoundTo c path left (inside_at top (in_root path)) place a b
     → AppendsFront b.held last (texts (found_at c entry (left - 1) (inside_at top (in_root entry)))) → AppendsFront a.held last (texts (found_at c path left (inside_at top (in_root path))))
 stops_dir c top path left items place name here entry a b last proper listed at is part entry_is it to put =
-    subst (λ (l : List Finding). AppendsFront a.held last (texts l)) (sym (folder_is c top path left items listed it))
+    subst (λ (l : List ExtraFinding). AppendsFront a.held last (texts l)) (sym (folder_is c top path left items listed it))
     (stops_more c top path left items place name here a b last proper listed at to
-    (subst (λ (l : List Finding). AppendsFront b.held last (texts l)) (sym (dir_is c top path left name here entry is part entry_is)) put))
+    (subst (λ (l : List ExtraFinding). AppendsFront b.held last (texts l)) (sym (dir_is c top path left name here entry is part entry_is)) put))
 
 pub stops_leaf : (c : Against) (top : Forest) (path : Path) (left : ℕ) (items : List Item) (place : ℕ) (name : List ℕ) (here : Kind) (entry : Path) (a b : Seen) (last : Option (List ℕ)) → is_proper top ≡ true → listing_at top (in_root path) ≡ Some items
     → slice_get items place ≡ Some (name, here) → (here ≡ kind.Dir → ⊥) → is_part path name here ≡ false → entry ≡ path ++ name ∷ [] → IsWalked left items → FoundTo c path left (inside_at top (in_root path)) place a b
     → AppendsFront b.held last (texts (of_unnamed c entry)) → AppendsFront a.held last (texts (found_at c path left (inside_at top (in_root path))))
 stops_leaf c top path left items place name here entry a b last proper listed at leaf part entry_is it to put =
-    subst (λ (l : List Finding). AppendsFront a.held last (texts l)) (sym (folder_is c top path left items listed it))
+    subst (λ (l : List ExtraFinding). AppendsFront a.held last (texts l)) (sym (folder_is c top path left items listed it))
     (stops_more c top path left items place name here a b last proper listed at to
-    (subst (λ (l : List Finding). AppendsFront b.held last (texts l)) (sym (leaf_is c top path left name here entry leaf part entry_is)) put))
+    (subst (λ (l : List ExtraFinding). AppendsFront b.held last (texts l)) (sym (leaf_is c top path left name here entry leaf part entry_is)) put))
 
 pub stops_before : (c : Against) (top : Forest) (path : Path) (left : ℕ) (items : List Item) (place : ℕ) (a b : Seen) → listing_at top (in_root path) ≡ Some items → IsWalked left items → FoundTo c path left (inside_at top (in_root path)) place a b
     → AppendsFront a.held b.held (texts (found_at c path left (inside_at top (in_root path))))
 stops_before c top path left items place a b listed it to =
-    subst (λ (l : List Finding). AppendsFront a.held b.held (texts l)) (sym (folder_is c top path left items listed it))
+    subst (λ (l : List ExtraFinding). AppendsFront a.held b.held (texts l)) (sym (folder_is c top path left items listed it))
     (stops_here c path left (inside_at top (in_root path)) place a b to)
 
 -- of an object

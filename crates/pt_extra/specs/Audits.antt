@@ -8,7 +8,7 @@ use Rattle.pt_audit.specs.declared.auditing.Audited.{Audited}
 use Rattle.pt_audit.specs.declared.counts.Counts.{Counts}
 use Rattle.pt_extra.specs.Counting.{no_numbers, with_findings}
 use Rattle.pt_extra.specs.Findings.{Against}
-use Rattle.pt_extra.specs.Lines.{Finding, last_text, texts}
+use Rattle.pt_extra.specs.Lines.{ExtraFinding, last_text, texts}
 use Rattle.pt_extra.specs.Walk.{found_in}
 use Rattle.pt_extra.specs.declared.auditing.AuditCounts.{AuditCounts}
 use Rattle.pt_plan.specs.Job.{Job}
@@ -37,15 +37,15 @@ in_both (Err why) = Err why
 -- ---- behind the lines of what the store has
 
 -- with the numbers of what is found
-abbrev pub with_found : Counts → List Finding → AuditCounts
+abbrev pub with_found : Counts → List ExtraFinding → AuditCounts
 with_found counts findings = record { counts = counts; numbers = with_findings findings no_numbers }
 
 -- the lines of what is found, and the end line
-abbrev pub rest_text : Counts → List Finding → List ℕ
+abbrev pub rest_text : Counts → List ExtraFinding → List ℕ
 rest_text counts findings = texts findings ++ last_text (with_found counts findings)
 
 -- by the answer that is put, with these counts, or a front of it
-abbrev pub PutsRest : Counts → List Finding → Option (List ℕ) → Option (List ℕ) → Result AuditCounts Fault → Type 0
+abbrev pub PutsRest : Counts → List ExtraFinding → Option (List ℕ) → Option (List ℕ) → Result AuditCounts Fault → Type 0
 PutsRest counts findings old new (Ok told) =
     (told ≡ with_found counts findings) × Appends old new (rest_text counts findings)
 PutsRest counts findings old new (Err why) = AppendsFront old new (rest_text counts findings)
@@ -69,7 +69,7 @@ abbrev pub against_store : Job → Forest → Against
 against_store job store = record { job = job; prefix = prefix_of store; store = store }
 
 -- what is found in a root that its store lacks
-abbrev pub found_extra : Job → Forest → Forest → List Finding
+abbrev pub found_extra : Job → Forest → Forest → List ExtraFinding
 found_extra job source root = found_in (against_store job source) root
 
 -- what is told of all items of the store, then of what it lacks, and the end line, with the counts of these

@@ -3,7 +3,7 @@ use Rattle.std.specs.Prelude.{ℕ, ◌-◌, ◌==◌, ◌&&◌, ◌||◌, Bool, 
 use Rattle.std.specs.Str.{bytes_eq}
 use Rattle.pt_audit.specs.Twin.{object_stands, proper_site}
 use Rattle.pt_extra.specs.Inventories.{id_of}
-use Rattle.pt_extra.specs.Lines.{Finding, Extra, Stray}
+use Rattle.pt_extra.specs.Lines.{ExtraFinding, Extra, Stray}
 use Rattle.pt_name.specs.Place.{place_of}
 use Rattle.pt_name.specs.Share.{begins_with, holds, is_first}
 use Rattle.pt_object.specs.WellKnown.{known_text}
@@ -30,15 +30,15 @@ is_held c id =
     begins_with c.prefix id && object_stands c.job c.store (proper_site (drop (length c.prefix) id))
 
 -- what has no identifier is stray, and is told by the first share alone: the shares together tell it once
-abbrev pub of_unnamed : Against → Path → List Finding
+abbrev pub of_unnamed : Against → Path → List ExtraFinding
 of_unnamed c path = cond (is_first c.job.share) (Stray path ∷ []) []
 
 -- of an object at its place: nothing where the store has it
-abbrev pub of_placed : Against → Path → List ℕ → List Finding
+abbrev pub of_placed : Against → Path → List ℕ → List ExtraFinding
 of_placed c path id = cond (is_held c id) [] (Extra id path ∷ [])
 
 -- of an object at this path with this identifier, if one could be read: nothing where that isn't chosen
-abbrev pub of_object : Against → Path → Option (List ℕ) → List Finding
+abbrev pub of_object : Against → Path → Option (List ℕ) → List ExtraFinding
 of_object c path None = of_unnamed c path
 of_object c path (Some id) =
     cond (holds c.job.share id)
@@ -67,16 +67,16 @@ is_part [] name here = is_own name here
 is_part (n ∷ path) name here = false
 
 -- what is found of an entry that is no folder
-abbrev pub of_leaf : Against → Path → List ℕ → Kind → List Finding
+abbrev pub of_leaf : Against → Path → List ℕ → Kind → List ExtraFinding
 of_leaf c path name here = cond (is_part path name here) [] (of_unnamed c (path ++ name ∷ []))
 
 -- what is found of a folder, by what is found of its entries: it is an object, or is stray where it is empty, or lies as deep as objects do
-abbrev pub of_folder : Against → Path → ℕ → Forest → List Finding → List Finding
+abbrev pub of_folder : Against → Path → ℕ → Forest → List ExtraFinding → List ExtraFinding
 of_folder c path left inside entries = cond (is_object (listing_of inside)) (of_object c path (id_of inside))
     (cond (left == 0 || length (listing_of inside) == 0) (of_unnamed c path) entries)
 
 -- what is found of the entries of a folder at this path, below which so many names lead to an object, and of all that stands in them
-abbrev pub of_entries : Against → Path → ℕ → Forest → List Finding
+abbrev pub of_entries : Against → Path → ℕ → Forest → List ExtraFinding
 of_entries c path left none = []
 of_entries c path left (file name bytes after) = of_leaf c path name kind.File ++ of_entries c path left after
 of_entries c path left (other name after) = of_leaf c path name kind.Other ++ of_entries c path left after
@@ -87,5 +87,5 @@ of_entries c path left (dir name inside after) =
     ++ of_entries c path left after
 
 -- of a folder, and of all that stands in it
-abbrev pub found_at : Against → Path → ℕ → Forest → List Finding
+abbrev pub found_at : Against → Path → ℕ → Forest → List ExtraFinding
 found_at c path left inside = of_folder c path left inside (of_entries c path left inside)

@@ -9,12 +9,12 @@ use Rattle.serde_json.specs.Written.{compact_text}
 
 -- what is told of a path from the storage root on: it is no part of the root or of an object, or of an object that doesn't stand at its
 -- place; or an object stands there which the store doesn't have
-pub data Finding : Type 0 where
-  Stray : (to : Path) → Finding
-  Extra : (id : List ℕ) → (to : Path) → Finding
+pub data ExtraFinding : Type 0 where
+  Stray : (to : Path) → ExtraFinding
+  Extra : (id : List ℕ) → (to : Path) → ExtraFinding
 
 -- the line as a tree of JSON
-abbrev pub line_tree : Finding → Data
+abbrev pub line_tree : ExtraFinding → Data
 line_tree (Stray to) = json.object
     (text_member (codes "as") (codes "stray")
     (text_member (codes "to") (joined to) no_members))
@@ -24,11 +24,11 @@ line_tree (Extra id to) = json.object
     (text_member (codes "to") (joined to) no_members)))
 
 -- the compact text of the line, and LF
-abbrev pub line_text : Finding → List ℕ
+abbrev pub line_text : ExtraFinding → List ℕ
 line_text finding = compact_text (line_tree finding) ++ 10 ∷ []
 
 -- the lines of findings, one after another
-abbrev pub texts : List Finding → List ℕ
+abbrev pub texts : List ExtraFinding → List ℕ
 texts [] = []
 texts (finding ∷ findings) = line_text finding ++ texts findings
 

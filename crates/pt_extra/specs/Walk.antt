@@ -9,8 +9,8 @@ use Rattle.pt_compare.specs.Root.{KeepsRoot, tree_in}
 use Rattle.pt_extra.specs.Counting.{with_findings}
 use Rattle.pt_extra.specs.Findings.{Against, found_at, of_object, of_unnamed}
 use Rattle.pt_extra.specs.Inventories.{id_of}
-use Rattle.pt_extra.specs.Lines.{Finding, texts}
-use Rattle.pt_extra.specs.declared.numbers.Numbers.{Numbers}
+use Rattle.pt_extra.specs.Lines.{ExtraFinding, texts}
+use Rattle.pt_extra.specs.declared.numbers.ExtraNumbers.{ExtraNumbers}
 use Rattle.pt_extra.specs.declared.walking.Extras.{Extras}
 use Rattle.pt_object.specs.WellKnown.{known_text}
 use Rattle.pt_object.specs.declared.well_known.WellKnownName.TheVariants as known
@@ -29,14 +29,14 @@ use Rattle.pt_walk.specs.Left.{inside_at}
 -- how far a walk is: what its log holds, and what it has counted
 pub record Seen : Type 0 where
   pub held : Option (List ℕ)
-  pub numbers : Numbers
+  pub numbers : ExtraNumbers
 
 -- how far this one is
 abbrev pub seen_by : {S R L : Type 0} → OfLog L → Extras S R L → Seen
 seen_by log walk = record { held = log.told walk.log; numbers = walk.numbers }
 
 -- the lines of these findings are put into the log and counted
-pub record Puts (findings : List Finding) (a b : Seen) : Type 0 where
+pub record Puts (findings : List ExtraFinding) (a b : Seen) : Type 0 where
   pub held : Appends a.held b.held (texts findings)
   pub numbers : b.numbers ≡ with_findings findings a.numbers
 
@@ -45,27 +45,27 @@ abbrev pub against : {S R L : Type 0} → Extras S R L → Forest → Against
 against walk store = record { job = job_of walk.job; prefix = string_bytes walk.prefix; store = store }
 
 -- what is found of a folder at this path of the root, below which so many names lead to an object
-abbrev pub found_below : Path → ℕ → Against → Forest → List Finding
+abbrev pub found_below : Path → ℕ → Against → Forest → List ExtraFinding
 found_below path left c tree = found_at c path left (inside_at tree (in_root path))
 
 -- of the object at a path, whose folder in the destination is this
-abbrev pub found_there : Path → Path → Against → Forest → List Finding
+abbrev pub found_there : Path → Path → Against → Forest → List ExtraFinding
 found_there path folder c tree = of_object c path (id_of (inside_at tree folder))
 
 -- of the object at a path, with this identifier
-abbrev pub found_named : Path → List ℕ → Against → Forest → List Finding
+abbrev pub found_named : Path → List ℕ → Against → Forest → List ExtraFinding
 found_named path id c tree = of_object c path (Some id)
 
 -- of what has no identifier
-abbrev pub found_unnamed : Path → Against → Forest → List Finding
+abbrev pub found_unnamed : Path → Against → Forest → List ExtraFinding
 found_unnamed path c tree = of_unnamed c path
 
 -- that one thing
-abbrev pub found_one : Finding → Against → Forest → List Finding
+abbrev pub found_one : ExtraFinding → Against → Forest → List ExtraFinding
 found_one finding c tree = finding ∷ []
 
 -- where store and root tell, a front of what is found of them is told
-abbrev pub TellsFront : {S R L : Type 0} → OfSource S → OfSource R → OfLog L → (Against → Forest → List Finding)
+abbrev pub TellsFront : {S R L : Type 0} → OfSource S → OfSource R → OfLog L → (Against → Forest → List ExtraFinding)
     → Extras S R L → Extras S R L → Type 0
 TellsFront store root log findings old new =
     ForSome (tree_in (store.told old.store))
@@ -73,7 +73,7 @@ TellsFront store root log findings old new =
     (λ r. AppendsFront (log.told old.log) (log.told new.log) (texts (findings (against old s) r))))
 
 -- where store and root tell, what is found of them is told
-abbrev pub Tells : {S R L : Type 0} → OfSource S → OfSource R → OfLog L → (Against → Forest → List Finding)
+abbrev pub Tells : {S R L : Type 0} → OfSource S → OfSource R → OfLog L → (Against → Forest → List ExtraFinding)
     → Extras S R L → Extras S R L → Type 0
 Tells store root log findings old new =
     ForSome (tree_in (store.told old.store))
@@ -97,6 +97,6 @@ Fails store root log old new result =
     (failures (store.failed new.store) (root.failed new.root) (log.failed new.log))
 
 -- what is found of a destination: of its storage root, if it has one
-abbrev pub found_in : Against → Forest → List Finding
+abbrev pub found_in : Against → Forest → List ExtraFinding
 found_in c standing = cond (is_dir_kind (kind_in (listing_of standing) (known_text known.StorageRoot)))
     (found_at c [] (c.job.tuples.count + 1) (inside_at standing storage_root)) []

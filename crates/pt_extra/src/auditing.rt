@@ -15,7 +15,7 @@ ghost use Rattle.pt_state.specs.States.{job_of};
 ghost use Rattle.pt_tree.specs.Log.{AppendsFront};
 
 use crate::lines::end_line;
-use crate::{Devices, Extras, Numbers};
+use crate::{ExtraDevices, ExtraNumbers, Extras};
 use pt_audit::{Audited, Counts, Root, audit_objects};
 use pt_move::{Job, Observer};
 use pt_plan::Fault;
@@ -28,7 +28,7 @@ pub struct AuditCounts {
     /// Of what the store has.
     pub counts: Counts,
     /// Of what it lacks.
-    pub numbers: Numbers,
+    pub numbers: ExtraNumbers,
 }
 
 /// What an audit came to, and its devices, as it left them.
@@ -37,7 +37,7 @@ pub struct AuditEnd<S, R, L> {
     /// How many lines its log has, or why it broke off.
     pub ran: Result<AuditCounts, Fault>,
     /// The devices.
-    pub devices: Devices<S, R, L>,
+    pub devices: ExtraDevices<S, R, L>,
 }
 
 /// An audit, as `audit` of pt_audit makes it; where extras are wanted too, the log tells of what the root has and the store lacks, behind the
@@ -46,7 +46,7 @@ pub struct AuditEnd<S, R, L> {
 /// It answers the faults of `audit`, and those of a walk (`Extras::run`). After a fault the log has a front of what is told.
 pub fn audit<S: Source, R: Root, L: Log, O: Observer<Counts>>(
     alloc: Global,
-    devices: Devices<S, R, L>,
+    devices: ExtraDevices<S, R, L>,
     job: Job,
     with_extras: bool,
     observer: &O,
@@ -70,7 +70,7 @@ pub fn audit<S: Source, R: Root, L: Log, O: Observer<Counts>>(
     if with_extras {
         return audit_with_extras(alloc, devices, job, observer);
     }
-    let Devices {
+    let ExtraDevices {
         mut store,
         mut root,
         mut log,
@@ -78,7 +78,7 @@ pub fn audit<S: Source, R: Root, L: Log, O: Observer<Counts>>(
     let ran = pt_audit::audit(alloc, &mut store, &mut root, &mut log, job, observer);
     AuditEnd {
         ran: without_extras(ran),
-        devices: Devices { store, root, log },
+        devices: ExtraDevices { store, root, log },
     }
 }
 
@@ -89,7 +89,7 @@ fn without_extras(ran: Result<Counts, Fault>) -> Result<AuditCounts, Fault>
     match ran {
         Ok(counts) => Ok(AuditCounts {
             counts,
-            numbers: Numbers::none(),
+            numbers: ExtraNumbers::none(),
         }),
         Err(fault) => Err(fault),
     }
@@ -98,7 +98,7 @@ fn without_extras(ran: Result<Counts, Fault>) -> Result<AuditCounts, Fault>
 // An audit that tells of what the store lacks too.
 fn audit_with_extras<S: Source, R: Root, L: Log, O: Observer<Counts>>(
     alloc: Global,
-    devices: Devices<S, R, L>,
+    devices: ExtraDevices<S, R, L>,
     job: Job,
     observer: &O,
 ) -> AuditEnd<S, R, L>
@@ -118,13 +118,13 @@ fn audit_with_extras<S: Source, R: Root, L: Log, O: Observer<Counts>>(
         (tree_in (R.told devices.root))) }
     ensures made { IsMade job (source_tree (S.told devices.store)) (in_both result.ran) }
 {
-    let Devices {
+    let ExtraDevices {
         mut store,
         mut root,
         mut log,
     } = devices;
     let audited = audit_objects(alloc, &mut store, &mut root, &mut log, job, observer);
-    let devices = Devices { store, root, log };
+    let devices = ExtraDevices { store, root, log };
     match audited {
         Ok(audited) => tell_rest(alloc, devices, audited),
         Err(fault) => AuditEnd {
@@ -137,7 +137,7 @@ fn audit_with_extras<S: Source, R: Root, L: Log, O: Observer<Counts>>(
 // Tells of what the store lacks, and of the end, after all objects of the store were told.
 fn tell_rest<S: Source, R: Source, L: Log>(
     alloc: Global,
-    devices: Devices<S, R, L>,
+    devices: ExtraDevices<S, R, L>,
     audited: Audited,
 ) -> AuditEnd<S, R, L>
     ensures told { TellsRest audited (start_over (tree_in (S.told devices.store))

@@ -1,6 +1,6 @@
 /// What an audit is made over.
 #[derive(Drop)]
-pub struct Devices<S, R, L> {
+pub struct ExtraDevices<S, R, L> {
     /// The store.
     pub store: S,
     /// The destination, in which the storage root stands.

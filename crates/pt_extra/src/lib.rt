@@ -30,6 +30,6 @@ mod store;
 mod walking;
 
 pub use auditing::{AuditCounts, AuditEnd, audit};
-pub use devices::Devices;
-pub use numbers::Numbers;
+pub use devices::ExtraDevices;
+pub use numbers::ExtraNumbers;
 pub use walking::Extras;

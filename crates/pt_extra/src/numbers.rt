@@ -3,36 +3,36 @@ ghost use Rattle.pt_extra.specs.Counting.{no_numbers, one_more};
 
 /// How many lines told of what a store lacks, each number up to 2^64 - 1.
 #[derive(Clone, Copy, Debug, PartialEq, Eq)]
-pub struct Numbers {
+pub struct ExtraNumbers {
     /// The objects that the store doesn't have.
     pub extra: u64,
     /// What is no part of the root or of an object at its place.
     pub stray: u64,
 }
 
-impl Numbers {
+impl ExtraNumbers {
     /// Of no line yet.
-    pub fn none() -> Numbers
+    pub fn none() -> ExtraNumbers
         ensures { result ≡ no_numbers }
     {
-        Numbers { extra: 0, stray: 0 }
+        ExtraNumbers { extra: 0, stray: 0 }
     }
 
     /// With an object more that the store doesn't have.
-    pub fn with_extra(self) -> Numbers
+    pub fn with_extra(self) -> ExtraNumbers
         ensures { result ≡ record self { extra = one_more self.extra } }
     {
-        Numbers {
+        ExtraNumbers {
             extra: self.extra.saturating_add(1),
             ..self
         }
     }
 
     /// With something more that is stray.
-    pub fn with_stray(self) -> Numbers
+    pub fn with_stray(self) -> ExtraNumbers
         ensures { result ≡ record self { stray = one_more self.stray } }
     {
-        Numbers {
+        ExtraNumbers {
             stray: self.stray.saturating_add(1),
             ..self
         }

@@ -9,7 +9,7 @@ ghost use Rattle.pt_state.specs.States.{job_of};
 ghost use Rattle.pt_tree.specs.Failures.{IsCounted};
 ghost use Rattle.pt_tree.specs.Forest.{listing_of};
 
-use pt_audit::{behind, object_stands, proper_site};
+use pt_audit::{object_stands, proper_site, skip_prefix};
 use pt_move::Job;
 use pt_object::WellKnownName;
 use pt_plan::kinds::{is_dir, kind_in};
@@ -39,7 +39,7 @@ pub(crate) fn has_object<S: Source>(
     if !has_folder(alloc, store, WellKnownName::PairtreeRoot)? {
         return Ok(false);
     }
-    let site = proper_site(alloc, behind(id.as_bytes(), prefix.as_bytes()))?;
+    let site = proper_site(alloc, skip_prefix(id.as_bytes(), prefix.as_bytes()))?;
     object_stands(store, job, &NamePath::new(alloc), site)
 }
 

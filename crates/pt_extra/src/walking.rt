@@ -4,7 +4,7 @@ ghost use Rattle.std.specs.Option.{ForSome};
 ghost use Rattle.pt_compare.specs.Root.{tree_in};
 ghost use Rattle.pt_extra.specs.Counting.{no_numbers, with_finding};
 ghost use Rattle.pt_extra.specs.Findings.{is_held};
-ghost use Rattle.pt_extra.specs.Lines.{Extra, Finding, Stray, line_text, texts};
+ghost use Rattle.pt_extra.specs.Lines.{Extra, ExtraFinding, Stray, line_text, texts};
 ghost use Rattle.pt_extra.specs.Walk.{Fails, Keeps, Puts, Tells, TellsFront, against, seen_by};
 ghost use Rattle.pt_extra.specs.Walk.{found_below, found_in, found_named, found_one, found_there, found_unnamed};
 ghost use Rattle.pt_object.specs.WellKnown.{known_text};
@@ -18,7 +18,7 @@ use crate::identifier::identifier_at;
 use crate::lines::{extra_line, stray_line};
 use crate::parts::{is_object, is_part};
 use crate::store::{has_folder, has_object};
-use crate::{Devices, Numbers};
+use crate::{ExtraDevices, ExtraNumbers};
 use pt_move::Job;
 use pt_object::WellKnownName;
 use pt_plan::Fault;
@@ -34,7 +34,7 @@ pub struct Extras<S, R, L> {
     pub(crate) log: L,
     pub(crate) job: Job,
     pub(crate) prefix: String,
-    pub(crate) numbers: Numbers,
+    pub(crate) numbers: ExtraNumbers,
     pub(crate) alloc: Global,
 }
 
@@ -43,7 +43,7 @@ impl<S: Source, R: Source, L: Log> Extras<S, R, L> {
     /// job sees it. Nothing is told yet.
     pub fn new(
         alloc: Global,
-        devices: Devices<S, R, L>,
+        devices: ExtraDevices<S, R, L>,
         job: Job,
         prefix: String,
     ) -> Extras<S, R, L>
@@ -58,7 +58,7 @@ impl<S: Source, R: Source, L: Log> Extras<S, R, L> {
             log: devices.log,
             job,
             prefix,
-            numbers: Numbers::none(),
+            numbers: ExtraNumbers::none(),
             alloc,
         }
     }
@@ -67,7 +67,7 @@ impl<S: Source, R: Source, L: Log> Extras<S, R, L> {
     ///
     /// `Source` where the store can't be listed, `Dest` where the root can't be listed or read, `Log` where a line couldn't be put, and
     /// `Memory` where a growth was refused. The log has a front of the lines then.
-    pub fn run(&mut self) -> Result<Numbers, Fault>
+    pub fn run(&mut self) -> Result<ExtraNumbers, Fault>
         ensures told { OnOk result
             (Tells S.Source R.Source L.Log found_in self.old self.new) }
         ensures stops { OnErr result
@@ -86,11 +86,11 @@ impl<S: Source, R: Source, L: Log> Extras<S, R, L> {
     }
 
     /// Store, root and log, as the walk left them.
-    pub fn into_devices(self) -> Devices<S, R, L>
+    pub fn into_devices(self) -> ExtraDevices<S, R, L>
         ensures { (result.store ≡ self.store) × (result.root ≡ self.root)
             × (result.log ≡ self.log) }
     {
-        Devices {
+        ExtraDevices {
             store: self.store,
             root: self.root,
             log: self.log,
@@ -267,11 +267,11 @@ impl<S: Source, R: Source, L: Log> Extras<S, R, L> {
     }
 
     // Puts the line of a finding, with which these are the numbers.
-    fn put(&mut self, line: &str, numbers: Numbers) -> Result<(), Fault>
-        ensures put { (finding : Finding) → line.now ≡ line_text finding
+    fn put(&mut self, line: &str, numbers: ExtraNumbers) -> Result<(), Fault>
+        ensures put { (finding : ExtraFinding) → line.now ≡ line_text finding
             → numbers ≡ with_finding finding self.old.numbers → OnOk result
             (Puts (finding ∷ []) (seen_by L.Log self.old) (seen_by L.Log self.new)) }
-        ensures part { (finding : Finding) → line.now ≡ line_text finding → OnErr result
+        ensures part { (finding : ExtraFinding) → line.now ≡ line_text finding → OnErr result
             (AppendsFront (L.told self.old.log) (L.told self.new.log) (texts (finding ∷ []))) }
         ensures keeps { Keeps S.Source R.Source L.Log self.old self.new }
         ensures fails { Fails S.Source R.Source L.Log self.old self.new result }

@@ -19,5 +19,5 @@ mod Trees
 mod Turns
 mod Shown
 mod Slashes
-mod StuckTold
+mod UnsyncedTold
 mod WriteTold

@@ -90,13 +90,13 @@ module _ {S : Type 0} (looks : S → List ℕ → Result Kind Error → S → Ty
   -- its name doesn't come after the last
   pub rises_not : (kind : Kind) (fault : TreeFault) → LooksAt looks front mid (name, kind) new → IsDueTo fault (can_follow listing name ≡ false)
       → IsDueTo fault (FailsToLook looks front names old new)
-  rises_not kind Memory one stuck = tt
-  rises_not kind Device one stuck = record {
+  rises_not kind Memory one unsynced = tt
+  rises_not kind Device one unsynced = record {
     listing = listing;
     name = name;
     rest = rest;
     mid = mid;
     here = next_is;
     looked = looked;
-    failed = inr (kind, one, stuck);
+    failed = inr (kind, one, unsynced);
   }

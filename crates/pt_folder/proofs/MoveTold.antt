@@ -14,14 +14,14 @@ use Rattle.pt_folder.specs.DestLaws.{Kept, Moves, StaysApart, MoveLaw, StillLaw}
 use Rattle.pt_folder.specs.DestHeld.{IsBack, IsPlaced, told_of, told_with}
 use Rattle.pt_folder.specs.Moving.{AfterMove, MovesOnce}
 use Rattle.pt_folder.specs.Folder.{entry_text}
-use Rattle.pt_folder.specs.UnsyncedChange.{stuck_after}
+use Rattle.pt_folder.specs.UnsyncedChange.{unsynced_after}
 use Rattle.pt_folder.specs.declared.system.System.{Ghosts as OfSystem}
 use Rattle.pt_folder.specs.declared.unsynced_change.UnsyncedChange.{UnsyncedChange}
-use Rattle.pt_folder.specs.declared.unsynced_change.UnsyncedChange.TheVariants as stuck
+use Rattle.pt_folder.specs.declared.unsynced_change.UnsyncedChange.TheVariants as unsynced
 use Rattle.pt_folder.specs.Writing.{open_unless_within}
 use Rattle.pt_folder.proofs.Back.{back}
 use Rattle.pt_folder.proofs.DestTold.{told_at}
-use Rattle.pt_folder.proofs.StuckTold.{none_back}
+use Rattle.pt_folder.proofs.UnsyncedTold.{none_back}
 
 path_left : {F : Type 0} (from : Path) (w : Option (Open F)) → option_map (λ w. w.path) (open_unless_within from w) ≡ open_unless_below from (option_map (λ w. w.path) w)
 path_left from None = refl
@@ -53,10 +53,10 @@ told_moved w (Some t) from to = ap (λ x. Some (record { tree = moved t from to;
 abbrev pub IsMoved : {F : Type 0} → Kept F → Kept F → Path → Path → Type 0
 IsMoved old new from to = (new.tree ≡ option_map (λ t. moved t from to) old.tree) × StaysApart old new from
 
--- it is moved, or nothing is changed; or it is moved, and that is stuck
+-- it is moved, or nothing is changed; or it is moved, and that is unsynced
 abbrev pub HasMoved : {F : Type 0} → Kept F → Kept F → Path → Path → Option UnsyncedChange → Result (Unit {0}) TreeFault → Type 0
 HasMoved old new from to left (Ok x) = IsMoved old new from to × (left ≡ None)
-HasMoved old new from to left (Err e) = ((new ≡ old) × (left ≡ None)) ⊎ (IsMoved old new from to × (left ≡ Some (stuck.Moved from to)))
+HasMoved old new from to left (Err e) = ((new ≡ old) × (left ≡ None)) ⊎ (IsMoved old new from to × (left ≡ Some (unsynced.Moved from to)))
 
 module _ {S F : Type 0} (kept : S → List ℕ → Kept F) (folder : List ℕ) (old new : S) (from to : Path) where
   pub rename_gives : (synced : Bool) {D : Type 0} (sys : OfSystem S F D) (syncs : F → Result (Unit {0}) Error → F → Type 0) → MoveLaw kept sys.renames → StillLaw kept sys.opens
@@ -64,7 +64,7 @@ module _ {S F : Type 0} (kept : S → List ℕ → Kept F) (folder : List ℕ) (
       → HasMoved (kept old folder) (kept new folder) from to left result
   rename_gives synced sys syncs law still left (Ok x) can (inl none) = absurd none.2
   rename_gives synced sys syncs law still left (Err e) can (inl none) = inl (ap (λ s. kept s folder) none.0, none.1)
-  rename_gives synced sys syncs law still left result can (inr asked) = by asked.reply result asked.gives asked.left_stuck (law old asked.mid folder from to asked.reply asked.named.0 asked.named.1 can asked.made)
+  rename_gives synced sys syncs law still left result can (inr asked) = by asked.reply result asked.gives asked.left_unsynced (law old asked.mid folder from to asked.reply asked.named.0 asked.named.1 can asked.made)
     where
       -- syncing the directory changes nothing
       after : (synced : Bool) (result : Result (Unit {0}) TreeFault) → AfterMove sys.opens syncs synced (entry_text folder to) asked.mid new result → kept new folder ≡ kept asked.mid folder
@@ -76,32 +76,32 @@ module _ {S F : Type 0} (kept : S → List ℕ → Kept F) (folder : List ℕ) (
 
       by : (reply : Result (Unit {0}) Error) (result : Result (Unit {0}) TreeFault)
           → MatchResult reply (λ _. AfterMove sys.opens syncs synced (entry_text folder to) asked.mid new result) (λ e. (new ≡ asked.mid) × (result ≡ Err (fault_of e)))
-          → left ≡ stuck_after reply (stuck.Moved from to) result
+          → left ≡ unsynced_after reply (unsynced.Moved from to) result
           → Moves (kept old folder) (kept asked.mid folder) from to reply → HasMoved (kept old folder) (kept new folder) from to left result
       by (Ok x) (Ok y) gives stays is = (moved_on (after synced (Ok y) gives) is, stays)
       by (Ok x) (Err f) gives stays is = inr (moved_on (after synced (Err f) gives) is, stays)
       by (Err e) (Ok y) gives stays is = let other = gives.1 in absurd (cc)
       by (Err e) (Err f) gives stays is = inl (ap (λ s. kept s folder) gives.0 ∙ is, stays)
 
-  -- where nothing is to be put onto the disk, nothing is stuck
+  -- where nothing is to be put onto the disk, nothing is unsynced
   pub rename_wanted : {D : Type 0} (sys : OfSystem S F D) (syncs : F → Result (Unit {0}) Error → F → Type 0) → (synced : Bool)
       → (left : Option UnsyncedChange) (result : Result (Unit {0}) TreeFault) → MovesOnce sys syncs (record { folder = folder; from = from; to = to; synced = synced }) (change_of old new) left result → ForSome left (λ _. synced ≡ true)
   rename_wanted sys syncs true left result asked = λ s at. refl
   rename_wanted sys syncs false left result (inl none) = λ s at. let free = none.1 in absurd (cc)
-  rename_wanted sys syncs false left result (inr asked) = by asked.reply result asked.gives asked.left_stuck
+  rename_wanted sys syncs false left result (inr asked) = by asked.reply result asked.gives asked.left_unsynced
     where
       by : (reply : Result (Unit {0}) Error) (result : Result (Unit {0}) TreeFault)
           → MatchResult reply (λ _. (new ≡ asked.mid) × (result ≡ Ok tt)) (λ e. (new ≡ asked.mid) × (result ≡ Err (fault_of e)))
-          → left ≡ stuck_after reply (stuck.Moved from to) result → ForSome left (λ _. false ≡ true)
+          → left ≡ unsynced_after reply (unsynced.Moved from to) result → ForSome left (λ _. false ≡ true)
       by (Ok x) (Ok y) gives free = λ s at. absurd (cc)
       by (Ok x) (Err f) gives free = let other = gives.1 in absurd (cc)
       by (Err e) result gives free = λ s at. absurd (cc)
 
-  -- something is stuck only where the device failed
+  -- something is unsynced only where the device failed
   pub rename_device : {D : Type 0} (sys : OfSystem S F D) (syncs : F → Result (Unit {0}) Error → F → Type 0) → (synced : Bool)
       → (left : Option UnsyncedChange) (result : Result (Unit {0}) TreeFault) → MovesOnce sys syncs (record { folder = folder; from = from; to = to; synced = synced }) (change_of old new) left result → ForSome left (λ _. result ≡ Err Device)
   rename_device sys syncs synced left result (inl none) = λ s at. let free = none.1 in absurd (cc)
-  rename_device sys syncs synced left result (inr asked) = by synced asked.reply result asked.gives asked.left_stuck
+  rename_device sys syncs synced left result (inr asked) = by synced asked.reply result asked.gives asked.left_unsynced
     where
       answered : (answer : Result (Unit {0}) Error) (result : Result (Unit {0}) TreeFault) (f : TreeFault) → result ≡ Err f → IsSyncAnswer answer result → result ≡ Err Device
       answered (Ok x) result f failed is = absurd (cc)
@@ -113,7 +113,7 @@ module _ {S F : Type 0} (kept : S → List ℕ → Kept F) (folder : List ℕ) (
 
       by : (synced : Bool) (reply : Result (Unit {0}) Error) (result : Result (Unit {0}) TreeFault)
           → MatchResult reply (λ _. AfterMove sys.opens syncs synced (entry_text folder to) asked.mid new result) (λ e. (new ≡ asked.mid) × (result ≡ Err (fault_of e)))
-          → left ≡ stuck_after reply (stuck.Moved from to) result → ForSome left (λ _. result ≡ Err Device)
+          → left ≡ unsynced_after reply (unsynced.Moved from to) result → ForSome left (λ _. result ≡ Err Device)
       by synced (Ok x) (Ok y) gives free = λ s at. absurd (cc)
       by false (Ok x) (Err f) gives free = let other = gives.1 in absurd (cc)
       by true (Ok x) (Err f) gives free = λ s at. at_sync gives.0 (Err f) f refl gives.2
@@ -153,13 +153,13 @@ module _ {S F : Type 0} (kept : S → List ℕ → Kept F) (folder : List ℕ) (
       rename_back (Ok x) is = none_back (kept new folder) left is.1
       rename_back (Err e) (inl is) = none_back (kept new folder) left is.1
       rename_back (Err e) (inr is) = λ s at.
-          let same : stuck.Moved from to ≡ s = let both : Some (stuck.Moved from to) ≡ Some s = sym is.1 ∙ at in cc in
+          let same : unsynced.Moved from to ≡ s = let both : Some (unsynced.Moved from to) ≡ Some s = sym is.1 ∙ at in cc in
           subst (IsBack (kept new folder)) same (held_back (kept old folder).tree (kept new folder).tree from to law can is.0.0)
 
     pub rename_placed : (result : Result (Unit {0}) TreeFault) → HasMoved (kept old folder) (kept new folder) from to left result → OnOk result (v ≡ open_unless_within from w) → OnErr result (v ≡ w)
         → IsPlaced (kept old folder) w → ForNone left (IsPlaced (kept new folder) v)
     rename_placed (Err e) (inl is) closes same at = λ none. subst (λ (k : Kept F). IsPlaced k v) (sym is.0) (subst (IsPlaced (kept old folder)) (sym same) at)
-    rename_placed (Err e) (inr is) closes same at = λ none. let other : Some (stuck.Moved from to) ≡ None = sym is.1 ∙ none in absurd (cc)
+    rename_placed (Err e) (inr is) closes same at = λ none. let other : Some (unsynced.Moved from to) ≡ None = sym is.1 ∙ none in absurd (cc)
     rename_placed (Ok x) is closes same at = λ none t told o at_open.
         let before = was_told (kept old folder).tree (λ t. moved t from to) t (sym is.0.0 ∙ told) in
         let was = still_open from w o (sym closes ∙ at_open) in

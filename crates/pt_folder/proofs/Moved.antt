@@ -10,12 +10,12 @@ use Rattle.pt_folder.specs.Calls.{change_of, fault_of}
 use Rattle.pt_folder.specs.Failure.{IsOfCall, OnDevice}
 use Rattle.pt_folder.specs.Folder.{entry_text}
 use Rattle.pt_folder.specs.Moving.{AfterMove, FailsToSync, FolderMove, IsGone, IsOfGoing, IsOfMove, IsReady, IsSynced, MovesOnce}
-use Rattle.pt_folder.specs.UnsyncedChange.{move_to_sync, stuck_after, unless_done}
+use Rattle.pt_folder.specs.UnsyncedChange.{move_to_sync, unsynced_after, unless_done}
 use Rattle.pt_folder.specs.declared.failure.Failure.{Failure}
 use Rattle.pt_folder.specs.declared.moving.Ready.{Ready}
 use Rattle.pt_folder.specs.declared.system.System.{Ghosts as OfSystem}
 use Rattle.pt_folder.specs.declared.unsynced_change.UnsyncedChange.{UnsyncedChange}
-use Rattle.pt_folder.specs.declared.unsynced_change.UnsyncedChange.TheVariants as stuck
+use Rattle.pt_folder.specs.declared.unsynced_change.UnsyncedChange.TheVariants as unsynced
 
 module _ {S F D : Type 0} (sys : OfSystem S F D) (syncs : F → Result (Unit {0}) Error → F → Type 0) (ready : Ready) (old new : S) where
   -- a directory that could not be put onto the disk is kept as a part of the move
@@ -49,9 +49,9 @@ module _ {S F D : Type 0} (sys : OfSystem S F D) (syncs : F → Result (Unit {0}
         MatchOption left ((new ≡ mid) × (result ≡ Ok tt) × (after ≡ None)) (λ s. IsSynced sys.opens syncs (string_bytes ready.holder) mid new result × (after ≡ unless_done s result))
 
     done : (mid : S) (after : Option UnsyncedChange) (result : Result (Unit {0}) TreeFault) (synced : Bool) → Done mid after result (move_to_sync synced p q)
-        → AfterMove sys.opens syncs synced (entry_text folder q) mid new result × (after ≡ unless_done (stuck.Moved p q) result)
+        → AfterMove sys.opens syncs synced (entry_text folder q) mid new result × (after ≡ unless_done (unsynced.Moved p q) result)
     done mid after result true gives = (subst (λ t. IsSynced sys.opens syncs t mid new result) is.holder gives.0, gives.1)
-    done mid after result false gives = ((gives.0, gives.1), gives.2 ∙ sym (ap (unless_done (stuck.Moved p q)) gives.1))
+    done mid after result false gives = ((gives.0, gives.1), gives.2 ∙ sym (ap (unless_done (unsynced.Moved p q)) gives.1))
 
     pub move_gone : (before after : Option UnsyncedChange) (result : Result (Unit {0}) TreeFault) → before ≡ None → IsGone sys syncs ready (change_of old new) (change_of before after) result → MovesOnce sys syncs moved (change_of old new) after result
     move_gone before after result none gone = inr (record {
@@ -61,10 +61,10 @@ module _ {S F D : Type 0} (sys : OfSystem S F D) (syncs : F → Result (Unit {0}
       named = is.named;
       made = subst (λ b. sys.renames old (entry_text folder p) b gone.reply gone.mid) is.to (subst (λ a. sys.renames old a (string_bytes ready.to) gone.reply gone.mid) is.from gone.made);
       gives = (by gone.reply gone.gives).0;
-      left_stuck = (by gone.reply gone.gives).1;
+      left_unsynced = (by gone.reply gone.gives).1;
     })
       where
         by : (reply : Result (Unit {0}) Error) → MatchResult reply (λ _. Done gone.mid after result ready.left) (λ e. (new ≡ gone.mid) × (result ≡ Err (fault_of e)) × (after ≡ before))
-            → MatchResult reply (λ _. AfterMove sys.opens syncs synced (entry_text folder q) gone.mid new result) (λ e. (new ≡ gone.mid) × (result ≡ Err (fault_of e))) × (after ≡ stuck_after reply (stuck.Moved p q) result)
+            → MatchResult reply (λ _. AfterMove sys.opens syncs synced (entry_text folder q) gone.mid new result) (λ e. (new ≡ gone.mid) × (result ≡ Err (fault_of e))) × (after ≡ unsynced_after reply (unsynced.Moved p q) result)
         by (Ok x) gives = done gone.mid after result synced (subst (Done gone.mid after result) is.left gives)
         by (Err e) gives = ((gives.0, gives.1), gives.2 ∙ none)

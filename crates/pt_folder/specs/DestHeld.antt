@@ -7,7 +7,7 @@ use Rattle.std.specs.Option.{option_map, ForSome}
 use Rattle.pt_tree.specs.Dest.{CanPeek, CanWrite, MayMake, MayMove, Writing}
 use Rattle.pt_tree.specs.Path.{Path}
 use Rattle.pt_folder.specs.declared.unsynced_change.UnsyncedChange.{UnsyncedChange}
-use Rattle.pt_folder.specs.declared.unsynced_change.UnsyncedChange.TheVariants as stuck
+use Rattle.pt_folder.specs.declared.unsynced_change.UnsyncedChange.TheVariants as unsynced
 use Rattle.pt_folder.specs.declared.writing.Writing.{Writing as Open}
 use Rattle.pt_folder.specs.DestLaws.{Kept}
 use Rattle.pt_folder.specs.EntryCodes.{tree_once}
@@ -22,21 +22,21 @@ told_of kept writing =
 abbrev pub moved_back : {F : Type 0} → Path → Path → Kept F → Kept F
 moved_back from to kept = record { tree = option_map (λ t. moved t to from) kept.tree; place = kept.place }
 
--- what is told: where something is stuck, what was told before the call that left it
+-- what is told: where something is unsynced, what was told before the call that left it
 abbrev pub told_with : {F : Type 0} → Kept F → Option UnsyncedChange → Option (Open F) → Option Writing
 told_with kept None writing = told_of kept writing
-told_with kept (Some (stuck.Closed p)) writing =
+told_with kept (Some (unsynced.Closed p)) writing =
     option_map (λ t. record { tree = t; writing = Some p }) kept.tree
-told_with kept (Some (stuck.Moved from to)) writing = told_of (moved_back from to kept) writing
+told_with kept (Some (unsynced.Moved from to)) writing = told_of (moved_back from to kept) writing
 
 -- where the system tells, the open file stands at the path that is remembered of it
 abbrev pub IsPlaced : {F : Type 0} → Kept F → Option (Open F) → Type 0
 IsPlaced kept writing = ForSome kept.tree (λ _. ForSome writing (λ w. kept.place w.file ≡ Some w.path))
 
--- what was moved and is stuck leaves a tree where it is moved back
+-- what was moved and is unsynced leaves a tree where it is moved back
 abbrev pub IsBack : {F : Type 0} → Kept F → UnsyncedChange → Type 0
-IsBack kept (stuck.Closed p) = ⊤
-IsBack kept (stuck.Moved from to) = ForSome kept.tree (λ t. IsTree (moved t to from))
+IsBack kept (unsynced.Closed p) = ⊤
+IsBack kept (unsynced.Moved from to) = ForSome kept.tree (λ t. IsTree (moved t to from))
 
 -- it is a tree where the system's is
 tree_of_kept : (o : Option Tree) (open_at : Option Path) (state : Writing)
@@ -54,7 +54,7 @@ tree_back None from to held t is = absurd (cc)
 tree_back (Some s) from to held t is =
     let same : moved s to from ≡ t = cc in subst IsTree same (held s refl)
 
--- what is told is a tree, also where something is stuck
+-- what is told is a tree, also where something is unsynced
 pub tree_with : {F : Type 0} (kept : Kept F) (s : Option UnsyncedChange) (w : Option (Open F)) (state : Writing)
     → ((t : Tree) → kept.tree ≡ Some t → IsTree t) → ∥ ForSome s (IsBack kept) ∥₁
     → told_with kept s w ≡ Some state → IsTree state.tree
@@ -66,16 +66,16 @@ tree_with {F} kept s w state law back is = ∥∥₁_elim back (tree_once state.
     by : (s : Option UnsyncedChange) → ForSome s (IsBack kept) → told_with kept s w ≡ Some state
         → IsTree state.tree
     by None b is = tree_of_kept kept.tree open_at state law is
-    by (Some (stuck.Closed p)) b is = tree_of_kept kept.tree (Some p) state law is
-    by (Some (stuck.Moved from to)) b is =
+    by (Some (unsynced.Closed p)) b is = tree_of_kept kept.tree (Some p) state law is
+    by (Some (unsynced.Moved from to)) b is =
         tree_of_kept (option_map (λ t. moved t to from) kept.tree) open_at state
-        (tree_back kept.tree from to (b (stuck.Moved from to) refl)) is
+        (tree_back kept.tree from to (b (unsynced.Moved from to) refl)) is
 
 -- where the system keeps nothing, each call may be made
 untold : {F : Type 0} (s : Option UnsyncedChange) (w : Option (Open F)) → told_with no_kept s w ≡ None
 untold None w = refl
-untold (Some (stuck.Closed p)) w = refl
-untold (Some (stuck.Moved from to)) w = refl
+untold (Some (unsynced.Closed p)) w = refl
+untold (Some (unsynced.Moved from to)) w = refl
 
 -- where nothing is told anything may be made
 pub untold_may_make : {F : Type 0} (s : Option UnsyncedChange) (w : Option (Open F)) (p : Path)

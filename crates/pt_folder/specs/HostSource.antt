@@ -28,7 +28,7 @@ module _ {S F D : Type 0} {sys : OfSystem S F D} {handle : OfHandle F} {file : O
     {dir : OfInput D} where
   -- the system, as the calls left it
   abbrev pub system_of : HostSource S F D sys handle file dir → S
-  system_of s = s.desk.system
+  system_of s = s.syscalls.system
 
   -- the path of the folder
   abbrev pub folder_path : HostSource S F D sys handle file dir → List ℕ
@@ -36,7 +36,7 @@ module _ {S F D : Type 0} {sys : OfSystem S F D} {handle : OfHandle F} {file : O
 
   -- the failure that is kept
   abbrev pub failure_of : HostSource S F D sys handle file dir → Option Failure
-  failure_of s = s.desk.last.failure
+  failure_of s = s.syscalls.last.failure
 
   -- the tree that the system keeps there
   abbrev pub kept_by : HostSource S F D sys handle file dir → Option Forest
@@ -70,8 +70,8 @@ module _ {S F D : Type 0} {sys : OfSystem S F D} {handle : OfHandle F} {file : O
   abbrev pub KeepsLook : (old new : HostSource S F D sys handle file dir) → Path → Type 0
   KeepsLook old new p =
       KeepsCall old.folder.path.now p
-      (λ e. sys.looks old.desk.system (entry_text old.folder.path.now p) (Err e) new.desk.system)
-      new.desk.last.failure
+      (λ e. sys.looks old.syscalls.system (entry_text old.folder.path.now p) (Err e) new.syscalls.system)
+      new.syscalls.last.failure
 
   -- the directory was listed so, by calls of the system; it has no more entries than a listing may have
   abbrev pub Lists : (old new : HostSource S F D sys handle file dir) → Path → List Item → Type 0
@@ -87,7 +87,7 @@ module _ {S F D : Type 0} {sys : OfSystem S F D} {handle : OfHandle F} {file : O
 
   -- what is kept, where memory allowed it, of a failed listing
   abbrev pub KeepsList : (old new : HostSource S F D sys handle file dir) → Path → Type 0
-  KeepsList old new p = KeepsListing sys.looks old.folder.path.now p new.desk.last.failure
+  KeepsList old new p = KeepsListing sys.looks old.folder.path.now p new.syscalls.last.failure
 
   -- the system is asked to look, and to open what is a file, and so it was answered
   abbrev pub Opens : (old new : HostSource S F D sys handle file dir) → Path
@@ -98,7 +98,7 @@ module _ {S F D : Type 0} {sys : OfSystem S F D} {handle : OfHandle F} {file : O
   -- what is kept of a failed opening
   abbrev pub KeepsOpen : (old new : HostSource S F D sys handle file dir) → Path → Type 0
   KeepsOpen old new p =
-      KeepsOpening sys (entry_of old p) (systems_of old new) new.desk.last.failure
+      KeepsOpening sys (entry_of old p) (systems_of old new) new.syscalls.last.failure
 
   -- the open file is read on, into this block, and so it was answered; where none is open, that is a failure
   abbrev pub Reads : (old new : HostSource S F D sys handle file dir) → List ℕ
@@ -108,7 +108,7 @@ module _ {S F D : Type 0} {sys : OfSystem S F D} {handle : OfHandle F} {file : O
   -- what is kept, where memory allowed it, of a failed reading
   abbrev pub KeepsRead : (old new : HostSource S F D sys handle file dir) → Type 0
   KeepsRead old new =
-      IfSome new.desk.last.failure (IsOfReading file.reads handle.goes (string_bytes old.at) old.reading)
+      IfSome new.syscalls.last.failure (IsOfReading file.reads handle.goes (string_bytes old.at) old.reading)
 
   -- the open file, and the path of the file that was opened last
   abbrev pub open_file : HostSource S F D sys handle file dir → Option (Open F) × String Global
@@ -131,5 +131,5 @@ module _ {S F D : Type 0} {sys : OfSystem S F D} {handle : OfHandle F} {file : O
     pub folder : new.folder ≡ old.folder
     pub failures : IsCounted old.failures new.failures result
     pub calls : IsOneMoreCall (was_called old.calls) (was_called new.calls)
-    pub system : new.desk.system ≡ old.desk.system
+    pub system : new.syscalls.system ≡ old.syscalls.system
     pub at : new.at ≡ old.at

@@ -8,13 +8,13 @@ use Rattle.pt_folder.specs.Calls.{Change, IsRefused, IsSyncAnswer, fault_of}
 use Rattle.pt_folder.specs.Failure.{IsOfCall, IsUnasked}
 use Rattle.pt_folder.specs.Folder.{entry_text}
 use Rattle.pt_folder.specs.Laws.{IsPath}
-use Rattle.pt_folder.specs.UnsyncedChange.{move_to_sync, stuck_after, unless_done}
+use Rattle.pt_folder.specs.UnsyncedChange.{move_to_sync, unsynced_after, unless_done}
 use Rattle.pt_folder.specs.declared.failure.Failure.{Failure}
 use Rattle.pt_folder.specs.declared.moving.Move.{Move}
 use Rattle.pt_folder.specs.declared.moving.Ready.{Ready}
 use Rattle.pt_folder.specs.declared.system.System.{Ghosts as OfSystem}
 use Rattle.pt_folder.specs.declared.unsynced_change.UnsyncedChange.{UnsyncedChange}
-use Rattle.pt_folder.specs.declared.unsynced_change.UnsyncedChange.TheVariants as stuck
+use Rattle.pt_folder.specs.declared.unsynced_change.UnsyncedChange.TheVariants as unsynced
 
 -- the path of the directory that holds a directory
 abbrev pub holder_text : List ℕ → List ℕ
@@ -86,7 +86,7 @@ IsOfGoing {S} sys syncs ready system f =
     (FailsToSync sys.opens syncs (string_bytes ready.holder) mid system.new) f)
 
 -- the move was asked for, and by its reply this came after it; where it stands and its directory couldn't be put onto
--- the disk, it is stuck
+-- the disk, it is unsynced
 pub record IsMovedBy {S F D : Type 0} (sys : OfSystem S F D)
     (syncs : F → Result (Unit {0}) Error → F → Type 0) (m : FolderMove) (system : Change S)
     (left : Option UnsyncedChange) (result : Result (Unit {0}) TreeFault) : Type 0 where
@@ -98,7 +98,7 @@ pub record IsMovedBy {S F D : Type 0} (sys : OfSystem S F D)
   pub gives : MatchResult reply
       (λ _. AfterMove sys.opens syncs m.synced (entry_text m.folder m.to) mid system.new result)
       (λ e. (system.new ≡ mid) × (result ≡ Err (fault_of e)))
-  pub left_stuck : left ≡ stuck_after reply (stuck.Moved m.from m.to) result
+  pub left_unsynced : left ≡ unsynced_after reply (unsynced.Moved m.from m.to) result
 
 -- nothing is asked, and the path was refused; or the move is asked for once
 abbrev pub MovesOnce : {S F D : Type 0} → OfSystem S F D → (F → Result (Unit {0}) Error → F → Type 0)

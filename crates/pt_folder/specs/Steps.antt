@@ -5,7 +5,7 @@ use Rattle.pt_tree.specs.declared.faults.TreeFault.{TreeFault}
 use Rattle.pt_tree.specs.declared.kind.Kind.{Kind}
 use Rattle.pt_folder.specs.Calls.{LeadsToKind}
 use Rattle.pt_folder.specs.HostDest.{Closes, IsCall, IsLook, IsOtherCall, IsSame, Looks, MakesDir, MakesFile, Moves, Peeks, Writes}
-use Rattle.pt_folder.specs.UnsyncedChange.{open_if_stuck, stuck_by_finish}
+use Rattle.pt_folder.specs.UnsyncedChange.{open_if_unsynced, unsynced_by_finish}
 use Rattle.pt_folder.specs.Writing.{open_unless_within}
 use Rattle.pt_folder.specs.declared.dest.HostDest.{HostDest}
 use Rattle.pt_folder.specs.declared.system.Handle.{Ghosts as OfHandle}
@@ -23,16 +23,16 @@ module _ {S F D : Type 0} {sys : OfSystem S F D} {handle : OfHandle F} {file : O
     makes_dir : (p : Path) (result : Result (Unit {0}) TreeFault) → MakesDir old new p result
         → IsOtherCall old new result → Step old new
     makes_file : (p : Path) (result : Result (Unit {0}) TreeFault) → MakesFile old new p result
-        → IsCall old new old.stuck result → Step old new
+        → IsCall old new old.unsynced result → Step old new
     writes : (piece : List ℕ) (result : Result (Unit {0}) TreeFault) → Writes old new piece result
-        → IsCall old new old.stuck result → Step old new
+        → IsCall old new old.unsynced result → Step old new
     closes : (result : Result (Unit {0}) TreeFault) → Closes old result
-        → new.writing ≡ open_if_stuck old.stuck old.writing → new.desk.system ≡ old.desk.system
-        → IsCall old new (stuck_by_finish old.stuck old.writing result) result → Step old new
+        → new.writing ≡ open_if_unsynced old.unsynced old.writing → new.syscalls.system ≡ old.syscalls.system
+        → IsCall old new (unsynced_by_finish old.unsynced old.writing result) result → Step old new
     moves : (from to : Path) (result : Result (Unit {0}) TreeFault) → Moves old new from to result
         → OnErr result (new.writing ≡ old.writing)
         → OnOk result (new.writing ≡ open_unless_within from old.writing)
-        → IsCall old new new.stuck result → Step old new
+        → IsCall old new new.unsynced result → Step old new
 
   -- any number of them
   pub data Steps (first : HostDest S F D sys handle file dir) : HostDest S F D sys handle file dir → Type 0 where

@@ -4,5 +4,5 @@ use Rattle.std.specs.Global.{Global}
 use Rattle.pt_folder.specs.declared.syscalls.Syscalls.{Syscalls}
 
 -- nothing was asked, and no failure is kept
-abbrev pub new_desk : {S : Type 0} → S → Global → Syscalls S
-new_desk system alloc = record { system = system; last = record { alloc = alloc; failure = None } }
+abbrev pub new_syscalls : {S : Type 0} → S → Global → Syscalls S
+new_syscalls system alloc = record { system = system; last = record { alloc = alloc; failure = None } }

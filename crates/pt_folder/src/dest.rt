@@ -2,7 +2,7 @@ ghost use Rattle.std.proofs.Common.{◌∙◌, refl};
 ghost use Rattle.std.specs.Prelude.{◌≡◌, ◌≤◌, length, [], None, Err, IfOk, IfNone, OnOk, OnErr, false, string_bytes, true};
 ghost use Rattle.std.specs.Option.{ForNone, ForSome, option_map};
 ghost use Rattle.pt_tree.specs.declared.faults.TreeFault.TheVariants.{Device};
-ghost use Rattle.pt_folder.specs.Syscalls.{new_desk};
+ghost use Rattle.pt_folder.specs.Syscalls.{new_syscalls};
 ghost use Rattle.pt_folder.specs.Folder.{entry_text};
 ghost use Rattle.pt_folder.specs.Calls.{CannotMake, IsThere, LeadsToKind};
 ghost use Rattle.pt_folder.specs.Failure.{KeepsUnmade, OnDevice};
@@ -23,21 +23,21 @@ use std::alloc::Global;
 /// A folder of the system as a destination. It tells the tree that the system keeps there, where it keeps one.
 ///
 /// Where files are put onto the disk, a call may fail though the system did its part: the file is closed, or the entry moved.
-/// Then that is stuck: what was told before is told on, and each further call is refused.
+/// Then that is unsynced: what was told before is told on, and each further call is refused.
 #[derive(Drop)]
 pub struct HostDest<'a, S: System> {
-    desk: Syscalls<S>,
+    syscalls: Syscalls<S>,
     folder: Folder<'a>,
     longest: usize,
     synced: bool,
     writing: Option<Writing<S::File>>,
-    stuck: Option<UnsyncedChange>,
+    unsynced: Option<UnsyncedChange>,
     at: String,
     failures: u64,
-    ghost placed: { ForNone stuck (IsPlaced (S.kept desk.system folder.path.now) writing) },
-    ghost wanted: { ForSome stuck (λ _. synced ≡ true) },
-    ghost back: { ∥ ForSome stuck (IsBack (S.kept desk.system folder.path.now)) ∥₁ },
-    ghost risen: { ForSome stuck (λ _. 1 ≤ failures) },
+    ghost placed: { ForNone unsynced (IsPlaced (S.kept syscalls.system folder.path.now) writing) },
+    ghost wanted: { ForSome unsynced (λ _. synced ≡ true) },
+    ghost back: { ∥ ForSome unsynced (IsBack (S.kept syscalls.system folder.path.now)) ∥₁ },
+    ghost risen: { ForSome unsynced (λ _. 1 ≤ failures) },
 }
 
 impl<'a, S: System> HostDest<'a, S> {
@@ -47,20 +47,20 @@ impl<'a, S: System> HostDest<'a, S> {
     pub fn new(system: S, alloc: Global, path: &'a str) -> HostDest<'a, S>
         ensures failures { result.failures ≡ 0 }
         ensures path { folder_path result ≡ path.now }
-        ensures desk { result.desk ≡ new_desk system alloc }
+        ensures syscalls { result.syscalls ≡ new_syscalls system alloc }
         ensures writing { result.writing ≡ None }
         ensures longest { result.longest ≡ greatest_length }
         ensures synced { result.synced ≡ false }
-        ensures stuck { result.stuck ≡ None }
+        ensures unsynced { result.unsynced ≡ None }
         ensures at { string_bytes result.at ≡ [] }
     {
         HostDest {
-            desk: Syscalls::new(system, alloc),
+            syscalls: Syscalls::new(system, alloc),
             folder: Folder { path },
             longest: usize::MAX,
             synced: false,
             writing: None,
-            stuck: None,
+            unsynced: None,
             at: String::new(alloc),
             failures: 0,
         }
@@ -70,7 +70,7 @@ impl<'a, S: System> HostDest<'a, S> {
     pub fn with_longest(mut self, longest: usize) -> HostDest<'a, S>
         ensures longest { result.longest ≡ longest }
         ensures writing { result.writing ≡ self.entry.writing }
-        ensures stuck { result.stuck ≡ self.entry.stuck }
+        ensures unsynced { result.unsynced ≡ self.entry.unsynced }
         ensures synced { result.synced ≡ self.entry.synced }
         ensures still { lasting result ≡ lasting self.entry }
     {
@@ -78,17 +78,17 @@ impl<'a, S: System> HostDest<'a, S> {
         self
     }
 
-    /// The same destination, with no open file and nothing stuck, whose files are put onto the disk before they are closed, and
+    /// The same destination, with no open file and nothing unsynced, whose files are put onto the disk before they are closed, and
     /// so is, after a rename, the directory that holds what was moved.
     pub fn with_sync(mut self, synced: bool) -> HostDest<'a, S>
         ensures synced { result.synced ≡ synced }
         ensures writing { result.writing ≡ None }
-        ensures stuck { result.stuck ≡ None }
+        ensures unsynced { result.unsynced ≡ None }
         ensures longest { result.longest ≡ self.entry.longest }
         ensures still { lasting result ≡ lasting self.entry }
     {
         self.writing = None;
-        self.stuck = None;
+        self.unsynced = None;
         self.synced = synced;
         self
     }
@@ -97,7 +97,7 @@ impl<'a, S: System> HostDest<'a, S> {
     pub fn last_failure(&self) -> Option<&Failure>
         ensures { option_map (λ f. f.now) result ≡ failure_of self.now }
     {
-        self.desk.last.failure.as_ref()
+        self.syscalls.last.failure.as_ref()
     }
 
     /// The path that `kind` answered last; empty before the first.
@@ -111,7 +111,7 @@ impl<'a, S: System> HostDest<'a, S> {
     pub fn into_system(self) -> S
         ensures { result ≡ system_of self.entry }
     {
-        self.desk.system
+        self.syscalls.system
     }
 
     /// Whether `mkdir` and `create` would ask the system to make this entry: `Device` where its path is too long or the
@@ -128,7 +128,7 @@ impl<'a, S: System> HostDest<'a, S> {
     {
         let text = self
             .folder
-            .text_to_make(path, self.longest, &mut self.desk.last);
+            .text_to_make(path, self.longest, &mut self.syscalls.last);
         count_failure(&mut self.failures, text.map(|_| ()))
     }
 }
@@ -137,17 +137,17 @@ impl<'a, S: System> HostDest<'a, S> {
     ghost use Rattle.pt_folder.specs.HostDest.{IsOtherCall, KeepsLook, KeepsPeek, Looks, Peeks};
 
     /// Whether the folder itself is there: `Device` where the system doesn't find it, or finds no directory, or where something
-    /// is stuck, `Memory` where a growth was refused.
+    /// is unsynced, `Memory` where a growth was refused.
     pub fn look_at_folder(&mut self) -> Result<(), TreeFault>
         ensures asked { Looks IsThere self.old self.new [] result }
         ensures kept { OnDevice result (KeepsLook self.old self.new []) }
         ensures call { IsOtherCall self.old self.new result }
     {
-        if self.stuck.is_some() {
+        if self.unsynced.is_some() {
             return self.refuse();
         }
-        let top = NamePath::new(self.desk.last.alloc);
-        let there = self.desk.is_there(&self.folder, &top);
+        let top = NamePath::new(self.syscalls.last.alloc);
+        let there = self.syscalls.is_there(&self.folder, &top);
         count_failure(&mut self.failures, there)
     }
 
@@ -159,11 +159,11 @@ impl<'a, S: System> HostDest<'a, S> {
         ensures kept { OnDevice result (KeepsPeek self.old self.new path.now) }
         ensures call { IsOtherCall self.old self.new result }
     {
-        if self.stuck.is_some() {
+        if self.unsynced.is_some() {
             block.clear();
             return self.refuse();
         }
-        let peeked = self.desk.peek(&self.folder, path, block);
+        let peeked = self.syscalls.peek(&self.folder, path, block);
         count_failure(&mut self.failures, peeked)
     }
 }
@@ -171,7 +171,7 @@ impl<'a, S: System> HostDest<'a, S> {
 impl<'a, S: System> HostDest<'a, S> {
     ghost use Rattle.pt_folder.specs.HostDest.{IsOtherCall, failure_of, system_of};
 
-    /// Refuses a call, as one that was asked of another device over this one, or where something is stuck: `Device` always. It
+    /// Refuses a call, as one that was asked of another device over this one, or where something is unsynced: `Device` always. It
     /// counts as a failure, without a path; the system isn't asked.
     pub fn refuse<T>(&mut self) -> Result<T, TreeFault>
         ensures refused { result ≡ Err Device }
@@ -179,7 +179,7 @@ impl<'a, S: System> HostDest<'a, S> {
         ensures last { failure_of self.new ≡ None }
         ensures call { IsOtherCall self.old self.new result }
     {
-        self.desk.last.failure = None;
+        self.syscalls.last.failure = None;
         count_failure(&mut self.failures, Err(TreeFault::Device))
     }
 }
@@ -188,7 +188,7 @@ impl<'a, S: System> Dest for HostDest<'a, S> {
     ghost use Rattle.pt_tree.specs.Dest.{CanPeek, CanWrite, IsKindAt, IsPeeked, LeavesPart, MayMake, MayMove, after_mkdir, after_create, after_append, after_finish, after_rename};
     ghost use Rattle.pt_folder.specs.DestHeld.{tree_with};
     ghost use Rattle.pt_folder.specs.Steps.{Serves, none, steps_on};
-    ghost use Rattle.pt_folder.specs.UnsyncedChange.{open_if_stuck, stuck_by_finish};
+    ghost use Rattle.pt_folder.specs.UnsyncedChange.{open_if_unsynced, unsynced_by_finish};
     ghost use Rattle.pt_folder.specs.HostDest.{Closes, IsCall, IsLook, IsOtherCall, KeepsClose, KeepsDir, KeepsFile, KeepsLook, KeepsMove, KeepsPeek, KeepsWrite, Looks, MakesDir, MakesFile, Moves, Peeks, Writes, folder_path, system_of, told};
 
     ghost told = { told };
@@ -204,8 +204,8 @@ impl<'a, S: System> Dest for HostDest<'a, S> {
         ((q.0.0 ∙ p.0.0, (q.0.1.0 ∙ p.0.1.0, q.0.1.1 ∙ p.0.1.1)), steps_on a b c p.1 q.1) };
 
     ghost is_tree = { λ d state is.
-        tree_with (S.kept d.desk.system d.folder.path.now) d.stuck d.writing state
-        (S.tree_law d.desk.system d.folder.path.now) d.back is };
+        tree_with (S.kept d.syscalls.system d.folder.path.now) d.unsynced d.writing state
+        (S.tree_law d.syscalls.system d.folder.path.now) d.back is };
 
     fn failures(&self) -> u64 {
         self.failures
@@ -221,10 +221,10 @@ impl<'a, S: System> Dest for HostDest<'a, S> {
         ensures still { OnErr result (self.new.at ≡ self.old.at) }
         ensures call { IsLook self.old self.new result }
     {
-        if self.stuck.is_some() {
+        if self.unsynced.is_some() {
             return self.refuse();
         }
-        let kind = self.desk.kind_at(&self.folder, path, &mut self.at);
+        let kind = self.syscalls.kind_at(&self.folder, path, &mut self.at);
         count_failure(&mut self.failures, kind)
     }
 
@@ -249,10 +249,10 @@ impl<'a, S: System> Dest for HostDest<'a, S> {
         ensures kept { OnDevice result (KeepsDir self.old self.new path.now) }
         ensures call { IsOtherCall self.old self.new result }
     {
-        if self.stuck.is_some() {
+        if self.unsynced.is_some() {
             return self.refuse();
         }
-        let made = self.desk.make_dir(&self.folder, path, self.longest);
+        let made = self.syscalls.make_dir(&self.folder, path, self.longest);
         count_failure(&mut self.failures, made)
     }
 
@@ -265,13 +265,13 @@ impl<'a, S: System> Dest for HostDest<'a, S> {
         ensures writing { OnErr result (self.new.writing ≡ self.old.writing) }
         ensures asked { MakesFile self.old self.new path.now result }
         ensures kept { OnDevice result (KeepsFile self.old self.new path.now) }
-        ensures call { IsCall self.old self.new self.old.stuck result }
+        ensures call { IsCall self.old self.new self.old.unsynced result }
     {
-        if self.stuck.is_some() {
+        if self.unsynced.is_some() {
             return self.refuse();
         }
         let made = create(
-            &mut self.desk,
+            &mut self.syscalls,
             &self.folder,
             path,
             self.longest,
@@ -288,12 +288,12 @@ impl<'a, S: System> Dest for HostDest<'a, S> {
         ensures closed { IfNone self.old.writing (result ≡ Err Device) }
         ensures writes { Writes self.old self.new piece.now result }
         ensures kept { OnDevice result (KeepsWrite self.old self.new piece.now) }
-        ensures call { IsCall self.old self.new self.old.stuck result }
+        ensures call { IsCall self.old self.new self.old.unsynced result }
     {
-        if self.stuck.is_some() {
+        if self.unsynced.is_some() {
             return self.refuse();
         }
-        let added = add(&mut self.desk, &self.folder, &mut self.writing, piece);
+        let added = add(&mut self.syscalls, &self.folder, &mut self.writing, piece);
         count_failure(&mut self.failures, added)
     }
 
@@ -303,20 +303,20 @@ impl<'a, S: System> Dest for HostDest<'a, S> {
         ensures same { OnErr result (told self.new ≡ told self.old) }
         ensures closed { Closes self.old result }
         ensures kept { OnDevice result (KeepsClose self.old self.new) }
-        ensures writing { self.new.writing ≡ open_if_stuck self.old.stuck self.old.writing }
+        ensures writing { self.new.writing ≡ open_if_unsynced self.old.unsynced self.old.writing }
         ensures system { system_of self.new ≡ system_of self.old }
         ensures call { IsCall self.old self.new
-            (stuck_by_finish self.old.stuck self.old.writing result) result }
+            (unsynced_by_finish self.old.unsynced self.old.writing result) result }
     {
-        if self.stuck.is_some() {
+        if self.unsynced.is_some() {
             return self.refuse();
         }
         let closed = close(
-            &mut self.desk.last,
+            &mut self.syscalls.last,
             &self.folder,
             &mut self.writing,
             self.synced,
-            &mut self.stuck,
+            &mut self.unsynced,
         );
         count_failure(&mut self.failures, closed)
     }
@@ -331,14 +331,14 @@ impl<'a, S: System> Dest for HostDest<'a, S> {
             ≡ open_unless_within from.now self.old.writing) }
         ensures asked { Moves self.old self.new from.now to.now result }
         ensures kept { OnDevice result (KeepsMove self.old self.new from.now to.now) }
-        ensures call { IsCall self.old self.new self.new.stuck result }
+        ensures call { IsCall self.old self.new self.new.unsynced result }
     {
-        if self.stuck.is_some() {
+        if self.unsynced.is_some() {
             return self.refuse();
         }
         let synced = self.synced;
         let asked = Move { from, to, synced };
-        let moved = move_entry(&mut self.desk, &self.folder, &asked, &mut self.stuck);
+        let moved = move_entry(&mut self.syscalls, &self.folder, &asked, &mut self.unsynced);
         close_moved(&mut self.writing, from, &moved);
         count_failure(&mut self.failures, moved)
     }

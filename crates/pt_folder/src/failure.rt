@@ -136,7 +136,7 @@ impl Last {
     pub fn keep_name(&mut self, path: &str, name: &[u8])
         ensures { IfSome self.new.failure (IsForName path.now name.now) }
     {
-        self.failure = match copied(self.alloc, path, name) {
+        self.failure = match failure_at_copy(self.alloc, path, name) {
             Ok(failure) => Some(failure),
             Err(_) => None,
         };
@@ -172,7 +172,7 @@ impl Last {
 }
 
 // A failure at a copy of a directory's path, for a copy of these bytes.
-fn copied(alloc: Global, path: &str, name: &[u8]) -> Result<Failure, AllocError>
+fn failure_at_copy(alloc: Global, path: &str, name: &[u8]) -> Result<Failure, AllocError>
     ensures { IfOk result (IsForName path.now name.now) }
 {
     let path = String::from_str(alloc, path)?;

@@ -23,12 +23,12 @@
 //!   16,777,216. It answers `Device` only with a cause (`FailsToList`). What is behind a `Memory` of `list` isn't said.
 //! - `with_sync`: `finish` asks for the file to be put onto the disk before it is closed (`FinishesBy`), and `rename` for the directory that
 //!   holds what was moved (`IsMovedBy`). A failed sync is always the device's failure (`IsSyncAnswer`). What is closed or moved all the same is
-//!   stuck (`UnsyncedChange`): it tells what was told before (`told_with`), and each further call is refused.
+//!   unsynced (`UnsyncedChange`): it tells what was told before (`told_with`), and each further call is refused.
 //! - After any number of calls a `HostDest` is over the same folder and set as it was, and the system is in the state to which those calls led,
 //!   one after another (`Steps`).
 //! - `last_failure`: after each call that answers `Device` just that failure, its path and its cause (`KeepsCall`, `KeepsMaking`,
 //!   `KeepsListing`). Of `list`, `next`, `append` and `finish`, which copy or make the text then, none is kept where that is refused, and no
-//!   earlier one stays; a call that is refused since something is stuck keeps none.
+//!   earlier one stays; a call that is refused since something is unsynced keeps none.
 //! - The runtime's own calls: the kind that a look tells is exactly that of the metadata (`IsKind`). A file is opened for reading by options
 //!   that say just that (`for_reading`), and made by options that append and want that nothing stands there (`for_making`). That its calls take
 //!   these is said by no clause.

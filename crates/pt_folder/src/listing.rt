@@ -31,53 +31,53 @@ const LONGEST_NAME: usize = 255;
 /// that an entry may have or has no NUL behind it, there are more than 16,777,216 entries, or 2^64 - 1 reads found no end.
 /// `Memory` where a growth was refused.
 pub fn list<S: System>(
-    desk: &mut Syscalls<S>,
+    syscalls: &mut Syscalls<S>,
     folder: &Folder<'_>,
     path: &NamePath,
     piece: &mut ReadBuffer,
 ) -> Result<Listing, TreeFault>
-    requires { ForSome (S.forest desk.old.system folder.now.path.now)
+    requires { ForSome (S.forest syscalls.old.system folder.now.path.now)
         (λ f. IsSome (dir_at f path.now)) }
-    ensures same { S.forest desk.new.system folder.now.path.now
-        ≡ S.forest desk.old.system folder.now.path.now }
-    ensures told { IfOk result (λ listing. ForSome (S.forest desk.old.system folder.now.path.now)
+    ensures same { S.forest syscalls.new.system folder.now.path.now
+        ≡ S.forest syscalls.old.system folder.now.path.now }
+    ensures told { IfOk result (λ listing. ForSome (S.forest syscalls.old.system folder.now.path.now)
         (λ f. listing_at f path.now ≡ Some listing)) }
     ensures most { IfOk result (λ listing. length listing ≤ most_entries) }
     ensures listed { IfOk result (IsListedBy S.System S.Dir.Input
         (entry_in folder.now.path.now path.now)
-        (change_of desk.old.system desk.new.system)) }
+        (change_of syscalls.old.system syscalls.new.system)) }
     ensures fault { IfErr result (λ fault. IsDueTo fault
         (FailsToList S.System S.Dir.Input (entry_in folder.now.path.now path.now)
-        (change_of desk.old.system desk.new.system))) }
+        (change_of syscalls.old.system syscalls.new.system))) }
     ensures kept { OnDevice result
-        (KeepsListing S.looks folder.now.path.now path.now desk.new.last.failure) }
+        (KeepsListing S.looks folder.now.path.now path.now syscalls.new.last.failure) }
 {
-    let mut text = folder.text_with_room(path, LONGEST_NAME + 1, &mut desk.last)?;
-    let mut names = names_in(desk, text.as_str(), piece)?;
+    let mut text = folder.text_with_room(path, LONGEST_NAME + 1, &mut syscalls.last)?;
+    let mut names = names_in(syscalls, text.as_str(), piece)?;
     names.sort_unstable();
     if !path.is_empty() {
         text.push('/')?;
     }
-    with_kinds(desk, text, names)
+    with_kinds(syscalls, text, names)
 }
 
 fn names_in<S: System>(
-    desk: &mut Syscalls<S>,
+    syscalls: &mut Syscalls<S>,
     text: &str,
     piece: &mut ReadBuffer,
 ) -> Result<Vec<Name>, TreeFault>
     ensures most { IfOk result (λ names. vec_len names ≤ most_entries) }
-    ensures asked { (reply : _) × S.opens_dir desk.old.system text.now reply desk.new.system
+    ensures asked { (reply : _) × S.opens_dir syscalls.old.system text.now reply syscalls.new.system
         × MatchResult reply (λ dir. (after : _) × MatchResult result
         (λ names. GetsNames S.Dir.Input.reads dir names.items after
         × IfSome (S.Dir.Input.left dir) (λ bytes. GivesNames bytes names.items))
         (λ fault. IsDueTo fault (FailsToGet S.Dir.Input.reads most_entries dir after)))
         (λ e. result ≡ Err (fault_for e)) }
-    ensures kept { OnDevice result (IfSome desk.new.last.failure (IsOfNames text.now)) }
+    ensures kept { OnDevice result (IfSome syscalls.new.last.failure (IsOfNames text.now)) }
 {
-    match desk.system.read_dir(text) {
-        Ok(mut dir) => read_names(&mut dir, piece, most(), text, &mut desk.last),
-        Err(error) => Err(desk.last.record_error_at_copy(text, error)),
+    match syscalls.system.read_dir(text) {
+        Ok(mut dir) => read_names(&mut dir, piece, most(), text, &mut syscalls.last),
+        Err(error) => Err(syscalls.last.record_error_at_copy(text, error)),
     }
 }
 
@@ -190,28 +190,28 @@ fn add_name(
 
 // The entries of these names, in their order, with their kinds. The text is the directory's path, with `/` behind.
 fn with_kinds<S: System>(
-    desk: &mut Syscalls<S>,
+    syscalls: &mut Syscalls<S>,
     text: String,
     names: Vec<Name>,
 ) -> Result<Listing, TreeFault>
     ensures names { IfOk result (λ listing. map (λ item. item.0) listing ≡ names.items) }
     ensures rise { IfOk result (λ listing. IsTrue (names_rise listing)) }
     ensures seen { IfOk result
-        (SeesAt S.forest (string_bytes text) desk.old.system desk.new.system) }
+        (SeesAt S.forest (string_bytes text) syscalls.old.system syscalls.new.system) }
     ensures same { OnErr result
-        (SeesAt S.forest (string_bytes text) desk.old.system desk.new.system []) }
+        (SeesAt S.forest (string_bytes text) syscalls.old.system syscalls.new.system []) }
     ensures looked { IfOk result (λ listing. FoldsTo (LooksAt S.looks (string_bytes text))
-        desk.old.system listing desk.new.system) }
+        syscalls.old.system listing syscalls.new.system) }
     ensures fault { IfErr result (λ fault. IsDueTo fault (FailsToLook S.looks (string_bytes text)
-        names.items desk.old.system desk.new.system)) }
+        names.items syscalls.old.system syscalls.new.system)) }
     ensures kept { OnDevice result
-        (IfSome desk.new.last.failure (IsOfEntry S.looks (string_bytes text))) }
+        (IfSome syscalls.new.last.failure (IsOfEntry S.looks (string_bytes text))) }
 {
     let mut text = text;
-    let mut listing = Listing::with_room(desk.last.alloc, names.len())?;
+    let mut listing = Listing::with_room(syscalls.last.alloc, names.len())?;
     for name in names {
-        let kind = kind_in(desk, &mut text, &name)?;
-        add_entry(&mut listing, name, kind, text.as_str(), &mut desk.last)?;
+        let kind = kind_in(syscalls, &mut text, &name)?;
+        add_entry(&mut listing, name, kind, text.as_str(), &mut syscalls.last)?;
     }
     let _count = listing.len();
     Ok(listing)
@@ -219,20 +219,20 @@ fn with_kinds<S: System>(
 
 // The kind of an entry in the directory whose path, with `/` behind, is the text; links aren't followed.
 fn kind_in<S: System>(
-    desk: &mut Syscalls<S>,
+    syscalls: &mut Syscalls<S>,
     text: &mut String,
     name: &Name,
 ) -> Result<Kind, TreeFault>
     ensures text { OnOk result (string_bytes text.new ≡ string_bytes text.old) }
     ensures named { is_name name.now ≡ true }
     ensures asked { LooksIn S.looks (string_bytes text.old) name.now
-        desk.old.system desk.new.system result }
+        syscalls.old.system syscalls.new.system result }
     ensures kept { OnDevice result
-        (IfSome desk.new.last.failure (IsOfEntry S.looks (string_bytes text.old))) }
+        (IfSome syscalls.new.last.failure (IsOfEntry S.looks (string_bytes text.old))) }
 {
     let end = text.len();
     text.push_str(name_text(name))?;
-    let kind = desk.own_kind(text.as_str())?;
+    let kind = syscalls.own_kind(text.as_str())?;
     text.truncate(end);
     Ok(kind)
 }

@@ -54,7 +54,7 @@ impl<'a> Move<'a> {
 
     // What the move is while its directory isn't put onto the disk yet; None where that isn't asked for.
     fn to_sync(&self) -> Result<Option<UnsyncedChange>, MemoryFault>
-        ensures { IfOk result (λ stuck. stuck
+        ensures { IfOk result (λ unsynced. unsynced
             ≡ move_to_sync self.now.synced self.now.from.now self.now.to.now) }
     {
         if !self.synced {
@@ -65,49 +65,49 @@ impl<'a> Move<'a> {
 }
 
 impl Ready {
-    // Moves what stands at the first path to the second. The move is stuck where its directory couldn't be put onto the disk.
+    // Moves what stands at the first path to the second. The move is unsynced where its directory couldn't be put onto the disk.
     fn go<S: System>(
         self,
-        desk: &mut Syscalls<S>,
-        stuck: &mut Option<UnsyncedChange>,
+        syscalls: &mut Syscalls<S>,
+        unsynced: &mut Option<UnsyncedChange>,
     ) -> Result<(), TreeFault>
         ensures gone { IsGone S.System S.File.Handle.syncs self
-            (change_of desk.old.system desk.new.system)
-            (change_of stuck.old stuck.new) result }
-        ensures kept { OnDevice result (IsSomeAnd desk.new.last.failure
+            (change_of syscalls.old.system syscalls.new.system)
+            (change_of unsynced.old unsynced.new) result }
+        ensures kept { OnDevice result (IsSomeAnd syscalls.new.last.failure
             (IsOfGoing S.System S.File.Handle.syncs self
-            (change_of desk.old.system desk.new.system))) }
+            (change_of syscalls.old.system syscalls.new.system))) }
     {
-        if let Err(error) = desk.system.move_to(self.from.as_str(), self.to.as_str()) {
-            return Err(desk.last.record_error(self.to, error));
+        if let Err(error) = syscalls.system.rename(self.from.as_str(), self.to.as_str()) {
+            return Err(syscalls.last.record_error(self.to, error));
         }
-        *stuck = self.left;
-        if stuck.is_none() {
+        *unsynced = self.left;
+        if unsynced.is_none() {
             return Ok(());
         }
-        desk.sync_dir(self.holder)?;
-        *stuck = None;
+        syscalls.sync_dir(self.holder)?;
+        *unsynced = None;
         Ok(())
     }
 }
 
 /// Moves what stands at one path to another. Nothing is asked where a growth was refused or the folder's path is empty.
 pub(crate) fn move_entry<S: System>(
-    desk: &mut Syscalls<S>,
+    syscalls: &mut Syscalls<S>,
     folder: &Folder<'_>,
     asked: &Move<'_>,
-    stuck: &mut Option<UnsyncedChange>,
+    unsynced: &mut Option<UnsyncedChange>,
 ) -> Result<(), TreeFault>
-    requires free { stuck.old ≡ None }
+    requires free { unsynced.old ≡ None }
     ensures asked { MovesOnce S.System S.File.Handle.syncs
         (move_in folder.now.path.now asked.now)
-        (change_of desk.old.system desk.new.system) stuck.new result }
-    ensures kept { OnDevice result (IsSomeAnd desk.new.last.failure
+        (change_of syscalls.old.system syscalls.new.system) unsynced.new result }
+    ensures kept { OnDevice result (IsSomeAnd syscalls.new.last.failure
         (IsOfMove S.System S.File.Handle.syncs (move_in folder.now.path.now asked.now)
-        (change_of desk.old.system desk.new.system))) }
+        (change_of syscalls.old.system syscalls.new.system))) }
 {
-    let ready = asked.ready(folder, &mut desk.last)?;
-    ready.go(desk, stuck)
+    let ready = asked.ready(folder, &mut syscalls.last)?;
+    ready.go(syscalls, unsynced)
 }
 
 // The path of the directory that holds an entry, by the entry's own path.

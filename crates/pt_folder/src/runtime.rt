@@ -134,8 +134,8 @@ impl<'a, R: Files> System for &'a R {
         self.create_dir(path)
     }
 
-    fn move_to(&mut self, from: &str, to: &str) -> io::Result<()> {
-        self.rename(from, to)
+    fn rename(&mut self, from: &str, to: &str) -> io::Result<()> {
+        (**self).rename(from, to)
     }
 
     fn write_piece(&mut self, file: &mut HostFile<R::File>, piece: &[u8]) -> io::Result<usize> {

@@ -6,7 +6,7 @@ ghost use Rattle.pt_tree.specs.declared.faults.TreeFault.TheVariants.{Device};
 ghost use Rattle.pt_tree.specs.Failures.{IsCounted};
 ghost use Rattle.pt_tree.specs.Forest.{Dir, dir_at, kind_of, node_at};
 ghost use Rattle.pt_tree.specs.Path.{parent};
-ghost use Rattle.pt_folder.specs.Syscalls.{new_desk};
+ghost use Rattle.pt_folder.specs.Syscalls.{new_syscalls};
 ghost use Rattle.pt_folder.specs.Calls.{change_of};
 ghost use Rattle.pt_folder.specs.Failure.{OnDevice};
 ghost use Rattle.pt_folder.specs.Folder.{entry_in, entry_text};
@@ -26,7 +26,7 @@ use std::alloc::Global;
 /// A folder of the system as a source. It tells the tree that the system keeps there, where it keeps one.
 #[derive(Drop)]
 pub struct HostSource<'a, S: System> {
-    desk: Syscalls<S>,
+    syscalls: Syscalls<S>,
     folder: Folder<'a>,
     reading: Option<Reading<S::File>>,
     at: String,
@@ -46,13 +46,13 @@ impl<'a, S: System> HostSource<'a, S> {
         ensures failures { result.failures ≡ 0 }
         ensures calls { result.calls ≡ 0 }
         ensures path { folder_path result ≡ path.now }
-        ensures desk { result.desk ≡ new_desk system alloc }
+        ensures syscalls { result.syscalls ≡ new_syscalls system alloc }
         ensures reading { result.reading ≡ None }
         ensures at { string_bytes result.at ≡ [] }
         ensures looked { string_bytes result.looked ≡ [] }
     {
         HostSource {
-            desk: Syscalls::new(system, alloc),
+            syscalls: Syscalls::new(system, alloc),
             folder: Folder { path },
             reading: None,
             at: String::new(alloc),
@@ -67,7 +67,7 @@ impl<'a, S: System> HostSource<'a, S> {
     pub fn last_failure(&self) -> Option<&Failure>
         ensures { option_map (λ f. f.now) result ≡ failure_of self.now }
     {
-        self.desk.last.failure.as_ref()
+        self.syscalls.last.failure.as_ref()
     }
 
     /// The path of the file that was opened last; empty before the first.
@@ -98,7 +98,7 @@ impl<'a, S: System> HostSource<'a, S> {
         ensures looked { IsLookedAt self.old self.new path.now result }
         ensures failures { IsCounted self.old.failures self.new.failures result }
     {
-        let kind = self.desk.kind_at(&self.folder, path, &mut self.looked);
+        let kind = self.syscalls.kind_at(&self.folder, path, &mut self.looked);
         count_failure(&mut self.failures, kind)
     }
 
@@ -106,7 +106,7 @@ impl<'a, S: System> HostSource<'a, S> {
     pub fn into_system(self) -> S
         ensures { result ≡ system_of self.entry }
     {
-        self.desk.system
+        self.syscalls.system
     }
 }
 
@@ -129,9 +129,9 @@ impl<'a, S: System> Source for HostSource<'a, S> {
 
     ghost keeps_on = { λ _ _ _ p q. q ∙ p };
 
-    ghost proper = { λ s state is. proper_held (S.forest s.desk.system s.folder.path.now)
+    ghost proper = { λ s state is. proper_held (S.forest s.syscalls.system s.folder.path.now)
         (unread_open ⟦<S::File as Input>⟧.bytes s.reading) state
-        (S.proper_law s.desk.system s.folder.path.now) is };
+        (S.proper_law s.syscalls.system s.folder.path.now) is };
 
     fn failures(&self) -> u64 {
         self.failures
@@ -148,7 +148,7 @@ impl<'a, S: System> Source for HostSource<'a, S> {
         ensures call { IsCall self.old self.new result }
     {
         self.calls = self.calls.wrapping_add(1);
-        let listing = listing::list(&mut self.desk, &self.folder, path, &mut self.room);
+        let listing = listing::list(&mut self.syscalls, &self.folder, path, &mut self.room);
         count_failure(&mut self.failures, listing)
     }
 
@@ -166,7 +166,7 @@ impl<'a, S: System> Source for HostSource<'a, S> {
     {
         self.calls = self.calls.wrapping_add(1);
         let opened = open(
-            &mut self.desk,
+            &mut self.syscalls,
             &self.folder,
             path,
             &mut self.reading,
@@ -191,7 +191,7 @@ impl<'a, S: System> Source for HostSource<'a, S> {
             block,
             &mut self.room,
             self.at.as_str(),
-            &mut self.desk.last,
+            &mut self.syscalls.last,
         );
         count_failure(&mut self.failures, read)
     }
@@ -200,7 +200,7 @@ impl<'a, S: System> Source for HostSource<'a, S> {
 // Opens an entry for reading, and makes it the open file. It is looked at first: what is no file now isn't opened, since
 // opening a pipe waits for its writer.
 fn open<S: System>(
-    desk: &mut Syscalls<S>,
+    syscalls: &mut Syscalls<S>,
     folder: &Folder<'_>,
     path: &NamePath,
     opened: &mut Option<Reading<S::File>>,
@@ -210,21 +210,21 @@ fn open<S: System>(
     ensures still { OnErr result (at.new ≡ at.old) }
     ensures asked { OpensOnce S.System (entry_in folder.now.path.now path.now)
         (change_of opened.old opened.new)
-        (change_of desk.old.system desk.new.system) result }
+        (change_of syscalls.old.system syscalls.new.system) result }
     ensures at { OnOk result (string_bytes at.new ≡ entry_text folder.now.path.now path.now) }
     ensures kept { OnDevice result (KeepsOpening S.System
         (entry_in folder.now.path.now path.now)
-        (change_of desk.old.system desk.new.system) desk.new.last.failure) }
+        (change_of syscalls.old.system syscalls.new.system) syscalls.new.last.failure) }
 {
-    let text = folder.text(path, &mut desk.last)?;
-    let text = desk.look_at_file(text)?;
-    match desk.system.open_to_read(text.as_str()) {
+    let text = folder.text(path, &mut syscalls.last)?;
+    let text = syscalls.look_at_file(text)?;
+    match syscalls.system.open_to_read(text.as_str()) {
         Ok(file) => {
             *opened = Some(Reading::at_start(file));
             *at = text;
             Ok(())
         }
-        Err(error) => Err(desk.last.record_error(text, error)),
+        Err(error) => Err(syscalls.last.record_error(text, error)),
     }
 }
 

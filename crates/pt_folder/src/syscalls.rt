@@ -1,6 +1,6 @@
 //! How a folder calls the system: what it asks, and what is kept of an answer that is a failure.
 ghost use Rattle.std.specs.Prelude.{◌≡◌, [], Err, IfOk, IfSome, IsSomeAnd, OnErr, OnOk, string_bytes};
-ghost use Rattle.pt_folder.specs.Syscalls.{new_desk};
+ghost use Rattle.pt_folder.specs.Syscalls.{new_syscalls};
 ghost use Rattle.pt_folder.specs.Calls.{AsksOnce, IsAnswer, IsThere, LeadsToKind, MakesOnce, change_of};
 ghost use Rattle.pt_folder.specs.Failure.{FailsLook, FailsToPeek, IsOfCall, KeepsCall, KeepsMaking, OnDevice};
 ghost use Rattle.pt_folder.specs.Folder.{entry_in, entry_text};
@@ -26,7 +26,7 @@ pub struct Syscalls<S> {
 impl<S: System> Syscalls<S> {
     /// A system of which nothing was asked yet.
     pub fn new(system: S, alloc: Global) -> Syscalls<S>
-        ensures { result ≡ new_desk system alloc }
+        ensures { result ≡ new_syscalls system alloc }
     {
         Syscalls {
             system,

@@ -106,7 +106,7 @@ pub trait System {
         ensures { makes_dir self.old path.now result self.new };
 
     /// Moves what is at a path.
-    fn move_to(&mut self, from: &str, to: &str) -> io::Result<()>
+    fn rename(&mut self, from: &str, to: &str) -> io::Result<()>
         ensures { renames self.old from.now to.now result self.new };
 
     /// One write to an open file.

@@ -4,7 +4,7 @@ ghost use Rattle.pt_tree.specs.declared.faults.TreeFault.TheVariants.{Device};
 ghost use Rattle.pt_folder.specs.Folder.{entry_in, entry_text};
 ghost use Rattle.pt_folder.specs.Calls.{MakesOnce, change_of};
 ghost use Rattle.pt_folder.specs.Failure.{KeepsMaking, OnDevice};
-ghost use Rattle.pt_folder.specs.UnsyncedChange.{stuck_by_close};
+ghost use Rattle.pt_folder.specs.UnsyncedChange.{unsynced_by_close};
 ghost use Rattle.pt_folder.specs.Writing.{ClosesBy, FailsToAdd, IsMadeAt, IsOfWriting, MakesAt, WritesTo, open_unless_within};
 
 use crate::bytes::write_out;
@@ -24,7 +24,7 @@ pub struct Writing<F> {
 
 // Makes an empty file where nothing stands, and makes it the open one.
 pub(crate) fn create<S: System>(
-    desk: &mut Syscalls<S>,
+    syscalls: &mut Syscalls<S>,
     folder: &Folder<'_>,
     path: &NamePath,
     longest: usize,
@@ -35,63 +35,65 @@ pub(crate) fn create<S: System>(
     ensures asked { MakesOnce longest S.makes_file
         (MakesAt path.now writing.old writing.new)
         (entry_in folder.now.path.now path.now)
-        (change_of desk.old.system desk.new.system) result }
+        (change_of syscalls.old.system syscalls.new.system) result }
     ensures kept { OnDevice result (KeepsMaking longest folder.now.path.now path.now
-        (λ e. S.makes_file desk.old.system (entry_text folder.now.path.now path.now) (Err e)
-        desk.new.system) desk.new.last.failure) }
+        (λ e. S.makes_file syscalls.old.system (entry_text folder.now.path.now path.now) (Err e)
+        syscalls.new.system) syscalls.new.last.failure) }
 {
-    let text = folder.text_to_make(path, longest, &mut desk.last)?;
+    let text = folder.text_to_make(path, longest, &mut syscalls.last)?;
     let path = path.copy()?;
-    match desk.system.create_new(text.as_str()) {
+    match syscalls.system.create_new(text.as_str()) {
         Ok(file) => {
             *writing = Some(Writing { file, path });
             Ok(())
         }
-        Err(error) => Err(desk.last.record_error(text, error)),
+        Err(error) => Err(syscalls.last.record_error(text, error)),
     }
 }
 
 // Adds a piece to the open file, which stays open; where none is open, it is a failure.
 pub(crate) fn add<S: System>(
-    desk: &mut Syscalls<S>,
+    syscalls: &mut Syscalls<S>,
     folder: &Folder<'_>,
     writing: &mut Option<Writing<S::File>>,
     piece: &[u8],
 ) -> Result<(), TreeFault>
     ensures closed { IfNone writing.old (result ≡ Err Device) }
-    ensures writes { WritesTo S.writes (change_of desk.old.system desk.new.system)
+    ensures writes { WritesTo S.writes (change_of syscalls.old.system syscalls.new.system)
         writing.old writing.new piece.now result }
-    ensures kept { OnDevice result (IfSome desk.new.last.failure
-        (IsOfWriting folder.now.path.now (FailsToAdd S.writes piece.now desk.old.system)
+    ensures kept { OnDevice result (IfSome syscalls.new.last.failure
+        (IsOfWriting folder.now.path.now (FailsToAdd S.writes piece.now syscalls.old.system)
         writing.old)) }
 {
     match writing {
-        Some(open) => match write_out(&mut desk.system, &mut open.file, piece) {
+        Some(open) => match write_out(&mut syscalls.system, &mut open.file, piece) {
             Ok(()) => Ok(()),
-            Err(error) => Err(folder.record_error_at(&open.path, error, &mut desk.last)),
+            Err(error) => Err(folder.record_error_at(&open.path, error, &mut syscalls.last)),
         },
         None => {
-            let alloc = desk.last.alloc;
-            desk.last.keep(String::new(alloc), FailureReason::Closed);
+            let alloc = syscalls.last.alloc;
+            syscalls
+                .last
+                .keep(String::new(alloc), FailureReason::Closed);
             Err(TreeFault::Device)
         }
     }
 }
 
-// Closes the open file, which is put onto the disk first where that is asked for: where that isn't possible, it is stuck. Where
+// Closes the open file, which is put onto the disk first where that is asked for: where that isn't possible, it is unsynced. Where
 // none is open, it is a failure.
 pub(crate) fn close<F: Handle + Drop>(
     last: &mut Last,
     folder: &Folder<'_>,
     writing: &mut Option<Writing<F>>,
     synced: bool,
-    stuck: &mut Option<UnsyncedChange>,
+    unsynced: &mut Option<UnsyncedChange>,
 ) -> Result<(), TreeFault>
     ensures closed { ClosesBy F.syncs synced writing.old result }
     ensures kept { OnDevice result (IfSome last.new.failure (IsOfWriting folder.now.path.now
         (λ w e. (after : F) × F.syncs w (Err e) after) writing.old)) }
     ensures writing { writing.new ≡ None }
-    ensures stuck { stuck.new ≡ stuck_by_close stuck.old writing.old result }
+    ensures unsynced { unsynced.new ≡ unsynced_by_close unsynced.old writing.old result }
 {
     let Some(mut open) = writing.take() else {
         last.keep(String::new(last.alloc), FailureReason::Closed);
@@ -104,7 +106,7 @@ pub(crate) fn close<F: Handle + Drop>(
         Ok(()) => Ok(()),
         Err(error) => {
             folder.record_error_at(&open.path, error, last);
-            *stuck = Some(UnsyncedChange::Closed(open.path));
+            *unsynced = Some(UnsyncedChange::Closed(open.path));
             Err(TreeFault::Device)
         }
     }

@@ -173,7 +173,7 @@ impl<'a> System for Counted<'a> {
         Ok(())
     }
 
-    fn move_to(&mut self, _: &str, _: &str) -> io::Result<()> {
+    fn rename(&mut self, _: &str, _: &str) -> io::Result<()> {
         add_one(&self.counts.changes);
         Ok(())
     }

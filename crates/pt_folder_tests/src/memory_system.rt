@@ -85,7 +85,7 @@ fn is_answered(system: &mut MemorySystem<'_>, step: Step) -> bool {
         Step::NoNames(at, error) => error_of(system.read_dir(at)) == Some(error),
         Step::NoFile(at, error) => error_of(system.open_to_read(at)) == Some(error),
         Step::MakeDir(at, error) => error_of(system.make_dir(at)) == error,
-        Step::Move(from, to, error) => error_of(system.move_to(from, to)) == error,
+        Step::Move(from, to, error) => error_of(system.rename(from, to)) == error,
         _ => false,
     }
 }
@@ -239,7 +239,7 @@ fn make_seven_calls(system: &mut MemorySystem<'_>) -> io::Result<()> {
     system.lstat("root/")?;
     system.make_dir("root/staging")?;
     write_staged(system)?;
-    system.move_to("root/staging", "root/place")?;
+    system.rename("root/staging", "root/place")?;
     system.lstat("root/place/a")?;
     Ok(())
 }
@@ -258,7 +258,7 @@ fn fail_calls(alloc: Global, passing: u64) -> Result<(Option<ErrorKind>, u64, bo
     let mut system = make_system(alloc, &faults)?;
     faults.fail_after(Some(passing));
     let error = error_of(make_seven_calls(&mut system));
-    Ok((error, faults.made(), is_half(system, &at)))
+    Ok((error, faults.calls(), is_half(system, &at)))
 }
 
 fn is_half(system: MemorySystem<'_>, at: &NamePath) -> bool {

@@ -7,4 +7,4 @@ mod Recorded
 mod Rehearsed
 mod RehearsalTold
 mod Roomy
-mod Unstuck
+mod AllSynced

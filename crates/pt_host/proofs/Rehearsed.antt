@@ -11,7 +11,7 @@ use Rattle.pt_plan.specs.declared.fault.Fault.{Fault}
 use Rattle.pt_rehearsal.specs.Steps.{Step}
 use Rattle.pt_rehearsal.specs.Fitting.{told_over}
 use Rattle.pt_rehearsal.specs.Rehearsal.{told}
-use Rattle.pt_rehearsal.specs.Stays.{Stays}
+use Rattle.pt_rehearsal.specs.SameFolder.{SameFolder}
 use Rattle.pt_rehearsal.specs.declared.rehearsal.Rehearsal.{Rehearsal}
 use Rattle.pt_rehearsal.proofs.Staying.{told_still}
 use Rattle.pt_state.specs.Outside.{states}
@@ -28,7 +28,7 @@ over_told (Some w) steps = refl
 
 module _ {S F D : Type 0} {sys : OfSystem S F D} {handle : OfHandle F} {file : OfInput F} {dir : OfInput D} where
   -- a rehearsal tells at its end if it told at its start
-  pub tells_still : (begun ended : Rehearsal S F D sys handle file dir) → Stays begun.dest ended.dest → is_some (told ended) ≡ is_some (told begun)
+  pub tells_still : (begun ended : Rehearsal S F D sys handle file dir) → SameFolder begun.dest ended.dest → is_some (told ended) ≡ is_some (told begun)
   tells_still begun ended stays =
       over_told (told_by ended.dest) ended.played.steps ∙ ap is_some (told_still begun.dest ended.dest stays) ∙ sym (over_told (told_by begun.dest) begun.played.steps)
 

@@ -53,12 +53,12 @@ audit_call options store folder = record { options = options; store = store; fol
 -- the tree that an audit sees of its store, over what is lent
 abbrev pub store_seen : {S D W : Type 0} → HostIoWords S D W (Option Forest) → AuditCall → HostIo S D W
     → Option Forest
-store_seen words call ground = store_tree call.options.ignored (words.store ground.store call.store)
+store_seen words call host_io = store_tree call.options.ignored (words.store host_io.store call.store)
 
 -- and the one of its root
 abbrev pub root_seen : {S D W : Type 0} → HostIoWords S D W (Option Forest) → AuditCall → HostIo S D W
     → Option Forest
-root_seen words call ground = root_tree (words.folder ground.folder call.folder)
+root_seen words call host_io = root_tree (words.folder host_io.folder call.folder)
 
 -- an audit was made over these folders of the systems, with what `audit` of pt_extra promises of it: where it ended well the
 -- output got its log, of both trees as they stood, and the root is one that a run could go on with; after a fault it got a front of what
@@ -81,8 +81,8 @@ module _ {H : Type 0} (words : MachineWords H) (asks : Option (List ℕ) → Typ
   -- an audit once it may begin: it is asked what is expected of it, and made over what the machine lends, which is given back
   abbrev pub Compares : H → H → ℕ → Type 0
   Compares old new status = asks call.options.feedback.expected
-      × (ground : HostIoOf words) × (lent : H) × words.host old (Lend ground) lent × (after : HostIoOf words)
-      × AuditsOver words.read call ground after status × words.host lent (TakeBack after) new
+      × (host_io : HostIoOf words) × (lent : H) × words.host old (Lend host_io) lent × (after : HostIoOf words)
+      × AuditsOver words.read call host_io after status × words.host lent (TakeBack after) new
 
   -- what `audit_guarded` does on a machine, by the words of that: the guard, with a lock that others may share, the audit that
   -- is asked for, with a list or without one, with its event, and the lock

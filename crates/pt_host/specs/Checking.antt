@@ -38,7 +38,7 @@ check_call options store = record { options = options; store = store }
 -- the tree that a check sees of its store, over what is lent
 abbrev pub store_checked : {S D W : Type 0} → HostIoWords S D W (Option Forest) → CheckCall → HostIo S D W
     → Option Forest
-store_checked words call ground = store_tree call.options.ignored (words.store ground.store call.store)
+store_checked words call host_io = store_tree call.options.ignored (words.store host_io.store call.store)
 
 -- a check that has not begun, over an output that holds this: its source didn't fail, and nothing is counted
 abbrev pub unbegun : Option (List ℕ) → Seen
@@ -76,5 +76,5 @@ pub record ChecksOver {S D W : Type 0} (words : HostIoWords S D W (Option Forest
 -- check is made over that, and it is given back
 abbrev pub ChecksStore : {H : Type 0} → MachineWords H → CheckCall → H → H → ℕ → Type 0
 ChecksStore {H} words call old new status =
-    (ground : HostIoOf words) × (lent : H) × words.host old (Lend ground) lent × (after : HostIoOf words)
-    × ChecksOver words.read call ground after status × words.host lent (TakeBack after) new
+    (host_io : HostIoOf words) × (lent : H) × words.host old (Lend host_io) lent × (after : HostIoOf words)
+    × ChecksOver words.read call host_io after status × words.host lent (TakeBack after) new

@@ -22,7 +22,7 @@ module _ {S F D : Type 0} {sys : OfSystem S F D} {handle : OfHandle F} {file : O
   abbrev pub WritesInto : HostDest S F D sys handle file dir → S → List ℕ → Type 0
   WritesInto dest system path = (dest_system dest ≡ system) × (dest_path dest ≡ path)
 
-  -- what a folder that is written into tells with no file open and nothing stuck
+  -- what a folder that is written into tells with no file open and nothing unsynced
   abbrev pub told_at_rest : HostDest S F D sys handle file dir → Option Writing
   told_at_rest dest = told_with (kept_by dest) None None
 

@@ -7,9 +7,9 @@ pub data HostCall (F G : Type 0) : Type 0 where
   -- the file that the output goes to is opened once more; nothing where it goes to what isn't a file
   OpenOutput : (file : Result (Option F) Error) → HostCall F G
   -- what a run is made over is lent
-  Lend : (ground : G) → HostCall F G
+  Lend : (host_io : G) → HostCall F G
   -- it is taken back, as the run left it
-  TakeBack : (ground : G) → HostCall F G
+  TakeBack : (host_io : G) → HostCall F G
   -- a file is made at a path with this text, where nothing stands
   MakeFile : (path text : List ℕ) → (made : Result (Unit {0}) Error) → HostCall F G
   -- the file at a path is renamed to another, and replaces what stands there

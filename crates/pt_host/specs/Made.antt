@@ -58,13 +58,13 @@ pub record Between : Type 0 where
   pub synced : Bool
 
 -- what the devices of a run tell: over the trees that the systems keep at these folders, with this open for reading,
--- and this stuck and open for writing, and what the output holds
+-- and this unsynced and open for writing, and what the output holds
 abbrev pub host_io_of : {S D W F : Type 0} → HostIoWords S D W (Kept F) → Between → HostIo S D W
     → Option (List ℕ) → Option UnsyncedChange → Option (Open F) → Failures → DeviceStates
-host_io_of words at ground reading stuck writing failures = record {
-  source = told_without at.ignored (source_told (words.store ground.store at.store) reading);
-  dest = dest_told (words.folder ground.folder at.folder) stuck writing;
-  log = words.output ground.output;
+host_io_of words at host_io reading unsynced writing failures = record {
+  source = told_without at.ignored (source_told (words.store host_io.store at.store) reading);
+  dest = dest_told (words.folder host_io.folder at.folder) unsynced writing;
+  log = words.output host_io.output;
   failures = failures;
 }
 
@@ -73,10 +73,10 @@ abbrev pub LeavesKept : {F : Type 0} → Bool → Kept F → Kept F → Type 0
 LeavesKept true old new = new ≡ old
 LeavesKept false old new = ⊤
 
--- something is stuck only where files are put onto the disk, and, if nothing had failed before, after a fault
-abbrev pub IsStuckBy : Bool → ℕ → ℕ → Option UnsyncedChange → Type 0
-IsStuckBy synced failures status stuck =
-    ForSome stuck (λ _. (synced ≡ true) × (failures ≡ 0 → status ≡ 3))
+-- something is unsynced only where files are put onto the disk, and, if nothing had failed before, after a fault
+abbrev pub IsUnsyncedBy : Bool → ℕ → ℕ → Option UnsyncedChange → Type 0
+IsUnsyncedBy synced failures status unsynced =
+    ForSome unsynced (λ _. (synced ≡ true) × (failures ≡ 0 → status ≡ 3))
 
 -- where a run starts: between which folders, from which states, and what the system keeps of the destination's
 pub record Start (F : Type 0) : Type 0 where
@@ -85,15 +85,15 @@ pub record Start (F : Type 0) : Type 0 where
   pub kept : Kept F
 
 -- a run was made from this start to what its devices then tell over these systems and this output, with this status and
--- this stuck; a rehearsal left of the folder what the system kept
+-- this unsynced; a rehearsal left of the folder what the system kept
 abbrev pub RunsFrom : {S D W F : Type 0} → HostIoWords S D W (Kept F) → RunOptions → Start F
     → HostIo S D W → ℕ → Type 0
-RunsFrom {S} {D} {W} {F} words options start ground status =
-    (reading : Option (List ℕ)) × (stuck : Option UnsyncedChange) × (writing : Option (Open F))
+RunsFrom {S} {D} {W} {F} words options start host_io status =
+    (reading : Option (List ℕ)) × (unsynced : Option UnsyncedChange) × (writing : Option (Open F))
     × (failures : Failures) × IsMade options (dest_told start.kept None None) start.states
-    (host_io_of words start.at ground reading stuck writing failures) status
-    × LeavesKept options.rehearse start.kept (words.folder ground.folder start.at.folder)
-    × IsStuckBy start.at.synced start.states.failures.dest status stuck
+    (host_io_of words start.at host_io reading unsynced writing failures) status
+    × LeavesKept options.rehearse start.kept (words.folder host_io.folder start.at.folder)
+    × IsUnsyncedBy start.at.synced start.states.failures.dest status unsynced
 
 -- no device failed yet
 abbrev pub none_failed : Failures
@@ -120,10 +120,10 @@ between call = record {
 
 -- its start over what is lent, with no file open
 abbrev pub start_of : {S D W F : Type 0} → HostIoWords S D W (Kept F) → RunCall → HostIo S D W → Start F
-start_of words call ground = record {
+start_of words call host_io = record {
   at = between call;
-  states = host_io_of words (between call) ground None None None none_failed;
-  kept = words.folder ground.folder call.folder;
+  states = host_io_of words (between call) host_io None None None none_failed;
+  kept = words.folder host_io.folder call.folder;
 }
 
 -- a run was made over these folders of the systems, with no file open, and left the systems and the output so
@@ -187,10 +187,10 @@ module _ {H : Type 0} (words : MachineWords H) (asks : Option (List ℕ) → Typ
   abbrev pub GoesOver : Result (Option words.OutputFile) Error → H → H → ℕ → Type 0
   GoesOver (Err error) mid new status = (status ≡ 3) × (new ≡ mid)
   GoesOver (Ok file) mid new status = asks call.options.feedback.expected
-      × (ground : HostIoOf words) × (lent : H) × words.host mid (Lend ground) lent × (after : HostIoOf words)
-      × RunsOver words.written call ground after status
-      × IsLogged words.puts file ground.output after.output status
-      × words.serves call.options call.folder ground.folder after.folder
+      × (host_io : HostIoOf words) × (lent : H) × words.host mid (Lend host_io) lent × (after : HostIoOf words)
+      × RunsOver words.written call host_io after status
+      × IsLogged words.puts file host_io.output after.output status
+      × words.serves call.options call.folder host_io.folder after.folder
       × words.host lent (TakeBack after) new
 
   -- a run once it may begin: the log's file, if that is to be synced, and then the run

@@ -1,6 +1,6 @@
 -- What a run asks of its destination.
 use Rattle.std.specs.Prelude.{◌≡◌, ◌+◌, ⊤, ℕ, Bool, true, false, List, None}
-use Rattle.pt_folder.specs.HostDest.{folder_path, longest_of, stuck_of, synced_of, system_of, writing_of}
+use Rattle.pt_folder.specs.HostDest.{folder_path, longest_of, unsynced_of, synced_of, system_of, writing_of}
 use Rattle.pt_folder.specs.Steps.{Steps}
 use Rattle.pt_folder.specs.declared.dest.HostDest.{HostDest}
 use Rattle.pt_folder.specs.declared.system.Handle.{Ghosts as OfHandle}
@@ -26,7 +26,7 @@ module _ {S F D : Type 0} {sys : OfSystem S F D} {handle : OfHandle F} {file : O
   pub record IsSetUp (options : RunOptions) (folder : List ℕ) (system : S)
       (dest : HostDest S F D sys handle file dir) : Type 0 where
     pub over : (system_of dest ≡ system) × (folder_path dest ≡ folder)
-    pub begun : (writing_of dest ≡ None) × (stuck_of dest ≡ None)
+    pub begun : (writing_of dest ≡ None) × (unsynced_of dest ≡ None)
     pub synced : synced_of dest ≡ options.sync
     pub longest : longest_of dest + place_overhead options.job.layout ≡ 4095
 

@@ -124,7 +124,7 @@ fn put_feedback(members: &mut Members, feedback: &Feedback) -> Result<(), AllocE
     members.put_flag("quiet", feedback.quiet)?;
     members.put_text("progress", word_of(feedback.progress))?;
     members.put_number("interval", u64::from(feedback.interval))?;
-    members.put_given("expect", feedback.expected())?;
+    members.put_given("expect", feedback.expected_log())?;
     members.put_given("event", feedback.event())
 }
 

@@ -9,7 +9,7 @@ use crate::room::room_in;
 use crate::saying::tell_fault;
 use crate::status::{DONE, FAILED, INCOMPLETE};
 use crate::{CheckOptions, Host, HostIo, Machine};
-use pt_check::{Check, Devices, Explains, Numbers, Wants};
+use pt_check::{Check, CheckDevices, Explains, Numbers, Wants};
 use pt_folder::{Failure, HostSource, System};
 use pt_move::Fault;
 use pt_tree::{Ignoring, MemoryFault};
@@ -27,11 +27,11 @@ where
     ensures { ChecksStore ⟦<H as Machine>⟧.words (check_call options store.now)
         host.old host.new result }
 {
-    let ground = host.lend();
+    let host_io = host.lend();
     let file: Option<H::File> = None;
-    let lent = Lent { ground, file };
-    let Checked { status, ground } = check(rt, lent, options, store);
-    host.take_back(ground);
+    let lent = Lent { host_io, file };
+    let Checked { status, host_io } = check(rt, lent, options, store);
+    host.take_back(host_io);
     status
 }
 
@@ -39,7 +39,7 @@ where
 #[derive(Drop)]
 struct Checked<S, D, W> {
     status: u8,
-    ground: HostIo<S, D, W>,
+    host_io: HostIo<S, D, W>,
 }
 
 // Checks a store over what is lent, and tells standard error of a fault.
@@ -52,19 +52,19 @@ fn check<R, S: System, D: System, W: Write, F: SyncsOutput<W> + Drop>(
 where
     R: Eprint + AllocGlobal,
     ensures { ChecksOver (host_io_words S.forest D.forest W.contents)
-        (check_call options store.now) lent.ground result.ground result.status }
+        (check_call options store.now) lent.host_io result.host_io result.status }
 {
     let alloc = rt.alloc();
-    let Lent { ground, file } = lent;
+    let Lent { host_io, file } = lent;
     let HostIo {
         store: system,
         folder,
         output,
-    } = ground;
+    } = host_io;
     let wants = wants_of(&options);
     let source = Ignoring::new(HostSource::new(system, alloc, store), options.ignored);
     let log = DurableLog::new(output, file);
-    let devices = Devices {
+    let devices = CheckDevices {
         source,
         log,
         explains: LastFailure,
@@ -76,12 +76,12 @@ where
         tell_fault(rt, fault);
     }
     let status = status_of(&ran);
-    let ground = HostIo {
+    let host_io = HostIo {
         store: source.into_source().into_system(),
         folder,
         output: log.into_writer(),
     };
-    Checked { status, ground }
+    Checked { status, host_io }
 }
 
 // What these options want of a check.

@@ -16,13 +16,13 @@ use std::io::Write;
 /// What devices are made of: what a machine lends, and the file that the log goes to, where that is to be put onto its disk.
 #[derive(Drop)]
 pub(crate) struct Lent<S, D, W, F> {
-    pub ground: HostIo<S, D, W>,
+    pub host_io: HostIo<S, D, W>,
     pub file: Option<F>,
 }
 
 /// The source, the destination and the log of a run.
 #[derive(Drop)]
-pub(crate) struct Devices<'a, S: System, D: System, W: Write, F: SyncsOutput<W> + Drop> {
+pub(crate) struct RunDevices<'a, S: System, D: System, W: Write, F: SyncsOutput<W> + Drop> {
     /// The folder of the store.
     pub source: HostSource<'a, S>,
     /// The folder of the destination.
@@ -38,23 +38,23 @@ pub(crate) fn open_devices<'a, S: System, D: System, W: Write, F: SyncsOutput<W>
     lent: Lent<S, D, W, F>,
     options: &RunOptions,
     folders: Folders<'a>,
-) -> Devices<'a, S, D, W, F>
-    ensures store { ReadsFrom result.source lent.ground.store folders.entry.store.now }
+) -> RunDevices<'a, S, D, W, F>
+    ensures store { ReadsFrom result.source lent.host_io.store folders.entry.store.now }
     ensures unread { (result.source.reading ≡ None) × (result.source.failures ≡ 0) }
-    ensures folder { WritesInto result.dest lent.ground.folder folders.entry.folder.now }
+    ensures folder { WritesInto result.dest lent.host_io.folder folders.entry.folder.now }
     ensures unwritten { (result.dest.writing ≡ None) × (result.dest.failures ≡ 0) }
     ensures longest { result.dest.longest + place_overhead options.now.job.layout ≡ 4095 }
-    ensures synced { (result.dest.synced ≡ options.now.sync) × (result.dest.stuck ≡ None) }
-    ensures log { (result.log.writer ≡ lent.ground.output) × (result.log.failures ≡ 0) }
+    ensures synced { (result.dest.synced ≡ options.now.sync) × (result.dest.unsynced ≡ None) }
+    ensures log { (result.log.writer ≡ lent.host_io.output) × (result.log.failures ≡ 0) }
     ensures log_synced { result.log.file ≡ lent.file }
 {
-    let Lent { ground, file } = lent;
-    Devices {
-        source: HostSource::new(ground.store, alloc, folders.store),
-        dest: HostDest::new(ground.folder, alloc, folders.folder)
+    let Lent { host_io, file } = lent;
+    RunDevices {
+        source: HostSource::new(host_io.store, alloc, folders.store),
+        dest: HostDest::new(host_io.folder, alloc, folders.folder)
             .with_longest(longest_made(&options.job.layout))
             .with_sync(options.sync),
-        log: DurableLog::new(ground.output, file),
+        log: DurableLog::new(host_io.output, file),
     }
 }
 
@@ -76,16 +76,19 @@ pub(crate) fn both_sides<'a, S: System, D: System, W: Write, F: SyncsOutput<W> +
     ignored: Ignored,
     folders: Folders<'a>,
 ) -> Sides<'a, S, D, W, F>
-    ensures store { ReadsFrom result.source.source lent.ground.store folders.entry.store.now }
+    ensures store { ReadsFrom result.source.source lent.host_io.store folders.entry.store.now }
     ensures left_out { result.source.names ≡ ignored }
-    ensures folder { ReadsFrom result.root lent.ground.folder folders.entry.folder.now }
-    ensures log { result.log.writer ≡ lent.ground.output }
+    ensures folder { ReadsFrom result.root lent.host_io.folder folders.entry.folder.now }
+    ensures log { result.log.writer ≡ lent.host_io.output }
     ensures log_synced { result.log.file ≡ lent.file }
 {
-    let Lent { ground, file } = lent;
+    let Lent { host_io, file } = lent;
     Sides {
-        source: Ignoring::new(HostSource::new(ground.store, alloc, folders.store), ignored),
-        root: HostSource::new(ground.folder, alloc, folders.folder),
-        log: DurableLog::new(ground.output, file),
+        source: Ignoring::new(
+            HostSource::new(host_io.store, alloc, folders.store),
+            ignored,
+        ),
+        root: HostSource::new(host_io.folder, alloc, folders.folder),
+        log: DurableLog::new(host_io.output, file),
     }
 }

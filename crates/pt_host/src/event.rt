@@ -111,7 +111,7 @@ impl EventFile {
         event.put_folder(rt, "source", folders.store)?;
         event.put_folder(rt, "dest", folders.folder)?;
         let text = event.line()?;
-        let part = Text::joined(rt.alloc(), path, PART)?;
+        let part = Text::join(rt.alloc(), path, PART)?;
         let path = Text::of(rt.alloc(), path)?;
         Ok(EventFile {
             path,
@@ -226,7 +226,7 @@ fn is_wanting(error: &io::Error) -> bool
 fn make_new<H: Host>(host: &mut H, path: &str, text: &str) -> Result<(), EventFault>
     ensures { MakesNew ⟦<H as Machine>⟧.words path.now host.old host.new result }
 {
-    match host.make_file(path, text) {
+    match host.create_new(path, text) {
         Ok(()) => Ok(()),
         Err(error) => Err(EventFault::from(error)),
     }

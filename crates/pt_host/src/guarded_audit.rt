@@ -14,10 +14,10 @@ use crate::running::{Ended, Ending};
 use crate::saying::{tell_fault, tell_why};
 use crate::status::{DONE, FAILED, INCOMPLETE};
 use crate::{AuditOptions, Host, HostIo, Machine};
-use pt_extra::{AuditCounts, AuditEnd, Devices, audit};
+use pt_extra::{AuditCounts, AuditEnd, ExtraDevices, audit};
 use pt_folder::{HostSource, System};
 use pt_messages::{
-    Counted, Outcome, Reads, Tally, Terminals, Watched, Why, Words, lines_expected, reason,
+    Counted, FaultReason, Outcome, Reads, Tally, Terminals, Watched, Words, lines_expected, reason,
 };
 use pt_move::Fault;
 use std::alloc::{AllocError, AllocGlobal};
@@ -68,16 +68,16 @@ where
         (audit_call options folders.entry.store.now folders.entry.folder.now)
         host.old host.new result.status }
 {
-    let expected = lines_expected(rt, options.feedback.expected());
-    let ground = host.lend();
+    let expected = lines_expected(rt, options.feedback.expected_log());
+    let host_io = host.lend();
     let file: Option<H::File> = None;
-    let lent = Lent { ground, file };
+    let lent = Lent { host_io, file };
     let Ended {
         status,
-        ground,
+        host_io,
         outcome,
     } = compare(rt, lent, options, expected, folders);
-    host.take_back(ground);
+    host.take_back(host_io);
     Ending { status, outcome }
 }
 
@@ -93,7 +93,7 @@ where
     R: Reads + Clock + Eprint + AllocGlobal + Terminals,
     ensures { AuditsOver (host_io_words S.forest D.forest W.contents)
         (audit_call options folders.entry.store.now folders.entry.folder.now)
-        lent.ground result.ground result.status }
+        lent.host_io result.host_io result.status }
 {
     let alloc = rt.alloc();
     let tally = Tally::new();
@@ -104,7 +104,7 @@ where
     let Sides { source, root, log } = both_sides(alloc, lent, options.ignored, folders);
     let source = Watched::new(source, rt, alloc, &tally, watching);
     let log = Counted::new(log, source.sums() | telling.records);
-    let devices = Devices {
+    let devices = ExtraDevices {
         store: source,
         root,
         log,
@@ -123,14 +123,14 @@ where
     let why = report_outcome(rt, &ran, telling, sides);
     let outcome = Outcome::new(words, devices.log.counts(), ran.as_ref().err(), why);
     let status = status_of(&ran, options.skips_ok);
-    let ground = HostIo {
+    let host_io = HostIo {
         store: source.into_system(),
         folder: devices.root.into_system(),
         output: devices.log.into_log().into_writer(),
     };
     Ended {
         status,
-        ground,
+        host_io,
         outcome,
     }
 }
@@ -158,7 +158,7 @@ fn report_outcome<R: Reads + Eprint + AllocGlobal, S: System, D: System>(
     ran: &Result<AuditCounts, Fault>,
     telling: Telling,
     sides: AuditSides<'_, '_, S, D>,
-) -> Result<Option<Why>, AllocError> {
+) -> Result<Option<FaultReason>, AllocError> {
     let Err(fault) = ran else {
         return Ok(None);
     };

@@ -63,16 +63,16 @@ where
         Ok(file) => file,
         Err(_) => return end_unsynced(rt),
     };
-    let expected = lines_expected(rt, options.feedback.expected());
-    let ground = host.lend();
-    let lent = Lent { ground, file };
+    let expected = lines_expected(rt, options.feedback.expected_log());
+    let host_io = host.lend();
+    let lent = Lent { host_io, file };
     let devices = open_devices(rt.alloc(), lent, &options, folders);
     let Ended {
         status,
-        ground,
+        host_io,
         outcome,
     } = run(rt, devices, options, expected, folders.store);
-    host.take_back(ground);
+    host.take_back(host_io);
     Ending { status, outcome }
 }
 

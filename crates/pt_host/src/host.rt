@@ -51,12 +51,12 @@ pub trait Host: Places {
         ensures { does self.old (Lend result) self.new };
 
     /// Takes back what it lent.
-    fn take_back(&mut self, ground: HostIo<Self::Store, Self::Folder, Self::Output>)
-        ensures { does self.old (TakeBack ground) self.new };
+    fn take_back(&mut self, host_io: HostIo<Self::Store, Self::Folder, Self::Output>)
+        ensures { does self.old (TakeBack host_io) self.new };
 
     /// Makes a file at a path where nothing stands, not even a link, with this text, and has it put onto the disk. Nothing else is made or
     /// changed; where it fails a part of the file may be left.
-    fn make_file(&mut self, path: &str, text: &str) -> io::Result<()>
+    fn create_new(&mut self, path: &str, text: &str) -> io::Result<()>
         ensures { does self.old (MakeFile path.now text.now result) self.new };
 
     /// Renames the file at a path to another, and so replaces what stands there. Nothing else is made or changed.
@@ -113,13 +113,13 @@ where
         }
     }
 
-    fn take_back(&mut self, ground: HostIo<&'a R, &'a R, Printer<'a, R>>)
+    fn take_back(&mut self, host_io: HostIo<&'a R, &'a R, Printer<'a, R>>)
         ensures { ⊤ }
     {
-        let HostIo { .. } = ground;
+        let HostIo { .. } = host_io;
     }
 
-    fn make_file(&mut self, path: &str, text: &str) -> io::Result<()> {
+    fn create_new(&mut self, path: &str, text: &str) -> io::Result<()> {
         let mut options = OpenOptions::new();
         options.write(true).create_new(true);
         let mut file = self.open_file(&options, path)?;

@@ -24,8 +24,8 @@
 //!   longer than `staging`.
 //! - `run_or_rehearse`: a run is one over the destination's folder, and a rehearsal one over a destination that at first tells what the folder holds,
 //!   and at the end the tree that it plays (`IsRun`). Its devices stay at the folders that they were made for (`RunsFrom`). After any
-//!   answer a rehearsal leaves all that the system keeps of DEST (`LeavesKept`). Something is stuck at the end only where syncing was
-//!   wanted and a fault ended the run (`IsStuckBy`).
+//!   answer a rehearsal leaves all that the system keeps of DEST (`LeavesKept`). Something is unsynced at the end only where syncing was
+//!   wanted and a fault ended the run (`IsUnsyncedBy`).
 //! - `rehearsal_tells_the_run`: where a rehearsal and a run of one job over the same store and the same tree of DEST both end well, and the
 //!   log tells, both logs get the same text, and the status is the same (`RehearsalTellsTheRun`).
 //! - `audit_guarded`: the guard, with a lock that others may share, the audit over what is lent, which is given back, and the lock

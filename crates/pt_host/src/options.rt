@@ -87,7 +87,7 @@ impl Telling {
 
 impl Feedback {
     // The path of the log that is expected to be as long, if one is named.
-    pub(crate) fn expected(&self) -> Option<&str>
+    pub(crate) fn expected_log(&self) -> Option<&str>
         ensures { option_map (λ path. path.now) result ≡ self.now.expected }
     {
         match &self.expected {

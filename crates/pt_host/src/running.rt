@@ -6,18 +6,18 @@ ghost use Rattle.pt_host.specs.Devices.{seen_without, told_at_rest};
 ghost use Rattle.pt_host.specs.Durable.{IsLogged};
 ghost use Rattle.pt_host.specs.Ends.{run_status};
 ghost use Rattle.pt_host.specs.Machine.{host_io_words};
-ghost use Rattle.pt_host.specs.Made.{IsRun, IsStuckBy, LeavesKept, RunsFrom};
+ghost use Rattle.pt_host.specs.Made.{IsRun, IsUnsyncedBy, LeavesKept, RunsFrom};
 ghost use Rattle.pt_host.specs.Served.{IsServed, ServesTo};
 ghost use Rattle.pt_state.specs.Outside.{states_of};
 
-use crate::devices::Devices;
+use crate::devices::RunDevices;
 use crate::log::{DurableLog, SyncsOutput};
 use crate::options::Telling;
 use crate::saying::{tell_fault, tell_why};
 use crate::status::{DONE, FAILED, INCOMPLETE};
 use crate::{HostIo, RunOptions};
 use pt_folder::{HostDest, HostSource, System};
-use pt_messages::{Counted, Outcome, Reads, Tally, Terminals, Watched, Why, Words, reason};
+use pt_messages::{Counted, FaultReason, Outcome, Reads, Tally, Terminals, Watched, Words, reason};
 use pt_move::{Fault, Job, Report, migrate_observed};
 use pt_rehearsal::Rehearsal;
 use pt_tree::{Dest, Ignoring, Log, Source};
@@ -29,7 +29,7 @@ use std::rt::Clock;
 #[derive(Drop)]
 pub(crate) struct Ended<S, D, W> {
     pub status: u8,
-    pub ground: HostIo<S, D, W>,
+    pub host_io: HostIo<S, D, W>,
     pub outcome: Outcome,
 }
 
@@ -44,7 +44,7 @@ pub(crate) struct Ending {
 /// `expected` is how many lines its log may come to, where that is known, and `store` the path of the store.
 pub(crate) fn run<R, S: System, D: System, W: Write, F: SyncsOutput<W> + Drop>(
     rt: &R,
-    devices: Devices<'_, S, D, W, F>,
+    devices: RunDevices<'_, S, D, W, F>,
     options: RunOptions,
     expected: Option<u64>,
     store: &str,
@@ -64,15 +64,15 @@ where
               devices.entry.source devices.entry.dest devices.entry.log);
           kept = kept_by devices.entry.dest;
         })
-        result.ground result.status }
+        result.host_io result.status }
     ensures logged { devices.entry.log.failures ≡ 0
         → IsLogged F.puts devices.entry.log.file devices.entry.log.writer
-        result.ground.output result.status }
-    ensures served { ServesTo options.rehearse devices.entry.dest result.ground.folder }
+        result.host_io.output result.status }
+    ensures served { ServesTo options.rehearse devices.entry.dest result.host_io.folder }
 {
     let alloc = rt.alloc();
     let tally = Tally::new();
-    let Devices { source, dest, log } = devices;
+    let RunDevices { source, dest, log } = devices;
     let telling = options.feedback.telling();
     let watching = options.feedback.watching(Words::Run, expected);
     let ignores = !options.ignored.names().is_empty();
@@ -92,14 +92,14 @@ where
     let why = report_outcome(rt, &ran, telling, &source, &dest, store);
     let outcome = Outcome::new(Words::Run, log.counts(), ran.as_ref().err(), why);
     let status = status_of(&ran, options.present_ok);
-    let ground = HostIo {
+    let host_io = HostIo {
         store: source.into_system(),
         folder: dest.into_system(),
         output: log.into_log().into_writer(),
     };
     Ended {
         status,
-        ground,
+        host_io,
         outcome,
     }
 }
@@ -134,8 +134,8 @@ fn run_or_rehearse<'a, S: Source, D: System, L: Log>(
     ensures log { L.keeps log.old log.new }
     ensures dest { result.dest.folder ≡ dest.entry.folder }
     ensures served { IsServed task.entry.rehearse dest.entry result.dest }
-    ensures stuck { (present_ok : Bool) → IsStuckBy dest.entry.synced dest.entry.failures
-        (run_status present_ok result.ran) result.dest.stuck }
+    ensures unsynced { (present_ok : Bool) → IsUnsyncedBy dest.entry.synced dest.entry.failures
+        (run_status present_ok result.ran) result.dest.unsynced }
     ensures rehearsed { LeavesKept task.entry.rehearse (kept_by dest.entry) (kept_by result.dest) }
 {
     let Task {
@@ -162,7 +162,7 @@ fn report_outcome<R: Reads + Eprint + AllocGlobal, S: System, D: System>(
     source: &HostSource<'_, S>,
     dest: &HostDest<'_, D>,
     store: &str,
-) -> Result<Option<Why>, AllocError> {
+) -> Result<Option<FaultReason>, AllocError> {
     let Err(fault) = ran else {
         return Ok(None);
     };

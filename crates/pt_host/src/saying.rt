@@ -5,7 +5,7 @@ ghost use Rattle.pt_host.specs.Ends.{guard_status};
 use crate::options::Telling;
 use crate::status::{FAILED, REFUSED};
 use pt_guard::GuardFault;
-use pt_messages::{Why, reason};
+use pt_messages::{FaultReason, reason};
 use pt_move::Fault;
 use std::alloc::{AllocError, AllocGlobal};
 
@@ -19,7 +19,7 @@ pub(crate) fn tell_fault(rt: &impl Eprint, fault: &Fault) {
 pub(crate) fn tell_why<R: Eprint + AllocGlobal>(
     rt: &R,
     telling: Telling,
-    why: &Result<Option<Why>, AllocError>,
+    why: &Result<Option<FaultReason>, AllocError>,
 ) {
     if telling.verbose
         && let Ok(Some(why)) = why

@@ -31,7 +31,7 @@ impl Text {
     }
 
     /// A text with another behind it. Refused as `Memory`, where a growth was.
-    pub fn joined(alloc: Global, text: &str, end: &str) -> Result<Text, MemoryFault>
+    pub fn join(alloc: Global, text: &str, end: &str) -> Result<Text, MemoryFault>
         ensures { IfOk result (λ whole. whole ≡ text.now ++ end.now) }
     {
         let mut whole = String::from_str(alloc, text)?;

@@ -2,7 +2,7 @@
 ghost use Rattle.std.specs.Prelude.{◌≡◌, ◌⊎◌, None, Ok, false};
 
 use crate::status::{DONE, INCOMPLETE};
-use pt_messages::escaped;
+use pt_messages::escape;
 use pt_name::Sought;
 use std::alloc::{AllocError, AllocGlobal};
 
@@ -55,7 +55,7 @@ fn tells_each<R: Eprint + AllocGlobal>(rt: &R, sought: &Sought) -> bool {
 
 // Tells of an identifier that was met nowhere. Where there is no memory for its text as that may be shown, the line says so.
 fn tell<R: Eprint + AllocGlobal>(rt: &R, id: &str) {
-    let _ = match escaped(rt.alloc(), id) {
+    let _ = match escape(rt.alloc(), id) {
         Ok(id) => eprintln!(rt; "pairtree2ocfl: met nowhere: {id}"),
         Err(_) => eprintln!(rt;
             "pairtree2ocfl: met nowhere: an identifier that there is no memory to show"

@@ -118,14 +118,14 @@ impl<'a> Host for Machine<'a> {
         }
     }
 
-    fn take_back(&mut self, ground: HostIo<MadeSystem<'a>, MadeSystem<'a>, Sink<'a>>)
+    fn take_back(&mut self, host_io: HostIo<MadeSystem<'a>, MadeSystem<'a>, Sink<'a>>)
         ensures { ⊤ }
     {
-        self.store = ground.store;
-        self.root = ground.folder;
+        self.store = host_io.store;
+        self.root = host_io.folder;
     }
 
-    fn make_file(&mut self, _: &str, _: &str) -> io::Result<()> {
+    fn create_new(&mut self, _: &str, _: &str) -> io::Result<()> {
         Err(io::Error::from(ErrorKind::PermissionDenied))
     }
 

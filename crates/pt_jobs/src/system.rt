@@ -313,7 +313,7 @@ impl<'a> System for MadeSystem<'a> {
         self.made(path, Kind::Dir, Held::Untold)
     }
 
-    fn move_to(&mut self, from: &str, to: &str) -> io::Result<()> {
+    fn rename(&mut self, from: &str, to: &str) -> io::Result<()> {
         self.called(6, from);
         self.called(7, to);
         if !self.keeps {

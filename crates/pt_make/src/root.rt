@@ -66,7 +66,7 @@ pub fn make_root<O: Io>(state: &State, item: u8, out: &mut O) -> Result<Phase, F
         unreachable!()
     };
     let whole = in_staging(state.alloc, path)?;
-    make_file(state, item, &whole, bytes, out)
+    create_file(state, item, &whole, bytes, out)
 }
 
 fn make_folder<O: Io>(state: &State, item: u8, path: &NamePath, out: &mut O) -> Result<Phase, Fault>
@@ -79,7 +79,7 @@ fn make_folder<O: Io>(state: &State, item: u8, path: &NamePath, out: &mut O) -> 
     Ok(after_item(item))
 }
 
-fn make_file<O: Io>(
+fn create_file<O: Io>(
     state: &State,
     item: u8,
     path: &NamePath,

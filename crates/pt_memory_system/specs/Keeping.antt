@@ -16,7 +16,7 @@ use Rattle.pt_folder.specs.Folder.{entry_text}
 use Rattle.pt_folder.specs.Laws.{LooksRight}
 use Rattle.pt_folder.specs.SourceLaws as source
 use Rattle.pt_memory_system.specs.Folders.{told_at, told_is, told_changed, told_same}
-use Rattle.pt_memory_system.specs.System.{IsAdded, Looks, MakesDir, MakesFile, Moves, Opens, OpensDir, Stays, Writes, bytes_in, forest_in, kept_in, kept_of, left_in, names_left}
+use Rattle.pt_memory_system.specs.System.{IsAdded, Looks, MakesDir, MakesFile, Moves, Opens, OpensDir, SameFolders, Writes, bytes_in, forest_in, kept_in, kept_of, left_in, names_left}
 use Rattle.pt_memory_system.specs.declared.file.MemFile.{MemFile}
 use Rattle.pt_memory_system.specs.declared.system.MemorySystem.{MemorySystem}
 
@@ -78,7 +78,7 @@ pub opens_and_stays : dest.StillLaw kept_in Opens
 opens_and_stays old new folder text reply by = ap (λ (s : MemorySystem). kept_in s folder) by.same
 
 -- the written folder with another tree, or as it was
-becomes : (old new : MemorySystem) (folder : List ℕ) (change : Tree → Tree) → Stays old new
+becomes : (old new : MemorySystem) (folder : List ℕ) (change : Tree → Tree) → SameFolders old new
     → (old.written.now ≡ folder → dest_tree new.dest ≡ change (dest_tree old.dest))
     → told_at new.written.now (dest_tree new.dest) folder
     ≡ option_map change (told_at old.written.now (dest_tree old.dest) folder)
@@ -86,7 +86,7 @@ becomes old new folder change stays made =
     told_changed old.written.now new.written.now folder (dest_tree old.dest) (dest_tree new.dest) change
     stays.written made
 
-keeps : (old new : MemorySystem) (folder : List ℕ) → Stays old new
+keeps : (old new : MemorySystem) (folder : List ℕ) → SameFolders old new
     → dest_tree new.dest ≡ dest_tree old.dest
     → kept_in new folder ≡ kept_in old folder
 keeps old new folder stays same =

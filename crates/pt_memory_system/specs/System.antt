@@ -78,7 +78,7 @@ pub record OpensDir (old : MemorySystem) (text : List ℕ) (reply : Result MemNa
       (λ p. IfOk reply (λ d. GivesAll (names_left d) (dir_at (source_tree old.source) p)))
 
 -- the folders stay at their paths, and what is only read is as before
-pub record Stays (old new : MemorySystem) : Type 0 where
+pub record SameFolders (old new : MemorySystem) : Type 0 where
   pub read : new.read.now ≡ old.read.now
   pub source : source_tree new.source ≡ source_tree old.source
   pub written : new.written.now ≡ old.written.now
@@ -86,7 +86,7 @@ pub record Stays (old new : MemorySystem) : Type 0 where
 -- a directory is made, or the written tree is as before
 pub record MakesDir (old : MemorySystem) (text : List ℕ) (reply : Result (Unit {0}) Error)
     (new : MemorySystem) : Type 0 where
-  pub stays : Stays old new
+  pub stays : SameFolders old new
   pub made : MatchResult reply
       (λ _. OfEntry old.written.now text (λ p. dest_tree new.dest ≡ put (dest_tree old.dest) p Folder))
       (λ _. dest_tree new.dest ≡ dest_tree old.dest)
@@ -94,7 +94,7 @@ pub record MakesDir (old : MemorySystem) (text : List ℕ) (reply : Result (Unit
 -- an empty file is made and open, or the written tree is as before
 pub record MakesFile (old : MemorySystem) (text : List ℕ) (reply : Result MemFile Error)
     (new : MemorySystem) : Type 0 where
-  pub stays : Stays old new
+  pub stays : SameFolders old new
   pub made : MatchResult reply
       (λ f. OfEntry old.written.now text
       (λ p. (dest_tree new.dest ≡ put (dest_tree old.dest) p (Bytes []))
@@ -104,7 +104,7 @@ pub record MakesFile (old : MemorySystem) (text : List ℕ) (reply : Result MemF
 -- all at and below a path is moved, or the written tree is as before
 pub record Moves (old : MemorySystem) (from to : List ℕ) (reply : Result (Unit {0}) Error)
     (new : MemorySystem) : Type 0 where
-  pub stays : Stays old new
+  pub stays : SameFolders old new
   pub made : MatchResult reply
       (λ _. OfEntry old.written.now from (λ p. OfEntry old.written.now to
       (λ q. dest_tree new.dest ≡ moved (dest_tree old.dest) p q)))
@@ -117,7 +117,7 @@ IsAdded old new q piece count = dest_tree new.dest ≡ added (dest_tree old.dest
 -- the file's bytes grow by what the answer says, or by a part of the piece
 pub record Writes (old : MemorySystem) (file : MemFile) (piece : List ℕ)
     (reply : Result ℕ Error) (new : MemorySystem) (after : MemFile) : Type 0 where
-  pub stays : Stays old new
+  pub stays : SameFolders old new
   pub path : after.path ≡ file.path
   pub added : (q : Path) → file.path ≡ Some q → MatchResult reply (IsAdded old new q piece)
       (λ _. (count : ℕ) × IsAdded old new q piece count)

@@ -35,7 +35,7 @@ impl Faults {
     }
 
     /// How many calls were made, up to 2^64 - 1.
-    pub fn made(&self) -> u64 {
+    pub fn calls(&self) -> u64 {
         self.made.get()
     }
 
@@ -62,7 +62,7 @@ impl Faults {
 }
 
 // The error of a call that fails.
-pub fn failed() -> io::Error
+pub fn call_error() -> io::Error
     ensures { ¬ (IsAbsent (error_kind result)) }
 {
     io::Error::from(io::ErrorKind::Other)

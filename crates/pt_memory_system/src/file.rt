@@ -2,7 +2,7 @@
 ghost use Rattle.std.specs.Prelude.{◌≡◌, Some, None, drop, ⊤};
 ghost use Rattle.std.specs.Option.{option_map};
 
-use crate::faults::{Faults, failed};
+use crate::faults::{Faults, call_error};
 use pt_folder::{Handle, Input};
 use pt_memory::pieces::take_next;
 use pt_tree::NamePath;
@@ -61,7 +61,7 @@ impl<'a> Input for MemFile<'a> {
 
     fn read_piece(&mut self, buffer: &mut [u8]) -> io::Result<usize> {
         if self.faults.fails() || self.path.is_some() {
-            return Err(failed());
+            return Err(call_error());
         }
         if self.place >= self.bytes.len() {
             return Ok(0);
@@ -81,7 +81,7 @@ impl<'a> Handle for MemFile<'a> {
     #[tactic(auto, using(std::proofs::lemmas::List::drop_min))]
     fn seek(&mut self, place: u64) -> io::Result<u64> {
         if self.faults.fails() {
-            return Err(failed());
+            return Err(call_error());
         }
         self.place = (place as usize).min(self.bytes.len());
         Ok(place)
@@ -89,7 +89,7 @@ impl<'a> Handle for MemFile<'a> {
 
     fn sync(&mut self) -> io::Result<()> {
         if self.faults.fails() {
-            return Err(failed());
+            return Err(call_error());
         }
         Ok(())
     }

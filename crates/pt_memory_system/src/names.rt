@@ -3,7 +3,7 @@ ghost use Rattle.std.specs.Prelude.{◌≡◌, ◌≤◌, ◌<◌, Some, IfOk, I
 ghost use Rattle.std.specs.List.{flat_map};
 ghost use Rattle.pt_folder.specs.Names.{ended};
 
-use crate::faults::{Faults, failed};
+use crate::faults::{Faults, call_error};
 use pt_folder::Input;
 use pt_memory::pieces::{add_name, take_next};
 use pt_tree::Listing;
@@ -49,7 +49,7 @@ impl<'a> Input for MemNames<'a> {
 
     fn read_piece(&mut self, buffer: &mut [u8]) -> io::Result<usize> {
         if self.faults.fails() {
-            return Err(failed());
+            return Err(call_error());
         }
         if self.place >= self.bytes.len() {
             return Ok(0);

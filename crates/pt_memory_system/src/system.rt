@@ -3,7 +3,7 @@ ghost use Rattle.std.specs.Option.{option_copied, option_map};
 ghost use Rattle.pt_folder.specs.Laws.{LooksRight};
 ghost use Rattle.pt_memory_system.specs.Folders.{AreApart};
 
-use crate::faults::{Faults, failed};
+use crate::faults::{Faults, call_error};
 use crate::file::MemFile;
 use crate::names::MemNames;
 use crate::parse::entry_of;
@@ -109,7 +109,7 @@ impl<'a> MemorySystem<'a> {
             (λ f. bytes_in f ≡ file_at (source_tree self.now.source) p)) }
     {
         match entry_of(self.alloc, self.read, text) {
-            Ok(path) => opened(self.alloc, self.faults, self.source.file(&path)),
+            Ok(path) => open_mem_file(self.alloc, self.faults, self.source.file(&path)),
             Err(error) => Err(error),
         }
     }
@@ -120,7 +120,7 @@ impl<'a> MemorySystem<'a> {
             (λ f. bytes_in f ≡ bytes_of (dest_tree self.now.dest p))) }
     {
         match entry_of(self.alloc, self.written, text) {
-            Ok(path) => opened(self.alloc, self.faults, self.dest.file(&path)),
+            Ok(path) => open_mem_file(self.alloc, self.faults, self.dest.file(&path)),
             Err(error) => Err(error),
         }
     }
@@ -192,7 +192,7 @@ impl<'a> System for MemorySystem<'a> {
 
     fn lstat(&mut self, path: &str) -> io::Result<Kind> {
         if self.faults.fails() {
-            return Err(failed());
+            return Err(call_error());
         }
         if is_below(self.read, path) {
             self.look_in_source(path)
@@ -203,7 +203,7 @@ impl<'a> System for MemorySystem<'a> {
 
     fn open_to_read(&mut self, path: &str) -> io::Result<MemFile<'a>> {
         if self.faults.fails() {
-            return Err(failed());
+            return Err(call_error());
         }
         if is_below(self.read, path) {
             self.open_in_source(path)
@@ -214,14 +214,14 @@ impl<'a> System for MemorySystem<'a> {
 
     fn read_dir(&mut self, path: &str) -> io::Result<MemNames<'a>> {
         if self.faults.fails() {
-            return Err(failed());
+            return Err(call_error());
         }
         self.names_in_source(path)
     }
 
     fn make_dir(&mut self, path: &str) -> io::Result<()> {
         if self.faults.fails() {
-            return Err(failed());
+            return Err(call_error());
         }
         match entry_of(self.alloc, self.written, path) {
             Ok(path) => {
@@ -229,7 +229,7 @@ impl<'a> System for MemorySystem<'a> {
                     return Err(io::Error::from(io::ErrorKind::AlreadyExists));
                 }
                 let made = self.dest.mkdir(&path);
-                answered(made)
+                answer_change(made)
             }
             Err(error) => Err(error),
         }
@@ -237,7 +237,7 @@ impl<'a> System for MemorySystem<'a> {
 
     fn create_new(&mut self, path: &str) -> io::Result<MemFile<'a>> {
         if self.faults.fails() {
-            return Err(failed());
+            return Err(call_error());
         }
         match entry_of(self.alloc, self.written, path) {
             Ok(path) => {
@@ -246,16 +246,16 @@ impl<'a> System for MemorySystem<'a> {
                 }
                 match self.dest.create(&path) {
                     Ok(()) => Ok(MemFile::to_write(path, Vec::new(self.alloc), self.faults)),
-                    Err(_) => Err(failed()),
+                    Err(_) => Err(call_error()),
                 }
             }
             Err(error) => Err(error),
         }
     }
 
-    fn move_to(&mut self, from: &str, to: &str) -> io::Result<()> {
+    fn rename(&mut self, from: &str, to: &str) -> io::Result<()> {
         if self.faults.fails() {
-            return Err(failed());
+            return Err(call_error());
         }
         match entry_of(self.alloc, self.written, from) {
             Ok(from) => match entry_of(self.alloc, self.written, to) {
@@ -264,7 +264,7 @@ impl<'a> System for MemorySystem<'a> {
                         return Err(io::Error::from(io::ErrorKind::AlreadyExists));
                     }
                     let moved = self.dest.rename(&from, &to);
-                    answered(moved)
+                    answer_change(moved)
                 }
                 Err(error) => Err(error),
             },
@@ -275,7 +275,7 @@ impl<'a> System for MemorySystem<'a> {
     fn write_piece(&mut self, file: &mut MemFile<'a>, piece: &[u8]) -> io::Result<usize> {
         let fails = self.faults.fails();
         let Some(path) = file.path() else {
-            return Err(failed());
+            return Err(call_error());
         };
         if !self.dest.has_file(path) {
             return Err(io::Error::from(io::ErrorKind::NotFound));
@@ -288,11 +288,11 @@ impl<'a> System for MemorySystem<'a> {
         match self.dest.add_part(path, piece, count) {
             Ok(count) => {
                 if fails {
-                    return Err(failed());
+                    return Err(call_error());
                 }
                 Ok(count)
             }
-            Err(_) => Err(failed()),
+            Err(_) => Err(call_error()),
         }
     }
 }
@@ -325,7 +325,11 @@ fn shown(kind: Option<Kind>) -> io::Result<Kind>
 }
 
 // The file of these bytes, at its start.
-fn opened<'a>(alloc: Global, faults: &'a Faults, found: Option<&[u8]>) -> io::Result<MemFile<'a>>
+fn open_mem_file<'a>(
+    alloc: Global,
+    faults: &'a Faults,
+    found: Option<&[u8]>,
+) -> io::Result<MemFile<'a>>
     ensures start { IfOk result (λ f. f.place ≡ 0) }
     ensures bytes { IfOk result (λ f. Some f.bytes.items ≡ option_copied found.entry) }
 {
@@ -339,11 +343,11 @@ fn opened<'a>(alloc: Global, faults: &'a Faults, found: Option<&[u8]>) -> io::Re
 }
 
 // The system's answer to a change.
-fn answered(made: Result<(), TreeFault>) -> io::Result<()>
+fn answer_change(made: Result<(), TreeFault>) -> io::Result<()>
     ensures { is_ok result ≡ is_ok made }
 {
     match made {
         Ok(()) => Ok(()),
-        Err(_) => Err(failed()),
+        Err(_) => Err(call_error()),
     }
 }

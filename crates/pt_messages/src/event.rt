@@ -3,7 +3,7 @@
 use crate::counted::LineCounts;
 use crate::members::Members;
 use crate::reads::Reads;
-use crate::reason::Why;
+use crate::reason::FaultReason;
 use crate::watch::Words;
 use jiff::Timestamp;
 use pt_move::Fault;
@@ -35,7 +35,7 @@ pub struct Outcome {
     words: Words,
     counts: LineCounts,
     fault: Option<Fault>,
-    why: Result<Option<Why>, AllocError>,
+    why: Result<Option<FaultReason>, AllocError>,
 }
 
 impl Outcome {
@@ -45,7 +45,7 @@ impl Outcome {
         words: Words,
         counts: LineCounts,
         fault: Option<&Fault>,
-        why: Result<Option<Why>, AllocError>,
+        why: Result<Option<FaultReason>, AllocError>,
     ) -> Outcome {
         Outcome {
             words,
@@ -108,7 +108,7 @@ impl Event {
         self.members.put_number("status", u64::from(status))?;
         outcome.counts.put_into(&mut self.members, outcome.words)?;
         if let Some(fault) = &outcome.fault {
-            let fault = outcome.told_fault(rt.alloc(), fault)?;
+            let fault = outcome.fault_members(rt.alloc(), fault)?;
             self.members.put_members("fault", fault)?;
         }
         Ok(())
@@ -122,7 +122,7 @@ impl Event {
 
 impl Outcome {
     // What is told of its fault: the number and the text, and the path and the reason where it has these.
-    fn told_fault(&self, alloc: Global, fault: &Fault) -> Result<Members, AllocError> {
+    fn fault_members(&self, alloc: Global, fault: &Fault) -> Result<Members, AllocError> {
         let mut told = Members::new(alloc);
         told.put_number("number", u64::from(fault.number()))?;
         let text = fault.to_string(alloc)?;

@@ -3,7 +3,7 @@ ghost use Rattle.std.specs.Prelude.{option_map};
 ghost use Rattle.pt_messages.specs.Expected.{AsksEnd};
 
 use crate::reads::Reads;
-use crate::shown::escaped;
+use crate::shown::escape;
 use std::alloc::AllocGlobal;
 
 // How many bytes at a log's end are read; an end line has fewer.
@@ -17,13 +17,13 @@ pub fn lines_expected<R: Reads + Eprint + AllocGlobal>(rt: &R, log: Option<&str>
     let mut end = [0u8; TAIL];
     let counted = match rt.read_end(log, &mut end) {
         Ok(count) => match end.get(..count) {
-            Some(bytes) => counted_in(bytes),
+            Some(bytes) => count_in(bytes),
             None => None,
         },
         Err(_) => None,
     };
     if counted.is_none()
-        && let Ok(path) = escaped(rt.alloc(), log)
+        && let Ok(path) = escape(rt.alloc(), log)
     {
         let _ = eprintln!(rt; "pairtree2ocfl: {path}: it has no end line of a log");
     }
@@ -31,7 +31,7 @@ pub fn lines_expected<R: Reads + Eprint + AllocGlobal>(rt: &R, log: Option<&str>
 }
 
 // What the last line of these bytes counts, if they end with an end line. They may begin inside of a character.
-fn counted_in(bytes: &[u8]) -> Option<u64> {
+fn count_in(bytes: &[u8]) -> Option<u64> {
     let begin = bytes.iter().position(|byte| byte & 0xc0 != 0x80)?;
     match str::from_utf8(bytes.get(begin..)?) {
         Ok(text) => last_count(text),

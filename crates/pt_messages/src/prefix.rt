@@ -1,6 +1,6 @@
 //! A prefix that reads otherwise than it looks.
 use crate::reads::Reads;
-use crate::shown::escaped;
+use crate::shown::escape;
 use pt_name::{is_doubtful, read_prefix};
 use std::alloc::{AllocError, AllocGlobal, Global};
 
@@ -15,7 +15,7 @@ pub fn tell<R: Reads + Eprint + AllocGlobal>(rt: &R, store: &str) {
         return;
     };
     if has_doubtful(rt, path.as_str())
-        && let Ok(path) = escaped(rt.alloc(), path.as_str())
+        && let Ok(path) = escape(rt.alloc(), path.as_str())
     {
         let _ = eprintln!(rt;
             "pairtree2ocfl: {path}: the prefix holds a control character, a blank at an end, or a byte order mark"

@@ -2,7 +2,7 @@
 //! call failed.
 use crate::members::Members;
 use crate::reads::Reads;
-use crate::shown::escaped;
+use crate::shown::escape;
 use pt_folder::{Failure, HostDest, HostSource, System};
 use pt_move::Fault;
 use std::alloc::{AllocError, AllocGlobal, Global};
@@ -21,19 +21,19 @@ const CHANGED: &str = "it was not the same at its second reading";
 
 /// Why a run or an audit failed: the path of the call that failed or of what was found, and the reason.
 #[derive(Drop)]
-pub struct Why {
+pub struct FaultReason {
     path: String,
     reason: String,
 }
 
-impl Why {
+impl FaultReason {
     // This reason at a path.
     fn at(
         alloc: Global,
         path: &str,
         reason: &impl fmt::Display,
-    ) -> Result<Option<Why>, AllocError> {
-        Ok(Some(Why {
+    ) -> Result<Option<FaultReason>, AllocError> {
+        Ok(Some(FaultReason {
             path: String::from_str(alloc, path)?,
             reason: reason.to_string(alloc)?,
         }))
@@ -53,11 +53,15 @@ pub fn of_run<R: Reads + AllocGlobal, S: System, D: System>(
     source: &HostSource<'_, S>,
     dest: &HostDest<'_, D>,
     store: &str,
-) -> Result<Option<Why>, AllocError> {
+) -> Result<Option<FaultReason>, AllocError> {
     match fault {
         Fault::Dest => of_failure(rt.alloc(), dest.last_failure()),
-        Fault::StagingLeft => Why::at(rt.alloc(), dest.looked_path(), &"it stands there already"),
-        Fault::Target => Why::at(rt.alloc(), dest.looked_path(), &ANOTHER_ROOT),
+        Fault::StagingLeft => FaultReason::at(
+            rt.alloc(),
+            dest.looked_path(),
+            &"it stands there already",
+        ),
+        Fault::Target => FaultReason::at(rt.alloc(), dest.looked_path(), &ANOTHER_ROOT),
         _ => of_source(rt, fault, source, store),
     }
 }
@@ -69,10 +73,10 @@ pub fn of_audit<R: Reads + AllocGlobal, S: System, D: System>(
     source: &HostSource<'_, S>,
     root: &HostSource<'_, D>,
     store: &str,
-) -> Result<Option<Why>, AllocError> {
+) -> Result<Option<FaultReason>, AllocError> {
     match fault {
         Fault::Dest => of_failure(rt.alloc(), root.last_failure()),
-        Fault::Target => Why::at(rt.alloc(), root.looked_path(), &ANOTHER_ROOT),
+        Fault::Target => FaultReason::at(rt.alloc(), root.looked_path(), &ANOTHER_ROOT),
         _ => of_source(rt, fault, source, store),
     }
 }
@@ -83,12 +87,12 @@ fn of_source<R: Reads + AllocGlobal, S: System>(
     fault: &Fault,
     source: &HostSource<'_, S>,
     store: &str,
-) -> Result<Option<Why>, AllocError> {
+) -> Result<Option<FaultReason>, AllocError> {
     match fault {
         Fault::Source => of_failure(rt.alloc(), source.last_failure()),
         Fault::NotPairtree => of_no_store(rt, store),
-        Fault::Prefix => Why::at(rt.alloc(), store, &NO_PREFIX),
-        Fault::Changed => Why::at(rt.alloc(), source.opened_path(), &CHANGED),
+        Fault::Prefix => FaultReason::at(rt.alloc(), store, &NO_PREFIX),
+        Fault::Changed => FaultReason::at(rt.alloc(), source.opened_path(), &CHANGED),
         Fault::Dest
         | Fault::Log
         | Fault::Memory
@@ -100,27 +104,30 @@ fn of_source<R: Reads + AllocGlobal, S: System>(
 }
 
 // Why a folder is no store; where it is the `pairtree_root` of one, which folder that is.
-fn of_no_store<R: Reads + AllocGlobal>(rt: &R, store: &str) -> Result<Option<Why>, AllocError> {
+fn of_no_store<R: Reads + AllocGlobal>(
+    rt: &R,
+    store: &str,
+) -> Result<Option<FaultReason>, AllocError> {
     let alloc = rt.alloc();
     let Some(above) = rt.store_above(alloc, store) else {
-        return Why::at(alloc, store, &NO_STORE);
+        return FaultReason::at(alloc, store, &NO_STORE);
     };
-    let above = escaped(alloc, above.as_str())?;
+    let above = escape(alloc, above.as_str())?;
     let reason = format!(in alloc; "it is the pairtree_root of a store: name {above}")?;
-    Why::at(alloc, store, &reason)
+    FaultReason::at(alloc, store, &reason)
 }
 
 // Why a call failed.
-fn of_failure(alloc: Global, failure: Option<&Failure>) -> Result<Option<Why>, AllocError> {
+fn of_failure(alloc: Global, failure: Option<&Failure>) -> Result<Option<FaultReason>, AllocError> {
     match failure {
-        Some(failure) => Why::at(alloc, failure.path(), &failure.cause()),
+        Some(failure) => FaultReason::at(alloc, failure.path(), &failure.cause()),
         None => Ok(None),
     }
 }
 
 /// Tells standard error why a run or an audit failed.
-pub fn tell<R: Eprint + AllocGlobal>(rt: &R, why: &Why) {
-    if let Ok(path) = escaped(rt.alloc(), why.path.as_str()) {
+pub fn tell<R: Eprint + AllocGlobal>(rt: &R, why: &FaultReason) {
+    if let Ok(path) = escape(rt.alloc(), why.path.as_str()) {
         let reason = &why.reason;
         let _ = eprintln!(rt; "pairtree2ocfl: {path}: {reason}");
     }
@@ -131,7 +138,7 @@ pub fn tell_unlocked<R: Eprint + AllocGlobal>(rt: &R, dest: &str, error: &io::Er
     if error.kind() == ErrorKind::NotFound {
         return;
     }
-    if let Ok(path) = escaped(rt.alloc(), dest) {
+    if let Ok(path) = escape(rt.alloc(), dest) {
         let _ = eprintln!(rt; "pairtree2ocfl: {path}: it is not locked: {error}");
     }
 }

@@ -3,7 +3,7 @@ use std::alloc::{AllocError, Global};
 
 /// A text on one line: each control character, and each that sets the direction of what follows, as `\u{..}` with its number in hex,
 /// and `\` doubled, so that two texts are never shown alike.
-pub fn escaped(alloc: Global, text: &str) -> Result<String, AllocError> {
+pub fn escape(alloc: Global, text: &str) -> Result<String, AllocError> {
     let mut shown = String::with_capacity(alloc, text.len())?;
     for c in text.chars() {
         if c == '\\' {

@@ -3,7 +3,7 @@ ghost use Rattle.std.specs.Prelude.{◌≡◌};
 
 use crate::counted::LineCounts;
 use crate::numbers::{group_digits, size, time};
-use crate::shown::escaped;
+use crate::shown::escape;
 use crate::tally::Tally;
 use crate::terminal::Terminals;
 use pt_tree::{Block, Listing, NamePath, Source, TreeFault};
@@ -241,7 +241,7 @@ impl<'a, S: Source, R: Clock + Eprint + Terminals> Watched<'a, S, R> {
         let places = group_digits(alloc, lines.saturating_mul(1000) / passed.max(1))?;
         let passed = time(alloc, passed)?;
         let at = match str::from_utf8(self.at.as_slice()) {
-            Ok(at) => escaped(alloc, at)?,
+            Ok(at) => escape(alloc, at)?,
             Err(_) => String::new(alloc),
         };
         format!(in alloc; "{passed}, {places}/s, {speed}/s, {read} read, at {at}")

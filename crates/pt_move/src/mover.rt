@@ -108,7 +108,7 @@ impl Mover {
             out.old out.new }
         ensures stays { SameDevice Any result out.old out.new }
     {
-        self.begun(out);
+        self.begins(out);
         let phase = match mem::replace(&mut self.phase, Phase::Ended) {
             Phase::Ended => return Err(Fault::Ended),
             phase => phase,
@@ -127,7 +127,7 @@ impl Mover {
 
     // Where the run is to begin, it begins at these devices as they stand. The proof of that needs what `count` says of the
     // job's layout.
-    fn begun<O: Io>(&self, out: &O)
+    fn begins<O: Io>(&self, out: &O)
         requires { HasBegun (O.states out.now) self.now }
         ensures { BeganSomewhere (O.states out.now) self.now }
     {

@@ -122,7 +122,7 @@ impl Share {
 
     /// Of the share, only the objects whose identifiers stand in this list, beside those that begin with one of its texts. `Memory`
     /// where a growth was refused.
-    pub fn listed(self, alloc: Global, list: IdentifierList) -> Result<Share, MemoryFault>
+    pub fn with_list(self, alloc: Global, list: IdentifierList) -> Result<Share, MemoryFault>
         ensures { IfOk result (λ share. share ≡ record self { list = Some list }) }
     {
         let list = Rc::new(alloc, list)?;

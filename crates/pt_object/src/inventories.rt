@@ -121,7 +121,7 @@ impl<'a> InventoryPieces<'a> {
             return Ok(false);
         }
         text.clear();
-        let mut out = Output::behind(self.alloc, text, self.next.is_behind_value())?;
+        let mut out = Output::begin(self.alloc, text, self.next.is_behind_value())?;
         self.next = self.parts.put_next(&mut out, self.next)?;
         self.text = out.into_text();
         Ok(true)

@@ -23,7 +23,7 @@ use Rattle.pt_folder.proofs.DestTold.{kind_keeps}
 use Rattle.pt_folder.proofs.PeekTold.{peek_keeps}
 use Rattle.pt_tree.specs.declared.faults.TreeFault.{TreeFault}
 use Rattle.pt_folder.specs.EntryCodes.{entry_once}
-use Rattle.pt_rehearsal.specs.Stays.{Stays}
+use Rattle.pt_rehearsal.specs.SameFolder.{SameFolder}
 use Rattle.pt_rehearsal.specs.Fitting.{Fits, FitsTold, told_over}
 use Rattle.pt_rehearsal.specs.Seeing.{Becomes, View, made_dir, made_file, moved_to, nothing, seen_at}
 use Rattle.pt_rehearsal.specs.declared.remembered.Seen.TheVariants as seen
@@ -34,38 +34,38 @@ use Rattle.pt_rehearsal.proofs.Steps.{fits_dir, fits_file, fits_move, fits_nothi
 
 module _ {S F D : Type 0} {sys : OfSystem S F D} {handle : OfHandle F} {file : OfInput F}
     {dir : OfInput D} (old new : HostDest S F D sys handle file dir)
-    (keeps : (new.folder ≡ old.folder) × IsSetAs old.longest old.synced new.longest new.synced) (writing : new.writing ≡ old.writing) (stuck : new.stuck ≡ old.stuck) where
+    (keeps : (new.folder ≡ old.folder) × IsSetAs old.longest old.synced new.longest new.synced) (writing : new.writing ≡ old.writing) (unsynced : new.unsynced ≡ old.unsynced) where
   -- the system isn't asked
-  pub unasked : new.desk.system ≡ old.desk.system → Stays old new
-  unasked system = (keeps.0, keeps.1, writing, stuck, ap (λ s. sys.kept s old.folder.path.now) system)
+  pub unasked : new.syscalls.system ≡ old.syscalls.system → SameFolder old new
+  unasked system = (keeps.0, keeps.1, writing, unsynced, ap (λ s. sys.kept s old.folder.path.now) system)
 
   -- it is asked to look somewhere
   pub looked : KindLaw sys.kept sys.looks → {T : Type 0} (leads : Result Kind Error → Result T TreeFault → Type 0) (p : Path) (result : Result T TreeFault)
-      → Looks leads old new p result → Stays old new
+      → Looks leads old new p result → SameFolder old new
   looked law leads p result (inl refused) = unasked refused.1
-  looked law leads p result (inr asked) = (keeps.0, keeps.1, writing, stuck, kind_keeps sys.kept old.folder.path.now sys.looks law leads old.desk.system new.desk.system p result asked.1)
+  looked law leads p result (inr asked) = (keeps.0, keeps.1, writing, unsynced, kind_keeps sys.kept old.folder.path.now sys.looks law leads old.syscalls.system new.syscalls.system p result asked.1)
 
   -- it is asked for first bytes
-  pub peeked : PeekLaw sys.kept file.left sys.opens → (p : Path) (block : List ℕ) (result : Result (Unit {0}) TreeFault) → Peeks old new p block result → Stays old new
+  pub peeked : PeekLaw sys.kept file.left sys.opens → (p : Path) (block : List ℕ) (result : Result (Unit {0}) TreeFault) → Peeks old new p block result → SameFolder old new
   peeked law p block result (inl refused) = unasked refused.1
   peeked law p block result (inr asked) =
-      (keeps.0, keeps.1, writing, stuck, peek_keeps sys.kept old.folder.path.now file.left file.reads sys.opens law old.desk.system new.desk.system p block result asked.1)
+      (keeps.0, keeps.1, writing, unsynced, peek_keeps sys.kept old.folder.path.now file.left file.reads sys.opens law old.syscalls.system new.syscalls.system p block result asked.1)
 
 module _ {S F D : Type 0} {sys : OfSystem S F D} {handle : OfHandle F} {file : OfInput F}
     {dir : OfInput D} where
-  pub stays_on : (a b c : HostDest S F D sys handle file dir) → Stays a b → Stays b c → Stays a c
+  pub stays_on : (a b c : HostDest S F D sys handle file dir) → SameFolder a b → SameFolder b c → SameFolder a c
   stays_on a b c p q = (
     q.0 ∙ p.0,
     (q.1.0 ∙ p.1.0, q.1.1 ∙ p.1.1),
     q.2 ∙ p.2,
     q.3 ∙ p.3,
-    subst (λ f. sys.kept c.desk.system f.path.now ≡ sys.kept b.desk.system f.path.now) p.0 q.4 ∙ p.4,
+    subst (λ f. sys.kept c.syscalls.system f.path.now ≡ sys.kept b.syscalls.system f.path.now) p.0 q.4 ∙ p.4,
   )
 
   -- what is told is the same
-  pub told_still : (old new : HostDest S F D sys handle file dir) → Stays old new → told_by new ≡ told_by old
+  pub told_still : (old new : HostDest S F D sys handle file dir) → SameFolder old new → told_by new ≡ told_by old
   told_still old new s =
-      let kept = ap (λ f. sys.kept new.desk.system f.path.now) s.0 ∙ s.4 in
+      let kept = ap (λ f. sys.kept new.syscalls.system f.path.now) s.0 ∙ s.4 in
       λ i. told_with (kept i) (s.3 i) (s.2 i)
 
 -- ---- what stands at a path
@@ -174,5 +174,5 @@ fits_anew told v steps none no_step tree = ∣ subst (FitsTold told v) (sym no_s
 module _ {S F D : Type 0} {sys : OfSystem S F D} {handle : OfHandle F} {file : OfInput F}
     {dir : OfInput D} where
   -- what a folder tells is a tree
-  pub dest_tree : (d : HostDest S F D sys handle file dir) → ((t : Tree) → (sys.kept d.desk.system d.folder.path.now).tree ≡ Some t → IsTree t) → (w : Writing) → told_by d ≡ Some w → IsTree w.tree
-  dest_tree d law w is = tree_with (sys.kept d.desk.system d.folder.path.now) d.stuck d.writing w law d.back is
+  pub dest_tree : (d : HostDest S F D sys handle file dir) → ((t : Tree) → (sys.kept d.syscalls.system d.folder.path.now).tree ≡ Some t → IsTree t) → (w : Writing) → told_by d ≡ Some w → IsTree w.tree
+  dest_tree d law w is = tree_with (sys.kept d.syscalls.system d.folder.path.now) d.unsynced d.writing w law d.back is

@@ -3,7 +3,7 @@ pub mod Fitting
 pub mod Noted
 pub mod Rehearsal
 pub mod Seeing
-pub mod Stays
+pub mod SameFolder
 pub mod Steps
 pub mod Texts
 pub mod Told

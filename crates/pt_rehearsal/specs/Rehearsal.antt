@@ -14,7 +14,7 @@ use Rattle.pt_folder.specs.declared.system.Input.{Ghosts as OfInput}
 use Rattle.pt_folder.specs.declared.system.System.{Ghosts as OfSystem}
 use Rattle.pt_rehearsal.specs.Fitting.{told_over}
 use Rattle.pt_rehearsal.specs.Seeing.{seen_at, view}
-use Rattle.pt_rehearsal.specs.Stays.{Stays}
+use Rattle.pt_rehearsal.specs.SameFolder.{SameFolder}
 use Rattle.pt_rehearsal.specs.declared.rehearsal.Rehearsal.{Rehearsal}
 use Rattle.pt_rehearsal.specs.declared.remembered.Seen.{Seen}
 use Rattle.pt_rehearsal.specs.declared.remembered.Seen.TheVariants as seen
@@ -46,7 +46,7 @@ module _ {S F D : Type 0} {sys : OfSystem S F D} {handle : OfHandle F} {file : O
 
   -- its destination stays as it was, and the system keeps of its folder what it kept
   abbrev pub IsSame : (old new : Rehearsal S F D sys handle file dir) → Type 0
-  IsSame old new = Stays old.dest new.dest
+  IsSame old new = SameFolder old.dest new.dest
 
   -- a call changes nothing of that, and its failure is counted
   pub record IsCall {T : Type 0} (old new : Rehearsal S F D sys handle file dir)

@@ -6,15 +6,15 @@ use Rattle.pt_tree.specs.Path.{Path}
 use Rattle.pt_folder.specs.DestHeld.{told_with}
 use Rattle.pt_folder.specs.Untold.{no_kept}
 use Rattle.pt_folder.specs.declared.unsynced_change.UnsyncedChange.{UnsyncedChange}
-use Rattle.pt_folder.specs.declared.unsynced_change.UnsyncedChange.TheVariants as stuck
+use Rattle.pt_folder.specs.declared.unsynced_change.UnsyncedChange.TheVariants as unsynced
 use Rattle.pt_folder.specs.declared.writing.Writing.{Writing as Open}
 use Rattle.pt_rehearsal.specs.Fitting.{told_over}
 
 module _ {F : Type 0} (w : Option (Open F)) (steps : List Step) where
   untold : (s : Option UnsyncedChange) → told_over (told_with (no_kept {F = F}) s w) steps ≡ None
   untold None = refl
-  untold (Some (stuck.Closed p)) = refl
-  untold (Some (stuck.Moved from to)) = refl
+  untold (Some (unsynced.Closed p)) = refl
+  untold (Some (unsynced.Moved from to)) = refl
 
   pub untold_may_make : (s : Option UnsyncedChange) (p : Path)
       → MayMake (told_over (told_with (no_kept {F = F}) s w) steps) p

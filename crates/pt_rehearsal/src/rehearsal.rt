@@ -5,10 +5,10 @@ ghost use Rattle.pt_folder.specs.Calls.{CannotMake};
 ghost use Rattle.pt_folder.specs.DestHeld.{told_of};
 ghost use Rattle.pt_folder.specs.Failure.{OnDevice};
 ghost use Rattle.pt_folder.specs.Folder.{entry_text};
-ghost use Rattle.pt_folder.specs.HostDest.{failures_of, folder_path, kept_by, lasting, longest_of, stuck_of, system_of, told as told_by};
+ghost use Rattle.pt_folder.specs.HostDest.{failures_of, folder_path, kept_by, lasting, longest_of, unsynced_of, system_of, told as told_by};
 ghost use Rattle.pt_rehearsal.specs.Fitting.{FitsTold};
 ghost use Rattle.pt_tree.specs.Failures.{IsCounted};
-ghost use Rattle.pt_rehearsal.specs.Stays.{LooksAtFolder, Stays};
+ghost use Rattle.pt_rehearsal.specs.SameFolder.{LooksAtFolder, SameFolder};
 ghost use Rattle.pt_rehearsal.specs.Seeing.{Remembers, made_dir, made_file, moved_to, nothing, view};
 
 use crate::played::{Note, Played};
@@ -42,7 +42,7 @@ impl<'a, S: System> Rehearsal<'a, S> {
         ensures still { lasting result.dest ≡ lasting dest.entry }
         ensures longest { longest_of result.dest ≡ longest_of dest.entry }
         ensures told { told result ≡ told_of (kept_by dest.entry) None }
-        ensures stuck { stuck_of result.dest ≡ None }
+        ensures unsynced { unsynced_of result.dest ≡ None }
         ensures remembered { view result.remembered ≡ nothing }
     {
         Rehearsal {
@@ -104,7 +104,7 @@ impl<'a, S: System> Dest for Rehearsal<'a, S> {
         ensures remembered { self.new.remembered ≡ self.old.remembered }
         ensures call { IsCall self.old self.new result }
     {
-        match self.remembered.seen(path)? {
+        match self.remembered.look_up(path)? {
             Seen::Folder => Ok(Some(Kind::Dir)),
             Seen::Hidden => self.dest.refuse(),
             Seen::Standing => self.dest.kind(path),
@@ -121,7 +121,7 @@ impl<'a, S: System> Dest for Rehearsal<'a, S> {
         ensures call { IsCall self.old self.new result }
     {
         block.clear();
-        match self.remembered.seen(path)? {
+        match self.remembered.look_up(path)? {
             Seen::Folder | Seen::Hidden => self.dest.refuse(),
             Seen::Standing => self.dest.peek(path, block),
         }
@@ -166,7 +166,7 @@ impl<'a, S: System> Dest for Rehearsal<'a, S> {
         ensures call { IsCall self.old self.new result }
     {
         self.dest.may_make(path)?;
-        if !self.remembered.make_file(path)? {
+        if !self.remembered.create_new(path)? {
             return self.dest.refuse();
         }
         self.played = self.played.then(&Note::MadeFile(path));
@@ -212,7 +212,7 @@ impl<'a, S: System> Dest for Rehearsal<'a, S> {
             (view self.old.remembered) (view self.new.remembered) }
         ensures call { IsCall self.old self.new result }
     {
-        if !self.remembered.move_to(from, to)? {
+        if !self.remembered.rename(from, to)? {
             return self.dest.refuse();
         }
         self.played = self.played.then(&Note::Moved(from, to));
@@ -227,7 +227,7 @@ fn may_make_dir<S: System>(dest: &mut HostDest<'_, S>, path: &NamePath) -> Resul
     ensures asked { LooksAtFolder dest.old dest.new path.now result }
     ensures refused { OnDevice result ((length path.now ≡ 1)
         ⊎ CannotMake (longest_of dest.old) (folder_path dest.old) path.now) }
-    ensures stays { Stays dest.old dest.new }
+    ensures stays { SameFolder dest.old dest.new }
     ensures failures { IsCounted (failures_of dest.old) (failures_of dest.new) result }
 {
     dest.may_make(path)?;

@@ -54,7 +54,7 @@ impl Remembered {
     }
 
     /// What is said of a path; `Memory` where its text can't be made.
-    pub fn seen(&self, path: &NamePath) -> Result<Seen, MemoryFault>
+    pub fn look_up(&self, path: &NamePath) -> Result<Seen, MemoryFault>
         ensures seen { IfOk result (λ seen. seen ≡ seen_at (view self.now) path.now) }
         ensures named { OnOk result (AreNames path.now) }
     {
@@ -99,13 +99,13 @@ impl Remembered {
 
     /// A file would have been made at a path. It answers whether that can be remembered: in the directory that is being
     /// filled alone. After `Memory` nothing is changed.
-    pub fn make_file(&mut self, path: &NamePath) -> Result<bool, MemoryFault>
+    pub fn create_new(&mut self, path: &NamePath) -> Result<bool, MemoryFault>
         ensures ok { IfOk result (λ can.
             Becomes (made_file (view self.old) path.now) can (view self.old) (view self.new)) }
         ensures err { OnErr result (view self.new ≡ view self.old) }
         ensures named { OnOk result (AreNames path.now) }
     {
-        match self.seen(path)? {
+        match self.look_up(path)? {
             Seen::Hidden => self.make_inside(path.names()),
             Seen::Folder | Seen::Standing => Ok(false),
         }
@@ -114,7 +114,7 @@ impl Remembered {
     /// What stands at `from` would have been moved. It answers whether that can be remembered: where `from` is the directory
     /// that is being filled, nothing would stand at `to`, and, where `to` is at the top, none was moved there before. After
     /// `Memory` nothing is changed.
-    pub fn move_to(&mut self, from: &NamePath, to: &NamePath) -> Result<bool, MemoryFault>
+    pub fn rename(&mut self, from: &NamePath, to: &NamePath) -> Result<bool, MemoryFault>
         ensures ok { IfOk result (λ can.
             Becomes (moved_to (view self.old) from.now to.now) can (view self.old) (view self.new)) }
         ensures err { OnErr result (view self.new ≡ view self.old) }

@@ -129,7 +129,7 @@ impl TextSet {
     {
         let count = self.buckets.len();
         let next = count - self.base;
-        let Halves { stays, goes } = halved(self.alloc, &self.buckets[next], self.base, count)?;
+        let Halves { stays, goes } = halve(self.alloc, &self.buckets[next], self.base, count)?;
         self.buckets.push(goes)?;
         self.buckets[next] = stays;
         Ok(())
@@ -189,7 +189,7 @@ fn texts_of(alloc: Global, bucket: &[u8]) -> Result<Vec<&[u8]>, MemoryFault>
 }
 
 // Divides the texts of a bucket: those stay whose place isn't that of the new bucket.
-fn halved(alloc: Global, bucket: &[u8], base: usize, count: usize) -> Result<Halves, MemoryFault>
+fn halve(alloc: Global, bucket: &[u8], base: usize, count: usize) -> Result<Halves, MemoryFault>
     requires based { 0 < base }
     requires bounded { base ≤ 4294967296 }
     ensures { IfOk result (λ halves. IsHalved base count (texts_in bucket.now)

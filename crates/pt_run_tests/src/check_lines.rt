@@ -1,7 +1,7 @@
 //! The lines of a check over stores in memory.
 #![tactic(auto)]
 
-use pt_check::{Check, Devices, Explains, Wants};
+use pt_check::{Check, CheckDevices, Explains, Wants};
 use pt_memory::texts::store;
 use pt_memory::{MemLog, MemSource};
 use pt_name::Layout;
@@ -143,7 +143,7 @@ fn wanted(room: Option<u64>, has_tuples: bool) -> Wants {
 
 // Whether a check of which this is wanted ends well, and its log is this.
 fn tells(alloc: Global, source: MemSource, wants: Wants, log: &str) -> bool {
-    let devices = Devices {
+    let devices = CheckDevices {
         source,
         log: MemLog::new(alloc),
         explains: ItFailed,

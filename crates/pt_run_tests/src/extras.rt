@@ -3,7 +3,7 @@
 
 use crate::expected_roots::Files;
 use crate::jobs::{Settings, make_job};
-use pt_extra::{Devices, Extras, Numbers};
+use pt_extra::{ExtraDevices, ExtraNumbers, Extras};
 use pt_memory::texts::{add, store};
 use pt_memory::{MemLog, MemSource};
 use pt_move::Fault;
@@ -16,10 +16,10 @@ struct Row {
     settings: Settings,
     root: Files,
     log: &'static str,
-    numbers: Numbers,
+    numbers: ExtraNumbers,
 }
 
-const NONE: Numbers = Numbers { extra: 0, stray: 0 };
+const NONE: ExtraNumbers = ExtraNumbers { extra: 0, stray: 0 };
 
 const ABC: (&str, &str) = (
     "ocfl/ba7/816/bf8/abc/0=ocfl_object_1.1",
@@ -69,7 +69,7 @@ const STRAY: Row = Row {
 {"as":"stray","to":"ba7/816/ocfl_layout.json"}
 {"as":"stray","to":"extensions"}
 "#,
-    numbers: Numbers { extra: 0, stray: 6 },
+    numbers: ExtraNumbers { extra: 0, stray: 6 },
 };
 
 // One isn't in the store; of the others one is at another place, one has no identifier, and one no inventory.
@@ -91,7 +91,7 @@ const EXTRA: Row = Row {
 {"as":"stray","to":"c"}
 {"as":"stray","to":"d"}
 "#,
-    numbers: Numbers { extra: 1, stray: 3 },
+    numbers: ExtraNumbers { extra: 1, stray: 3 },
 };
 
 // An identifier that doesn't begin as the store's do.
@@ -101,7 +101,7 @@ const PREFIX: Row = Row {
     settings: Settings::Usual,
     root: &[ABC, ABC_ID],
     log: "{\"as\":\"extra\",\"id\":\"abc\",\"to\":\"ba7/816/bf8/abc\"}\n",
-    numbers: Numbers { extra: 1, stray: 0 },
+    numbers: ExtraNumbers { extra: 1, stray: 0 },
 };
 
 // The site has an object only where what lies in it is gathered.
@@ -111,7 +111,7 @@ const SPLIT: Row = Row {
     settings: Settings::Usual,
     root: &[ABC, ABC_ID],
     log: "{\"as\":\"extra\",\"id\":\"abc\",\"to\":\"ba7/816/bf8/abc\"}\n",
-    numbers: Numbers { extra: 1, stray: 0 },
+    numbers: ExtraNumbers { extra: 1, stray: 0 },
 };
 
 const GATHERED: Row = Row {
@@ -138,7 +138,7 @@ const OTHER_SHARE: Row = Row {
     settings: Settings::Share(1, 2),
     root: SHARED,
     log: "{\"as\":\"stray\",\"to\":\"a\"}\n",
-    numbers: Numbers { extra: 0, stray: 1 },
+    numbers: ExtraNumbers { extra: 0, stray: 1 },
 };
 
 const OWN_SHARE: Row = Row {
@@ -149,7 +149,7 @@ const OWN_SHARE: Row = Row {
     log: r#"{"as":"extra","id":"abc","to":"ba7/816/bf8/abc"}
 {"as":"stray","to":"x"}
 "#,
-    numbers: Numbers { extra: 1, stray: 1 },
+    numbers: ExtraNumbers { extra: 1, stray: 1 },
 };
 
 const ROWS: [Row; 8] = [
@@ -168,7 +168,7 @@ fn walked(
     alloc: Global,
     row: &Row,
     calls: Option<u64>,
-) -> Option<(Result<Numbers, Fault>, MemLog)> {
+) -> Option<(Result<ExtraNumbers, Fault>, MemLog)> {
     let Ok(mut store) = store(alloc, row.entries) else {
         return None;
     };
@@ -179,7 +179,7 @@ fn walked(
     let Ok(prefix) = String::from_str(alloc, row.prefix) else {
         return None;
     };
-    let devices = Devices {
+    let devices = ExtraDevices {
         store,
         root,
         log: MemLog::new(alloc),

@@ -22,7 +22,7 @@ fn fault_of(refusal: NameFault) -> TreeFault {
 }
 
 /// What planting came to.
-pub(crate) fn planted(answer: Result<(), PlantFault>) -> Result<(), TreeFault> {
+pub(crate) fn answer_planting(answer: Result<(), PlantFault>) -> Result<(), TreeFault> {
     match answer {
         Ok(()) => Ok(()),
         Err(PlantFault::Memory) => Err(TreeFault::Memory),

@@ -1,6 +1,6 @@
 //! Stores from one line of text.
 use crate::MemSource;
-use crate::texts::paths::{path, planted};
+use crate::texts::paths::{answer_planting, path};
 use crate::texts::trees::way;
 use pt_tree::{NamePath, TreeFault};
 use std::alloc::Global;
@@ -58,12 +58,15 @@ fn put(
     what: Planting<'_>,
 ) -> Result<(), TreeFault> {
     match what {
-        Planting::File(bytes) => planted(source.plant_file(at, bytes.as_bytes())),
+        Planting::File(bytes) => answer_planting(source.plant_file(at, bytes.as_bytes())),
         Planting::Letters(count) => match count.parse::<usize>() {
-            Ok(count) => planted(source.plant_file(at, "a".repeat(alloc, count)?.as_bytes())),
+            Ok(count) => answer_planting(source.plant_file(
+                at,
+                "a".repeat(alloc, count)?.as_bytes(),
+            )),
             Err(_) => Err(TreeFault::Device),
         },
-        Planting::Other => planted(source.plant_other(at)),
+        Planting::Other => answer_planting(source.plant_other(at)),
         Planting::Dir => Ok(()),
     }
 }

@@ -1,5 +1,5 @@
 //! Trees from pairs of a path and bytes.
-use crate::texts::paths::{planted, push};
+use crate::texts::paths::{answer_planting, push};
 use crate::{MemDest, MemSource, PlantFault};
 use pt_tree::{NamePath, TreeFault};
 use std::alloc::Global;
@@ -49,7 +49,7 @@ pub fn add<T: Plants>(
     for (text, bytes) in files {
         let at = way(alloc, tree, NamePath::new(alloc), text)?;
         if !text.ends_with('/') {
-            planted(tree.file(&at, bytes.as_bytes()))?;
+            answer_planting(tree.file(&at, bytes.as_bytes()))?;
         }
     }
     Ok(())

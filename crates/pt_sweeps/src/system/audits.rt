@@ -29,7 +29,7 @@ fn stop_audit(rt: &HostRuntime, case: &Case, told: &Expected, passing: u64) -> O
     let faults = Faults::new();
     faults.fail_after(Some(passing));
     let audited = audit(rt, &faults, store, case.root_with_more(alloc)?)?;
-    if faults.made() > passing {
+    if faults.calls() > passing {
         return told.check_stopped(&audited);
     }
     Some(if audited.status != told.status {

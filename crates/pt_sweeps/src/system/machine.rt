@@ -88,7 +88,7 @@ impl<'a> Host for Machine<'a> {
         self.devices = devices;
     }
 
-    fn make_file(&mut self, _: &str, _: &str) -> io::Result<()> {
+    fn create_new(&mut self, _: &str, _: &str) -> io::Result<()> {
         Err(io::Error::from(ErrorKind::PermissionDenied))
     }
 

@@ -123,7 +123,7 @@ fn stop_once(
     faults.fail_after(Some(passing));
     let told = case.tells(rt.alloc(), &ran.root)?;
     carry(rt, &faults, ran, false)?;
-    if faults.made() <= passing {
+    if faults.calls() <= passing {
         return Some(match find_difference(ran, &told, whole) {
             Found::Well => Stop::Past,
             _ => Stop::Otherwise("no call fails, and the run is another"),

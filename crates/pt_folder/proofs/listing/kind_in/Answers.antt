@@ -20,15 +20,15 @@ returns-clause-text g c =
 pub returns-clause-asked : goal.returns-clause-asked
 returns-clause-asked g c =
     let front = string_bytes c.args.text.now in
-    looks_in g.S.System.looks front c.args.desk.now.system c.own_kind.new.self.system c.args.name.now c.as_str.result.now _ (c.as_str.ensures.value ∙ c.in_ok-push_str.ensures.bytes ∙ ap (λ n. front ++ n) c.name_text.ensures.same) c.in_ok-kind.ensures.asked
+    looks_in g.S.System.looks front c.args.syscalls.now.system c.own_kind.new.self.system c.args.name.now c.as_str.result.now _ (c.as_str.ensures.value ∙ c.in_ok-push_str.ensures.bytes ∙ ap (λ n. front ++ n) c.name_text.ensures.same) c.in_ok-kind.ensures.asked
 
 pub returns-in_err-kind-clause-asked : goal.returns-in_err-kind-clause-asked
 returns-in_err-kind-clause-asked g c =
     let front = string_bytes c.args.text.now in
     let name = c.args.name.now in
     let text : c.as_str.result.now ≡ front ++ name = c.as_str.ensures.value ∙ c.in_ok-push_str.ensures.bytes ∙ ap (λ n. front ++ n) c.name_text.ensures.same in
-    looks_err g.S.System.looks front c.args.desk.now.system c.own_kind.new.self.system name c.from_residual-in_err-kind.result c.in_err-kind.field-0.0 c.from_residual-in_err-kind.ensures.1
-    (looks_in g.S.System.looks front c.args.desk.now.system c.own_kind.new.self.system name c.as_str.result.now _ text c.in_err-kind.ensures.asked)
+    looks_err g.S.System.looks front c.args.syscalls.now.system c.own_kind.new.self.system name c.from_residual-in_err-kind.result c.in_err-kind.field-0.0 c.from_residual-in_err-kind.ensures.1
+    (looks_in g.S.System.looks front c.args.syscalls.now.system c.own_kind.new.self.system name c.as_str.result.now _ text c.in_err-kind.ensures.asked)
 
 pub returns-in_err-kind-clause-kept : goal.returns-in_err-kind-clause-kept
 returns-in_err-kind-clause-kept g c =

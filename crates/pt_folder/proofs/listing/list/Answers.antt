@@ -26,8 +26,8 @@ returns-clause-same g c =
     let p = c.args.path.now in
     let kept = g.S.System.forest in
     let text : c.as_str.result.now ≡ entry_text folder p = c.as_str.ensures.value ∙ c.in_ok-text.ensures.text in
-    let same = names_same kept g.S.Dir.Input.left g.S.System.opens_dir g.met.S.System.names_law folder p c.args.desk.now.system c.names_in.new.desk.system c.as_str.result.now c.in_ok-text.ensures.named text c.requires _ c.names_in.ensures.asked in
-    list_same kept folder p c.args.desk.now.system c.names_in.new.desk.system c.with_kinds.new.desk.system (string_bytes c.if-not-is_empty.text) c.in_ok-text.ensures.named (begins g c) same c.requires c.with_kinds.result c.with_kinds.ensures.seen c.with_kinds.ensures.same
+    let same = names_same kept g.S.Dir.Input.left g.S.System.opens_dir g.met.S.System.names_law folder p c.args.syscalls.now.system c.names_in.new.syscalls.system c.as_str.result.now c.in_ok-text.ensures.named text c.requires _ c.names_in.ensures.asked in
+    list_same kept folder p c.args.syscalls.now.system c.names_in.new.syscalls.system c.with_kinds.new.syscalls.system (string_bytes c.if-not-is_empty.text) c.in_ok-text.ensures.named (begins g c) same c.requires c.with_kinds.result c.with_kinds.ensures.seen c.with_kinds.ensures.same
 
 pub returns-clause-told : goal.returns-clause-told
 returns-clause-told g c =
@@ -35,9 +35,9 @@ returns-clause-told g c =
     let p = c.args.path.now in
     let kept = g.S.System.forest in
     let text : c.as_str.result.now ≡ entry_text folder p = c.as_str.ensures.value ∙ c.in_ok-text.ensures.text in
-    let same = names_same kept g.S.Dir.Input.left g.S.System.opens_dir g.met.S.System.names_law folder p c.args.desk.now.system c.names_in.new.desk.system c.as_str.result.now c.in_ok-text.ensures.named text c.requires _ c.names_in.ensures.asked in
-    let given = names_given kept g.S.Dir.Input.left g.S.System.opens_dir g.met.S.System.names_law folder p c.args.desk.now.system c.names_in.new.desk.system c.as_str.result.now c.in_ok-text.ensures.named text c.requires c.in_ok-names.names c.in_ok-names.names.items (λ dir after. GetsNames g.S.Dir.Input.reads dir c.in_ok-names.names.items after) c.in_ok-names.ensures.asked in
-    list_told kept folder p c.args.desk.now.system c.names_in.new.desk.system c.with_kinds.new.desk.system (string_bytes c.if-not-is_empty.text) c.in_ok-text.ensures.named (begins g c) same c.requires c.in_ok-names.names.items c.sort_unstable.new.self.items c.with_kinds.result (g.met.S.System.proper_law c.args.desk.now.system folder) given c.sort_unstable.ensures.permutation
+    let same = names_same kept g.S.Dir.Input.left g.S.System.opens_dir g.met.S.System.names_law folder p c.args.syscalls.now.system c.names_in.new.syscalls.system c.as_str.result.now c.in_ok-text.ensures.named text c.requires _ c.names_in.ensures.asked in
+    let given = names_given kept g.S.Dir.Input.left g.S.System.opens_dir g.met.S.System.names_law folder p c.args.syscalls.now.system c.names_in.new.syscalls.system c.as_str.result.now c.in_ok-text.ensures.named text c.requires c.in_ok-names.names c.in_ok-names.names.items (λ dir after. GetsNames g.S.Dir.Input.reads dir c.in_ok-names.names.items after) c.in_ok-names.ensures.asked in
+    list_told kept folder p c.args.syscalls.now.system c.names_in.new.syscalls.system c.with_kinds.new.syscalls.system (string_bytes c.if-not-is_empty.text) c.in_ok-text.ensures.named (begins g c) same c.requires c.in_ok-names.names.items c.sort_unstable.new.self.items c.with_kinds.result (g.met.S.System.proper_law c.args.syscalls.now.system folder) given c.sort_unstable.ensures.permutation
     c.with_kinds.ensures.names c.with_kinds.ensures.seen c.with_kinds.ensures.rise
 
 pub returns-clause-listed : goal.returns-clause-listed
@@ -45,31 +45,31 @@ returns-clause-listed g c =
     let folder = c.args.folder.now.path.now in
     let p = c.args.path.now in
     let text : c.as_str.result.now ≡ entry_text folder p = c.as_str.ensures.value ∙ c.in_ok-text.ensures.text in
-    listed_by g.S.System g.S.Dir.Input folder p c.args.desk.now.system c.names_in.new.desk.system c.as_str.result.now text (λ names. names.items) c.in_ok-names.names c.sort_unstable.new.self.items c.sort_unstable.ensures.permutation (string_bytes c.if-not-is_empty.text) (begins g c)
-    c.with_kinds.new.desk.system c.with_kinds.result c.in_ok-names.ensures.asked c.with_kinds.ensures.names c.with_kinds.ensures.looked
+    listed_by g.S.System g.S.Dir.Input folder p c.args.syscalls.now.system c.names_in.new.syscalls.system c.as_str.result.now text (λ names. names.items) c.in_ok-names.names c.sort_unstable.new.self.items c.sort_unstable.ensures.permutation (string_bytes c.if-not-is_empty.text) (begins g c)
+    c.with_kinds.new.syscalls.system c.with_kinds.result c.in_ok-names.ensures.asked c.with_kinds.ensures.names c.with_kinds.ensures.looked
 
 pub returns-clause-fault : goal.returns-clause-fault
 returns-clause-fault g c =
     let folder = c.args.folder.now.path.now in
     let p = c.args.path.now in
     let text : c.as_str.result.now ≡ entry_text folder p = c.as_str.ensures.value ∙ c.in_ok-text.ensures.text in
-    entry_fails g.S.System g.S.Dir.Input folder p c.args.desk.now.system c.names_in.new.desk.system c.as_str.result.now text (λ names. names.items) c.in_ok-names.names c.sort_unstable.new.self.items c.sort_unstable.ensures.permutation (string_bytes c.if-not-is_empty.text) (begins g c)
-    c.with_kinds.new.desk.system c.with_kinds.result c.in_ok-names.ensures.asked c.sort_unstable.ensures.sorted c.with_kinds.ensures.fault
+    entry_fails g.S.System g.S.Dir.Input folder p c.args.syscalls.now.system c.names_in.new.syscalls.system c.as_str.result.now text (λ names. names.items) c.in_ok-names.names c.sort_unstable.new.self.items c.sort_unstable.ensures.permutation (string_bytes c.if-not-is_empty.text) (begins g c)
+    c.with_kinds.new.syscalls.system c.with_kinds.result c.in_ok-names.ensures.asked c.sort_unstable.ensures.sorted c.with_kinds.ensures.fault
 
 pub returns-in_err-names-clause-fault : goal.returns-in_err-names-clause-fault
 returns-in_err-names-clause-fault g c =
     let folder = c.args.folder.now.path.now in
     let p = c.args.path.now in
     let text : c.as_str.result.now ≡ entry_text folder p = c.as_str.ensures.value ∙ c.in_ok-text.ensures.text in
-    err_due c.from_residual-in_err-names.result c.in_err-names.field-0.0 _ c.from_residual-in_err-names.ensures.1 (names_fail g.S.System g.S.Dir.Input folder p c.args.desk.now.system c.names_in.new.desk.system c.as_str.result.now text (λ names. names.items) c.in_err-names.field-0.0 c.in_err-names.ensures.asked)
+    err_due c.from_residual-in_err-names.result c.in_err-names.field-0.0 _ c.from_residual-in_err-names.ensures.1 (names_fail g.S.System g.S.Dir.Input folder p c.args.syscalls.now.system c.names_in.new.syscalls.system c.as_str.result.now text (λ names. names.items) c.in_err-names.field-0.0 c.in_err-names.ensures.asked)
 
 pub returns-in_err-names-clause-same : goal.returns-in_err-names-clause-same
 returns-in_err-names-clause-same g c =
-    names_same g.S.System.forest g.S.Dir.Input.left g.S.System.opens_dir g.met.S.System.names_law c.args.folder.now.path.now c.args.path.now c.args.desk.now.system c.names_in.new.desk.system c.as_str.result.now c.in_ok-text.ensures.named (c.as_str.ensures.value ∙ c.in_ok-text.ensures.text) c.requires _ c.names_in.ensures.asked
+    names_same g.S.System.forest g.S.Dir.Input.left g.S.System.opens_dir g.met.S.System.names_law c.args.folder.now.path.now c.args.path.now c.args.syscalls.now.system c.names_in.new.syscalls.system c.as_str.result.now c.in_ok-text.ensures.named (c.as_str.ensures.value ∙ c.in_ok-text.ensures.text) c.requires _ c.names_in.ensures.asked
 
 pub returns-in_err-push-clause-same : goal.returns-in_err-push-clause-same
 returns-in_err-push-clause-same g c =
-    names_same g.S.System.forest g.S.Dir.Input.left g.S.System.opens_dir g.met.S.System.names_law c.args.folder.now.path.now c.args.path.now c.args.desk.now.system c.names_in.new.desk.system c.as_str.result.now c.in_ok-text.ensures.named (c.as_str.ensures.value ∙ c.in_ok-text.ensures.text) c.requires _ c.names_in.ensures.asked
+    names_same g.S.System.forest g.S.Dir.Input.left g.S.System.opens_dir g.met.S.System.names_law c.args.folder.now.path.now c.args.path.now c.args.syscalls.now.system c.names_in.new.syscalls.system c.as_str.result.now c.in_ok-text.ensures.named (c.as_str.ensures.value ∙ c.in_ok-text.ensures.text) c.requires _ c.names_in.ensures.asked
 
 pub returns-in_err-names-clause-kept : goal.returns-in_err-names-clause-kept
 returns-in_err-names-clause-kept g c =
@@ -77,14 +77,14 @@ returns-in_err-names-clause-kept g c =
     let p = c.args.path.now in
     let text : c.as_str.result.now ≡ entry_text folder p = c.as_str.ensures.value ∙ c.in_ok-text.ensures.text in
     let r = c.from_residual-in_err-names.result in
-    let last = c.names_in.new.desk.last.failure in
+    let last = c.names_in.new.syscalls.last.failure in
     let named = IsOfNames c.as_str.result.now in
     kept_weaker r last named _ (λ f is. inl (inr (subst (λ t. IsOfNames t f) text is))) (kept_on r c.in_err-names.field-0.0 (IfSome last named) c.from_residual-in_err-names.ensures.1 c.in_err-names.ensures.kept)
 
 pub returns-clause-kept : goal.returns-clause-kept
 returns-clause-kept g c =
     let looks = g.S.System.looks in
-    kept_weaker c.with_kinds.result c.with_kinds.new.desk.last.failure (IsOfEntry looks (string_bytes c.if-not-is_empty.text)) _ (λ f is. inr (subst (λ front. IsOfEntry looks front f) (begins g c) is)) c.with_kinds.ensures.kept
+    kept_weaker c.with_kinds.result c.with_kinds.new.syscalls.last.failure (IsOfEntry looks (string_bytes c.if-not-is_empty.text)) _ (λ f is. inr (subst (λ front. IsOfEntry looks front f) (begins g c) is)) c.with_kinds.ensures.kept
 
 pub returns-in_err-text-clause-kept : goal.returns-in_err-text-clause-kept
 returns-in_err-text-clause-kept g c =

@@ -14,9 +14,9 @@ pub loop-name-preserved : goal.loop-name-preserved
 loop-name-preserved g c =
     let front = string_bytes c.args.text in
     let looks = g.S.System.looks in
-    let old = c.args.desk.now.system in
-    let mid = c.loop-name.desk.system in
-    let new = c.kind_in.new.desk.system in
+    let old = c.args.syscalls.now.system in
+    let mid = c.loop-name.syscalls.system in
+    let new = c.kind_in.new.syscalls.system in
     let name = c.in-Some.name in
     let kind = c.in_ok-kind.kind in
     let inv = c.loop-name.invariant in
@@ -36,8 +36,8 @@ pub returns-in_err-kind-clause-fault : goal.returns-in_err-kind-clause-fault
 returns-in_err-kind-clause-fault g c =
     let front = string_bytes c.args.text in
     let looks = g.S.System.looks in
-    let mid = c.loop-name.desk.system in
-    let new = c.kind_in.new.desk.system in
+    let mid = c.loop-name.syscalls.system in
+    let new = c.kind_in.new.syscalls.system in
     let name = c.in-Some.name in
     let fault = c.in_err-kind.field-0.0 in
     let names = c.args.names.items in
@@ -47,14 +47,14 @@ returns-in_err-kind-clause-fault g c =
     let gives = YieldsList-from_vec names (search rules) (search rules) in
     let here = item_here names yielded name (YieldsList-so_far gives yielded c.loop-name.name-iterator c.loop-name.yielded_by) (YieldsList-turn gives yielded c.loop-name.name-iterator c.loop-name.yielded_by c.next.result c.next.new.self name c.in-Some.is c.next.ensures.steps) in
     err_due c.from_residual-in_err-kind.result fault _ c.from_residual-in_err-kind.ensures.1
-    (looks_fail looks front names c.args.desk.now.system mid new c.loop-name.listing yielded (drop (length yielded + 1) names) name inv.names here inv.looked fault asked)
+    (looks_fail looks front names c.args.syscalls.now.system mid new c.loop-name.listing yielded (drop (length yielded + 1) names) name inv.names here inv.looked fault asked)
 
 pub returns-in_err-add_entry-clause-fault : goal.returns-in_err-add_entry-clause-fault
 returns-in_err-add_entry-clause-fault g c =
     let front = string_bytes c.args.text in
     let looks = g.S.System.looks in
-    let mid = c.loop-name.desk.system in
-    let new = c.kind_in.new.desk.system in
+    let mid = c.loop-name.syscalls.system in
+    let new = c.kind_in.new.syscalls.system in
     let name = c.in-Some.name in
     let kind = c.in_ok-kind.kind in
     let fault = c.in_err-add_entry.field-0.0 in
@@ -65,24 +65,24 @@ returns-in_err-add_entry-clause-fault g c =
     let gives = YieldsList-from_vec names (search rules) (search rules) in
     let here = item_here names yielded name (YieldsList-so_far gives yielded c.loop-name.name-iterator c.loop-name.yielded_by) (YieldsList-turn gives yielded c.loop-name.name-iterator c.loop-name.yielded_by c.next.result c.next.new.self name c.in-Some.is c.next.ensures.steps) in
     err_due c.from_residual-in_err-add_entry.result fault _ c.from_residual-in_err-add_entry.ensures.1
-    (rises_not looks front names c.args.desk.now.system mid new c.loop-name.listing yielded (drop (length yielded + 1) names) name inv.names here inv.looked kind fault (looked_one looks front mid new name kind asked) c.in_err-add_entry.ensures.fault)
+    (rises_not looks front names c.args.syscalls.now.system mid new c.loop-name.listing yielded (drop (length yielded + 1) names) name inv.names here inv.looked kind fault (looked_one looks front mid new name kind asked) c.in_err-add_entry.ensures.fault)
 
 pub returns-in_err-kind-clause-same : goal.returns-in_err-kind-clause-same
 returns-in_err-kind-clause-same g c =
     let looks = g.S.System.looks in
-    let mid = c.loop-name.desk.system in
-    let new = c.kind_in.new.desk.system in
+    let mid = c.loop-name.syscalls.system in
+    let new = c.kind_in.new.syscalls.system in
     let name = c.in-Some.name in
     let inv = c.loop-name.invariant in
     let asked = subst (λ t. LooksIn looks t name mid new c.kind_in.result) inv.text c.kind_in.ensures.asked in
-    on_err c.from_residual-in_err-kind.result _ (sees_fail g.S.System.forest looks g.met.S.System.look_law (string_bytes c.args.text) c.args.desk.now.system mid new c.loop-name.listing name c.kind_in.result inv.seen c.kind_in.ensures.named asked)
+    on_err c.from_residual-in_err-kind.result _ (sees_fail g.S.System.forest looks g.met.S.System.look_law (string_bytes c.args.text) c.args.syscalls.now.system mid new c.loop-name.listing name c.kind_in.result inv.seen c.kind_in.ensures.named asked)
 
 pub returns-in_err-add_entry-clause-same : goal.returns-in_err-add_entry-clause-same
 returns-in_err-add_entry-clause-same g c =
     let looks = g.S.System.looks in
-    let mid = c.loop-name.desk.system in
-    let new = c.kind_in.new.desk.system in
+    let mid = c.loop-name.syscalls.system in
+    let new = c.kind_in.new.syscalls.system in
     let name = c.in-Some.name in
     let inv = c.loop-name.invariant in
     let asked = subst (λ t. LooksIn looks t name mid new c.kind_in.result) inv.text c.kind_in.ensures.asked in
-    on_err c.from_residual-in_err-add_entry.result _ (sees_fail g.S.System.forest looks g.met.S.System.look_law (string_bytes c.args.text) c.args.desk.now.system mid new c.loop-name.listing name c.kind_in.result inv.seen c.kind_in.ensures.named asked)
+    on_err c.from_residual-in_err-add_entry.result _ (sees_fail g.S.System.forest looks g.met.S.System.look_law (string_bytes c.args.text) c.args.syscalls.now.system mid new c.loop-name.listing name c.kind_in.result inv.seen c.kind_in.ensures.named asked)

@@ -11,6 +11,6 @@ invariant-loop-name g l = record {
   ends : (goal.iterator-loop-name g).is_finite l.name-iterator;
   names : map (λ item. item.0) l.listing ≡ l.yielded;
   text : string_bytes l.text ≡ string_bytes l.fn.text;
-  seen : SeesAt g.S.System.forest (string_bytes l.fn.text) l.fn.desk.system l.desk.system l.listing;
-  looked : FoldsTo (LooksAt g.S.System.looks (string_bytes l.fn.text)) l.fn.desk.system l.listing l.desk.system;
+  seen : SeesAt g.S.System.forest (string_bytes l.fn.text) l.fn.syscalls.system l.syscalls.system l.listing;
+  looked : FoldsTo (LooksAt g.S.System.looks (string_bytes l.fn.text)) l.fn.syscalls.system l.listing l.syscalls.system;
 }

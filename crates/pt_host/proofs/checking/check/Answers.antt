@@ -13,14 +13,14 @@ returns g c =
     let begun = c.new-check.ensures in
     let names = ap (λ i. i.names) begun.source ∙ c.new-source.ensures.names in
     let source = ap (λ i. i.source) begun.source ∙ c.new-source.ensures.source in
-    let system = ap (λ s. s.desk.system) source ∙ ap (λ d. d.system) c.new.ensures.desk in
+    let system = ap (λ s. s.syscalls.system) source ∙ ap (λ d. d.system) c.new.ensures.syscalls in
     let path = ap (λ s. s.folder.path.now) source ∙ c.new.ensures.path in
     let store = store_is forest _ names system path in
     let failures = ap (λ s. s.failures) source ∙ c.new.ensures.failures in
     let first = ap (λ l. contents l.writer) begun.log ∙ ap contents c.new-log.ensures.writer in
     let devices = c.into_devices-source.ensures in
     let output = c.into_writer.ensures ∙ ap (λ l. l.writer) devices.log in
-    let kept = c.into_system.ensures ∙ ap (λ s. s.desk.system) (c.into_source.ensures ∙ ap (λ i. i.source) devices.source) in
+    let kept = c.into_system.ensures ∙ ap (λ s. s.syscalls.system) (c.into_source.ensures ∙ ap (λ i. i.source) devices.source) in
     let later = store_is forest _ (made.keeps.source.0 ∙ names) (sym kept) (ap (λ f. f.path.now) made.keeps.source.1 ∙ path) in
     record {
       ran = c.run-ran.result;

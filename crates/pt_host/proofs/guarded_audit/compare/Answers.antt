@@ -17,13 +17,13 @@ returns g c =
     let job = c.args.options.job in
     let ignoring = c.new-source.ensures in
     let names = ap (λ w. w.names) ignoring ∙ c.both_sides-source.ensures.left_out in
-    let system = ap (λ w. w.source.desk.system) ignoring ∙ c.both_sides-source.ensures.store.0 in
+    let system = ap (λ w. w.source.syscalls.system) ignoring ∙ c.both_sides-source.ensures.store.0 in
     let path = ap (λ w. w.source.folder.path.now) ignoring ∙ c.both_sides-source.ensures.store.1 in
     let store = store_is forest _ names system path in
     let folder = root_is folders _ c.both_sides-source.ensures.folder.0 c.both_sides-source.ensures.folder.1 in
     let first = ap (λ l. contents l.writer) c.new-log.ensures ∙ ap contents c.both_sides-source.ensures.log in
     let output = c.into_writer.ensures ∙ ap (λ l. l.writer) c.into_log.ensures in
-    let kept = c.into_system.ensures ∙ ap (λ s. s.desk.system) (c.into_source-source.ensures ∙ ap (λ i. i.source) c.into_source-ignoring.ensures) in
+    let kept = c.into_system.ensures ∙ ap (λ s. s.syscalls.system) (c.into_source-source.ensures ∙ ap (λ i. i.source) c.into_source-ignoring.ensures) in
     let later = store_is forest _ (made.sides.source.0.0 ∙ names) (sym kept) (ap (λ f. f.path.now) made.sides.source.0.1 ∙ path) in
     let stands = root_is folders _ (sym c.into_system-2.ensures) (ap (λ f. f.path.now) made.sides.root.0 ∙ c.both_sides-source.ensures.folder.1) in
     record {

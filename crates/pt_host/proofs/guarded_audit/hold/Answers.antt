@@ -4,11 +4,11 @@ use Rattle.pt_host.proofs.guarded_audit.hold.Goals as goal
 
 pub returns : goal.returns
 returns g c = (
-  subst (AsksEnd g.R.Reads.ends c.args.rt.now) c.expected.ensures c.lines_expected-expected.ensures,
-  c.lend-ground.result,
-  c.lend-ground.new.self,
-  c.lend-ground.ensures,
-  c.compare-status.result.ground,
+  subst (AsksEnd g.R.Reads.ends c.args.rt.now) c.expected_log.ensures c.lines_expected-expected.ensures,
+  c.lend-host_io.result,
+  c.lend-host_io.new.self,
+  c.lend-host_io.ensures,
+  c.compare-status.result.host_io,
   c.compare-status.ensures,
   c.take_back.ensures,
 )

@@ -14,12 +14,12 @@ returns g c =
       c.synced_output.new.host,
       c.in-Ok.ensures,
       (
-        subst (AsksEnd g.R.Reads.ends c.args.rt.now) c.expected.ensures c.lines_expected-expected.ensures,
-        c.lend-ground.result,
-        c.lend-ground.new.self,
-        c.lend-ground.ensures,
-        c.run-status.result.ground,
-        begun words g.H.Store.File.Input.bytes call c.lend-ground.result _ _ _ _ _ _ _ _ _ _ _ _
+        subst (AsksEnd g.R.Reads.ends c.args.rt.now) c.expected_log.ensures c.lines_expected-expected.ensures,
+        c.lend-host_io.result,
+        c.lend-host_io.new.self,
+        c.lend-host_io.ensures,
+        c.run-status.result.host_io,
+        begun words g.H.Store.File.Input.bytes call c.lend-host_io.result _ _ _ _ _ _ _ _ _ _ _ _
             made.store made.unread made.folder made.unwritten made.synced made.log _ _ c.run-status.ensures.runs,
         rw (made.log_synced, made.log.0) at (c.run-status.ensures.logged made.log.1),
         (

@@ -10,7 +10,7 @@ returns-clause-runs g c =
     let dest = c.run_or_rehearse-ran.result.dest in
     let made = c.run_or_rehearse-ran.ensures in (
       unread_open g.S.File.Input.bytes source.reading,
-      dest.stuck,
+      dest.unsynced,
       dest.writing,
       record { source = source.failures; dest = dest.failures; log = c.run_or_rehearse-ran.new.log.log.failures },
       (
@@ -30,8 +30,8 @@ returns-clause-runs g c =
         c.status_of-status.ensures,
       ),
       rw (c.into_system-2.ensures)
-          (leaves_at g.D.System.kept c.args.options.rehearse _ dest.desk.system (ap (λ f. f.path.now) made.dest) made.rehearsed),
-      λ s is. let stuck = made.stuck c.args.options.present_ok s is in (stuck.0, λ none. c.status_of-status.ensures ∙ stuck.1 none),
+          (leaves_at g.D.System.kept c.args.options.rehearse _ dest.syscalls.system (ap (λ f. f.path.now) made.dest) made.rehearsed),
+      λ s is. let unsynced = made.unsynced c.args.options.present_ok s is in (unsynced.0, λ none. c.status_of-status.ensures ∙ unsynced.1 none),
     )
 
 pub returns-clause-served : goal.returns-clause-served

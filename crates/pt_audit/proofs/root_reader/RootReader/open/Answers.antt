@@ -2,8 +2,8 @@ use Rattle.std.proofs.Common.{rules, ◌∙◌}
 use Rattle.pt_audit.proofs.Following.{opened_at, opened_paced, unopened_paced}
 use Rattle.pt_audit.proofs.root_reader.RootReader.open.Goals as goal
 
-pub returns-then-self-stored-clause-paced : goal.returns-then-self-stored-clause-paced
-returns-then-self-stored-clause-paced g c = λ source behind.
+pub returns-then-self-stored_count-clause-paced : goal.returns-then-self-stored_count-clause-paced
+returns-then-self-stored_count-clause-paced g c = λ source behind.
     unopened_paced source _ c.args.self.now c.begin.new.self c.args.survey.now _ _ c.min-self.result c.requires.saw c.in_ok-begin.ensures (c.min-self.ensures ∙ search rules) behind
 
 pub returns-clause-paced : goal.returns-clause-paced

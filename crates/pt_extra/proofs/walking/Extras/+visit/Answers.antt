@@ -8,7 +8,7 @@ use Rattle.pt_extra.proofs.Keeping.{at_err, front_from, keeps_on, stops_still, t
 use Rattle.pt_extra.proofs.Visiting.{FoundTo, found_bare, found_dir, found_folder, found_leaf, found_none, found_object, found_part, next_stands, proper_in, bare_deep, bare_empty, is_walked, some_entry, stops_before, stops_dir, stops_leaf}
 use Rattle.pt_extra.specs.Findings.{found_at, of_object, of_unnamed}
 use Rattle.pt_extra.specs.Inventories.{id_of}
-use Rattle.pt_extra.specs.Lines.{Finding, texts}
+use Rattle.pt_extra.specs.Lines.{ExtraFinding, texts}
 use Rattle.pt_extra.specs.Walk.{Puts, Seen, against, found_below, found_there, found_unnamed, seen_by}
 use Rattle.pt_plan.specs.TurnWalk.{in_root}
 use Rattle.pt_tree.specs.Forest.{dir_at, listing_at}
@@ -115,7 +115,7 @@ returns-then-is_object-clause-told g t c =
     let still : seen_by g.L.Log mid ≡ seen_by g.L.Log old = ap (seen_by g.L.Log) c.list.ensures.rest in
     on_ok_weaker c.judge.result
     (λ tells s is r there.
-    subst (λ (fs : List Finding). Puts fs (seen_by g.L.Log old) (seen_by g.L.Log c.judge.new.self))
+    subst (λ (fs : List ExtraFinding). Puts fs (seen_by g.L.Log old) (seen_by g.L.Log c.judge.new.self))
     (sym (found_object (against old s) r path c.args.left items (listed r there) (sym c.if-is_object.ensures)))
     (subst (λ (p : Path). Puts (of_object (against old s) path (id_of (inside_at r p))) (seen_by g.L.Log old) (seen_by g.L.Log c.judge.new.self)) c.in_ok-folder.ensures
     (subst (λ (a : Seen). Puts (of_object (against old s) path (id_of (inside_at r c.in_ok-folder.folder))) a (seen_by g.L.Log c.judge.new.self)) still
@@ -138,7 +138,7 @@ returns-then-left-eq0-clause-told g t c =
     let still : seen_by g.L.Log mid ≡ seen_by g.L.Log old = ap (seen_by g.L.Log) c.list.ensures.rest in
     on_ok_weaker c.meet_stray.result
     (λ tells s is r there.
-    subst (λ (fs : List Finding). Puts fs (seen_by g.L.Log old) (seen_by g.L.Log c.meet_stray.new.self))
+    subst (λ (fs : List ExtraFinding). Puts fs (seen_by g.L.Log old) (seen_by g.L.Log c.meet_stray.new.self))
     (sym (found_bare (against old s) r path c.args.left items (listed r there) (sym c.if-is_object.ensures) (bare_deep c.args.left (length items) c.if-left-eq0.true)))
     (subst (λ (a : Seen). Puts (of_unnamed (against old s) path) a (seen_by g.L.Log c.meet_stray.new.self)) still
     (told_from g.S.Source g.R.Source g.L.Log (λ x f. of_unnamed x path) old mid c.meet_stray.new.self c.list.ensures.keeps tells s is r there)))
@@ -161,7 +161,7 @@ returns-then-is_empty-clause-told g t c =
     let it = c.meet_stray-then-is_empty in
     on_ok_weaker it.result
     (λ tells s is r there.
-    subst (λ (fs : List Finding). Puts fs (seen_by g.L.Log old) (seen_by g.L.Log it.new.self))
+    subst (λ (fs : List ExtraFinding). Puts fs (seen_by g.L.Log old) (seen_by g.L.Log it.new.self))
     (sym (found_bare (against old s) r path c.args.left items (listed r there) (sym c.if-is_object.ensures) (bare_empty c.args.left (length items) c.if-is_empty.ensures)))
     (subst (λ (a : Seen). Puts (of_unnamed (against old s) path) a (seen_by g.L.Log it.new.self)) still
     (told_from g.S.Source g.R.Source g.L.Log (λ x f. of_unnamed x path) old mid it.new.self c.list.ensures.keeps tells s is r there)))
@@ -214,7 +214,7 @@ returns-then-is_object-clause-stops g t c =
     let still = ap (λ w. g.L.Log.told w.log) c.list.ensures.rest in
     on_err_weaker it.result
     (λ front s is r there.
-    subst (λ (fs : List Finding). AppendsFront (g.L.Log.told old.log) (g.L.Log.told it.new.self.log) (texts fs))
+    subst (λ (fs : List ExtraFinding). AppendsFront (g.L.Log.told old.log) (g.L.Log.told it.new.self.log) (texts fs))
     (sym (found_object (against old s) r path c.args.left items (listed r there) (sym c.if-is_object.ensures)))
     (subst (λ (p : Path). AppendsFront (g.L.Log.told old.log) (g.L.Log.told it.new.self.log) (texts (of_object (against old s) path (id_of (inside_at r p))))) c.in_ok-folder.ensures
     (subst (λ (l : Option (List ℕ)). AppendsFront l (g.L.Log.told it.new.self.log) (texts (of_object (against old s) path (id_of (inside_at r c.in_ok-folder.folder))))) still
@@ -234,7 +234,7 @@ returns-then-left-eq0-clause-stops g t c =
     let still = ap (λ w. g.L.Log.told w.log) c.list.ensures.rest in
     on_err_weaker it.result
     (λ front s is r there.
-    subst (λ (fs : List Finding). AppendsFront (g.L.Log.told old.log) (g.L.Log.told it.new.self.log) (texts fs))
+    subst (λ (fs : List ExtraFinding). AppendsFront (g.L.Log.told old.log) (g.L.Log.told it.new.self.log) (texts fs))
     (sym (found_bare (against old s) r path c.args.left items (listed r there) (sym c.if-is_object.ensures) (bare_deep c.args.left (length items) c.if-left-eq0.true)))
     (subst (λ (l : Option (List ℕ)). AppendsFront l (g.L.Log.told it.new.self.log) (texts (of_unnamed (against old s) path))) still
     (front_from g.S.Source g.R.Source g.L.Log (found_unnamed path) old mid it.new.self c.list.ensures.keeps front s is r there)))
@@ -253,7 +253,7 @@ returns-then-is_empty-clause-stops g t c =
     let still = ap (λ w. g.L.Log.told w.log) c.list.ensures.rest in
     on_err_weaker it.result
     (λ front s is r there.
-    subst (λ (fs : List Finding). AppendsFront (g.L.Log.told old.log) (g.L.Log.told it.new.self.log) (texts fs))
+    subst (λ (fs : List ExtraFinding). AppendsFront (g.L.Log.told old.log) (g.L.Log.told it.new.self.log) (texts fs))
     (sym (found_bare (against old s) r path c.args.left items (listed r there) (sym c.if-is_object.ensures) (bare_empty c.args.left (length items) c.if-is_empty.ensures)))
     (subst (λ (l : Option (List ℕ)). AppendsFront l (g.L.Log.told it.new.self.log) (texts (of_unnamed (against old s) path))) still
     (front_from g.S.Source g.R.Source g.L.Log (found_unnamed path) old mid it.new.self c.list.ensures.keeps front s is r there)))

@@ -3,7 +3,7 @@ use Rattle.std.proofs.lemmas.Result.{on_err_weaker, on_ok_weaker}
 use Rattle.std.specs.Prelude.{Option}
 use Rattle.pt_extra.proofs.Keeping.{front_from, stops_still, told_from}
 use Rattle.pt_extra.proofs.Objects.{of_misplaced, of_unheld}
-use Rattle.pt_extra.specs.Lines.{Extra, Finding, texts}
+use Rattle.pt_extra.specs.Lines.{Extra, ExtraFinding, texts}
 use Rattle.pt_extra.specs.Walk.{Puts, Seen, against, found_named, found_one, seen_by}
 use Rattle.pt_name.specs.Place.{place_of}
 use Rattle.pt_name.specs.Share.{holds}
@@ -16,7 +16,7 @@ returns-then-ne-clause-told g c =
     let chosen : holds c.args.self.now.job.share c.args.id.now ≡ true = search rules in
     let apart : same_path c.args.path.now (place_of c.args.self.now.job.layout c.args.id.now) ≡ false = search rules in
     on_ok_weaker c.tell_stray.result
-    (λ tells s is r there. subst (λ (fs : List Finding). Puts fs (seen_by g.L.Log c.args.self.now) (seen_by g.L.Log c.tell_stray.new.self))
+    (λ tells s is r there. subst (λ (fs : List ExtraFinding). Puts fs (seen_by g.L.Log c.args.self.now) (seen_by g.L.Log c.tell_stray.new.self))
     (sym (of_misplaced (against c.args.self.now s) c.args.path.now c.args.id.now chosen apart)) (tells s is r there))
     c.tell_stray.ensures.told
 
@@ -26,7 +26,7 @@ returns-then-ne-clause-stops g c =
     let chosen : holds old.job.share c.args.id.now ≡ true = search rules in
     let apart : same_path c.args.path.now (place_of old.job.layout c.args.id.now) ≡ false = search rules in
     on_err_weaker c.tell_stray.result
-    (λ front s is r there. subst (λ (fs : List Finding). AppendsFront (g.L.Log.told old.log) (g.L.Log.told c.tell_stray.new.self.log) (texts fs))
+    (λ front s is r there. subst (λ (fs : List ExtraFinding). AppendsFront (g.L.Log.told old.log) (g.L.Log.told c.tell_stray.new.self.log) (texts fs))
     (sym (of_misplaced (against old s) c.args.path.now c.args.id.now chosen apart)) (front s is r there))
     c.tell_stray.ensures.stops
 
@@ -39,7 +39,7 @@ returns-clause-told g c =
     let still : seen_by g.L.Log c.store_has.new.self ≡ seen_by g.L.Log old = ap (seen_by g.L.Log) c.store_has.ensures.rest in
     on_ok_weaker c.tell_extra.result
     (λ tells s is r there.
-    subst (λ (fs : List Finding). Puts fs (seen_by g.L.Log old) (seen_by g.L.Log c.tell_extra.new.self))
+    subst (λ (fs : List ExtraFinding). Puts fs (seen_by g.L.Log old) (seen_by g.L.Log c.tell_extra.new.self))
     (sym (of_unheld (against old s) c.args.path.now id chosen placed (sym c.if-branch.false ∙ c.in_ok-store_has.ensures.has s is)))
     (subst (λ (a : Seen). Puts (Extra id c.args.path.now ∷ []) a (seen_by g.L.Log c.tell_extra.new.self)) still
     (told_from g.S.Source g.R.Source g.L.Log (λ x t. Extra id c.args.path.now ∷ []) old c.store_has.new.self c.tell_extra.new.self c.store_has.ensures.keeps tells s is r there)))
@@ -54,7 +54,7 @@ returns-clause-stops g c =
     let still = ap (λ w. g.L.Log.told w.log) c.store_has.ensures.rest in
     on_err_weaker c.tell_extra.result
     (λ front s is r there.
-    subst (λ (fs : List Finding). AppendsFront (g.L.Log.told old.log) (g.L.Log.told c.tell_extra.new.self.log) (texts fs))
+    subst (λ (fs : List ExtraFinding). AppendsFront (g.L.Log.told old.log) (g.L.Log.told c.tell_extra.new.self.log) (texts fs))
     (sym (of_unheld (against old s) c.args.path.now id chosen placed (sym c.if-branch.false ∙ c.in_ok-store_has.ensures.has s is)))
     (subst (λ (l : Option (List ℕ)). AppendsFront l (g.L.Log.told c.tell_extra.new.self.log) (texts (Extra id c.args.path.now ∷ []))) still
     (front_from g.S.Source g.R.Source g.L.Log (found_one (Extra id c.args.path.now)) old c.store_has.new.self c.tell_extra.new.self c.store_has.ensures.keeps front s is r there)))

@@ -5,7 +5,7 @@ use Rattle.pt_extra.proofs.Roots.{no_root, of_root}
 use Rattle.pt_extra.proofs.Telling.{puts_none}
 use Rattle.pt_extra.proofs.Tops.{dir_top}
 use Rattle.pt_extra.specs.Findings.{found_at}
-use Rattle.pt_extra.specs.Lines.{Finding, texts}
+use Rattle.pt_extra.specs.Lines.{ExtraFinding, texts}
 use Rattle.pt_state.specs.declared.job.Job.{Job}
 use Rattle.pt_walk.specs.Left.{inside_at}
 use Rattle.pt_extra.specs.Walk.{Puts, Seen, against, found_below, found_in, seen_by}
@@ -22,7 +22,7 @@ returns-then-not-branch-clause-told g c = λ s is r there.
     let old = c.args.self.now in
     let still : seen_by g.L.Log c.has_root.new.self ≡ seen_by g.L.Log old = ap (seen_by g.L.Log) c.has_root.ensures.rest in
     subst (λ (a : Seen). Puts (found_in (against old s) r) (seen_by g.L.Log old) a) (sym still)
-    (subst (λ (fs : List Finding). Puts fs (seen_by g.L.Log old) (seen_by g.L.Log old))
+    (subst (λ (fs : List ExtraFinding). Puts fs (seen_by g.L.Log old) (seen_by g.L.Log old))
     (sym (no_root (against old s) r (sym (c.in_ok-has_root.ensures.has r there) ∙ c.if-not-branch.true)))
     (puts_none (seen_by g.L.Log old)))
 
@@ -40,7 +40,7 @@ returns-clause-told g c = λ s is r there.
     let left_is : c.count.result + 1 ≡ old.job.layout.count + 1 =
     ap (λ (n : ℕ). n + 1) (c.count.ensures.count ∙ ap (λ (j : Job). j.layout.count) c.has_root.ensures.keeps.job) in
     let told = told_from g.S.Source g.R.Source g.L.Log (λ x t. found_at x top (c.count.result + 1) (inside_at t (in_root top))) old c.has_root.new.self c.visit.new.self c.has_root.ensures.keeps c.in_ok-visit.ensures.told s is r there in
-    subst (λ (fs : List Finding). Puts fs (seen_by g.L.Log old) (seen_by g.L.Log c.visit.new.self))
+    subst (λ (fs : List ExtraFinding). Puts fs (seen_by g.L.Log old) (seen_by g.L.Log c.visit.new.self))
     (sym (of_root (against old s) r top (c.count.result + 1) stands c.new-top.ensures left_is))
     (subst (λ (a : Seen). Puts (found_at (against old s) top (c.count.result + 1) (inside_at r (in_root top))) a (seen_by g.L.Log c.visit.new.self)) still told)
 
@@ -57,7 +57,7 @@ returns-in_err-visit-clause-stops g c =
     at_err c.from_residual-in_err-visit.result
     (λ s is r there.
     let stands = sym (c.in_ok-has_root.ensures.has r there) ∙ c.if-not-branch.false in
-    subst (λ (fs : List Finding). AppendsFront (g.L.Log.told old.log) (g.L.Log.told c.visit.new.self.log) (texts fs))
+    subst (λ (fs : List ExtraFinding). AppendsFront (g.L.Log.told old.log) (g.L.Log.told c.visit.new.self.log) (texts fs))
     (sym (of_root (against old s) r top (c.count.result + 1) stands c.new-top.ensures left_is))
     (subst (λ (l : Option (List ℕ)). AppendsFront l (g.L.Log.told c.visit.new.self.log) (texts (found_at (against old s) top (c.count.result + 1) (inside_at r (in_root top))))) (ap (λ w. g.L.Log.told w.log) c.has_root.ensures.rest)
     (front_from g.S.Source g.R.Source g.L.Log (found_below top (c.count.result + 1)) old c.has_root.new.self c.visit.new.self c.has_root.ensures.keeps c.in_err-visit.ensures.stops s is r there)))

@@ -17,7 +17,7 @@ pub returns-clause-call : goal.returns-clause-call
 returns-clause-call g c = record {
   keeps = (refl, (refl, refl));
   failures = rw c.count_failure.ensures.same c.count_failure.ensures.counted;
-  stuck = refl;
+  unsynced = refl;
   writing = refl;
   at = refl;
 }

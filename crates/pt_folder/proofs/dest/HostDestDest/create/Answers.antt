@@ -1,5 +1,5 @@
 use Rattle.std.proofs.Common.{◌∙◌, inr, sym}
-use Rattle.pt_folder.proofs.StuckTold.{kept_free, may_make_free, none_back, none_risen, none_stuck}
+use Rattle.pt_folder.proofs.UnsyncedTold.{kept_free, may_make_free, none_back, none_risen, none_unsynced}
 use Rattle.pt_folder.proofs.WriteTold.{create_gives, create_made, create_placed, create_same}
 use Rattle.pt_folder.proofs.dest.HostDestDest.create.Goals as goal
 
@@ -8,15 +8,15 @@ invariant_of-self g c =
     let self = c.args.self.now in
     let kept = g.S.System.kept in
     let folder = self.folder.path.now in
-    let none = none_stuck self.stuck (sym c.is_some.ensures ∙ c.if-is_some.false) in
+    let none = none_unsynced self.unsynced (sym c.is_some.ensures ∙ c.if-is_some.false) in
     let made = c.create-made in
-    let can = may_make_free (kept self.desk.system folder) self.stuck self.writing none c.args.path.now c.requires in
-    let gives = create_gives kept folder self.desk.system made.new.desk.system c.args.path.now self.writing made.new.writing g.S.System.makes_file g.met.S.System.file_law self.longest made.result can made.ensures.asked made.ensures.same in
+    let can = may_make_free (kept self.syscalls.system folder) self.unsynced self.writing none c.args.path.now c.requires in
+    let gives = create_gives kept folder self.syscalls.system made.new.syscalls.system c.args.path.now self.writing made.new.writing g.S.System.makes_file g.met.S.System.file_law self.longest made.result can made.ensures.asked made.ensures.same in
     record {
-      placed = λ free. create_placed kept folder self.desk.system made.new.desk.system c.args.path.now self.writing made.new.writing made.result gives (self.placed none);
+      placed = λ free. create_placed kept folder self.syscalls.system made.new.syscalls.system c.args.path.now self.writing made.new.writing made.result gives (self.placed none);
       wanted = self.wanted;
-      back = ∣ none_back (kept made.new.desk.system folder) self.stuck none ∣₁;
-      risen = none_risen c.count_failure.new.failures self.stuck none;
+      back = ∣ none_back (kept made.new.syscalls.system folder) self.unsynced none ∣₁;
+      risen = none_risen c.count_failure.new.failures self.unsynced none;
     }
 
 pub returns-clause-made : goal.returns-clause-made
@@ -24,33 +24,33 @@ returns-clause-made g c =
     let self = c.args.self.now in
     let kept = g.S.System.kept in
     let folder = self.folder.path.now in
-    let none = none_stuck self.stuck (sym c.is_some.ensures ∙ c.if-is_some.false) in
+    let none = none_unsynced self.unsynced (sym c.is_some.ensures ∙ c.if-is_some.false) in
     let made = c.create-made in
-    let can = may_make_free (kept self.desk.system folder) self.stuck self.writing none c.args.path.now c.requires in
-    let gives = create_gives kept folder self.desk.system made.new.desk.system c.args.path.now self.writing made.new.writing g.S.System.makes_file g.met.S.System.file_law self.longest made.result can made.ensures.asked made.ensures.same in
-    rw (c.count_failure.ensures.same, none) (create_made kept folder self.desk.system made.new.desk.system c.args.path.now self.writing made.new.writing made.result gives)
+    let can = may_make_free (kept self.syscalls.system folder) self.unsynced self.writing none c.args.path.now c.requires in
+    let gives = create_gives kept folder self.syscalls.system made.new.syscalls.system c.args.path.now self.writing made.new.writing g.S.System.makes_file g.met.S.System.file_law self.longest made.result can made.ensures.asked made.ensures.same in
+    rw (c.count_failure.ensures.same, none) (create_made kept folder self.syscalls.system made.new.syscalls.system c.args.path.now self.writing made.new.writing made.result gives)
 
 pub returns-clause-same : goal.returns-clause-same
 returns-clause-same g c =
     let self = c.args.self.now in
     let kept = g.S.System.kept in
     let folder = self.folder.path.now in
-    let none = none_stuck self.stuck (sym c.is_some.ensures ∙ c.if-is_some.false) in
+    let none = none_unsynced self.unsynced (sym c.is_some.ensures ∙ c.if-is_some.false) in
     let made = c.create-made in
-    let can = may_make_free (kept self.desk.system folder) self.stuck self.writing none c.args.path.now c.requires in
-    let gives = create_gives kept folder self.desk.system made.new.desk.system c.args.path.now self.writing made.new.writing g.S.System.makes_file g.met.S.System.file_law self.longest made.result can made.ensures.asked made.ensures.same in
-    rw (c.count_failure.ensures.same, none) (create_same kept folder self.desk.system made.new.desk.system c.args.path.now self.writing made.new.writing made.result gives)
+    let can = may_make_free (kept self.syscalls.system folder) self.unsynced self.writing none c.args.path.now c.requires in
+    let gives = create_gives kept folder self.syscalls.system made.new.syscalls.system c.args.path.now self.writing made.new.writing g.S.System.makes_file g.met.S.System.file_law self.longest made.result can made.ensures.asked made.ensures.same in
+    rw (c.count_failure.ensures.same, none) (create_same kept folder self.syscalls.system made.new.syscalls.system c.args.path.now self.writing made.new.writing made.result gives)
 
 pub returns-clause-opened : goal.returns-clause-opened
 returns-clause-opened g c = rw c.count_failure.ensures.same c.create-made.ensures.opened
 
 pub returns-clause-asked : goal.returns-clause-asked
 returns-clause-asked g c =
-    let none = none_stuck c.args.self.now.stuck (sym c.is_some.ensures ∙ c.if-is_some.false) in
+    let none = none_unsynced c.args.self.now.unsynced (sym c.is_some.ensures ∙ c.if-is_some.false) in
     rw c.count_failure.ensures.same (inr (none, c.create-made.ensures.asked))
 
 pub returns-clause-kept : goal.returns-clause-kept
 returns-clause-kept g c =
     let self = c.args.self.now in
-    let none = none_stuck self.stuck (sym c.is_some.ensures ∙ c.if-is_some.false) in
-    rw c.count_failure.ensures.same (kept_free c.create-made.result self.stuck _ _ none c.create-made.ensures.kept)
+    let none = none_unsynced self.unsynced (sym c.is_some.ensures ∙ c.if-is_some.false) in
+    rw c.count_failure.ensures.same (kept_free c.create-made.result self.unsynced _ _ none c.create-made.ensures.kept)

@@ -1,4 +1,4 @@
-use Rattle.pt_folder.proofs.StuckTold.{block_peeked}
+use Rattle.pt_folder.proofs.UnsyncedTold.{block_peeked}
 use Rattle.pt_folder.proofs.dest.HostDestDest.peek.Goals as goal
 
 pub returns-clause-block : goal.returns-clause-block

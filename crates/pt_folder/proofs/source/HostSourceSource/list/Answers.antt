@@ -6,9 +6,9 @@ use Rattle.pt_folder.proofs.source.HostSourceSource.list.Goals as goal
 pub list-listing-requires : goal.list-listing-requires
 list-listing-requires g c =
     let self = c.args.self.now in
-    can_list (unread_open g.S.File.Input.bytes self.reading) (g.S.System.forest self.desk.system self.folder.path.now) c.args.path.now c.requires
+    can_list (unread_open g.S.File.Input.bytes self.reading) (g.S.System.forest self.syscalls.system self.folder.path.now) c.args.path.now c.requires
 
 pub returns-clause-listing : goal.returns-clause-listing
 returns-clause-listing g c =
     let self = c.args.self.now in
-    rw c.count_failure.ensures.same (IfOk-weaker c.list-listing.result _ _ (λ items h. is_listed (unread_open g.S.File.Input.bytes self.reading) (g.S.System.forest self.desk.system self.folder.path.now) c.args.path.now items h) c.list-listing.ensures.told)
+    rw c.count_failure.ensures.same (IfOk-weaker c.list-listing.result _ _ (λ items h. is_listed (unread_open g.S.File.Input.bytes self.reading) (g.S.System.forest self.syscalls.system self.folder.path.now) c.args.path.now items h) c.list-listing.ensures.told)

@@ -5,8 +5,8 @@ use Rattle.pt_memory_system.proofs.system.MemorySystemSystem.lstat.Goals as goal
 pub returns-then-fails : goal.returns-then-fails
 returns-then-fails c = record {
   same = refl;
-  source = λ p named is absent. absurd (c.failed.ensures absent);
-  dest = λ p named is absent. absurd (c.failed.ensures absent);
+  source = λ p named is absent. absurd (c.call_error.ensures absent);
+  dest = λ p named is absent. absurd (c.call_error.ensures absent);
 }
 
 pub returns-then-is_below : goal.returns-then-is_below

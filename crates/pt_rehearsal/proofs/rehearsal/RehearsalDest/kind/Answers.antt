@@ -8,7 +8,7 @@ pub invariant_of-self : goal.invariant_of-self
 invariant_of-self g c =
     let old = c.args.self.now in
     let told = c.refuse.ensures in
-    let same = told_still old.dest c.refuse.new.self (unasked old.dest c.refuse.new.self told.call.keeps told.call.writing told.call.stuck told.system) in
+    let same = told_still old.dest c.refuse.new.self (unasked old.dest c.refuse.new.self told.call.keeps told.call.writing told.call.unsynced told.system) in
     record { fits = fits_still (told_by old.dest) (told_by c.refuse.new.self) (view old.remembered) (view old.remembered) old.played.steps same refl old.fits }
 
 pub invariant_of-self-in-Standing : goal.invariant_of-self-in-Standing
@@ -19,10 +19,10 @@ invariant_of-self-in-Standing g c =
 pub returns-in-Folder-clause-kind : goal.returns-in-Folder-clause-kind
 returns-in-Folder-clause-kind g c =
     let old = c.args.self.now in
-    kind_of_folder (told_by old.dest) (view old.remembered) old.played.steps c.args.path.now c.in_ok-seen.ensures.named old.fits (sym c.in_ok-seen.ensures.seen ∙ c.in-Folder.is)
+    kind_of_folder (told_by old.dest) (view old.remembered) old.played.steps c.args.path.now c.in_ok-look_up.ensures.named old.fits (sym c.in_ok-look_up.ensures.seen ∙ c.in-Folder.is)
 
 pub returns-in-Standing-clause-kind : goal.returns-in-Standing-clause-kind
 returns-in-Standing-clause-kind g c =
     let old = c.args.self.now in
-    kinds_still (told_by old.dest) (view old.remembered) old.played.steps c.args.path.now c.in_ok-seen.ensures.named old.fits (sym c.in_ok-seen.ensures.seen ∙ c.in-Standing.is)
+    kinds_still (told_by old.dest) (view old.remembered) old.played.steps c.args.path.now c.in_ok-look_up.ensures.named old.fits (sym c.in_ok-look_up.ensures.seen ∙ c.in-Standing.is)
     c.kind.result c.kind.ensures.kind

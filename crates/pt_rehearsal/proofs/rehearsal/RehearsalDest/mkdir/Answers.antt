@@ -22,7 +22,7 @@ invariant_of-self-then-not-branch g c =
     let mid = c.may_make_dir.new.dest in
     let new = c.refuse.new.self in
     let told = c.refuse.ensures in
-    let stays = stays_on old.dest mid new c.may_make_dir.ensures.stays (unasked mid new told.call.keeps told.call.writing told.call.stuck told.system) in
+    let stays = stays_on old.dest mid new c.may_make_dir.ensures.stays (unasked mid new told.call.keeps told.call.writing told.call.unsynced told.system) in
     let same = becomes_same (made_dir (view old.remembered) c.args.path.now) c.in_ok-make_dir.field-0 (view old.remembered) (view c.make_dir.new.self) c.if-not-branch.true c.in_ok-make_dir.ensures.ok in
     record { fits = fits_still (told_by old.dest) (told_by new) (view old.remembered) (view c.make_dir.new.self) old.played.steps (told_still old.dest new stays) same.1 old.fits }
 

@@ -14,13 +14,13 @@ pub invariant_of-self : goal.invariant_of-self
 invariant_of-self g c =
     let old = c.args.self.now in
     let told = c.refuse.ensures in
-    let same = told_still old.dest c.refuse.new.self (unasked old.dest c.refuse.new.self told.call.keeps told.call.writing told.call.stuck told.system) in
+    let same = told_still old.dest c.refuse.new.self (unasked old.dest c.refuse.new.self told.call.keeps told.call.writing told.call.unsynced told.system) in
     record { fits = fits_still (told_by old.dest) (told_by c.refuse.new.self) (view old.remembered) (view old.remembered) old.played.steps same refl old.fits }
 
 pub peek-requires : goal.peek-requires
 peek-requires g c =
     let old = c.args.self.now in
-    can_peek_still (told_by old.dest) (view old.remembered) old.played.steps c.args.path.now c.in_ok-seen.ensures.named old.fits (sym c.in_ok-seen.ensures.seen ∙ c.in-Standing.is) c.requires
+    can_peek_still (told_by old.dest) (view old.remembered) old.played.steps c.args.path.now c.in_ok-look_up.ensures.named old.fits (sym c.in_ok-look_up.ensures.seen ∙ c.in-Standing.is) c.requires
 
 pub invariant_of-self-in-Standing : goal.invariant_of-self-in-Standing
 invariant_of-self-in-Standing g c =
@@ -37,12 +37,12 @@ pub returns-in-Folder : goal.returns-in-Folder
 returns-in-Folder g c =
     let old = c.args.self.now in
     let told = c.refuse.ensures in
-    let stays = unasked old.dest c.refuse.new.self told.call.keeps told.call.writing told.call.stuck told.system in
+    let stays = unasked old.dest c.refuse.new.self told.call.keeps told.call.writing told.call.unsynced told.system in
     record {
       block = search rules;
       empty = search rules;
       same = ap (λ o. told_over o old.played.steps) (told_still old.dest c.refuse.new.self stays);
-      asked = inl (told.system, subst (IsNotPeeked _) (sym told.refused) (refused _ c.in_ok-seen.field-0 c.in_ok-seen.ensures.seen c.in-Folder.is));
+      asked = inl (told.system, subst (IsNotPeeked _) (sym told.refused) (refused _ c.in_ok-look_up.field-0 c.in_ok-look_up.ensures.seen c.in-Folder.is));
       remembered = refl;
       call = record { keeps = stays; failures = told.call.failures };
     }
@@ -50,8 +50,8 @@ returns-in-Folder g c =
 pub returns-in-Standing-clause-block : goal.returns-in-Standing-clause-block
 returns-in-Standing-clause-block g c =
     let old = c.args.self.now in
-    peeked_still (told_by old.dest) (view old.remembered) old.played.steps c.args.path.now c.in_ok-seen.ensures.named old.fits (sym c.in_ok-seen.ensures.seen ∙ c.in-Standing.is)
+    peeked_still (told_by old.dest) (view old.remembered) old.played.steps c.args.path.now c.in_ok-look_up.ensures.named old.fits (sym c.in_ok-look_up.ensures.seen ∙ c.in-Standing.is)
     c.peek.new.block.items c.peek.result c.peek.ensures.block
 
 pub returns-in-Standing-clause-asked : goal.returns-in-Standing-clause-asked
-returns-in-Standing-clause-asked g c = inr (sym c.in_ok-seen.ensures.seen ∙ c.in-Standing.is, c.peek.ensures.asked)
+returns-in-Standing-clause-asked g c = inr (sym c.in_ok-look_up.ensures.seen ∙ c.in-Standing.is, c.peek.ensures.asked)

@@ -1,5 +1,5 @@
 use Rattle.std.proofs.Common.{rules}
-use Rattle.pt_rehearsal.proofs.remembered.Remembered.move_to.Goals as goal
+use Rattle.pt_rehearsal.proofs.remembered.Remembered.rename.Goals as goal
 
 pub returns-in-Standing-clause-ok : goal.returns-in-Standing-clause-ok
 returns-in-Standing-clause-ok c = search rules

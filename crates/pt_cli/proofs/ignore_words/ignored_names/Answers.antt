@@ -3,7 +3,7 @@ use Rattle.std.specs.Option.{option_map}
 use Rattle.pt_cli.specs.Arguments.{ReadsAs}
 use Rattle.pt_cli.specs.Ignore.{names_of}
 use Rattle.pt_cli.proofs.Naming.{names_read}
-use Rattle.pt_cli.proofs.ignore_words.ignored.Goals as goal
+use Rattle.pt_cli.proofs.ignore_words.ignored_names.Goals as goal
 
 pub returns-in-Some : goal.returns-in-Some
 returns-in-Some c =

@@ -4,7 +4,7 @@ use Rattle.pt_audit.proofs.Stepping.{halt_leaves, halt_leaves_log, halt_well, lo
 use Rattle.pt_audit.proofs.Files.{step_scans, step_scans_none}
 use Rattle.pt_audit.proofs.Steps.{step_steps}
 use Rattle.pt_audit.proofs.Stopping.{halt_stops, halt_untold}
-use Rattle.pt_audit.proofs.survey.stepped.Goals as goal
+use Rattle.pt_audit.proofs.survey.step_phase.Goals as goal
 
 pub returns-in_err-pass-clause-well : goal.returns-in_err-pass-clause-well
 returns-in_err-pass-clause-well g c =

@@ -1,4 +1,4 @@
--- What a destination tells where nothing is stuck, and where a call is refused since something is.
+-- What a destination tells where nothing is unsynced, and where a call is refused since something is.
 use Rattle.std.proofs.Common.{◌≡◌, ◌∙◌, ℕ, Bool, List, [], true, false, refl, ap, sym, subst, arith, inl, inr}
 use Rattle.std.specs.Prelude.{◌≤◌, ◌⊎◌, Option, None, Some, is_some, Result, Ok, Err, OnOk, OnErr}
 use Rattle.std.specs.Option.{ForSome, option_map}
@@ -13,7 +13,7 @@ use Rattle.pt_folder.specs.DestHeld.{IsBack, told_with}
 use Rattle.pt_folder.specs.DestLaws.{Kept, PeekLaw}
 use Rattle.pt_folder.specs.Failure.{OnDevice}
 use Rattle.pt_folder.specs.HostDest.{Peeks, told}
-use Rattle.pt_folder.specs.UnsyncedChange.{stuck_by_close}
+use Rattle.pt_folder.specs.UnsyncedChange.{unsynced_by_close}
 use Rattle.pt_folder.specs.Writing.{ClosesBy}
 use Rattle.pt_folder.specs.declared.dest.HostDest.{HostDest}
 use Rattle.pt_folder.specs.declared.unsynced_change.UnsyncedChange.{UnsyncedChange}
@@ -25,11 +25,11 @@ use Rattle.pt_folder.proofs.DestTold.{may_make, may_move}
 use Rattle.pt_folder.proofs.PeekTold.{peek_tells}
 use Rattle.pt_tree.proofs.AtPaths.{added-nil}
 
--- ---- nothing is stuck
+-- ---- nothing is unsynced
 
-pub none_stuck : (o : Option UnsyncedChange) → is_some o ≡ false → o ≡ None
-none_stuck None is = refl
-none_stuck (Some s) is = absurd (cc)
+pub none_unsynced : (o : Option UnsyncedChange) → is_some o ≡ false → o ≡ None
+none_unsynced None is = refl
+none_unsynced (Some s) is = absurd (cc)
 
 pub none_back : {F : Type 0} (kept : Kept F) (o : Option UnsyncedChange) → o ≡ None → ForSome o (IsBack kept)
 none_back kept o none = λ s is. absurd (cc)
@@ -39,7 +39,7 @@ kept_free (Ok x) o P Q none kept = tt
 kept_free (Err Memory) o P Q none kept = tt
 kept_free (Err Device) o P Q none kept = inr (none, kept)
 
--- ---- something is stuck only where the device failed
+-- ---- something is unsynced only where the device failed
 
 pub none_risen : (n : ℕ) (o : Option UnsyncedChange) → o ≡ None → ForSome o (λ _. 1 ≤ n)
 none_risen n o none = λ s is. absurd (cc)
@@ -56,18 +56,18 @@ module _ {F : Type 0} (kept : Kept F) (s : Option UnsyncedChange) (w : Option (O
   pub may_move_free : (from to : Path) → MayMove (told_with kept s w) from to → ForSome kept.tree (λ t. CanMove t from to)
   may_move_free from to can = may_move w kept.tree from to (subst (λ s. MayMove (told_with kept s w) from to) none can)
 
--- where nothing is to be put onto the disk, nothing is stuck after a file is closed
+-- where nothing is to be put onto the disk, nothing is unsynced after a file is closed
 module _ {F : Type 0} (syncs : F → Result (Unit {0}) Error → F → Type 0) where
-  closed_wanted : (synced : Bool) (w : Option (Open F)) (result : Result (Unit {0}) TreeFault) → ClosesBy syncs synced w result → ForSome (stuck_by_close None w result) (λ _. synced ≡ true)
+  closed_wanted : (synced : Bool) (w : Option (Open F)) (result : Result (Unit {0}) TreeFault) → ClosesBy syncs synced w result → ForSome (unsynced_by_close None w result) (λ _. synced ≡ true)
   closed_wanted true w result closed = λ s at. refl
   closed_wanted false None result closed = λ s at. absurd (cc)
   closed_wanted false (Some w) (Ok x) closed = λ s at. absurd (cc)
   closed_wanted false (Some w) (Err e) closed = absurd (cc)
 
-  pub finish_wanted : (synced : Bool) (w : Option (Open F)) (result : Result (Unit {0}) TreeFault) (before after : Option UnsyncedChange) → before ≡ None → after ≡ stuck_by_close before w result → ClosesBy syncs synced w result
+  pub finish_wanted : (synced : Bool) (w : Option (Open F)) (result : Result (Unit {0}) TreeFault) (before after : Option UnsyncedChange) → before ≡ None → after ≡ unsynced_by_close before w result → ClosesBy syncs synced w result
       → ForSome after (λ _. synced ≡ true)
   finish_wanted synced w result before after none is closed =
-      subst (λ o. ForSome o (λ _. synced ≡ true)) (sym (is ∙ ap (λ s. stuck_by_close s w result) none)) (closed_wanted synced w result closed)
+      subst (λ o. ForSome o (λ _. synced ≡ true)) (sym (is ∙ ap (λ s. unsynced_by_close s w result) none)) (closed_wanted synced w result closed)
 
 -- ---- something may be
 
@@ -84,8 +84,8 @@ part_of_nothing o piece = record { count = 0; left = by o }
     by (Some s) = ap Some (same s.tree s.writing)
 
 module _ {S F D : Type 0} {sys : OfSystem S F D} {handle : OfHandle F} {file : OfInput F} {dir : OfInput D} (old new : HostDest S F D sys handle file dir) where
-  pub told_same : new.folder ≡ old.folder → new.desk.system ≡ old.desk.system → new.writing ≡ old.writing → new.stuck ≡ old.stuck → told new ≡ told old
-  told_same folder system writing stuck = λ i. told_with (sys.kept (system i) (folder i).path.now) (stuck i) (writing i)
+  pub told_same : new.folder ≡ old.folder → new.syscalls.system ≡ old.syscalls.system → new.writing ≡ old.writing → new.unsynced ≡ old.unsynced → told new ≡ told old
+  told_same folder system writing unsynced = λ i. told_with (sys.kept (system i) (folder i).path.now) (unsynced i) (writing i)
 
   pub part_refused : (piece : List ℕ) (result : Result (Unit {0}) TreeFault) → told new ≡ told old → OnErr result (LeavesPart (told old) (told new) piece)
   part_refused piece (Ok x) same = tt
@@ -94,6 +94,6 @@ module _ {S F D : Type 0} {sys : OfSystem S F D} {handle : OfHandle F} {file : O
   pub block_peeked : PeekLaw sys.kept file.left sys.opens → (p : Path) (block : List ℕ) (result : Result (Unit {0}) TreeFault) → CanPeek (told old) p → Peeks old new p block result → OnOk result (IsPeeked (told old) p block)
   block_peeked law p block result can (inl refused) = subst (λ r. OnOk r (IsPeeked (told old) p block)) (sym refused.4) tt
   block_peeked law p block result can (inr (none, asked)) =
-      let kept = sys.kept old.desk.system old.folder.path.now in
+      let kept = sys.kept old.syscalls.system old.folder.path.now in
       subst (λ s. OnOk result (IsPeeked (told_with kept s old.writing) p block)) (sym none)
-      (peek_tells sys.kept old.folder.path.now file.left file.reads sys.opens law old.desk.system new.desk.system p block old.writing (subst (λ s. CanPeek (told_with kept s old.writing) p) none can) result asked)
+      (peek_tells sys.kept old.folder.path.now file.left file.reads sys.opens law old.syscalls.system new.syscalls.system p block old.writing (subst (λ s. CanPeek (told_with kept s old.writing) p) none can) result asked)

@@ -1,8 +1,8 @@
 use Rattle.std.proofs.Common.{◌∙◌, [], ◌*◌, ◌%◌, Bor, List, ℕ, ap, eq-eqb, map, ne_eqb, refl, subst, sym, take_all}
 use Rattle.pt_rehearsal.specs.Buckets.{IsHalved, texts_in}
 use Rattle.pt_rehearsal.proofs.Packed.{free_at, gone_too, stayed_too}
-use Rattle.pt_rehearsal.proofs.text_set.halved.Goals as goal
-use Rattle.pt_rehearsal.proofs.text_set.halved.Goals.{then-hash-base+in_ok-append, else-hash-base+in_ok-append-2}
+use Rattle.pt_rehearsal.proofs.text_set.halve.Goals as goal
+use Rattle.pt_rehearsal.proofs.text_set.halve.Goals.{then-hash-base+in_ok-append, else-hash-base+in_ok-append-2}
 
 abbrev now : Bor (List ℕ) → List ℕ
 now t = t.now

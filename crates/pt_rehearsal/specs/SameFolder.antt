@@ -3,7 +3,7 @@ use Rattle.std.specs.Prelude.{◌≡◌, ◌≢◌, ◌⊎◌, [], length, OnOk,
 use Rattle.pt_tree.specs.Path.{Path}
 use Rattle.pt_tree.specs.declared.faults.TreeFault.{TreeFault}
 use Rattle.pt_folder.specs.Calls.{IsThere}
-use Rattle.pt_folder.specs.HostDest.{Looks, folder_of, folder_path, kept_by, longest_of, stuck_of, synced_of, system_of, writing_of}
+use Rattle.pt_folder.specs.HostDest.{Looks, folder_of, folder_path, kept_by, longest_of, unsynced_of, synced_of, system_of, writing_of}
 use Rattle.pt_folder.specs.Settings.{IsSetAs}
 use Rattle.pt_folder.specs.declared.dest.HostDest.{HostDest}
 use Rattle.pt_folder.specs.declared.system.Handle.{Ghosts as OfHandle}
@@ -12,13 +12,13 @@ use Rattle.pt_folder.specs.declared.system.System.{Ghosts as OfSystem}
 
 module _ {S F D : Type 0} {sys : OfSystem S F D} {handle : OfHandle F} {file : OfInput F}
     {dir : OfInput D} where
-  -- the same folder, with the same settings and open file, and the same stuck, of which the system keeps what it kept
-  abbrev pub Stays : (old new : HostDest S F D sys handle file dir) → Type 0
-  Stays old new =
+  -- the same folder, with the same settings and open file, and the same unsynced, of which the system keeps what it kept
+  abbrev pub SameFolder : (old new : HostDest S F D sys handle file dir) → Type 0
+  SameFolder old new =
       (folder_of new ≡ folder_of old)
       × IsSetAs (longest_of old) (synced_of old) (longest_of new) (synced_of new)
       × (writing_of new ≡ writing_of old)
-      × (stuck_of new ≡ stuck_of old)
+      × (unsynced_of new ≡ unsynced_of old)
       × (sys.kept (system_of new) (folder_path old) ≡ kept_by old)
 
   -- nothing is asked, as of an entry that isn't right in the folder, or where it is refused; or the system is asked once to
