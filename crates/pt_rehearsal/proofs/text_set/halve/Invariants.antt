@@ -1,6 +1,6 @@
 use Rattle.std.proofs.Common.{Bor, List, ℕ, map, take}
 use Rattle.pt_rehearsal.specs.Buckets.{IsHalved, texts_in}
-use Rattle.pt_rehearsal.proofs.text_set.halved.Given as goal
+use Rattle.pt_rehearsal.proofs.text_set.halve.Given as goal
 
 -- the texts so far were divided
 abbrev pub invariant-loop-text : goal.invariant-loop-text
