@@ -1,5 +1,7 @@
 //! Laws on the turns that a run makes. Each is the contract of a function that does nothing.
-ghost use Rattle.pt_invariant.specs.WorkLaws.{MakingDecreasesRank, NewRunIsWithinWork, PlacingDecreasesRank, ScanningDecreasesRank, StartingDecreasesRank, StopsWithinWork, TurnEndsWithinWork, TurnIsLeft, TurnKeepsWithinWork, TurnsAreWithinWork, WalkingDecreasesRank, WithinWorkHoldsInvariant};
+ghost use Rattle.pt_invariant.specs.WorkLaws.{MakingDecreasesRank, NewRunIsWithinWork, PlacingDecreasesRank, ScanningDecreasesRank};
+ghost use Rattle.pt_invariant.specs.WorkLaws.{StartingDecreasesRank, StopsWithinWork, TurnEndsWithinWork, TurnIsLeft};
+ghost use Rattle.pt_invariant.specs.WorkLaws.{TurnKeepsWithinWork, TurnsAreWithinWork, WalkingDecreasesRank, WithinWorkHoldsInvariant};
 
 /// A new run is in progress within its work, whatever its devices tell.
 pub fn new_run_is_within_work()

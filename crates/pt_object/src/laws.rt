@@ -1,7 +1,9 @@
 //! Laws of the definitions, for callers to cite.
 ghost use Rattle.pt_object.specs.Distinct.{NotingGivesDistinct, NotingKeepsFirst};
 ghost use Rattle.pt_object.specs.InventoryLaws.{InventoryReadsAsItsTree};
-ghost use Rattle.pt_object.specs.ObjectLaws.{LastFileTellsFolders, MovedStandsThere, PathsInOrderAreApart, PieceMakesMore, RootScriptCanBeMade, RootScriptMakesTheRoot, RowsAreFiles, ScriptCanBeMade, ScriptMakesTheObject, ScriptOfRowsCanBeMade, ScriptOfRowsMakesTheObject};
+ghost use Rattle.pt_object.specs.ObjectLaws.{LastFileTellsFolders, MovedStandsThere, PathsInOrderAreApart, PieceMakesMore};
+ghost use Rattle.pt_object.specs.ObjectLaws.{RootScriptCanBeMade, RootScriptMakesTheRoot, RowsAreFiles, ScriptCanBeMade};
+ghost use Rattle.pt_object.specs.ObjectLaws.{ScriptMakesTheObject, ScriptOfRowsCanBeMade, ScriptOfRowsMakesTheObject};
 ghost use Rattle.pt_object.specs.VersionLaws.{StateIsTheFiles};
 
 /// Noting all rows in order gives the distinct files: those with whose digest there is no earlier row.

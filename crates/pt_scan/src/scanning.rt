@@ -195,8 +195,8 @@ fn leave_listing(state: &mut State, object: Object, in_site: bool) -> Phase
     requires none { current_entry state.old.trail ≡ None }
     requires in_site { in_site ≡ is_in_site_of object state.old.trail }
     requires inside { IsInObject object state.old.trail }
-    ensures turn { (w : DeviceStates) → Turned (phase.Carrying object stage.Scan) state.old state.new w w
-        (Ok result) }
+    ensures turn { (w : DeviceStates) → Turned (phase.Carrying object stage.Scan)
+        state.old state.new w w (Ok result) }
 {
     if in_site {
         return Phase::Carrying(object, Stage::Make(Part::Staging));

@@ -188,7 +188,8 @@ impl<'s, 'd, 'l, S: Source, D: Dest, L: Log> Io for Devices<'s, 'd, 'l, S, D, L>
       S.keeps_on a.source.now b.source.now c.source.now p.3 q.3,
       D.keeps_on a.dest.now b.dest.now c.dest.now p.4 q.4,
       L.keeps_on a.log.now b.log.now c.log.now p.5 q.5,
-      calls_more (S.called a.source.now) (S.called b.source.now) (S.called c.source.now) m n p.6 q.6,
+      calls_more (S.called a.source.now) (S.called b.source.now) (S.called c.source.now)
+          m n p.6 q.6,
       calls_more (D.looked a.dest.now) (D.looked b.dest.now) (D.looked c.dest.now) k l p.7 q.7,
     ) };
 
@@ -199,7 +200,8 @@ impl<'s, 'd, 'l, S: Source, D: Dest, L: Log> Io for Devices<'s, 'd, 'l, S, D, L>
       S.keeps_on a.source.now b.source.now c.source.now p.3 q.3,
       D.keeps_on a.dest.now b.dest.now c.dest.now p.4 q.4,
       L.keeps_on a.log.now b.log.now c.log.now p.5 q.5,
-      calls_more (S.called a.source.now) (S.called b.source.now) (S.called c.source.now) 1 1 p.6 q.6,
+      calls_more (S.called a.source.now) (S.called b.source.now) (S.called c.source.now)
+          1 1 p.6 q.6,
       calls_still (D.looked a.dest.now) (D.looked b.dest.now) (D.looked c.dest.now) 0 p.7 q.7,
     ) };
 

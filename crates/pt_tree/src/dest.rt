@@ -2,7 +2,8 @@ ghost use Rattle.std.specs.Prelude.{◌≡◌, ℕ, [], Option, Some, IfOk, OnOk
 ghost use Rattle.std.specs.Option.{option_map};
 ghost use Rattle.pt_tree.specs.Failures.{AreAsManyCalls, IsCounted, IsOneMoreCall};
 ghost use Rattle.pt_tree.specs.Tree.{IsTree};
-ghost use Rattle.pt_tree.specs.Dest.{Writing, IsKindAt, CanPeek, IsPeeked, MayMake, CanWrite, MayMove, LeavesPart, after_mkdir, after_create, after_append, after_finish, after_rename};
+ghost use Rattle.pt_tree.specs.Dest.{Writing, IsKindAt, CanPeek, IsPeeked, MayMake, CanWrite, MayMove, LeavesPart};
+ghost use Rattle.pt_tree.specs.Dest.{after_mkdir, after_create, after_append, after_finish, after_rename};
 
 use crate::{Block, Kind, NamePath, TreeFault};
 

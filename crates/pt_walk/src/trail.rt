@@ -2,7 +2,8 @@ ghost use Rattle.std.specs.Prelude.{◌≡◌, ◌==◌, ◌++◌, ◌<◌, ◌�
 ghost use Rattle.std.specs.Option.{option_copied};
 ghost use Rattle.pt_tree.specs.Listing.{items_lent};
 ghost use Rattle.pt_walk.specs.Sites.{at_of};
-ghost use Rattle.pt_walk.specs.Trail.{advanced, can_enter, current_entry, entered, entries_held, has_place, innermost_listing, is_trail, names_to, parent, sought, trail_path};
+ghost use Rattle.pt_walk.specs.Trail.{advanced, can_enter, current_entry, entered, entries_held, has_place};
+ghost use Rattle.pt_walk.specs.Trail.{innermost_listing, is_trail, names_to, parent, sought, trail_path};
 ghost use Rattle.pt_walk.specs.declared.site.At.TheVariants as at;
 
 use crate::At;
