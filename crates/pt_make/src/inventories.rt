@@ -11,9 +11,12 @@ ghost use Rattle.pt_state.specs.Turns.{TakesTurn, WroteBy};
 ghost use Rattle.pt_state.specs.States.{job_of};
 ghost use Rattle.pt_tree.specs.Dest.{MayMake};
 ghost use Rattle.pt_object.specs.WellKnown.{known_text};
-ghost use Rattle.pt_make.specs.Making.{HasContentsOfRows, HasFedAt, HasFedInventory, IsFedFor, IsFedMore, in_folder, inventory_held, inventory_part, makes_file, sidecar_part};
+ghost use Rattle.pt_make.specs.Making.{HasContentsOfRows, HasFedAt, HasFedInventory, IsFedFor, IsFedMore};
+ghost use Rattle.pt_make.specs.Making.{in_folder, inventory_held, inventory_part, makes_file, sidecar_part};
 
-use pt_object::{Algorithm, Digest, Hasher, InventoryPieces, WellKnownName, sidecar_of};
+use pt_object::{
+    Algorithm, Digest, Hasher, InventoryInput, InventoryPieces, WellKnownName, sidecar_of,
+};
 use pt_plan::{Fault, Object, Part, Phase, Stage};
 use pt_state::files::put_file;
 use pt_state::{Io, State};
@@ -71,14 +74,14 @@ fn text_of<'a>(state: &'a State, object: &'a Object) -> Result<InventoryPieces<'
     requires { HasContentsOfRows state.now }
     ensures { IfOk result (λ text. text.rest ≡ inventory_held state.now object.now) }
 {
-    InventoryPieces::of(
-        state.alloc,
-        object.id.as_str(),
-        &state.rows,
-        &state.contents,
-        &state.job.meta,
-        state.job.algorithm,
-    )
+    let whole = InventoryInput {
+        id: object.id.as_str(),
+        rows: &state.rows,
+        contents: &state.contents,
+        meta: &state.job.meta,
+        algorithm: state.job.algorithm,
+    };
+    InventoryPieces::of(state.alloc, whole)
 }
 
 // Makes a file of the destination with a text, and feeds it to the hasher, if there is one. Each piece is written and fed

@@ -46,12 +46,34 @@ pub fn inventory(
     ensures reads { IfOk result (λ text. read (string_bytes text)
         ≡ Some (inventory_tree id.now rows.now meta.now algorithm)) }
 {
-    let mut pieces = InventoryPieces::of(alloc, id, rows, contents, meta, algorithm)?;
+    let object = InventoryInput {
+        id,
+        rows,
+        contents,
+        meta,
+        algorithm,
+    };
+    let mut pieces = InventoryPieces::of(alloc, object)?;
     let mut text = Vec::new(alloc);
     while pieces.next()? {
         text.extend_from_slice(pieces.piece())?;
     }
     Ok(unsafe { String::from_utf8_unchecked(text) })
+}
+
+/// What the inventory of an object is made of.
+#[derive(Clone, Copy)]
+pub struct InventoryInput<'a> {
+    /// The object's identifier.
+    pub id: &'a str,
+    /// Its files.
+    pub rows: &'a Rows,
+    /// The contents of these rows.
+    pub contents: &'a Contents,
+    /// What is said of its version.
+    pub meta: &'a Meta,
+    /// The algorithm of its digests.
+    pub algorithm: Algorithm,
 }
 
 /// The text that `inventory` gives, made piece by piece so that one of many pieces is nowhere as a whole: seen as the piece that was made last, and as
@@ -81,30 +103,23 @@ impl<'a> Model for InventoryPieces<'a> {
 
 impl<'a> InventoryPieces<'a> {
     /// The text of the inventory that `inventory` makes of the same, none of it made yet. `Memory` where a growth was refused.
-    pub fn of(
-        alloc: Global,
-        id: &'a str,
-        rows: &'a Rows,
-        contents: &'a Contents,
-        meta: &'a Meta,
-        algorithm: Algorithm,
-    ) -> Result<InventoryPieces<'a>, MemoryFault>
-        requires { contents.now ≡ map content_of_row (distinct rows.now) }
-        ensures { IfOk result (λ pieces. pieces.rest
-            ≡ inventory_text id.now rows.now meta.now algorithm) }
+    pub fn of(alloc: Global, object: InventoryInput<'a>) -> Result<InventoryPieces<'a>, MemoryFault>
+        requires { object.contents.now ≡ map content_of_row (distinct object.rows.now) }
+        ensures { IfOk result (λ pieces. pieces.rest ≡ inventory_text object.entry.id.now
+            object.entry.rows.now object.entry.meta.now object.entry.algorithm) }
     {
-        let items = contents.as_slice();
+        let items = object.contents.as_slice();
         tell_digests(items);
         Ok(InventoryPieces {
             alloc,
             parts: Parts {
-                id,
-                rows,
-                meta,
-                algorithm,
+                id: object.id,
+                rows: object.rows,
+                meta: object.meta,
+                algorithm: object.algorithm,
                 items,
-                index: contents.index(),
-                groups: group_rows(alloc, rows.as_slice(), contents)?,
+                index: object.contents.index(),
+                groups: group_rows(alloc, object.rows.as_slice(), object.contents)?,
             },
             next: Step::Head,
             text: Vec::with_capacity(alloc, ROOM)?,

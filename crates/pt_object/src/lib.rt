@@ -41,7 +41,7 @@ pub use algorithm::Algorithm;
 pub use digest::Digest;
 pub use files::{object_declaration, root_declaration, sidecar, sidecar_of};
 pub use hasher::Hasher;
-pub use inventories::{InventoryPieces, inventory};
+pub use inventories::{InventoryInput, InventoryPieces, inventory};
 pub use meta::{Meta, MetaFault};
 pub use root::{RootFiles, root_files};
 pub use rows::{Row, Rows};

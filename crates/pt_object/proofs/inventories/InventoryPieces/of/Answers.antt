@@ -7,7 +7,8 @@ use Rattle.pt_object.proofs.inventories.InventoryPieces.of.Goals as goal
 
 pub returns : goal.returns
 returns c =
-    let tree = inventory_tree c.args.id.now c.args.rows.now c.args.meta.now c.args.algorithm in
-    ap print (all_left c.args.id.now c.args.rows.now c.args.meta.now c.args.algorithm c.as_slice-items.result.now c.index.result.now
+    let object = c.args.object in
+    let tree = inventory_tree object.id.now object.rows.now object.meta.now object.algorithm in
+    ap print (all_left object.id.now object.rows.now object.meta.now object.algorithm c.as_slice-items.result.now c.index.result.now
     (c.as_slice-items.ensures ∙ c.requires) (rw c.as_slice-items.ensures c.index.ensures) c.tell_digests.ensures)
     ∙ print-outline tree
