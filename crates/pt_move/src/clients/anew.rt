@@ -30,21 +30,28 @@ pub trait Jobs {
         ensures same { job self.new ≡ job self.old };
 }
 
+/// The same job for each of so many runs.
+#[derive(Drop)]
+pub struct Retries<J> {
+    pub jobs: J,
+    pub tries: u32,
+}
+
 /// Makes a run, and after each fault takes `staging` away and makes another, so many in all: whether one came to its end. Whatever faults there
 /// were, and wherever they came: where all three tell and a run could end well, the destination then holds what one undisturbed run leaves.
-pub fn carry_through<S: Source, D: Mended, L: Log, J: Jobs>(
+pub fn carry_through<S: Source, D: Mended, L: Log, J: Jobs + Drop>(
     alloc: Global,
     source: &mut S,
     dest: &mut D,
     log: &mut L,
-    jobs: &mut J,
-    tries: u32,
+    retries: Retries<J>,
 ) -> bool
-    ensures { (s : Forest) (start : Tree) → MayEndAs (J.job jobs.old) s start
+    ensures { (s : Forest) (start : Tree) → MayEndAs (J.job retries.jobs) s start
         (states_of S.Source D.Dest L.Log source.old dest.old log.old)
         → result ≡ true
-        → dest_tree (D.Dest.told dest.new) ≡ Some (undisturbed (J.job jobs.old) s start) }
+        → dest_tree (D.Dest.told dest.new) ≡ Some (undisturbed (J.job retries.jobs) s start) }
 {
+    let Retries { mut jobs, tries } = retries;
     for _ in 0..tries {
         let Some(job) = jobs.next() else {
             return false;
