@@ -185,11 +185,14 @@ impl<'a, S: System> HostDest<'a, S> {
 }
 
 impl<'a, S: System> Dest for HostDest<'a, S> {
-    ghost use Rattle.pt_tree.specs.Dest.{CanPeek, CanWrite, IsKindAt, IsPeeked, LeavesPart, MayMake, MayMove, after_mkdir, after_create, after_append, after_finish, after_rename};
+    ghost use Rattle.pt_tree.specs.Dest.{CanPeek, CanWrite, IsKindAt, IsPeeked, LeavesPart, MayMake, MayMove};
+    ghost use Rattle.pt_tree.specs.Dest.{after_mkdir, after_create, after_append, after_finish, after_rename};
     ghost use Rattle.pt_folder.specs.DestHeld.{tree_with};
     ghost use Rattle.pt_folder.specs.Steps.{Serves, none, steps_on};
     ghost use Rattle.pt_folder.specs.UnsyncedChange.{open_if_unsynced, unsynced_by_finish};
-    ghost use Rattle.pt_folder.specs.HostDest.{Closes, IsCall, IsLook, IsOtherCall, KeepsClose, KeepsDir, KeepsFile, KeepsLook, KeepsMove, KeepsPeek, KeepsWrite, Looks, MakesDir, MakesFile, Moves, Peeks, Writes, folder_path, system_of, told};
+    ghost use Rattle.pt_folder.specs.HostDest.{Closes, IsCall, IsLook, IsOtherCall, KeepsClose, KeepsDir};
+    ghost use Rattle.pt_folder.specs.HostDest.{KeepsFile, KeepsLook, KeepsMove, KeepsPeek, KeepsWrite, Looks, MakesDir};
+    ghost use Rattle.pt_folder.specs.HostDest.{MakesFile, Moves, Peeks, Writes, folder_path, system_of, told};
 
     ghost told = { told };
 

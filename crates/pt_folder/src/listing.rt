@@ -40,7 +40,8 @@ pub fn list<S: System>(
         (λ f. IsSome (dir_at f path.now)) }
     ensures same { S.forest syscalls.new.system folder.now.path.now
         ≡ S.forest syscalls.old.system folder.now.path.now }
-    ensures told { IfOk result (λ listing. ForSome (S.forest syscalls.old.system folder.now.path.now)
+    ensures told { IfOk result (λ listing.
+        ForSome (S.forest syscalls.old.system folder.now.path.now)
         (λ f. listing_at f path.now ≡ Some listing)) }
     ensures most { IfOk result (λ listing. length listing ≤ most_entries) }
     ensures listed { IfOk result (IsListedBy S.System S.Dir.Input

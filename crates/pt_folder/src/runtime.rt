@@ -3,7 +3,8 @@ ghost use Rattle.std.specs.Prelude.{⊤, ◌≡◌, refl};
 ghost use Rattle.std.specs.Fs.{file_type as type_of};
 ghost use Rattle.pt_folder.specs.Calls.{for_making, for_reading};
 ghost use Rattle.pt_folder.specs.Folder.{IsKind};
-ghost use Rattle.pt_folder.specs.Untold.{no_forest, no_kept, unknown, untold_dir, untold_file, untold_kind, untold_look, untold_move, untold_names, untold_open, untold_peek, untold_proper, untold_tree, untold_write};
+ghost use Rattle.pt_folder.specs.Untold.{no_forest, no_kept, unknown, untold_dir, untold_file, untold_kind, untold_look, untold_move};
+ghost use Rattle.pt_folder.specs.Untold.{untold_names, untold_open, untold_peek, untold_proper, untold_tree, untold_write};
 
 use crate::system::{Handle, Input, System};
 use pt_tree::Kind;
