@@ -78,7 +78,7 @@ fn fill<F: Input>(file: &mut F, buffer: &mut [u8]) -> io::Result<usize>
 }
 
 /// Writes all the bytes. An error, or zero for a piece that isn't empty, ends it; nothing is tried again.
-pub fn write_out<S: System>(system: &mut S, file: &mut S::File, bytes: &[u8]) -> io::Result<()>
+pub fn write_pieces<S: System>(system: &mut S, file: &mut S::File, bytes: &[u8]) -> io::Result<()>
     ensures writes { OnOk result (WritesAll (on_pairs S.writes) bytes.now
         (system.old, file.old) (system.new, file.new)) }
     ensures error { IfErr result (λ e. FailsToWrite (on_pairs S.writes) bytes.now

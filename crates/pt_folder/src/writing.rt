@@ -7,7 +7,7 @@ ghost use Rattle.pt_folder.specs.Failure.{KeepsMaking, OnDevice};
 ghost use Rattle.pt_folder.specs.UnsyncedChange.{unsynced_by_close};
 ghost use Rattle.pt_folder.specs.Writing.{ClosesBy, FailsToAdd, IsMadeAt, IsOfWriting, MakesAt, WritesTo, open_unless_within};
 
-use crate::bytes::write_out;
+use crate::bytes::write_pieces;
 use crate::failure::{FailureReason, Last};
 use crate::folder::Folder;
 use crate::syscalls::Syscalls;
@@ -66,7 +66,7 @@ pub(crate) fn add<S: System>(
         writing.old)) }
 {
     match writing {
-        Some(open) => match write_out(&mut syscalls.system, &mut open.file, piece) {
+        Some(open) => match write_pieces(&mut syscalls.system, &mut open.file, piece) {
             Ok(()) => Ok(()),
             Err(error) => Err(folder.record_error_at(&open.path, error, &mut syscalls.last)),
         },

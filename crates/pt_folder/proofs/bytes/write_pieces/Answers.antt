@@ -2,7 +2,7 @@ use Rattle.std.specs.Prelude.{Ok}
 use Rattle.std.proofs.Common.{take, drop, length, ◌-◌, arith, length-drop, length-take, inl, inr, subst}
 use Rattle.pt_folder.specs.Runs.{on_pairs}
 use Rattle.pt_folder.proofs.Turns.{writes_more, write_fails}
-use Rattle.pt_folder.proofs.bytes.write_out.Goals as goal
+use Rattle.pt_folder.proofs.bytes.write_pieces.Goals as goal
 
 pub loop-done-preserved : goal.loop-done-preserved
 loop-done-preserved g c =

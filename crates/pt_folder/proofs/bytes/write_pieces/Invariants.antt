@@ -1,7 +1,7 @@
 use Rattle.std.proofs.Common.{◌-◌, ◌≤◌, List, ℕ, length, drop}
 use Rattle.std.specs.List.{FoldsTo}
 use Rattle.pt_folder.specs.Runs.{WritesMore, on_pairs}
-use Rattle.pt_folder.proofs.bytes.write_out.Given as goal
+use Rattle.pt_folder.proofs.bytes.write_pieces.Given as goal
 
 -- what is done was written
 abbrev pub invariant-loop-done : goal.invariant-loop-done
