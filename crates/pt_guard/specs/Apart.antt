@@ -1,5 +1,5 @@
 -- Folders that lie in one another.
-use Rattle.std.specs.Prelude.{◌≡◌, ◌↔◌, ℕ, zero, suc, Bool, IsTrue, List, ◌++◌, codes, length, Result, MatchResult, MatchBool, IsSome, unwrap_or}
+use Rattle.std.specs.Prelude.{◌≡◌, ◌↔◌, ℕ, zero, suc, Bool, IsTrue, List, ◌++◌, codes, length, string_bytes, Result, MatchResult, MatchBool, IsSome, unwrap_or}
 use Rattle.std.specs.Path.{PathStartsWith, path_buf_bytes, path_parent}
 use Rattle.std.specs.IoError.{error_kind}
 use Rattle.std.specs.declared.io.Error.{Error}
@@ -8,6 +8,7 @@ use Rattle.std.specs.declared.io.ErrorKind.TheVariants.{OutOfMemory}
 use Rattle.pt_guard.specs.Paths.{Place}
 use Rattle.pt_guard.specs.PlaceCall.{PlaceCall, Identify, Resolve}
 use Rattle.pt_guard.specs.declared.apart.AncestorSearch.{AncestorSearch}
+use Rattle.pt_guard.specs.declared.apart.InnerPaths.{InnerPaths}
 use Rattle.pt_guard.specs.declared.apart.Nesting.{Nesting}
 use Rattle.pt_guard.specs.declared.apart.RunPaths.{RunPaths}
 use Rattle.pt_guard.specs.Wanting.{IsWanting}
@@ -52,6 +53,12 @@ folders_in paths = record {
   root = paths.root.now;
   staging = paths.staging.now;
 }
+
+-- the paths below a store and a destination: of its `pairtree_root`, and of `ocfl` and `staging`, which it is to hold
+pub record AreInnerPaths (source dest : List ℕ) (inner : InnerPaths) : Type 0 where
+  pub tree : string_bytes inner.tree ≡ source ++ codes "/pairtree_root"
+  pub root : string_bytes inner.root ≡ dest ++ codes "/ocfl"
+  pub staging : string_bytes inner.staging ≡ dest ++ codes "/staging"
 
 -- those of a store and a destination, which is to hold `ocfl` and `staging`
 abbrev pub folders_of : List ℕ → List ℕ → Folders

@@ -1,8 +1,9 @@
 //! Whether one folder lies in another: by where their paths lead, links resolved, and by what the folders are, whatever leads to them.
-ghost use Rattle.std.specs.Prelude.{◌≡◌, ◌++◌, IfErr, IfOk, codes, string_bytes};
+ghost use Rattle.std.specs.Prelude.{◌≡◌, ◌++◌, IfErr, IfOk, string_bytes};
 ghost use Rattle.std.specs.IoError.{error_kind};
 ghost use Rattle.std.specs.Path.{path_buf_bytes};
-ghost use Rattle.pt_guard.specs.Apart.{Finds, InEither, IsHeld, IsUnresolved, LiesIn, Overlaps, SearchesAncestors, folders_in, folders_of, lie_of};
+ghost use Rattle.pt_guard.specs.Apart.{AreInnerPaths, Finds, InEither, IsHeld, IsUnresolved, LiesIn, Overlaps};
+ghost use Rattle.pt_guard.specs.Apart.{SearchesAncestors, folders_in, folders_of, lie_of};
 ghost use Rattle.pt_guard.specs.FilePlace.{FindsFile, FindsNamed, place_of};
 
 use crate::places::{FileId, Places, is_wanting};
@@ -130,13 +131,7 @@ pub(crate) fn overlap<S: Places>(
         Overlaps S.does source.now dest.now system.old system.new lie) }
 {
     let inner = inner_paths(alloc, source, dest)?;
-    let paths = RunPaths {
-        source,
-        tree: inner.tree.as_str(),
-        dest,
-        root: inner.root.as_str(),
-        staging: inner.staging.as_str(),
-    };
+    let paths = inner.run_paths(source, dest);
     Ok(paths.first_found(system, alloc))
 }
 
@@ -156,13 +151,7 @@ pub(crate) fn surroundings<S: Places>(
         system.old system.new lie) }
 {
     let inner = inner_paths(alloc, source, dest)?;
-    let paths = RunPaths {
-        source,
-        tree: inner.tree.as_str(),
-        dest,
-        root: inner.root.as_str(),
-        staging: inner.staging.as_str(),
-    };
+    let paths = inner.run_paths(source, dest);
     Ok(paths.first_around(system, alloc, file))
 }
 
@@ -217,7 +206,7 @@ impl<'a> RunPaths<'a> {
                 file.folder,
                 (self.root, self.staging),
             ) {
-                Nesting::Apart => named_in(system, alloc, file, self.dest),
+                Nesting::Apart => nesting_by_name(system, alloc, file, self.dest),
                 Nesting::Inside => Nesting::Inside,
                 Nesting::Unknown => Nesting::Unknown,
                 Nesting::Wanting => Nesting::Wanting,
@@ -243,7 +232,12 @@ fn in_either<S: Places>(system: &mut S, alloc: Global, inner: &str, outers: (&st
 }
 
 // How a file that has the name of what a destination is to hold lies to the destination; another is apart from it.
-fn named_in<S: Places>(system: &mut S, alloc: Global, file: FilePlace<'_>, dest: &str) -> Nesting
+fn nesting_by_name<S: Places>(
+    system: &mut S,
+    alloc: Global,
+    file: FilePlace<'_>,
+    dest: &str,
+) -> Nesting
     ensures { FindsNamed S.does (place_of file.entry) dest.now system.old system.new result }
 {
     if file.is_named {
@@ -261,13 +255,25 @@ struct InnerPaths {
     staging: String,
 }
 
+impl InnerPaths {
+    // These, with the store and the destination that they are of.
+    fn run_paths<'a>(&'a self, source: &'a str, dest: &'a str) -> RunPaths<'a>
+        requires { AreInnerPaths source.now dest.now self.now }
+        ensures { folders_in result ≡ folders_of source.now dest.now }
+    {
+        RunPaths {
+            source,
+            tree: self.tree.as_str(),
+            dest,
+            root: self.root.as_str(),
+            staging: self.staging.as_str(),
+        }
+    }
+}
+
 // Those of a store and a destination at these paths.
 fn inner_paths(alloc: Global, source: &str, dest: &str) -> Result<InnerPaths, AllocError>
-    ensures tree { IfOk result (λ inner.
-        string_bytes inner.tree ≡ source.now ++ codes "/pairtree_root") }
-    ensures root { IfOk result (λ inner. string_bytes inner.root ≡ dest.now ++ codes "/ocfl") }
-    ensures staging { IfOk result (λ inner.
-        string_bytes inner.staging ≡ dest.now ++ codes "/staging") }
+    ensures { IfOk result (AreInnerPaths source.now dest.now) }
 {
     let tree = below(alloc, source, TREE)?;
     let root = below(alloc, dest, ROOT)?;

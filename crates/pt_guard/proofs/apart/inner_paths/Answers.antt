@@ -1,4 +1,8 @@
 use Rattle.pt_guard.proofs.apart.inner_paths.Goals as goal
 
-pub returns-clause-staging : goal.returns-clause-staging
-returns-clause-staging c = c.in_ok-staging.ensures
+pub returns : goal.returns
+returns c = record {
+  tree = c.in_ok-tree.ensures;
+  root = c.in_ok-root.ensures;
+  staging = c.in_ok-staging.ensures;
+}
