@@ -3,7 +3,8 @@
 
 ghost use Rattle.std.specs.Prelude.{◌≡◌, IfOk, drop, length};
 ghost use Rattle.std.specs.Option.{ForSome};
-ghost use Rattle.pt_audit.specs.Twin.{has_object as has_object_finding, is_second as is_second_site, object_stands as object_stands_in, proper_site as proper_site_of};
+ghost use Rattle.pt_audit.specs.Twin.{has_object as has_object_finding, is_second as is_second_site};
+ghost use Rattle.pt_audit.specs.Twin.{object_stands as object_stands_in, proper_site as proper_site_of};
 ghost use Rattle.pt_compare.specs.Root.{Stands, kind_at as kind_there, tree_in};
 ghost use Rattle.pt_plan.specs.TurnStart.{is_dir_kind};
 ghost use Rattle.pt_plan.specs.TurnWalk.{in_pairtree as in_pairtree_of};
