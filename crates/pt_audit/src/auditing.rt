@@ -69,7 +69,7 @@ pub fn audit<S: Source, R: Root, L: Log, O: Observer<Counts>>(
     ensures made { IsMade job (source_tree (S.told source.old)) result }
 {
     let audited = audit_objects(alloc, source, root, log, job, observer)?;
-    tell_end(alloc, audited.counts, log)
+    tell_audit_end(alloc, audited.counts, log)
 }
 
 /// An audit that told of all objects, and not yet of its end.
@@ -439,7 +439,7 @@ fn finds_twin<S: Source>(
 }
 
 // Tells the end, with the counts, and gives these.
-fn tell_end<L: Log>(alloc: Global, counts: Counts, log: &mut L) -> Result<Counts, Fault>
+fn tell_audit_end<L: Log>(alloc: Global, counts: Counts, log: &mut L) -> Result<Counts, Fault>
     ensures told { IfOk result (λ told. (told ≡ counts)
         × Appends (L.told log.old) (L.told log.new) (last_text counts)) }
     ensures part { OnErr result (AppendsFront (L.told log.old) (L.told log.new)

@@ -163,7 +163,7 @@ fn tell_rest<S: Source, R: Source, L: Log>(
     match found {
         Ok(numbers) => {
             let told = AuditCounts { counts, numbers };
-            let ran = tell_end(alloc, told, &mut devices.log);
+            let ran = tell_end_of_both(alloc, told, &mut devices.log);
             AuditEnd { ran, devices }
         }
         Err(fault) => AuditEnd {
@@ -174,7 +174,11 @@ fn tell_rest<S: Source, R: Source, L: Log>(
 }
 
 // Tells the end, with the counts, and gives these.
-fn tell_end<L: Log>(alloc: Global, counts: AuditCounts, log: &mut L) -> Result<AuditCounts, Fault>
+fn tell_end_of_both<L: Log>(
+    alloc: Global,
+    counts: AuditCounts,
+    log: &mut L,
+) -> Result<AuditCounts, Fault>
     ensures told { IfOk result (λ told. (told ≡ counts)
         × Appends (L.told log.old) (L.told log.new) (last_text counts)) }
     ensures part { OnErr result (AppendsFront (L.told log.old) (L.told log.new)

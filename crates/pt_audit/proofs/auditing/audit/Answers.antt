@@ -15,18 +15,18 @@ returns-in_err-audited-clause-ends g c =
 
 pub returns-clause-ends : goal.returns-clause-ends
 returns-clause-ends g c =
-    logs_end c.tell_end.result _
+    logs_end c.tell_audit_end.result _
     (start_over (tree_in (g.S.Source.told c.args.source.now)) (tree_in (g.R.Source.told c.args.root.now)) (g.L.Log.told c.args.log.now))
-    _ _ _ c.in_ok-audited.ensures.ends c.tell_end.ensures.told c.tell_end.ensures.part
+    _ _ _ c.in_ok-audited.ensures.ends c.tell_audit_end.ensures.told c.tell_audit_end.ensures.part
 
 pub returns-clause-made : goal.returns-clause-made
-returns-clause-made g c = made_end _ c.tell_end.result c.tell_end.ensures.told c.in_ok-audited.ensures.made
+returns-clause-made g c = made_end _ c.tell_audit_end.result c.tell_audit_end.ensures.told c.in_ok-audited.ensures.made
 
 pub returns-clause-log : goal.returns-clause-log
 returns-clause-log g c = (
-  g.met.L.Log.keeps_on _ _ _ c.in_ok-audited.ensures.log.0 c.tell_end.ensures.log.0,
-  grows_on _ _ _ c.in_ok-audited.ensures.log.1 c.tell_end.ensures.log.1,
+  g.met.L.Log.keeps_on _ _ _ c.in_ok-audited.ensures.log.0 c.tell_audit_end.ensures.log.0,
+  grows_on _ _ _ c.in_ok-audited.ensures.log.1 c.tell_audit_end.ensures.log.1,
 )
 
 pub returns-clause-says : goal.returns-clause-says
-returns-clause-says g c = says_by c.tell_end.result _ _ _ _ _ c.tell_end.ensures.fails
+returns-clause-says g c = says_by c.tell_audit_end.result _ _ _ _ _ c.tell_audit_end.ensures.fails
