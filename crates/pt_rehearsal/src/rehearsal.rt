@@ -68,7 +68,8 @@ impl<'a, S: System> Rehearsal<'a, S> {
 }
 
 impl<'a, S: System> Dest for Rehearsal<'a, S> {
-    ghost use Rattle.pt_tree.specs.Dest.{CanPeek, CanWrite, IsKindAt, IsPeeked, LeavesPart, MayMake, MayMove, after_mkdir, after_create, after_append, after_finish, after_rename};
+    ghost use Rattle.pt_tree.specs.Dest.{CanPeek, CanWrite, IsKindAt, IsPeeked, LeavesPart, MayMake, MayMove};
+    ghost use Rattle.pt_tree.specs.Dest.{after_mkdir, after_create, after_append, after_finish, after_rename};
     ghost use Rattle.pt_rehearsal.specs.Rehearsal.{IsCall, IsSame, LooksUnlessKnown, PeeksUnlessKnown, told};
     ghost use Rattle.pt_rehearsal.specs.Told.{tree_of_rehearsal};
 

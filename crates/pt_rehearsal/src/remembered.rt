@@ -3,7 +3,9 @@ ghost use Rattle.std.specs.Prelude.{◌≡◌, ◌||◌, IfOk, OnErr, OnOk, true
 ghost use Rattle.std.specs.Option.{option_map};
 ghost use Rattle.pt_tree.specs.Name.{AreNames};
 ghost use Rattle.pt_tree.specs.Path.{joined};
-ghost use Rattle.pt_rehearsal.specs.Seeing.{Becomes, inner_of, is_inside, is_itself, is_met, made_dir, made_file, made_inside, made_known, met_in, moved_known, moved_to, nothing, renamed_to, seen_at, view, with_folder, with_met};
+ghost use Rattle.pt_rehearsal.specs.Seeing.{Becomes, inner_of, is_inside, is_itself, is_met, made_dir};
+ghost use Rattle.pt_rehearsal.specs.Seeing.{made_file, made_inside, made_known, met_in, moved_known, moved_to};
+ghost use Rattle.pt_rehearsal.specs.Seeing.{nothing, renamed_to, seen_at, view, with_folder, with_met};
 
 use crate::text_set::TextSet;
 use pt_tree::{MemoryFault, Name, NamePath};
@@ -116,7 +118,8 @@ impl Remembered {
     /// `Memory` nothing is changed.
     pub fn rename(&mut self, from: &NamePath, to: &NamePath) -> Result<bool, MemoryFault>
         ensures ok { IfOk result (λ can.
-            Becomes (moved_to (view self.old) from.now to.now) can (view self.old) (view self.new)) }
+            Becomes (moved_to (view self.old) from.now to.now) can
+            (view self.old) (view self.new)) }
         ensures err { OnErr result (view self.new ≡ view self.old) }
         ensures named { IfOk result (λ can. can ≡ true → AreNames to.now) }
     {

@@ -92,7 +92,8 @@ impl TextSet {
 
     // The bucket in which a text lies, or would lie.
     fn bucket(&self, text: &[u8]) -> usize
-        ensures { result ≡ bucket_of self.now.base (length self.now.buckets.items) (hash_of text.now) }
+        ensures { result ≡ bucket_of self.now.base (length self.now.buckets.items)
+            (hash_of text.now) }
     {
         let place = hash(text) % (2 * self.base);
         if place < self.buckets.len() {
