@@ -105,12 +105,6 @@ pub trait Io {
     ghost more: { (a b c : Self) (m n k l : ℕ) → within m k a b → within n l b c
         → within (m + n) (k + l) a c };
 
-    /// Two calls of the source are two.
-    ghost twice: { (a b c : Self) → within 1 0 a b → within 1 0 b c → within 2 0 a c };
-
-    /// And so are two of the destination.
-    ghost both: { (a b c : Self) → within 0 1 a b → within 0 1 b c → within 0 2 a c };
-
     /// In each directory of a source that tells the names rise.
     ghost proper: { (o : Self) (told : Reading) → (states o).source ≡ Some told
         → is_proper told.tree ≡ true };
@@ -191,29 +185,6 @@ impl<'s, 'd, 'l, S: Source, D: Dest, L: Log> Io for Devices<'s, 'd, 'l, S, D, L>
       calls_more (S.called a.source.now) (S.called b.source.now) (S.called c.source.now)
           m n p.6 q.6,
       calls_more (D.looked a.dest.now) (D.looked b.dest.now) (D.looked c.dest.now) k l p.7 q.7,
-    ) };
-
-    ghost twice = { λ a b c p q. (
-      q.0 ∙ p.0,
-      q.1 ∙ p.1,
-      q.2 ∙ p.2,
-      S.keeps_on a.source.now b.source.now c.source.now p.3 q.3,
-      D.keeps_on a.dest.now b.dest.now c.dest.now p.4 q.4,
-      L.keeps_on a.log.now b.log.now c.log.now p.5 q.5,
-      calls_more (S.called a.source.now) (S.called b.source.now) (S.called c.source.now)
-          1 1 p.6 q.6,
-      calls_still (D.looked a.dest.now) (D.looked b.dest.now) (D.looked c.dest.now) 0 p.7 q.7,
-    ) };
-
-    ghost both = { λ a b c p q. (
-      q.0 ∙ p.0,
-      q.1 ∙ p.1,
-      q.2 ∙ p.2,
-      S.keeps_on a.source.now b.source.now c.source.now p.3 q.3,
-      D.keeps_on a.dest.now b.dest.now c.dest.now p.4 q.4,
-      L.keeps_on a.log.now b.log.now c.log.now p.5 q.5,
-      calls_still (S.called a.source.now) (S.called b.source.now) (S.called c.source.now) 0 p.6 q.6,
-      calls_more (D.looked a.dest.now) (D.looked b.dest.now) (D.looked c.dest.now) 1 1 p.7 q.7,
     ) };
 
     ghost proper = { λ o told is. S.proper o.source.now told is };

@@ -8,7 +8,7 @@ pub returns-in_err-peek : goal.returns-in_err-peek
 returns-in_err-peek g c = record {
   turn = record {
     turn = stayed _ _ _ _ _ c.in_err-peek.field-0.0 _ (search rules) (looked_then _ _ _ _ _ _ c.in_ok-here.ensures.did c.in_err-peek.ensures.failed) (search (rules, starting));
-    few = g.met.O.Io.both _ _ _ c.kind.ensures.few c.peek.ensures.few;
+    few = g.met.O.Io.more _ _ _ 0 0 1 1 c.kind.ensures.few c.peek.ensures.few;
   };
 }
 
@@ -16,7 +16,7 @@ pub returns-then-ne : goal.returns-then-ne
 returns-then-ne g c = record {
   turn = record {
     turn = search (rules, starting);
-    few = g.met.O.Io.both _ _ _ c.kind.ensures.few c.peek.ensures.few;
+    few = g.met.O.Io.more _ _ _ 0 0 1 1 c.kind.ensures.few c.peek.ensures.few;
   };
 }
 
@@ -24,6 +24,6 @@ pub returns : goal.returns
 returns g c = record {
   turn = record {
     turn = search (rules, starting);
-    few = g.met.O.Io.both _ _ _ c.kind.ensures.few c.peek.ensures.few;
+    few = g.met.O.Io.more _ _ _ 0 0 1 1 c.kind.ensures.few c.peek.ensures.few;
   };
 }
