@@ -89,7 +89,12 @@ where
     let ignoring = source.into_source();
     reason::tell_left_out(rt, telling.verbose & ignores, ignoring.left_out());
     let source = ignoring.into_source();
-    let why = report_outcome(rt, &ran, telling, &source, &dest, store);
+    let sides = RunSides {
+        source: &source,
+        dest: &dest,
+        store,
+    };
+    let why = report_outcome(rt, &ran, telling, sides);
     let outcome = Outcome::new(Words::Run, log.counts(), ran.as_ref().err(), why);
     let status = status_of(&ran, options.present_ok);
     let host_io = HostIo {
@@ -154,14 +159,20 @@ fn run_or_rehearse<'a, S: Source, D: System, L: Log>(
     Ran { ran, dest }
 }
 
+// The two sides of a run that has ended: its folders, and the path of the store.
+#[derive(Drop)]
+struct RunSides<'r, 'a, S: System, D: System> {
+    source: &'r HostSource<'a, S>,
+    dest: &'r HostDest<'a, D>,
+    store: &'r str,
+}
+
 // Says what a run over these folders came to, if a fault ended it, and why, if that is asked for; and gives why, where that is told or recorded.
 fn report_outcome<R: Reads + Eprint + AllocGlobal, S: System, D: System>(
     rt: &R,
     ran: &Result<Report, Fault>,
     telling: Telling,
-    source: &HostSource<'_, S>,
-    dest: &HostDest<'_, D>,
-    store: &str,
+    sides: RunSides<'_, '_, S, D>,
 ) -> Result<Option<FaultReason>, AllocError> {
     let Err(fault) = ran else {
         return Ok(None);
@@ -170,7 +181,7 @@ fn report_outcome<R: Reads + Eprint + AllocGlobal, S: System, D: System>(
     if !telling.wants_why() {
         return Ok(None);
     }
-    let why = reason::of_run(rt, fault, source, dest, store);
+    let why = reason::of_run(rt, fault, sides.source, sides.dest, sides.store);
     tell_why(rt, telling, &why);
     why
 }
