@@ -1,11 +1,11 @@
 //! The job that takes the identifiers of a list.
-ghost use Rattle.std.specs.Prelude.{◌≡◌, ◌≢◌, ◌⊎◌, IfOk, option_map};
+ghost use Rattle.std.specs.Prelude.{◌≡◌, ◌≢◌, ◌⊎◌, IfOk};
 ghost use Rattle.std.specs.IoError.{error_kind};
 ghost use Rattle.std.specs.declared.io.ErrorKind.TheVariants.{OutOfMemory};
 ghost use Rattle.pt_cli.specs.Listing.{TakesIdentifiers, TakesLines, TakesList};
 
-use crate::BadLine;
 use crate::identifier_lines::identifiers_in;
+use crate::{BadLine, Text};
 use pt_host::status::REFUSED;
 use pt_host::{Reads, end_with_fault};
 use pt_messages::escape;
@@ -19,14 +19,15 @@ use std::{fmt, io};
 // standard error is told why, and the answer is the status of that: 2, or 3 for want of memory.
 pub(crate) fn take_list<R: Reads + Eprint + AllocGlobal>(
     rt: &R,
-    path: Option<&str>,
+    list: &Option<Text>,
     job: Job,
 ) -> Result<Job, u8>
-    ensures { TakesList (R.gives rt.now) (option_map (λ path. path.now) path.entry) job result }
+    ensures { TakesList (R.gives rt.now) list.now job result }
 {
-    let Some(path) = path else {
+    let Some(path) = list else {
         return Ok(job);
     };
+    let path = path.as_str();
     match rt.read_whole(path) {
         Ok(bytes) => take_lines(rt, path, &bytes, job),
         Err(error) => Err(end_unread(rt, path, &error)),

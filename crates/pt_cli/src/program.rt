@@ -1,4 +1,4 @@
-ghost use Rattle.std.specs.Prelude.{◌≡◌, map, option_map, string_bytes};
+ghost use Rattle.std.specs.Prelude.{◌≡◌, map, string_bytes};
 ghost use Rattle.std.specs.Process.{exit_status};
 ghost use Rattle.pt_messages.specs.Expected.{AsksEnd};
 ghost use Rattle.pt_cli.specs.Calls.{IsToldAs, TellsAsked, TellsNames, TellsText, names_status};
@@ -155,7 +155,7 @@ where
         dest,
         list,
     } = asked;
-    match take_list(rt, path_of(&list), options.job) {
+    match take_list(rt, &list, options.job) {
         Ok(job) => {
             let options = RunOptions { job, ..options };
             run_guarded(rt, host, options, source.as_str(), dest.as_str())
@@ -177,22 +177,12 @@ where
         dest,
         list,
     } = asked;
-    match take_list(rt, path_of(&list), options.job) {
+    match take_list(rt, &list, options.job) {
         Ok(job) => {
             let options = AuditOptions { job, ..options };
             audit_guarded(rt, host, options, source.as_str(), dest.as_str())
         }
         Err(status) => status,
-    }
-}
-
-// The path of a list, if one is named.
-fn path_of(list: &Option<Text>) -> Option<&str>
-    ensures { option_map (λ path. path.now) result ≡ list.now }
-{
-    match list {
-        Some(path) => Some(path.as_str()),
-        None => None,
     }
 }
 
