@@ -4,7 +4,7 @@ use Rattle.std.specs.Prelude.{◌==◌, nat_lt, cond}
 use Rattle.std.specs.Str.{is_utf8}
 use Rattle.std.proofs.lemmas.Bool.{eqb-true, lt-ltb, ltb-true}
 use Rattle.std.specs.Io.BufRead.{ends_with_byte, strip_last}
-use Rattle.std.proofs.lemmas.List.Folds.{fold_stays, fold_unsynced}
+use Rattle.std.proofs.lemmas.List.Folds.{fold_stays, fold_stuck}
 use Rattle.std.proofs.lemmas.List.Sums.{fold_more}
 use Rattle.std.proofs.lemmas.List.{take_all}
 use Rattle.std.specs.Result.{IsErrAnd}
@@ -94,7 +94,7 @@ module _ (asked : NamesArgs) where
       by : (f : ListFault) → IsFed (fed_byte asked now (get_or bytes i 0)) after (Err f) → IsFed (fed asked (Ok at) bytes) after (Err f)
       by (list.Line bad) told =
           let stop : Stopped = record { text = after.text; bad = bad } in
-          sym (fold_unsynced (fed_step asked) (Err stop) (λ _. refl) (Ok at) bytes i 0 within
+          sym (fold_stuck (fed_step asked) (Err stop) (λ _. refl) (Ok at) bytes i 0 within
           (ap (λ (r : Result Fed Stopped). fed_step asked r (get_or bytes i 0)) so_far ∙ told))
       by list.Read told = absurd told
       by list.Write told = absurd told
