@@ -11,6 +11,8 @@ mod MoveTold
 mod Moved
 mod Names
 mod Orders
+mod Parts
+mod PartsTold
 pub mod PeekTold
 mod Seen
 mod SourceTold

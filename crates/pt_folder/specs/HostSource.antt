@@ -1,5 +1,5 @@
 -- What a folder as a source tells, and what its calls ask of the system and leave.
-use Rattle.std.specs.Prelude.{◌≡◌, ◌≤◌, ℕ, List, length, Option, Result, Err, IfSome, OnErr, OnOk, String, string_bytes}
+use Rattle.std.specs.Prelude.{◌≡◌, ◌≤◌, ℕ, List, length, Option, Result, Err, IfSome, OnErr, OnOk, String, Vec, string_bytes}
 use Rattle.std.specs.Global.{Global}
 use Rattle.pt_tree.specs.declared.faults.TreeFault.{TreeFault}
 use Rattle.pt_tree.specs.declared.kind.Kind.{Kind}
@@ -20,6 +20,7 @@ use Rattle.pt_folder.specs.Devices.{was_called}
 use Rattle.pt_folder.specs.Failure.{KeepsCall, KeepsListing}
 use Rattle.pt_folder.specs.Folder.{FolderEntry, entry_in, entry_text}
 use Rattle.pt_folder.specs.Listing.{FailsToList, IsListedBy, most_entries}
+use Rattle.pt_folder.specs.Parting.{IsListedPast}
 use Rattle.pt_folder.specs.Opening.{KeepsOpening, OpensOnce}
 use Rattle.pt_folder.specs.Reading.{IsOfReading, ReadsBy, unread_open}
 use Rattle.pt_folder.specs.SourceHeld.{told_of}
@@ -78,6 +79,11 @@ module _ {S F D : Type 0} {sys : OfSystem S F D} {handle : OfHandle F} {file : O
   Lists old new p listing =
       (length listing ≤ most_entries)
       × IsListedBy sys dir (entry_of old p) (systems_of old new) listing
+
+  -- the same past bytes that are no name, which are these
+  abbrev pub ListsPast : (old new : HostSource S F D sys handle file dir) → Path → List (Vec ℕ Global) → List Item → Type 0
+  ListsPast old new p refused listing =
+      IsListedPast sys dir (entry_of old p) (systems_of old new) refused listing
 
   -- why it wasn't
   abbrev pub CannotList : (old new : HostSource S F D sys handle file dir) → Path → TreeFault → Type 0

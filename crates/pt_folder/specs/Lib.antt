@@ -13,6 +13,7 @@ pub mod Listing
 pub mod Moving
 pub mod Names
 pub mod Opening
+pub mod Parting
 pub mod Reading
 pub mod Runs
 pub mod Seeing

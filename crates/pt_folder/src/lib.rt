@@ -41,6 +41,7 @@ mod failure;
 mod folder;
 mod listing;
 mod moving;
+mod parting;
 mod reading;
 mod runtime;
 mod source;

@@ -21,9 +21,9 @@ use crate::system::{Input, System};
 use pt_tree::{Kind, Listing, ListingFault, Name, NameFault, NamePath, TreeFault};
 
 // The greatest number of a directory's entries.
-const MOST: usize = 16_777_216;
+pub(crate) const MOST: usize = 16_777_216;
 
-const LONGEST_NAME: usize = 255;
+pub(crate) const LONGEST_NAME: usize = 255;
 
 /// The names and kinds in a directory of a folder, in the order of the names' bytes; links aren't followed.
 ///
@@ -148,7 +148,7 @@ fn add_names(
 }
 
 // Where the first NUL stands.
-fn nul_at(bytes: &[u8]) -> Option<usize>
+pub(crate) fn nul_at(bytes: &[u8]) -> Option<usize>
     ensures { result ≡ position (λ byte. byte == 0) bytes.now }
 {
     bytes.iter().position(|byte| *byte == 0)
@@ -190,7 +190,7 @@ fn add_name(
 }
 
 // The entries of these names, in their order, with their kinds. The text is the directory's path, with `/` behind.
-fn with_kinds<S: System>(
+pub(crate) fn with_kinds<S: System>(
     syscalls: &mut Syscalls<S>,
     text: String,
     names: Vec<Name>,

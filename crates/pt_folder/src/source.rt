@@ -16,11 +16,11 @@ ghost use Rattle.pt_folder.specs.Reading.{IsNext, IsOfReading, ReadsBy, StandsOp
 use crate::bytes::ReadBuffer;
 use crate::failure::{Failure, FailureReason, Last};
 use crate::folder::{Folder, count_failure};
-use crate::listing;
 use crate::reading::Reading;
 use crate::syscalls::Syscalls;
 use crate::system::{Handle, Input, System};
-use pt_tree::{BLOCK, Block, Kind, Listing, NamePath, Source, TreeFault};
+use crate::{listing, parting};
+use pt_tree::{BLOCK, Block, Kind, Listing, ListsNamed, NamePath, Source, TreeFault};
 use std::alloc::Global;
 
 /// A folder of the system as a source. It tells the tree that the system keeps there, where it keeps one.
@@ -194,6 +194,35 @@ impl<'a, S: System> Source for HostSource<'a, S> {
             &mut self.syscalls.last,
         );
         count_failure(&mut self.failures, read)
+    }
+}
+
+impl<'a, S: System> ListsNamed for HostSource<'a, S> {
+    ghost use Rattle.pt_tree.specs.Source.{CanList, IsListed};
+    ghost use Rattle.pt_folder.specs.HostSource.{IsCall, KeepsList, ListsPast, open_file, told};
+
+    fn list_named(
+        &mut self,
+        path: &NamePath,
+        refused: &mut Vec<Vec<u8>>,
+    ) -> Result<Listing, TreeFault>
+        requires { CanList (told self.old) path.now }
+        ensures listing { IfOk result (λ listing. IsListed (told self.old) path.now listing) }
+        ensures listed { IfOk result (ListsPast self.old self.new path.now refused.new.items) }
+        ensures same { told self.new ≡ told self.old }
+        ensures kept { OnDevice result (KeepsList self.old self.new path.now) }
+        ensures reading { open_file self.new ≡ open_file self.old }
+        ensures call { IsCall self.old self.new result }
+    {
+        self.calls = self.calls.wrapping_add(1);
+        let listing = parting::list_named(
+            &mut self.syscalls,
+            &self.folder,
+            path,
+            &mut self.room,
+            refused,
+        );
+        count_failure(&mut self.failures, listing)
     }
 }
 

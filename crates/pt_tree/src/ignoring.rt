@@ -10,7 +10,7 @@ ghost use Rattle.pt_tree.specs.Source.{CanList, CanOpen, CanRead, IsListed, IsRe
 ghost use Rattle.pt_tree.specs.Ignoring.{LeavesOut, told_without};
 ghost use Rattle.pt_tree.specs.ProperLeft.{proper_left};
 
-use crate::{Block, Ignored, Listing, NamePath, Source, TreeFault};
+use crate::{Block, Ignored, Listing, ListsNamed, NamePath, Source, TreeFault};
 
 /// A source as if the entries with some names weren't there, whatever they are and hold.
 ///
@@ -143,5 +143,17 @@ impl<S: Source> Source for Ignoring<S> {
             × S.keeps self.old.source self.new.source }
     {
         self.source.next(block)
+    }
+}
+
+impl<S: ListsNamed> ListsNamed for Ignoring<S> {
+    fn list_named(
+        &mut self,
+        path: &NamePath,
+        refused: &mut Vec<Vec<u8>>,
+    ) -> Result<Listing, TreeFault> {
+        let mut listing = self.source.list_named(path, refused)?;
+        self.take_out(&mut listing);
+        Ok(listing)
     }
 }

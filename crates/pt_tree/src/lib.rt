@@ -47,6 +47,7 @@ mod log;
 mod name;
 mod name_list;
 mod name_path;
+mod named;
 mod pieces;
 mod short;
 mod source;
@@ -63,6 +64,7 @@ pub use listing::{Listing, ListingFault};
 pub use log::Log;
 pub use name::{Name, NameFault};
 pub use name_path::NamePath;
+pub use named::ListsNamed;
 pub use source::Source;
 pub use writer_log::{WriterLog, write_out};
 

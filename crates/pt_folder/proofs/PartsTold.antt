@@ -1,0 +1,92 @@
+-- What a source tells of a directory that is listed past what is no name, by the laws of its system.
+use Rattle.std.proofs.Common.{◌≡◌, ℕ, List, [], ◌∷◌, map, true, false, refl, sym, ap, ◌∙◌, subst, cond}
+use Rattle.std.specs.Prelude.{Bool, Option, None, Some, IsSome, IsPermutation, Result, Ok, Err, IfOk, MatchResult, Vec}
+use Rattle.std.specs.Global.{Global}
+use Rattle.std.specs.Option.{ForSome}
+use Rattle.std.specs.List.{All, FoldsTo, filter}
+use Rattle.std.specs.List.Sorted.{IsSorted}
+use Rattle.std.specs.Cmp.Lexicographic.{slice_cmp}
+use Rattle.std.specs.Ordering.{nat_cmp}
+use Rattle.std.specs.declared.io.Error.{Error}
+use Rattle.std.proofs.lemmas.Bool.{and_parts}
+use Rattle.std.proofs.lemmas.List.Elements.{All-cons, All-head, All-nil, All-tail}
+use Rattle.std.proofs.lemmas.List.Sorted.{All-permutation, IsPermutation-sym}
+use Rattle.pt_tree.specs.declared.faults.TreeFault.{TreeFault}
+use Rattle.pt_tree.specs.Forest.{Forest, none, file, other, dir, comes_before, dir_at, is_proper}
+use Rattle.pt_tree.specs.Listing.{Item}
+use Rattle.pt_tree.specs.Name.{is_name}
+use Rattle.pt_tree.specs.Path.{Path}
+use Rattle.pt_tree.proofs.AtPaths.{proper_dir_at}
+use Rattle.pt_tree.proofs.Finding.{proper_dir, proper_file, proper_other}
+use Rattle.pt_folder.specs.Calls.{change_of, fault_of}
+use Rattle.pt_folder.specs.Folder.{entry_in, entry_text}
+use Rattle.pt_folder.specs.Laws.{IsPath}
+use Rattle.pt_folder.specs.Listing.{GetsNames, LooksAt, dir_front}
+use Rattle.pt_folder.specs.Parting.{GetsParted, IsListedPast}
+use Rattle.pt_folder.specs.SourceLaws.{NamesLaw, names_of}
+use Rattle.pt_folder.specs.declared.parting.Parted.{Parted}
+use Rattle.pt_folder.specs.declared.system.Input.{Ghosts as OfInput}
+use Rattle.pt_folder.specs.declared.system.System.{Ghosts as OfSystem}
+use Rattle.pt_folder.proofs.Listings.{names_given}
+
+abbrev AreNames : List (List ℕ) → Type 0
+AreNames names = All (λ n. is_name n ≡ true) names
+
+-- each entry of a tree that is proper has a name
+names_proper : (d : Forest) → is_proper d ≡ true → AreNames (names_of d)
+names_proper none proper = All-nil (λ n. is_name n ≡ true)
+names_proper (file name bytes after) proper =
+    All-cons (λ n. is_name n ≡ true) name (names_of after) (and_parts (is_name name) _ proper).0 (names_proper after (proper_file name bytes after proper).2)
+names_proper (other name after) proper =
+    All-cons (λ n. is_name n ≡ true) name (names_of after) (and_parts (is_name name) _ proper).0 (names_proper after (proper_other name after proper).2)
+names_proper (dir name inside after) proper =
+    All-cons (λ n. is_name n ≡ true) name (names_of after) (and_parts (is_name name) _ proper).0
+    (names_proper after (and_parts (is_proper inside) _ (and_parts (comes_before name after) _ (and_parts (is_name name) _ proper).1).1).1)
+
+-- so all of them are names
+all_pass : (names : List (List ℕ)) → AreNames names → filter is_name names ≡ names
+all_pass [] are = refl
+all_pass (x ∷ xs) are =
+    let P : List ℕ → Type 0 = λ n. is_name n ≡ true in
+    by (is_name x) (All-head P x xs are) ∙ ap (λ l. x ∷ l) (all_pass xs (All-tail P x xs are))
+  where
+    by : (b : Bool) → b ≡ true → cond b (x ∷ filter is_name xs) (filter is_name xs) ≡ x ∷ filter is_name xs
+    by true is = refl
+    by false is = absurd (cc)
+
+module _ {S D : Type 0} (kept : S → List ℕ → Option Forest) (input : OfInput D) (opens : S → List ℕ → Result D Error → S → Type 0) (law : NamesLaw kept input.left opens)
+    (folder : List ℕ) (p : Path) (old mid : S) (text : List ℕ) (path : IsPath p) (is : text ≡ entry_text folder p) (can : ForSome (kept old folder) (λ f. IsSome (dir_at f p))) where
+  -- the names among what it gives are those of the directory
+  pub parted_given : (parted : Parted) → ((f : Forest) → kept old folder ≡ Some f → is_proper f ≡ true)
+      → ((reply : Result D Error) × opens old text reply mid × MatchResult reply (λ d. (after : D) × GetsParted input d parted after) (λ e. let r : Result Parted TreeFault = Ok parted in r ≡ Err (fault_of e)))
+      → ForSome (kept old folder) (λ f. (d : Forest) → dir_at f p ≡ Some d → IsPermutation parted.names.items (names_of d))
+  parted_given parted proper (Err e, asked, gives) = absurd (cc)
+  parted_given parted proper (Ok it, asked, gives) = λ f known d at.
+      let all = gives.1.all in
+      let these : IsPermutation all (names_of d) =
+      names_given kept input.left opens law folder p old mid text path is can parted all (λ d after. GetsNames input.reads d all after) (Ok it, asked, (gives.0, (gives.1.read, gives.1.given))) f known d at in
+      let whole = names_proper d (proper_dir_at f p d (proper f known) at) in
+      let same : filter is_name all ≡ all = all_pass all (All-permutation (λ n. is_name n ≡ true) (names_of d) all (IsPermutation-sym all (names_of d) these) whole) in
+      subst (λ l. IsPermutation l (names_of d)) (sym (gives.1.parts.named ∙ same)) these
+
+module _ {S F D : Type 0} (sys : OfSystem S F D) (input : OfInput D) (folder : List ℕ) (p : Path) (old mid new : S) (text : List ℕ) (is : text ≡ entry_text folder p) where
+  -- it is listed past what is no name
+  pub listed_past : (parted : Parted) (order : List (List ℕ)) (refused : List (Vec ℕ Global)) (front : List ℕ) → front ≡ dir_front folder p → IsPermutation parted.names.items order
+      → IsPermutation parted.refused.items refused → IsSorted (λ x y. slice_cmp nat_cmp x.items y.items) refused
+      → ((reply : Result D Error) × sys.opens_dir old text reply mid × MatchResult reply (λ d. (after : D) × GetsParted input d parted after) (λ e. let r : Result Parted TreeFault = Ok parted in r ≡ Err (fault_of e)))
+      → (result : Result (List Item) TreeFault) → IfOk result (λ listing. map (λ (item : Item). item.0) listing ≡ order) → IfOk result (λ listing. FoldsTo (LooksAt sys.looks front) mid listing new)
+      → IfOk result (IsListedPast sys input (entry_in folder p) (change_of old new) refused)
+  listed_past parted order refused front begins ordered others order_is asked (Err f) named looked = tt
+  listed_past parted order refused front begins ordered others order_is (Err e, asked, gives) (Ok listing) named looked = absurd (cc)
+  listed_past parted order refused front begins ordered others order_is (Ok it, asked, gives) (Ok listing) named looked = record {
+    dir = it;
+    after = gives.0;
+    mid = mid;
+    parted = parted;
+    opened = subst (λ t. sys.opens_dir old t (Ok it) mid) is asked;
+    read = gives.1;
+    named = subst (IsPermutation parted.names.items) (sym named) ordered;
+    others = others;
+    order = order_is;
+    looked = subst (λ front. FoldsTo (LooksAt sys.looks front) mid listing new) begins looked;
+  }

@@ -1,0 +1,88 @@
+use Rattle.std.proofs.Common.{◌≡◌, ◌∙◌, ◌++◌, ap, inl, inr, lit<, string_bytes, subst}
+use Rattle.std.specs.Prelude.{IfSome, IsPermutation, IsSomeAnd}
+use Rattle.pt_folder.specs.Folder.{entry_text}
+use Rattle.pt_folder.specs.Listing.{dir_front}
+use Rattle.pt_folder.specs.Failure.{IsOfEntry, IsOfNames, IsUnasked}
+use Rattle.pt_folder.proofs.Kept.{kept_held, kept_on, kept_weaker}
+use Rattle.pt_folder.proofs.Listings.{front_is, list_same, list_told, names_same}
+use Rattle.pt_folder.proofs.PartsTold.{listed_past, parted_given}
+use Rattle.pt_folder.proofs.parting.list_named.Goals as goal
+use Rattle.pt_folder.proofs.parting.list_named.Given.{Over}
+use Rattle.pt_folder.proofs.parting.list_named.Goals.{After-with_kinds, then-not-is_empty+in_ok-push, else-not-is_empty}
+
+-- the text that each entry's path begins with
+begins : (g : Over) (c : After-with_kinds g) → string_bytes c.if-not-is_empty.text ≡ dir_front c.args.folder.now.path.now c.args.path.now
+begins g c =
+    front_is c.args.folder.now.path.now c.args.path.now (string_bytes c.in_ok-text.text) (string_bytes c.if-not-is_empty.text) c.is_empty.result c.is_empty.ensures c.in_ok-text.ensures.text
+    (elim c.if-not-is_empty.branch [
+      | then-not-is_empty+in_ok-push w ↦ inl (w.if-not-is_empty.true, ap string_bytes w.text-is ∙ w.in_ok-push.ensures.bytes ∙ ap (λ l. string_bytes c.in_ok-text.text ++ l) (w.in_ok-push.ensures.ascii (lit< tt)))
+      | else-not-is_empty w ↦ inr (w.if-not-is_empty.false, ap string_bytes w.text-is)
+    ])
+
+pub returns-clause-same : goal.returns-clause-same
+returns-clause-same g c =
+    let folder = c.args.folder.now.path.now in
+    let p = c.args.path.now in
+    let kept = g.S.System.forest in
+    let text : c.as_str.result.now ≡ entry_text folder p = c.as_str.ensures.value ∙ c.in_ok-text.ensures.text in
+    let same = names_same kept g.S.Dir.Input.left g.S.System.opens_dir g.met.S.System.names_law folder p c.args.syscalls.now.system c.parted_in.new.syscalls.system c.as_str.result.now c.in_ok-text.ensures.named text c.requires _ c.parted_in.ensures.asked in
+    list_same kept folder p c.args.syscalls.now.system c.parted_in.new.syscalls.system c.with_kinds.new.syscalls.system (string_bytes c.if-not-is_empty.text) c.in_ok-text.ensures.named (begins g c) same c.requires c.with_kinds.result c.with_kinds.ensures.seen c.with_kinds.ensures.same
+
+pub returns-clause-told : goal.returns-clause-told
+returns-clause-told g c =
+    let folder = c.args.folder.now.path.now in
+    let p = c.args.path.now in
+    let kept = g.S.System.forest in
+    let parted = c.in_ok-names.field-0 in
+    let order = c.sort_unstable-2.new.self.items in
+    let text : c.as_str.result.now ≡ entry_text folder p = c.as_str.ensures.value ∙ c.in_ok-text.ensures.text in
+    let same = names_same kept g.S.Dir.Input.left g.S.System.opens_dir g.met.S.System.names_law folder p c.args.syscalls.now.system c.parted_in.new.syscalls.system c.as_str.result.now c.in_ok-text.ensures.named text c.requires _ c.parted_in.ensures.asked in
+    let proper = g.met.S.System.proper_law c.args.syscalls.now.system folder in
+    let given = parted_given kept g.S.Dir.Input g.S.System.opens_dir g.met.S.System.names_law folder p c.args.syscalls.now.system c.parted_in.new.syscalls.system c.as_str.result.now c.in_ok-text.ensures.named text c.requires parted proper c.in_ok-names.ensures.asked in
+    let ordered : IsPermutation parted.names.items order = c.sort_unstable-2.ensures.permutation in
+    list_told kept folder p c.args.syscalls.now.system c.parted_in.new.syscalls.system c.with_kinds.new.syscalls.system (string_bytes c.if-not-is_empty.text) c.in_ok-text.ensures.named (begins g c) same c.requires parted.names.items order c.with_kinds.result proper given ordered
+    c.with_kinds.ensures.names c.with_kinds.ensures.seen c.with_kinds.ensures.rise
+
+pub returns-clause-listed : goal.returns-clause-listed
+returns-clause-listed g c =
+    let folder = c.args.folder.now.path.now in
+    let p = c.args.path.now in
+    let parted = c.in_ok-names.field-0 in
+    let order = c.sort_unstable-2.new.self.items in
+    let refused = c.sort_unstable.new.self.items in
+    let text : c.as_str.result.now ≡ entry_text folder p = c.as_str.ensures.value ∙ c.in_ok-text.ensures.text in
+    let ordered : IsPermutation parted.names.items order = c.sort_unstable-2.ensures.permutation in
+    let others : IsPermutation parted.refused.items refused = c.sort_unstable.ensures.permutation in
+    listed_past g.S.System g.S.Dir.Input folder p c.args.syscalls.now.system c.parted_in.new.syscalls.system c.with_kinds.new.syscalls.system c.as_str.result.now text parted order refused (string_bytes c.if-not-is_empty.text) (begins g c) ordered others c.sort_unstable.ensures.sorted
+    c.in_ok-names.ensures.asked c.with_kinds.result c.with_kinds.ensures.names c.with_kinds.ensures.looked
+
+pub returns-in_err-names-clause-same : goal.returns-in_err-names-clause-same
+returns-in_err-names-clause-same g c =
+    names_same g.S.System.forest g.S.Dir.Input.left g.S.System.opens_dir g.met.S.System.names_law c.args.folder.now.path.now c.args.path.now c.args.syscalls.now.system c.parted_in.new.syscalls.system c.as_str.result.now c.in_ok-text.ensures.named (c.as_str.ensures.value ∙ c.in_ok-text.ensures.text) c.requires _ c.parted_in.ensures.asked
+
+pub returns-in_err-push-clause-same : goal.returns-in_err-push-clause-same
+returns-in_err-push-clause-same g c =
+    names_same g.S.System.forest g.S.Dir.Input.left g.S.System.opens_dir g.met.S.System.names_law c.args.folder.now.path.now c.args.path.now c.args.syscalls.now.system c.parted_in.new.syscalls.system c.as_str.result.now c.in_ok-text.ensures.named (c.as_str.ensures.value ∙ c.in_ok-text.ensures.text) c.requires _ c.parted_in.ensures.asked
+
+pub returns-in_err-names-clause-kept : goal.returns-in_err-names-clause-kept
+returns-in_err-names-clause-kept g c =
+    let folder = c.args.folder.now.path.now in
+    let p = c.args.path.now in
+    let text : c.as_str.result.now ≡ entry_text folder p = c.as_str.ensures.value ∙ c.in_ok-text.ensures.text in
+    let r = c.from_residual-in_err-names.result in
+    let last = c.parted_in.new.syscalls.last.failure in
+    let named = IsOfNames c.as_str.result.now in
+    kept_weaker r last named _ (λ f is. inl (inr (subst (λ t. IsOfNames t f) text is))) (kept_on r c.in_err-names.field-0.0 (IfSome last named) c.from_residual-in_err-names.ensures.1 c.in_err-names.ensures.kept)
+
+pub returns-clause-kept : goal.returns-clause-kept
+returns-clause-kept g c =
+    let looks = g.S.System.looks in
+    kept_weaker c.with_kinds.result c.with_kinds.new.syscalls.last.failure (IsOfEntry looks (string_bytes c.if-not-is_empty.text)) _ (λ f is. inr (subst (λ front. IsOfEntry looks front f) (begins g c) is)) c.with_kinds.ensures.kept
+
+pub returns-in_err-text-clause-kept : goal.returns-in_err-text-clause-kept
+returns-in_err-text-clause-kept g c =
+    let r = c.from_residual.result in
+    let last = c.text_with_room.new.last.failure in
+    let unasked = IsUnasked c.args.folder.now.path.now in
+    kept_weaker r last unasked _ (λ f is. inl (inl is))
+    (kept_held r last unasked (kept_on r c.in_err-text.field-0.0 (IsSomeAnd last unasked) c.from_residual.ensures.1 c.in_err-text.ensures.kept))
