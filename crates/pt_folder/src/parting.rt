@@ -39,7 +39,8 @@ pub fn list_named<S: System>(
         (λ f. IsSome (dir_at f path.now)) }
     ensures same { S.forest syscalls.new.system folder.now.path.now
         ≡ S.forest syscalls.old.system folder.now.path.now }
-    ensures told { IfOk result (λ listing. ForSome (S.forest syscalls.old.system folder.now.path.now)
+    ensures told { IfOk result (λ listing. ForSome
+        (S.forest syscalls.old.system folder.now.path.now)
         (λ f. listing_at f path.now ≡ Some listing)) }
     ensures listed { IfOk result (IsListedPast S.System S.Dir.Input
         (entry_in folder.now.path.now path.now)

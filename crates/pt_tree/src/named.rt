@@ -6,8 +6,8 @@ use crate::{Listing, NamePath, Source, TreeFault};
 
 /// A source that can list a directory past what there has none of the names that an entry may have.
 pub trait ListsNamed: Source {
-    /// As `list`, but what has none of these names is left out. The bytes that it has for one are added to `refused`, in their order, also
-    /// where the call fails afterwards.
+    /// As `list`, but what has none of these names is left out. The bytes that such entries have for one become `refused`, in their order,
+    /// also where a look at an entry fails afterwards.
     ///
     /// Where the source tells, each entry has a name, so that all are listed.
     fn list_named(
