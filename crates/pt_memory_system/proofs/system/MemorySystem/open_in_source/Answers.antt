@@ -8,5 +8,5 @@ use Rattle.pt_memory_system.proofs.system.MemorySystem.open_in_source.Goals as g
 
 pub returns-in-Ok-clause-bytes : goal.returns-in-Ok-clause-bytes
 returns-in-Ok-clause-bytes c =
-    opens_file c.args.self.now.read.now c.args.text.now (file_at (source_tree c.args.self.now.source)) c.in-Ok.path c.opened.result c.in-Ok.ensures.path
-    (subst (λ o. IfOk c.opened.result (λ f. bytes_in f ≡ o)) c.file.ensures c.opened.ensures.bytes)
+    opens_file c.args.self.now.read.now c.args.text.now (file_at (source_tree c.args.self.now.source)) c.in-Ok.path c.open_mem_file.result c.in-Ok.ensures.path
+    (subst (λ o. IfOk c.open_mem_file.result (λ f. bytes_in f ≡ o)) c.file.ensures c.open_mem_file.ensures.bytes)
