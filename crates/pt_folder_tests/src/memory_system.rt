@@ -14,7 +14,8 @@ use std::test::Fail;
 fn make_system(alloc: Global, faults: &Faults) -> Result<MemorySystem<'_>, Fail> {
     let mut store = MemSource::new(alloc);
     plant_store(alloc, &mut store)?;
-    match MemorySystem::new(alloc, faults, "store", store, "root", MemDest::new(alloc)) {
+    let root = ("root", MemDest::new(alloc));
+    match MemorySystem::new(alloc, faults, ("store", store), root) {
         Some(system) => Ok(system),
         None => Err(Fail::from(TreeFault::Device)),
     }

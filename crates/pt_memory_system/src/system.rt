@@ -33,20 +33,20 @@ impl<'a> MemorySystem<'a> {
     ghost use Rattle.pt_tree.specs.Forest.{Dir, dir_at, file_at, kind_of, node_at};
     ghost use Rattle.pt_tree.specs.Tree.{bytes_of, kind_of_entry};
 
-    /// A system with these two folders; None where one path begins with the other.
+    /// A system with these two folders, each at its path; None where one path begins with the other.
     pub fn new(
         alloc: Global,
         faults: &'a Faults,
-        read: &'a str,
-        source: MemSource,
-        written: &'a str,
-        dest: MemDest,
+        source: (&'a str, MemSource),
+        dest: (&'a str, MemDest),
     ) -> Option<MemorySystem<'a>>
-        ensures read { IfSome result (λ s. s.read.now ≡ read.now) }
-        ensures source { IfSome result (λ s. s.source ≡ source) }
-        ensures written { IfSome result (λ s. s.written.now ≡ written.now) }
-        ensures dest { IfSome result (λ s. s.dest ≡ dest) }
+        ensures read { IfSome result (λ s. s.read.now ≡ source.entry.0.now) }
+        ensures source { IfSome result (λ s. s.source ≡ source.entry.1) }
+        ensures written { IfSome result (λ s. s.written.now ≡ dest.entry.0.now) }
+        ensures dest { IfSome result (λ s. s.dest ≡ dest.entry.1) }
     {
+        let (read, source) = source;
+        let (written, dest) = dest;
         if begin_alike(read, written) {
             return None;
         }

@@ -182,14 +182,8 @@ fn only_read<'a>(
     name: &'static str,
     folder: MemSource,
 ) -> Option<MemorySystem<'a>> {
-    MemorySystem::new(
-        alloc,
-        faults,
-        name,
-        folder,
-        "elsewhere",
-        MemDest::new(alloc),
-    )
+    let elsewhere = ("elsewhere", MemDest::new(alloc));
+    MemorySystem::new(alloc, faults, (name, folder), elsewhere)
 }
 
 // Gives what a run left on a machine.
@@ -219,7 +213,7 @@ fn make_system(
     store: MemSource,
     root: MemDest,
 ) -> Option<MemorySystem<'_>> {
-    MemorySystem::new(alloc, faults, "store", store, "root", root)
+    MemorySystem::new(alloc, faults, ("store", store), ("root", root))
 }
 
 // A job with the greatest limits and three tuples of three digits.
