@@ -185,6 +185,20 @@ class Checking(Looking):
         self.words.remove("d")
 
 
+class CheckingPast(Case):
+    """A check of a store in which names aren't UTF-8."""
+
+    def __init__(self):
+        super().__init__("a check past names that aren't UTF-8", ["check", "--ignore", "loose.txt", "s"])
+
+    def prepare(self, program, folder):
+        stores.build(f"{folder}/s", stores.store({"ab/c/obj/l": stores.Link("none"), "ab/c/loose.txt": b"", "ab/d/obj/f": b"1"}))
+        for name in (b"\xff", b"a" * 60 + b"\xe9", b"b\xfe"):
+            with open(f"{folder}/s/pairtree_root/ab/".encode() + name, "wb"):
+                pass
+        super().prepare(program, folder)
+
+
 class Writing(Looking):
     """A run, after which another carries the rest."""
 
@@ -282,6 +296,7 @@ CASES = [
     Case("the version", ["--version"]),
     Case("a check of what isn't there", ["check", "none"]),
     Checking(),
+    CheckingPast(),
     *cases_over(None),
     *cases_over("small"),
     Looking("an audit --extra, of an object that is ignored in the store", ["audit", "--extra", "--ignore", "ab"], "s", ()),

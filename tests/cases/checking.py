@@ -204,16 +204,57 @@ def closed_to_others(program, folder):
     return faults
 
 
+def with_files(folder, path, *names):
+    """Makes empty files with these bytes for names in a folder of the store of a test, the last of them first."""
+    for name in reversed(names):
+        with open(f"{folder}/t/{path}/".encode() + name, "wb"):
+            pass
+
+
 def names_that_are_no_text(program, folder):
-    """A folder with a name that isn't UTF-8 is told with that name's bytes, and what lies in it isn't met; all other folders are."""
+    """A folder with a name that isn't UTF-8 is told with that name's bytes, and isn't judged; what lies in it is met."""
     tree = {"ab/c/obj/d/g": b"", "ab/c/obj/f": b"", "ad/e/obj/f": b"1"}
     build(f"{folder}/t", store(tree))
-    for path, name in (("ab/c/obj/d", b"\xe9\xff"), ("ad/e", "é ".encode() + b"a\n\\\xff'z")):
-        with open(f"{folder}/t/pairtree_root/{path}/".encode() + name, "wb"):
-            pass
-    met = store({"ab/c/obj/d": DIR, "ab/c/obj/f": b"", "ad/e": DIR})
+    with_files(folder, "pairtree_root/ab/c/obj/d", b"\xe9\xff")
+    with_files(folder, "pairtree_root/ad/e", "é ".encode() + b"a\n\\\xff'z")
     told = [unread("ab/c/obj/d", NAME + r"\xe9\xff"), unread("ad/e", NAME + r"\xc3\xa9 a\n\\\xff\'z")]
-    return differs(answer=(checked(program, folder, "--read", source="t"), answer(*told, end(met, 2, 4, 1))))
+    return differs(answer=(checked(program, folder, "--read", source="t"), answer(*told, end(store(tree), 2, 4, 1, bytes=1))))
+
+
+BAD = (b"a\xfe", b"\xe9z", b"\xff")
+
+
+def many_names_that_are_no_text(program, folder):
+    """Each name that isn't UTF-8 has a line, in the order of their bytes; sites, objects and files beside them are met, but for what is ignored."""
+    tree = {"ab/c/obj/f": b"1", "ab/c/obj/l": Link("none"), "ab/d/obj/f": b"23", "ab/other/.DS_Store": b"4", "ab/other/f": b"5", "ae/f/obj/g": b"678"}
+    build(f"{folder}/t", store(tree))
+    with_files(folder, "pairtree_root/ab", *BAD)
+    with_files(folder, "pairtree_root/ae/f/obj", *BAD)
+    with_files(folder, "", *BAD)
+    each = [NAME + text for text in (r"a\xfe", r"\xe9z", r"\xff")]
+    top = [{"as": "unreadable", "path": "", "reason": reason} for reason in each]
+    above, below = [unread("ab", reason) for reason in each], [unread("ae/f/obj", reason) for reason in each]
+    told = [*top, *above, of_path("other", "ab/c/obj/l"), of_path("desktop", "ab/other/.DS_Store"), *below]
+    whole = end(store(tree), len(told), 5, 3, bytes=8, largest=3)
+    left = {path: content for path, content in tree.items() if "ab/other" not in path and "ab/c/obj/l" not in path}
+    ignoring = [*top, *above, *below]
+    return differs(
+        answer=(checked(program, folder, "--read", source="t"), answer(*told, whole)),
+        ignored=(checked(program, folder, "--ignore", "other", "--ignore", "l", source="t"), answer(*ignoring, end(store(left), len(ignoring), 5, 3))),
+    )
+
+
+def further_reasons(program, folder):
+    """Where a folder with such names can't be looked through either, that is told behind them, and nothing below it is met."""
+    needs("strace")
+    tree = {"ab/c/obj/f": b"", "ad/e/obj/f": b""}
+    build(f"{folder}/t", store(tree))
+    with_files(folder, "pairtree_root/ab", *BAD)
+    path = f"{folder}/t/pairtree_root/ab/c"
+    before = ("strace", "-o", "/dev/null", "-P", path, "-e", "trace=/stat|statx", "-e", "inject=/stat|statx:error=EIO")
+    told = [*(unread("ab", NAME + text) for text in (r"a\xfe", r"\xe9z", r"\xff")), unread("ab", "Input/output error (os error 5)")]
+    met = store({"ab": DIR, "ad/e/obj/f": b""})
+    return differs(answer=(checked(program, folder, before=before, source=f"{folder}/t"), answer(*told, end(met, 4, 3, 1))))
 
 
 # Makes a folder in the working folder by steps, in each of which the path is short enough for the system, and in it a file.
@@ -422,6 +463,8 @@ CASES = [
         ("a top that lacks what a store must have", a_top_that_lacks),
         ("what is closed to another user", closed_to_others),
         ("names that aren't UTF-8", names_that_are_no_text),
+        ("many names that aren't UTF-8", many_names_that_are_no_text),
+        ("names that aren't UTF-8 and a look that fails", further_reasons),
         ("long paths", long_paths),
         ("many files", many_files),
         ("paths that are too long in a destination", long_in_a_destination),

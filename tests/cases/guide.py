@@ -245,7 +245,6 @@ CHECKED = [
 # Of each block of the guide that the walk runs: a text in it, what `AT` is there, and the lines that it prints, sorted; None for any.
 WALK = [
     ("check --read", None, CHECKED),
-    ("grep -axv", None, []),
     ("od -c", None, sorted(["0000000   a   r   k   :   /  \\n", "0000006"])),
     ("created=", None, []),
     ("--dry-run", None, ['{"as":"skip","at":"","cause":"root"}']),

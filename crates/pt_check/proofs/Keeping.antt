@@ -1,5 +1,5 @@
 -- What a check keeps of its source and its log.
-use Rattle.std.proofs.Common.{◌≡◌, ℕ, List, [], ◌++◌, sym, ap, ◌∙◌, subst, append-nil, append_assoc}
+use Rattle.std.proofs.Common.{◌≡◌, ℕ, List, [], ◌++◌, refl, sym, ap, ◌∙◌, subst, append-nil, append_assoc}
 use Rattle.std.specs.Prelude.{Option, None, Some}
 use Rattle.pt_check.specs.Visits.{Keeps, Grows, seen_by, tree_in}
 use Rattle.pt_check.specs.declared.checking.Check.{Check}
@@ -37,6 +37,16 @@ counts_on {S} {L} told keeps held is_kept a b source log wants = record {
   source = subst (λ (s : S). keeps a.source s) (sym source) (is_kept a.source);
   wants = wants;
   log = subst (λ (l : L). Grows (held a.log) (held l)) (sym log) (grows_none (held a.log));
+}
+
+-- where its source alone was called
+pub sources_on : {S L E : Type 0} (told : S → Option Reading) (keeps : S → S → Type 0) (held : L → Option (List ℕ)) (a : Check S L E) (source : S)
+    → told source ≡ told a.source → keeps a.source source → Keeps told keeps held a (record a { source = source })
+sources_on told keeps held a source same kept = record {
+  tree = ap tree_in same;
+  source = kept;
+  wants = refl;
+  log = grows_none (held a.log);
 }
 
 -- and where it began with other numbers

@@ -4,6 +4,7 @@ mod NamesRead
 pub mod LineTexts
 mod Blocks
 mod Stepping
+mod Parts
 mod Others
 mod Quiet
 mod Visiting

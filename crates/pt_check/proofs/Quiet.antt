@@ -10,7 +10,7 @@ use Rattle.pt_check.specs.Clean.{AreCleanBytes, IsClean, IsCleanEntry, IsCleanFo
 use Rattle.pt_check.specs.Counting.{with_bytes, with_entry, with_object, with_object_begun}
 use Rattle.pt_check.specs.Lines.{Told}
 use Rattle.pt_check.specs.Prefix.{prefix_trouble, trouble_of_prefix}
-use Rattle.pt_check.specs.Visits.{Enters, Folder, Judges, LooksAll, Meets, Opens, Puts, ReadsPrefix, Seen, Tells, TellsFailure, TellsIf, Visits, VisitsFolder, begun, count_trouble, counting, ended, entry_trouble, finding_of, folder_in, folder_trouble, has_object, missing, prefix_path, reserved_trouble, room_trouble, root_folder, size_trouble, with_folder}
+use Rattle.pt_check.specs.Visits.{Begins, Enters, Finds, Folder, Judges, LooksAll, Meets, Opens, Puts, ReadsPrefix, Says, Seen, Tells, TellsEach, TellsFailure, TellsIf, TellsReasons, TellsUnlisted, Visits, VisitsFolder, begun, count_trouble, counting, ended, entry_trouble, finding_of, folder_in, folder_trouble, has_object, missing, prefix_path, reserved_trouble, room_trouble, root_folder, size_trouble, with_folder}
 use Rattle.pt_check.specs.Within.{below, starts_object}
 use Rattle.pt_check.specs.declared.numbers.Numbers.{Numbers}
 use Rattle.pt_check.specs.declared.trouble.Trouble.{Trouble}
@@ -48,6 +48,14 @@ puts_told text a b puts nothing = line_told (told_by a) (sym (ap (λ (n : Number
 
 fails_told : (path : Path) (a b : Seen) → TellsFailure path a b → told_by b ≡ 0 → ⊥
 fails_told path a b (m, rose, held, numbers, (reason, puts)) nothing = puts_told _ m b puts nothing
+
+each_told : (path : Path) (reasons : List (List ℕ)) (a b : Seen) → TellsEach path reasons a b → told_by b ≡ 0 → told_by a ≡ 0
+each_told path [] a b same nothing = ap told_by (sym same) ∙ nothing
+each_told path (reason ∷ more) a b (m, puts, each) nothing = absurd (puts_told _ a m puts (each_told path more m b each nothing))
+
+unlisted_told : (says : Says) (path : Path) (part : Bool) (a b : Seen) → TellsUnlisted says path part a b → told_by b ≡ 0 → ⊥
+unlisted_told says path part a b (m, rose, held, numbers, (s, more, holds, counts, reason, further, (n, puts, each), said)) nothing =
+    puts_told _ s n puts (each_told path further n b each nothing)
 
 -- where nothing was told there was no trouble
 tells_if : (path : Path) (o : Option Trouble) (a b : Seen) → TellsIf path o a b → told_by b ≡ 0 → (o ≡ None) × (b ≡ a)
@@ -173,18 +181,23 @@ judged wants folder items a m (n, judges, places) nothing =
 abbrev Entered : Wants → Folder → List Item → (Seen → Type 0) → Seen → Seen → Type 0
 Entered wants folder items P a b = IsCleanFolder wants folder items × Quiet a b × ((m : Seen) × (m.numbers.held ≡ a.numbers.held) × P m)
 
-entered : (wants : Wants) (folder : Folder) (items : List Item) (visits : Seen → Seen → Type 0) (P : Seen → Type 0) (a b : Seen) → ((m : Seen) → visits m b → Quiet m b × P m)
-    → Enters wants folder items visits a b → told_by b ≡ 0 → Entered wants folder items P a b
-entered wants folder items visits P a b on enters nothing = by (folder.left == 0) refl enters
+entered : (says : Says) (wants : Wants) (folder : Folder) (items : List Item) (visits : Bool → Seen → Seen → Type 0) (P : Bool → Seen → Type 0) (a b : Seen)
+    → ((holds : Bool) (m : Seen) → visits holds m b → Quiet m b × P holds m)
+    → Enters says wants folder items visits a b → told_by b ≡ 0 → Entered wants folder items (P (has_object (finding_of folder.here items))) a b
+entered says wants folder items visits P a b on enters nothing = by (folder.left == 0) refl enters
   where
-    by : (t : Bool) → (folder.left == 0) ≡ t → cond t (Tells (Told folder.path trouble.Deep) a b) (TellsFailure folder.path a b ⊎ ((m : Seen) × Judges wants (folder.path, folder.prefix) folder.here items a m × visits m b))
-        → Entered wants folder items P a b
+    by : (t : Bool) → (folder.left == 0) ≡ t → cond t (Tells (Told folder.path trouble.Deep) a b)
+        (TellsUnlisted says folder.path false a b ⊎ ((holds : Bool) × (m : Seen) × Begins says wants folder items holds a m × visits holds m b))
+        → Entered wants folder items (P (has_object (finding_of folder.here items))) a b
     by true is tells = absurd (puts_told _ a b tells nothing)
-    by false is (inl fails) = absurd (fails_told folder.path a b fails nothing)
-    by false is (inr (m, judges, visited)) =
-        let rest = on m visited in
+    by false is (inl fails) = absurd (unlisted_told says folder.path false a b fails nothing)
+    by false is (inr (holds, m, inl (judges, holds_is), visited)) =
+        let rest = on holds m visited in
         let first = judged wants folder items a m judges rest.0.0 in
-        ((is, first.0.0, first.0.1), (first.1.0, rest.0.1 ∙ first.1.1), (m, first.2, rest.1))
+        ((is, first.0.0, first.0.1), (first.1.0, rest.0.1 ∙ first.1.1), (m, first.2, subst (λ (h : Bool). P h m) holds_is rest.1))
+    by false is (inr (holds, m, inr (tells, holds_is), visited)) =
+        let rest = on holds m visited in
+        absurd (unlisted_told says folder.path true a m tells rest.0.0)
 
 begun_told : (t : Bool) (n : Numbers) → (cond t (with_object_begun n) n).told ≡ n.told
 begun_told true n = refl
@@ -233,11 +246,11 @@ has_room within.Beside above x m n fills starts = absurd (cc)
 abbrev Visited : Wants → Folder → Bool → Forest → Seen → Seen → Type 0
 Visited wants folder holds tree a b = Quiet a b × IsClean wants folder holds tree × Fills folder.here (file_count tree) a b
 
-quiet : (wants : Wants) (folder : Folder) (holds : Bool) (tree : Forest) (a b : Seen) → Visits wants folder holds tree a b → told_by b ≡ 0 → Visited wants folder holds tree a b
-quiet wants folder holds none a b same nothing =
+quiet : (says : Says) (wants : Wants) (folder : Folder) (holds : Bool) (tree : Forest) (a b : Seen) → Visits says wants folder holds tree a b → told_by b ≡ 0 → Visited wants folder holds tree a b
+quiet says wants folder holds none a b same nothing =
     ((ap told_by (sym same) ∙ nothing, ap (λ (s : Seen). s.failed) same), tt, no_fill folder.here a b (ap held_by same))
-quiet wants folder holds (file name bytes after) a b (m, meets, n, opens, rest) nothing =
-    let later = quiet wants folder holds after n b rest nothing in
+quiet says wants folder holds (file name bytes after) a b (m, meets, n, opens, rest) nothing =
+    let later = quiet says wants folder holds after n b rest nothing in
     let opening = opened wants.reads (folder.path ++ name ∷ []) bytes m n opens later.0.0 in
     let meeting = met wants folder name kind.File a m meets opening.1.0 in (
       (meeting.1.0, later.0.1 ∙ opening.1.1 ∙ meeting.1.1),
@@ -245,22 +258,21 @@ quiet wants folder holds (file name bytes after) a b (m, meets, n, opens, rest) 
       fill_as folder.here (1 + file_count after) (suc (file_count after)) a b (omega arith)
           (fill_on folder.here 1 (file_count after) a m b meeting.2 (fills_from folder.here (file_count after) m n b opening.2 later.2)),
     )
-quiet wants folder holds (other name after) a b (m, meets, rest) nothing =
-    let later = quiet wants folder holds after m b rest nothing in
+quiet says wants folder holds (other name after) a b (m, meets, rest) nothing =
+    let later = quiet says wants folder holds after m b rest nothing in
     let meeting = met wants folder name kind.Other a m meets later.0.0 in (
       (meeting.1.0, later.0.1 ∙ meeting.1.1),
       (meeting.0, later.1),
       fill_as folder.here (0 + file_count after) (file_count after) a b (omega arith) (fill_on folder.here 0 (file_count after) a m b meeting.2 later.2),
     )
-quiet wants folder holds (dir name inside after) a b (m, meets, n, enters, rest) nothing =
+quiet says wants folder holds (dir name inside after) a b (m, meets, n, enters, rest) nothing =
     let it = folder_in folder holds name in
     let items = listing_of inside in
-    let holds_it = has_object (finding_of it.here items) in
     let count = file_count inside in
     let start = counting (begun it.here folder.here) m in
-    let later = quiet wants folder holds after (counting (ended it.here folder.here m.numbers.bytes) n) b rest nothing in
+    let later = quiet says wants folder holds after (counting (ended it.here folder.here m.numbers.bytes) n) b rest nothing in
     let ends : told_by n ≡ 0 = sym (ended_told (starts_object it.here folder.here) m.numbers.bytes n.numbers) ∙ later.0.0 in
-    let entering = entered wants it items (Visits wants it holds_it inside) (λ s. IsClean wants it holds_it inside × Fills it.here count s n) start n (λ s visited. let all = quiet wants it holds_it inside s n visited ends in (all.0, (all.1, all.2))) enters ends in
+    let entering = entered says wants it items (λ h. Visits says wants it h inside) (λ h s. IsClean wants it h inside × Fills it.here count s n) start n (λ h s visited. let all = quiet says wants it h inside s n visited ends in (all.0, (all.1, all.2))) enters ends in
     let begins : told_by m ≡ 0 = sym (begun_told (starts_object it.here folder.here) m.numbers) ∙ entering.1.0 in
     let meeting = met wants folder name kind.Dir a m meets begins in
     let within_it = entering.2 in
@@ -319,7 +331,7 @@ bytes_found (Some (Dir inside)) = refl
 bytes_found (Some Other) = refl
 
 pub clean_store : QuietCheckMeansCleanStore
-clean_store wants tree numbers a b checks nothing = by checks.looks
+clean_store says wants tree numbers a b checks nothing = by checks.whole checks.first checks.looks
   where
     last : Seen
     last = checks.last
@@ -336,28 +348,36 @@ clean_store wants tree numbers a b checks nothing = by checks.looks
     AreClean : List ℕ → Type 0
     AreClean prefix = IsCleanFolder wants (root_folder prefix) (listing_of inside) × IsClean wants (root_folder prefix) (holds prefix) inside
 
-    visited : (prefix : List ℕ) (m : Seen) (t : Bool) → cond t (VisitsFolder wants (root_folder prefix) inside m last) (Tells (Told (pairtree_root ∷ []) trouble.Missing) m last)
+    visited : (prefix : List ℕ) (m : Seen) (t : Bool) → cond t (VisitsFolder says wants (root_folder prefix) inside m last) (Tells (Told (pairtree_root ∷ []) trouble.Missing) m last)
         → (t ≡ true) × AreClean prefix × Quiet m last
     visited prefix m true enters =
         let root = root_folder prefix in
-        let all = entered wants root (listing_of inside) (Visits wants root (holds prefix) inside) (λ s. IsClean wants root (holds prefix) inside) m last (λ s visits. let it = quiet wants root (holds prefix) inside s last visits quiet_last in (it.0, it.1)) enters quiet_last in
+        let all = entered says wants root (listing_of inside) (λ h. Visits says wants root h inside) (λ h s. IsClean wants root h inside) m last (λ h s visits. let it = quiet says wants root h inside s last visits quiet_last in (it.0, it.1)) enters quiet_last in
         (refl, (all.0, all.2.2), all.1)
     visited prefix m false tells = absurd (puts_told _ m last tells quiet_last)
 
-    by : LooksAll wants tree a last ⊎ TellsFailure [] a last → IsCleanStore wants tree × (b.failed ≡ a.failed)
-    by (inr fails) = absurd (fails_told [] a last fails quiet_last)
-    by (inl (n, prefix, reads, (m, version, rest))) =
+    looked : (first : Seen) → LooksAll says wants tree first last → IsCleanStore wants tree × Quiet first last
+    looked first (n, prefix, reads, (m, version, rest)) =
         let root = visited prefix m (is_dir_kind (kind_in (listing_of tree) pairtree_root)) rest in
         let marked = tells_if (version_file ∷ []) (missing (is_file_kind (kind_in (listing_of tree) version_file))) n m version root.2.0 in
         let before : told_by n ≡ 0 = ap told_by (sym marked.1) ∙ root.2.0 in
-        let first = prefix_read (find tree prefix_file) (kind_in (listing_of tree) prefix_file) (bytes_at tree prefix_path) prefix a n (kind_found tree prefix_file) (bytes_found (find tree prefix_file)) reads before in
-        let clean : AreClean (prefix_of tree) = subst AreClean first.2 root.1 in (
+        let read = prefix_read (find tree prefix_file) (kind_in (listing_of tree) prefix_file) (bytes_at tree prefix_path) prefix first n (kind_found tree prefix_file) (bytes_found (find tree prefix_file)) reads before in
+        let clean : AreClean (prefix_of tree) = subst AreClean read.2 root.1 in (
           record {
-            prefix = first.0;
+            prefix = read.0;
             version = is_there (is_file_kind (kind_in (listing_of tree) version_file)) marked.0;
             root = root.0;
             top = clean.0;
             inside = clean.1;
           },
-          checks.failed ∙ root.2.1 ∙ ap (λ (s : Seen). s.failed) marked.1 ∙ first.1.1,
+          (read.1.0, root.2.1 ∙ ap (λ (s : Seen). s.failed) marked.1 ∙ read.1.1),
         )
+
+    by : (whole : Bool) (first : Seen) → (Finds says [] whole a first × LooksAll says wants tree first last) ⊎ TellsUnlisted says [] false a last → IsCleanStore wants tree × (b.failed ≡ a.failed)
+    by whole first (inr fails) = absurd (unlisted_told says [] false a last fails quiet_last)
+    by true first (inl (same, looks)) =
+        let it = looked first looks in
+        (it.0, checks.failed ∙ it.1.1 ∙ ap (λ (s : Seen). s.failed) same)
+    by false first (inl (tells, looks)) =
+        let it = looked first looks in
+        absurd (unlisted_told says [] true a first tells it.1.0)

@@ -1,7 +1,7 @@
 -- A store of which a check has nothing to tell.
 use Rattle.std.specs.Prelude.{◌≡◌, ◌≢◌, ◌≤◌, ◌+◌, ◌==◌, ◌||◌, ⊤, ℕ, suc, Bool, true, false, cond, length, take, List, [], ◌∷◌, ◌++◌, Option, None, Some}
 use Rattle.pt_check.specs.Prefix.{prefix_trouble}
-use Rattle.pt_check.specs.Visits.{Checks, Folder, Seen, entry_trouble, finding_of, folder_in, folder_trouble, has_object, prefix_path, reserved_trouble, room_trouble, root_folder, size_trouble}
+use Rattle.pt_check.specs.Visits.{Checks, Folder, Says, Seen, entry_trouble, finding_of, folder_in, folder_trouble, has_object, prefix_path, reserved_trouble, room_trouble, root_folder, size_trouble}
 use Rattle.pt_check.specs.Within.{starts_object}
 use Rattle.pt_check.specs.declared.numbers.Numbers.{Numbers}
 use Rattle.pt_check.specs.declared.wants.Wants.{Wants}
@@ -89,7 +89,7 @@ pub record IsCleanStore (wants : Wants) (tree : Forest) : Type 0 where
 -- a check of a store that ended well and told nothing met one of which there is nothing to tell, and its source failed at nothing
 abbrev pub QuietCheckMeansCleanStore : Type 0
 QuietCheckMeansCleanStore =
-    (wants : Wants) (tree : Forest) (numbers : Numbers) (a b : Seen) → Checks wants tree numbers a b
+    (says : Says) (wants : Wants) (tree : Forest) (numbers : Numbers) (a b : Seen) → Checks says wants tree numbers a b
     → numbers.told ≡ 0 → IsCleanStore wants tree × (b.failed ≡ a.failed)
 
 -- ---- what follows for a run

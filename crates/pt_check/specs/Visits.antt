@@ -1,5 +1,5 @@
 -- What a check does at the folders and entries of a store, one after another.
-use Rattle.std.specs.Prelude.{◌≡◌, ◌+◌, ◌-◌, ◌==◌, ◌||◌, ◌⊎◌, ℕ, Bool, true, false, cond, codes, drop, length, nat_lt, take, List, [], ◌∷◌, ◌++◌, Option, None, Some}
+use Rattle.std.specs.Prelude.{◌≡◌, ◌≤◌, ◌+◌, ◌-◌, ◌==◌, ◌||◌, ◌⊎◌, ℕ, Bool, true, false, cond, codes, drop, length, nat_lt, take, List, [], ◌∷◌, ◌++◌, Option, None, Some}
 use Rattle.std.specs.Io.KnownBytes.{Appends}
 use Rattle.std.specs.List.{concat}
 use Rattle.std.specs.Option.{option_map}
@@ -98,6 +98,11 @@ abbrev pub TellsFailure : Path → Seen → Seen → Type 0
 TellsFailure path a b =
     (m : Seen) × HasRisen a.failed m.failed × (m.held ≡ a.held) × (m.numbers ≡ a.numbers)
     × TellsUnread path m b
+
+-- it is told of this path once more for each of these reasons
+abbrev pub TellsEach : Path → List (List ℕ) → Seen → Seen → Type 0
+TellsEach path [] a b = b ≡ a
+TellsEach path (reason ∷ more) a b = (m : Seen) × Tells (Unreadable path reason) a m × TellsEach path more m b
 
 -- with other numbers
 abbrev pub counting : (Numbers → Numbers) → Seen → Seen
@@ -269,36 +274,65 @@ begun here above numbers = cond (starts_object here above) (with_object_begun nu
 abbrev pub ended : Within → Within → ℕ → Numbers → Numbers
 ended here above before after = cond (starts_object here above) (with_object before after) after
 
--- a folder is met that lists these entries, by what is then done with them: it is too deep and told so, it can't be listed
--- and that is told, or it is judged and its entries are visited
-abbrev pub Enters : Wants → Folder → List Item → (Seen → Seen → Type 0) → Seen → Seen → Type 0
-Enters wants folder items visits a b = cond (folder.left == 0) (Tells (Told folder.path trouble.Deep) a b)
-    (TellsFailure folder.path a b ⊎ ((m : Seen) × Judges wants (folder.path, folder.prefix) folder.here items a m × visits m b))
+-- what may be said of a folder at a path that a source failed to list: that for these reasons, and whether what has names in it can be listed
+abbrev pub Says : Type 0
+Says = Path → List (List ℕ) → Bool → Bool
 
--- the entries of a folder, which has an object or not, are visited one after another, each once, and all that stands in them
-abbrev pub Visits : Wants → Folder → Bool → Forest → Seen → Seen → Type 0
-Visits wants folder holds none a b = b ≡ a
-Visits wants folder holds (file name bytes after) a b =
-    let path = folder.path ++ name ∷ [] in
-    (m : Seen) × Meets wants path folder.here (name, kind.File) a m
-    × (n : Seen) × Opens wants.reads path bytes m n
-    × Visits wants folder holds after n b
-Visits wants folder holds (other name after) a b =
-    (m : Seen) × Meets wants (folder.path ++ name ∷ []) folder.here (name, kind.Other) a m
-    × Visits wants folder holds after m b
-Visits wants folder holds (dir name inside after) a b =
-    let it = folder_in folder holds name in
-    let holds_it = has_object (finding_of it.here (listing_of inside)) in
-    (m : Seen) × Meets wants it.path folder.here (name, kind.Dir) a m
-    × (n : Seen) × Enters wants it (listing_of inside) (Visits wants it holds_it inside)
-    (counting (begun it.here folder.here) m) n
-    × Visits wants folder holds after (counting (ended it.here folder.here m.numbers.bytes) n) b
+module _ (says : Says) where
+  -- however often the source fails in it, what is at this path is told with a reason or more: all that is said of it. What has names
+  -- can be listed, or not.
+  abbrev pub TellsReasons : Path → Bool → Seen → Seen → Type 0
+  TellsReasons path part a b =
+      (m : Seen) × (a.failed ≤ m.failed) × (m.held ≡ a.held) × (m.numbers ≡ a.numbers)
+      × (reason : List ℕ) × (further : List (List ℕ)) × TellsEach path (reason ∷ further) m b
+      × (says path (reason ∷ further) part ≡ true)
 
--- a folder of the store and all that stands in it are visited
-abbrev pub VisitsFolder : Wants → Folder → Forest → Seen → Seen → Type 0
-VisitsFolder wants folder inside =
-    Enters wants folder (listing_of inside)
-    (Visits wants folder (has_object (finding_of folder.here (listing_of inside))) inside)
+  -- the source failed to list what is at this path, and that is told so
+  abbrev pub TellsUnlisted : Path → Bool → Seen → Seen → Type 0
+  TellsUnlisted path part a b =
+      (m : Seen) × HasRisen a.failed m.failed × (m.held ≡ a.held) × (m.numbers ≡ a.numbers)
+      × TellsReasons path part m b
+
+  -- a folder was listed whole, or what has names in it was, and that is told
+  abbrev pub Finds : Path → Bool → Seen → Seen → Type 0
+  Finds path whole a b = cond whole (b ≡ a) (TellsUnlisted path true a b)
+
+  -- a folder that lists these entries is judged, and has an object or not; or it can't be listed whole, and that is told in its place:
+  -- it counts as one without an object
+  abbrev pub Begins : Wants → Folder → List Item → Bool → Seen → Seen → Type 0
+  Begins wants folder items holds a b = (Judges wants (folder.path, folder.prefix) folder.here items a b
+      × (holds ≡ has_object (finding_of folder.here items))) ⊎ (TellsUnlisted folder.path true a b × (holds ≡ false))
+
+  -- a folder is met that lists these entries, by what is then done with them: it is too deep and told so, nothing of it can be listed
+  -- and that is told, or it is begun and its entries are visited. Where it can't be listed whole these are those that have names, and
+  -- in a tree that is told each has one.
+  abbrev pub Enters : Wants → Folder → List Item → (Bool → Seen → Seen → Type 0) → Seen → Seen → Type 0
+  Enters wants folder items visits a b = cond (folder.left == 0) (Tells (Told folder.path trouble.Deep) a b)
+      (TellsUnlisted folder.path false a b
+      ⊎ ((holds : Bool) × (m : Seen) × Begins wants folder items holds a m × visits holds m b))
+
+  -- the entries of a folder, which has an object or not, are visited one after another, each once, and all that stands in them
+  abbrev pub Visits : Wants → Folder → Bool → Forest → Seen → Seen → Type 0
+  Visits wants folder holds none a b = b ≡ a
+  Visits wants folder holds (file name bytes after) a b =
+      let path = folder.path ++ name ∷ [] in
+      (m : Seen) × Meets wants path folder.here (name, kind.File) a m
+      × (n : Seen) × Opens wants.reads path bytes m n
+      × Visits wants folder holds after n b
+  Visits wants folder holds (other name after) a b =
+      (m : Seen) × Meets wants (folder.path ++ name ∷ []) folder.here (name, kind.Other) a m
+      × Visits wants folder holds after m b
+  Visits wants folder holds (dir name inside after) a b =
+      let it = folder_in folder holds name in
+      (m : Seen) × Meets wants it.path folder.here (name, kind.Dir) a m
+      × (n : Seen) × Enters wants it (listing_of inside) (λ holds_it. Visits wants it holds_it inside)
+      (counting (begun it.here folder.here) m) n
+      × Visits wants folder holds after (counting (ended it.here folder.here m.numbers.bytes) n) b
+
+  -- a folder of the store and all that stands in it are visited
+  abbrev pub VisitsFolder : Wants → Folder → Forest → Seen → Seen → Type 0
+  VisitsFolder wants folder inside =
+      Enters wants folder (listing_of inside) (λ holds. Visits wants folder holds inside)
 
 -- ---- a store
 
@@ -317,11 +351,11 @@ root_folder prefix = record {
 }
 
 -- at the top of a store stand the version's file and `pairtree_root` (Pairtree 0.1): it is told where one doesn't, and the second is visited
-abbrev pub Looks : Wants → List ℕ → Forest → Seen → Seen → Type 0
-Looks wants prefix tree a b =
+abbrev pub Looks : Says → Wants → List ℕ → Forest → Seen → Seen → Type 0
+Looks says wants prefix tree a b =
     (m : Seen) × TellsIf (version_file ∷ []) (missing (is_file_kind (kind_in (listing_of tree) version_file))) a m
     × cond (is_dir_kind (kind_in (listing_of tree) pairtree_root))
-    (VisitsFolder wants (root_folder prefix) (inside_at tree (pairtree_root ∷ [])) m b)
+    (VisitsFolder says wants (root_folder prefix) (inside_at tree (pairtree_root ∷ [])) m b)
     (Tells (Told (pairtree_root ∷ []) trouble.Missing) m b)
 
 -- the path of the prefix file
@@ -343,17 +377,19 @@ ReadsPrefix (Some kind.Dir) bytes prefix a b = Tells (Told prefix_path trouble.P
 ReadsPrefix (Some kind.Other) bytes prefix a b = Tells (Told prefix_path trouble.Prefix) a b × (prefix ≡ [])
 
 -- what the top lists is looked at: the prefix, and then what a store must have
-abbrev pub LooksAll : Wants → Forest → Seen → Seen → Type 0
-LooksAll wants tree a b =
+abbrev pub LooksAll : Says → Wants → Forest → Seen → Seen → Type 0
+LooksAll says wants tree a b =
     (m : Seen) × (prefix : List ℕ)
     × ReadsPrefix (kind_in (listing_of tree) prefix_file) (bytes_at tree prefix_path) prefix a m
-    × Looks wants prefix tree m b
+    × Looks says wants prefix tree m b
 
--- a store is checked whole: what its top lists is looked at, or that can't be listed and is told; and at the end stands the line of
--- these numbers
-pub record Checks (wants : Wants) (tree : Forest) (numbers : Numbers) (a b : Seen) : Type 0 where
+-- a store is checked whole: what its top lists is looked at, if it lists all or what has names, or that can't be listed and is told; and
+-- at the end stands the line of these numbers
+pub record Checks (says : Says) (wants : Wants) (tree : Forest) (numbers : Numbers) (a b : Seen) : Type 0 where
   pub last : Seen
-  pub looks : LooksAll wants tree a last ⊎ TellsFailure [] a last
+  pub first : Seen
+  pub whole : Bool
+  pub looks : (Finds says [] whole a first × LooksAll says wants tree first last) ⊎ TellsUnlisted says [] false a last
   pub numbers_are : numbers ≡ last.numbers
   pub failed : b.failed ≡ last.failed
   pub counted : b.numbers ≡ last.numbers

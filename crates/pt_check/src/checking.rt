@@ -1,14 +1,12 @@
 //! The walk of a check over all that lies below a folder of a store.
-ghost use Rattle.std.specs.Io.KnownBytes.{Appends};
-ghost use Rattle.std.specs.Prelude.{◌≡◌, [], length, string_bytes, take, IfOk, IsSome, OnOk, MatchOption, Some};
+ghost use Rattle.std.specs.Prelude.{◌≡◌, [], cond, is_some, false, length, string_bytes, take, IfOk, IfSome, IsSome, OnOk, MatchOption, Some};
 ghost use Rattle.std.specs.Option.{ForSome};
 ghost use Rattle.pt_check.specs.Counting.{no_numbers};
 ghost use Rattle.pt_check.specs.Faults.{LogFailsAs};
-ghost use Rattle.pt_check.specs.Lines.{End, Told, line_text};
 ghost use Rattle.pt_plan.specs.Store.{prefix_file};
 ghost use Rattle.pt_plan.specs.TurnStart.{kind_in as kind_in_items};
 ghost use Rattle.pt_tree.specs.Path.{joined};
-ghost use Rattle.pt_check.specs.Visits.{Checks, Judges, Keeps, Looks, Meets, Opens, OpensIf, Puts, ReadsFront, ReadsPrefix, Tells, TellsFailure, TellsIf, TellsUnread, VisitsFolder, begun, ended, finding_of as finding_of_items, has_object as has_object_in, missing as missing_by, prefix_path, seen_by, tree_by, with_folder};
+ghost use Rattle.pt_check.specs.Visits.{Checks, Finds, Judges, Keeps, Looks, Meets, Opens, OpensIf, ReadsFront, ReadsPrefix, TellsReasons, TellsUnlisted, VisitsFolder, begun, ended, finding_of as finding_of_items, has_object as has_object_in, missing as missing_by, prefix_path, seen_by, tree_by, with_folder};
 ghost use Rattle.pt_tree.specs.Forest.{dir_at, file_at, listing_at};
 ghost use Rattle.pt_tree.specs.declared.kind.Kind.TheVariants as kind;
 ghost use Rattle.pt_walk.specs.Left.{bytes_at, inside_at};
@@ -17,22 +15,16 @@ use crate::judging::{
     count_trouble, entry_trouble, finding_of, folder_trouble, has_object, reserved_trouble,
     room_trouble, size_trouble,
 };
-use crate::lines::{end_line, trouble_line, unreadable_line};
 use crate::prefix::open_prefix;
 use crate::reading::open_whole;
+use crate::unlisted::{Explains, Unlisted};
 use crate::{CheckDevices, Numbers, Trouble, Wants, Within};
 use pt_object::WellKnownName;
 use pt_plan::Fault;
 use pt_plan::kinds::{is_dir, is_file, kind_in};
-use pt_tree::{Kind, KnownName, Listing, Log, MemoryFault, Name, NamePath, Source, TreeFault};
+use pt_tree::{Kind, KnownName, Listing, Log, Name, NamePath, Source, TreeFault};
 use pt_walk::{At, Limits};
 use std::alloc::Global;
-
-/// Why a source failed.
-pub trait Explains<S> {
-    /// The reason of the source's last failure, in words. `Memory` where a growth was refused.
-    fn reason(&self, alloc: Global, source: &S) -> Result<String, MemoryFault>;
-}
 
 /// A check under way: what it goes over, and what it has counted.
 #[derive(Drop)]
@@ -43,6 +35,13 @@ pub struct Check<S, L, E> {
     pub(crate) wants: Wants,
     pub(crate) numbers: Numbers,
     pub(crate) alloc: Global,
+}
+
+// What of a folder could be listed: all of its entries, or those that have names.
+#[derive(Drop)]
+struct Found {
+    listing: Listing,
+    is_whole: bool,
 }
 
 // What is told of an entry that a store must have, by whether it is there.
@@ -84,16 +83,16 @@ impl<S: Source, L: Log, E: Explains<S> + Drop> Check<S, L, E> {
     /// `Log` where a line couldn't be put, and `Memory` where a growth was refused.
     pub fn run(&mut self) -> Result<Numbers, Fault>
         ensures checked { IfOk result (λ numbers. ForSome (tree_by S.told self.old)
-            (λ tree. Checks self.old.wants tree numbers
+            (λ tree. Checks E.says self.old.wants tree numbers
             (seen_by S.failed L.told self.old) (seen_by S.failed L.told self.new))) }
         ensures keeps { Keeps S.told S.keeps L.told self.old self.new }
         ensures fault { LogFailsAs (L.failed self.old.log) (L.failed self.new.log) result }
     {
         let top = NamePath::new(self.alloc);
         match self.list(&top)? {
-            Some(listing) => {
-                let prefix = self.look_at_prefix(&listing)?;
-                self.look(&listing, prefix.as_str())?;
+            Some(found) => {
+                let prefix = self.look_at_prefix(&found.listing)?;
+                self.look(&found.listing, prefix.as_str())?;
                 self.tell_numbers()
             }
             None => self.tell_numbers(),
@@ -157,7 +156,7 @@ impl<S: Source, L: Log, E: Explains<S> + Drop> Check<S, L, E> {
         requires { ForSome (tree_by S.told self.old)
             (λ tree. listing_at tree [] ≡ Some listing.now) }
         ensures looked { OnOk result (ForSome (tree_by S.told self.old)
-            (λ tree. Looks self.old.wants prefix.now tree
+            (λ tree. Looks E.says self.old.wants prefix.now tree
             (seen_by S.failed L.told self.old) (seen_by S.failed L.told self.new))) }
         ensures keeps { Keeps S.told S.keeps L.told self.old self.new }
         ensures fault { LogFailsAs (L.failed self.old.log) (L.failed self.new.log) result }
@@ -178,23 +177,6 @@ impl<S: Source, L: Log, E: Explains<S> + Drop> Check<S, L, E> {
         }
     }
 
-    // Puts the line of the numbers.
-    fn tell_numbers(&mut self) -> Result<Numbers, Fault>
-        ensures numbers { IfOk result (λ numbers. numbers ≡ self.old.numbers) }
-        ensures told { OnOk result (Appends (L.told self.old.log) (L.told self.new.log)
-            (line_text (End self.old.numbers))) }
-        ensures counted { self.new.numbers ≡ self.old.numbers }
-        ensures source { self.new.source ≡ self.old.source }
-        ensures keeps { Keeps S.told S.keeps L.told self.old self.new }
-        ensures fault { LogFailsAs (L.failed self.old.log) (L.failed self.new.log) result }
-    {
-        let line = end_line(self.alloc, &self.numbers)?;
-        match self.log.put(line.as_str().as_bytes()) {
-            Ok(()) => Ok(self.numbers),
-            Err(fault) => Err(Fault::of_log(fault)),
-        }
-    }
-
     // A folder at a path in a store of this prefix, which is this, and below which folders may stand so deep, and all that lies in it.
     // What can't be read is told, and passed. `Log` where a line couldn't be put, `Memory` where a growth was refused.
     fn visit(
@@ -206,7 +188,7 @@ impl<S: Source, L: Log, E: Explains<S> + Drop> Check<S, L, E> {
     ) -> Result<(), Fault>
         requires { ForSome (tree_by S.told self.old) (λ tree. IsSome (dir_at tree path.now)) }
         ensures visited { OnOk result (ForSome (tree_by S.told self.old)
-            (λ tree. VisitsFolder self.old.wants
+            (λ tree. VisitsFolder E.says self.old.wants
             (record { path = path.now; prefix = prefix.now; here = within; left = left })
             (inside_at tree path.now)
             (seen_by S.failed L.told self.old) (seen_by S.failed L.told self.new))) }
@@ -216,12 +198,12 @@ impl<S: Source, L: Log, E: Explains<S> + Drop> Check<S, L, E> {
         if left == 0 {
             return self.tell(path, Trouble::Deep);
         }
-        let Some(listing) = self.list(path)? else {
+        let Some(found) = self.list(path)? else {
             return Ok(());
         };
-        let has_object = self.judge(path, prefix, within, &listing)?;
-        for i in 0..listing.len() {
-            let Some((name, kind)) = listing.get(i) else {
+        let has_object = self.judge_found(path, prefix, within, &found)?;
+        for i in 0..found.listing.len() {
+            let Some((name, kind)) = found.listing.get(i) else {
                 continue;
             };
             let entry = path.child(name)?;
@@ -286,6 +268,31 @@ impl<S: Source, L: Log, E: Explains<S> + Drop> Check<S, L, E> {
         }
     }
 
+    // Judges a folder that was listed whole, as below. What another one is can't be said: it isn't judged, and counts as one without an
+    // object.
+    fn judge_found(
+        &mut self,
+        path: &NamePath,
+        prefix: &str,
+        within: Within,
+        found: &Found,
+    ) -> Result<bool, Fault>
+        ensures judged { OnOk result (cond found.now.is_whole
+            (Judges self.old.wants (path.now, prefix.now) within found.now.listing
+            (seen_by S.failed L.told self.old) (seen_by S.failed L.told self.new))
+            (seen_by S.failed L.told self.new ≡ seen_by S.failed L.told self.old)) }
+        ensures object { IfOk result (λ holds. holds ≡ cond found.now.is_whole
+            (has_object_in (finding_of_items within found.now.listing)) false) }
+        ensures keeps { Keeps S.told S.keeps L.told self.old self.new }
+        ensures fault { LogFailsAs (L.failed self.old.log) (L.failed self.new.log) result }
+    {
+        if found.is_whole {
+            self.judge(path, prefix, within, &found.listing)
+        } else {
+            Ok(false)
+        }
+    }
+
     // Judges a folder of a store of this prefix by what it lists: it is counted, and told if there is trouble. Gives whether it has an
     // object.
     fn judge(
@@ -295,7 +302,8 @@ impl<S: Source, L: Log, E: Explains<S> + Drop> Check<S, L, E> {
         within: Within,
         listing: &Listing,
     ) -> Result<bool, Fault>
-        ensures judged { OnOk result (Judges self.old.wants (path.now, prefix.now) within listing.now
+        ensures judged { OnOk result (Judges self.old.wants
+            (path.now, prefix.now) within listing.now
             (seen_by S.failed L.told self.old) (seen_by S.failed L.told self.new)) }
         ensures object { IfOk result (λ holds. holds
             ≡ has_object_in (finding_of_items within listing.now)) }
@@ -337,27 +345,59 @@ impl<S: Source, L: Log, E: Explains<S> + Drop> Check<S, L, E> {
         Ok(bytes)
     }
 
-    // The listing of a folder; None where it can't be listed, which is told.
+    // What of a folder can be listed, and None where nothing can. That not all of it can is told.
     #[tactic(auto, using(crate::proofs::Visiting::listed_in))]
-    fn list(&mut self, path: &NamePath) -> Result<Option<Listing>, Fault>
+    fn list(&mut self, path: &NamePath) -> Result<Option<Found>, Fault>
         requires { ForSome (tree_by S.told self.old) (λ tree. IsSome (dir_at tree path.now)) }
         ensures listed { IfOk result (λ found. MatchOption found
-            (TellsFailure path.now (seen_by S.failed L.told self.old)
+            (TellsUnlisted E.says path.now false (seen_by S.failed L.told self.old)
             (seen_by S.failed L.told self.new))
-            (λ listing. ForSome (tree_by S.told self.old)
-            (λ tree. listing_at tree path.now ≡ Some listing))) }
-        ensures same { IfOk result (λ found. IsSome found
-            → seen_by S.failed L.told self.new ≡ seen_by S.failed L.told self.old) }
+            (λ found. ForSome (tree_by S.told self.old)
+            (λ tree. listing_at tree path.now ≡ Some found.listing))) }
+        ensures found { IfOk result (λ found. IfSome found
+            (λ found. Finds E.says path.now found.is_whole
+            (seen_by S.failed L.told self.old) (seen_by S.failed L.told self.new))) }
         ensures keeps { Keeps S.told S.keeps L.told self.old self.new }
         ensures fault { LogFailsAs (L.failed self.old.log) (L.failed self.new.log) result }
     {
         match self.source.list(path) {
-            Ok(listing) => Ok(Some(listing)),
-            Err(TreeFault::Device) => {
-                self.tell_failure(path)?;
-                Ok(None)
-            }
+            Ok(listing) => Ok(Some(Found {
+                listing,
+                is_whole: true,
+            })),
+            Err(TreeFault::Device) => self.list_part(path),
             Err(TreeFault::Memory) => Err(Fault::Memory),
+        }
+    }
+
+    // Tells that the source failed to list a folder, by a line for each reason. Gives what of it can be listed all the same.
+    #[tactic(auto, using(crate::proofs::Visiting::listed_in))]
+    fn list_part(&mut self, path: &NamePath) -> Result<Option<Found>, Fault>
+        requires { ForSome (tree_by S.told self.old) (λ tree. IsSome (dir_at tree path.now)) }
+        ensures listed { IfOk result (λ found. IfSome found
+            (λ found. ForSome (tree_by S.told self.old)
+            (λ tree. listing_at tree path.now ≡ Some found.listing))) }
+        ensures part { IfOk result (λ found. IfSome found (λ found. found.is_whole ≡ false)) }
+        ensures told { IfOk result (λ found. TellsReasons E.says path.now (is_some found)
+            (seen_by S.failed L.told self.old) (seen_by S.failed L.told self.new)) }
+        ensures keeps { Keeps S.told S.keeps L.told self.old self.new }
+        ensures fault { LogFailsAs (L.failed self.old.log) (L.failed self.new.log) result }
+    {
+        let Unlisted {
+            reason,
+            further,
+            listing,
+        } = self
+            .explains
+            .explain_listing(self.alloc, &mut self.source, path)?;
+        self.tell_reason(path, reason.as_str())?;
+        self.tell_each(path, &further)?;
+        match listing {
+            Some(listing) => Ok(Some(Found {
+                listing,
+                is_whole: false,
+            })),
+            None => Ok(None),
         }
     }
 
@@ -377,62 +417,6 @@ impl<S: Source, L: Log, E: Explains<S> + Drop> Check<S, L, E> {
             }
             Err(TreeFault::Device) => self.tell_failure(path),
             Err(TreeFault::Memory) => Err(Fault::Memory),
-        }
-    }
-
-    // Tells of a trouble at a path, if there is one.
-    fn tell_if(&mut self, path: &NamePath, trouble: Option<Trouble>) -> Result<(), Fault>
-        ensures told { OnOk result (TellsIf path.now trouble
-            (seen_by S.failed L.told self.old) (seen_by S.failed L.told self.new)) }
-        ensures source { self.new.source ≡ self.old.source }
-        ensures keeps { Keeps S.told S.keeps L.told self.old self.new }
-        ensures fault { LogFailsAs (L.failed self.old.log) (L.failed self.new.log) result }
-    {
-        match trouble {
-            Some(trouble) => self.tell(path, trouble),
-            None => Ok(()),
-        }
-    }
-
-    // Tells of a trouble at a path.
-    fn tell(&mut self, path: &NamePath, trouble: Trouble) -> Result<(), Fault>
-        ensures told { OnOk result (Tells (Told path.now trouble)
-            (seen_by S.failed L.told self.old) (seen_by S.failed L.told self.new)) }
-        ensures source { self.new.source ≡ self.old.source }
-        ensures keeps { Keeps S.told S.keeps L.told self.old self.new }
-        ensures fault { LogFailsAs (L.failed self.old.log) (L.failed self.new.log) result }
-    {
-        let line = trouble_line(self.alloc, path, trouble)?;
-        self.put(line.as_str())
-    }
-
-    // Tells that the source failed at a path.
-    fn tell_failure(&mut self, path: &NamePath) -> Result<(), Fault>
-        ensures told { OnOk result (TellsUnread path.now
-            (seen_by S.failed L.told self.old) (seen_by S.failed L.told self.new)) }
-        ensures source { self.new.source ≡ self.old.source }
-        ensures keeps { Keeps S.told S.keeps L.told self.old self.new }
-        ensures fault { LogFailsAs (L.failed self.old.log) (L.failed self.new.log) result }
-    {
-        let reason = self.explains.reason(self.alloc, &self.source)?;
-        let line = unreadable_line(self.alloc, path, reason.as_str())?;
-        self.put(line.as_str())
-    }
-
-    // Puts a line, and counts it.
-    fn put(&mut self, line: &str) -> Result<(), Fault>
-        ensures put { OnOk result (Puts line.now
-            (seen_by S.failed L.told self.old) (seen_by S.failed L.told self.new)) }
-        ensures source { self.new.source ≡ self.old.source }
-        ensures keeps { Keeps S.told S.keeps L.told self.old self.new }
-        ensures fault { LogFailsAs (L.failed self.old.log) (L.failed self.new.log) result }
-    {
-        match self.log.put(line.as_bytes()) {
-            Ok(()) => {
-                self.numbers = self.numbers.with_line();
-                Ok(())
-            }
-            Err(fault) => Err(Fault::of_log(fault)),
         }
     }
 }

@@ -9,6 +9,10 @@
 //!   names, a folder before its entries. Each file is opened, and read whole where that is wanted. Where a folder can't be listed or a file
 //!   opened or read, its path is told with a reason, the source's count of failures rose, and the walk goes on with the next entry (`Enters`,
 //!   `Opens`). A folder deeper below pairtree_root than the limit of a run, 600, is told, and not listed.
+//! - Of a folder that couldn't be listed each reason that `Explains` gives is told, and no other (`TellsReasons`). Where it gives a listing of
+//!   what has names there, that is visited; the folder isn't judged then, as a site or as anything, and has no object (`Begins`). So its shorties
+//!   are sites where it is one, and its other folders are `Beside`; in an object they are that object's still. In a tree that is told each
+//!   entry has a name, so that all are visited.
 //! - At each folder and entry exactly what `folder_trouble`, `reserved_trouble`, `count_trouble`, `entry_trouble` and `room_trouble` say of it
 //!   is told, each by a line of its own (`Tells`): the cause for which a run without `--gather` passes a site over, names that aren't those of
 //!   the identifier's own pairpath, the first file over the limit of an object, names that desktops leave, links and special files, and paths
@@ -27,8 +31,7 @@
 //! names follow from the text that they join to. And between two entries a check holds the listings on the way to where it stands, and numbers:
 //! nothing grows with the objects.
 //!
-//! Not told is, without reading whole, the length of a file. Of a folder in which a name isn't UTF-8 the reason tells that, and its entries
-//! aren't visited.
+//! Not told is, without reading whole, the length of a file.
 #![tactic(auto)]
 
 mod checking;
@@ -39,13 +42,16 @@ mod lines;
 mod numbers;
 mod prefix;
 mod reading;
+mod telling;
 mod trouble;
+mod unlisted;
 mod wants;
 mod within;
 
-pub use checking::{Check, Explains};
+pub use checking::Check;
 pub use devices::CheckDevices;
 pub use numbers::Numbers;
 pub use trouble::Trouble;
+pub use unlisted::{Explains, Unlisted};
 pub use wants::Wants;
 pub use within::Within;

@@ -9,19 +9,19 @@ use Rattle.pt_check.specs.declared.wants.Wants.{Wants}
 use Rattle.pt_plan.specs.declared.fault.Fault.{Fault}
 use Rattle.pt_plan.specs.declared.fault.Fault.TheVariants as fault
 use Rattle.pt_tree.specs.Forest.{Forest}
-use Rattle.pt_host.specs.Checking.{CheckCall, ChecksTree, IsFaultOfCheck, unbegun, wants_of}
+use Rattle.pt_host.specs.Checking.{CheckCall, ChecksTree, IsFaultOfCheck, says_anything, unbegun, wants_of}
 
 -- a check is one of a call, whatever its tree and how far it is are called
 pub checks_as : (ran : Result Numbers Fault) (call : CheckCall) (b : Seen) {wants : Wants} {tree store : Option Forest} {a : Seen} {was held : Option (List ℕ)}
     → wants ≡ wants_of call.options → tree ≡ store → a ≡ unbegun was → b.held ≡ held
-    → IfOk ran (λ numbers. ForSome tree (λ t. Checks wants t numbers a b))
+    → IfOk ran (λ numbers. ForSome tree (λ t. Checks says_anything wants t numbers a b))
     → IfOk ran (λ numbers. ForSome store (ChecksTree call was held numbers))
 checks_as (Err why) call b wants_are same begun held_is checks = tt
 checks_as (Ok numbers) call b {wants} {a = a} wants_are same begun held_is checks =
     λ t is. (
       b,
       held_is,
-      subst (λ (s : Seen). Checks (wants_of call.options) t numbers s b) begun (subst (λ (w : Wants). Checks w t numbers a b) wants_are (checks t (same ∙ is))),
+      subst (λ (s : Seen). Checks says_anything (wants_of call.options) t numbers s b) begun (subst (λ (w : Wants). Checks says_anything w t numbers a b) wants_are (checks t (same ∙ is))),
     )
 
 -- whichever fault it answers, it is one of a check

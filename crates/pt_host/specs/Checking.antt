@@ -1,8 +1,8 @@
 -- What a check of a store on a machine comes to.
-use Rattle.std.specs.Prelude.{◌≡◌, ◌==◌, ⊤, ℕ, if◌then◌else◌, IfErr, IfOk, List, Option, Result, Ok, Err}
+use Rattle.std.specs.Prelude.{◌≡◌, ◌==◌, ⊤, ℕ, true, if◌then◌else◌, IfErr, IfOk, List, Option, Result, Ok, Err}
 use Rattle.std.specs.Option.{ForSome, option_map}
 use Rattle.pt_check.specs.Counting.{no_numbers}
-use Rattle.pt_check.specs.Visits.{Checks, Grows, Seen}
+use Rattle.pt_check.specs.Visits.{Checks, Grows, Says, Seen}
 use Rattle.pt_check.specs.declared.numbers.Numbers.{Numbers}
 use Rattle.pt_check.specs.declared.wants.Wants.{Wants}
 use Rattle.pt_plan.specs.declared.fault.Fault.{Fault}
@@ -53,10 +53,14 @@ wants_of options = record {
   layout = options.layout;
 }
 
+-- what a check says of a folder that can't be listed: of its words nothing is promised
+abbrev pub says_anything : Says
+says_anything path reasons part = true
+
 -- a check went over this tree from an output to what that then holds, with what `run` of pt_check promises of it
 abbrev pub ChecksTree : CheckCall → Option (List ℕ) → Option (List ℕ) → Numbers → Forest → Type 0
 ChecksTree call was held numbers tree =
-    (end : Seen) × (end.held ≡ held) × Checks (wants_of call.options) tree numbers (unbegun was) end
+    (end : Seen) × (end.held ≡ held) × Checks says_anything (wants_of call.options) tree numbers (unbegun was) end
 
 -- a check was made over this folder of the system that keeps the store: where it ended well the output got its lines, of the
 -- tree that the system keeps, and else its fault is the output's or want of memory; whatever it came to, that tree stands, what

@@ -9,10 +9,10 @@ use crate::room::room_in;
 use crate::saying::tell_fault;
 use crate::status::{DONE, FAILED, INCOMPLETE};
 use crate::{CheckOptions, Host, HostIo, Machine};
-use pt_check::{Check, CheckDevices, Explains, Numbers, Wants};
-use pt_folder::{Failure, HostSource, System};
+use pt_check::{Check, CheckDevices, Explains, Numbers, Unlisted, Wants};
+use pt_folder::{Failure, FailureReason, HostSource, System};
 use pt_move::Fault;
-use pt_tree::{Ignoring, MemoryFault};
+use pt_tree::{Ignoring, ListsNamed, MemoryFault, NamePath, Source, TreeFault};
 use std::alloc::{AllocGlobal, Global};
 use std::io::Write;
 
@@ -104,6 +104,10 @@ fn wants_of(options: &CheckOptions) -> Wants
 struct LastFailure;
 
 impl<'a, S: System> Explains<Ignoring<HostSource<'a, S>>> for LastFailure {
+    ghost use Rattle.pt_host.specs.Checking.{says_anything};
+
+    ghost says = { says_anything };
+
     // Where none was kept there was no memory for its path.
     fn reason(
         &self,
@@ -115,16 +119,89 @@ impl<'a, S: System> Explains<Ignoring<HostSource<'a, S>>> for LastFailure {
             None => Err(MemoryFault::Memory),
         }
     }
+
+    // A folder that can't be listed since bytes in it are no name is listed without them, and each such one is a reason. Where looking at an
+    // entry fails then, that is one more.
+    fn explain_listing(
+        &self,
+        alloc: Global,
+        source: &mut Ignoring<HostSource<'a, S>>,
+        path: &NamePath,
+    ) -> Result<Unlisted, MemoryFault> {
+        let first = self.reason(alloc, source)?;
+        if !failed_for_name(source) {
+            return Ok(Unlisted {
+                reason: first,
+                further: Vec::new(alloc),
+                listing: None,
+            });
+        }
+        // That the count is one of 64 bits, for the proof.
+        let _failures = source.failures();
+        let mut refused = Vec::new(alloc);
+        match source.list_named(path, &mut refused) {
+            Ok(listing) => {
+                let (reason, further) = reasons_of(alloc, first, &refused)?;
+                Ok(Unlisted {
+                    reason,
+                    further,
+                    listing: Some(listing),
+                })
+            }
+            Err(TreeFault::Device) => {
+                let (reason, mut further) = reasons_of(alloc, first, &refused)?;
+                further.push(self.reason(alloc, source)?)?;
+                Ok(Unlisted {
+                    reason,
+                    further,
+                    listing: None,
+                })
+            }
+            Err(TreeFault::Memory) => Err(MemoryFault::Memory),
+        }
+    }
 }
 
-// Why a call failed. Where it was for a name that no entry may have, that stands behind it: each byte that is no printable character of
-// ASCII is escaped, as `\xe9`, and `\`, `'` and `"` get a `\` in front.
-fn reason_of(alloc: Global, failure: &Failure) -> Result<String, MemoryFault> {
-    let cause = failure.cause();
-    match failure.name() {
-        Some(name) => Ok(format!(in alloc; "{cause}: {}", name.escape_ascii())?),
-        None => Ok(cause.to_string(alloc)?),
+// Whether a folder's last failure was for bytes that are no name.
+fn failed_for_name<S: System>(source: &Ignoring<HostSource<'_, S>>) -> bool {
+    match source.source().last_failure() {
+        Some(failure) => failure.name().is_some(),
+        None => false,
     }
+}
+
+// The first reason and the further ones for which a folder couldn't be listed in which these bytes are no names: each of them is one, and
+// this reason alone where there are none.
+fn reasons_of(
+    alloc: Global,
+    reason: String,
+    refused: &[Vec<u8>],
+) -> Result<(String, Vec<String>), MemoryFault> {
+    let mut first = reason;
+    let mut further = Vec::new(alloc);
+    for (i, name) in refused.iter().enumerate() {
+        let reason = reason_for(alloc, FailureReason::Name, name.as_slice())?;
+        if i == 0 {
+            first = reason;
+        } else {
+            further.push(reason)?;
+        }
+    }
+    Ok((first, further))
+}
+
+// Why a call failed. Where it was for bytes that are no name, these stand behind it.
+fn reason_of(alloc: Global, failure: &Failure) -> Result<String, MemoryFault> {
+    match failure.name() {
+        Some(name) => reason_for(alloc, failure.cause(), name),
+        None => Ok(failure.cause().to_string(alloc)?),
+    }
+}
+
+// A cause, and behind it bytes that are no name: each that is no printable character of ASCII is escaped, as `\xe9`, and `\`, `'` and `"` get
+// a `\` in front.
+fn reason_for(alloc: Global, cause: FailureReason, name: &[u8]) -> Result<String, MemoryFault> {
+    Ok(format!(in alloc; "{cause}: {}", name.escape_ascii())?)
 }
 
 // The exit status of a check.

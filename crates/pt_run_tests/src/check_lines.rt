@@ -1,27 +1,58 @@
 //! The lines of a check over stores in memory.
 #![tactic(auto)]
 
-use pt_check::{Check, CheckDevices, Explains, Wants};
+use pt_check::{Check, CheckDevices, Explains, Unlisted, Wants};
 use pt_memory::texts::store;
 use pt_memory::{MemLog, MemSource};
 use pt_name::Layout;
-use pt_tree::MemoryFault;
+use pt_tree::{MemoryFault, NamePath, Source};
 use std::alloc::Global;
 
-// What is told of each call that fails.
+// What is told of each call that fails. Where further reasons are given, what failed to list lists its entries all the same, and from then
+// on each call passes.
 #[derive(Drop)]
-struct ItFailed;
+struct ItFailed {
+    further: &'static [&'static str],
+}
 
 impl Explains<MemSource> for ItFailed {
+    ghost use Rattle.std.specs.Prelude.{true};
+
+    ghost says = { λ _ _ _. true };
+
     fn reason(&self, alloc: Global, _: &MemSource) -> Result<String, MemoryFault> {
         Ok(String::from_str(alloc, "it failed")?)
     }
+
+    fn explain_listing(
+        &self,
+        alloc: Global,
+        source: &mut MemSource,
+        path: &NamePath,
+    ) -> Result<Unlisted, MemoryFault> {
+        let reason = self.reason(alloc, source)?;
+        let mut further = Vec::new(alloc);
+        for reason in self.further {
+            further.push(String::from_str(alloc, reason)?)?;
+        }
+        let mut listing = None;
+        if !further.is_empty() {
+            source.fuse(None);
+            listing = source.list(path).ok();
+        }
+        Ok(Unlisted {
+            reason,
+            further,
+            listing,
+        })
+    }
 }
 
-// A check: the store's entries, how many calls of it pass, the room of a destination, whether its places have tuples, and the log.
+// A check: the store's entries, how many calls of it pass, the further reasons of one that doesn't, the room of a destination, whether its places have tuples, and the log.
 struct Row {
     entries: &'static str,
     calls: Option<u64>,
+    further: &'static [&'static str],
     room: Option<u64>,
     has_tuples: bool,
     log: &'static str,
@@ -30,6 +61,7 @@ struct Row {
 const WHOLE: Row = Row {
     entries: " ab/c/obj/f=abc",
     calls: None,
+    further: &[],
     room: None,
     has_tuples: true,
     log: "{\"as\":\"end\",\"bytes\":3,\"files\":1,\"folders\":3,\"largest\":3,\"longest\":24,\"objects\":1,\"sites\":3,\"told\":0}\n",
@@ -38,6 +70,7 @@ const WHOLE: Row = Row {
 const TWO_OBJECTS: Row = Row {
     entries: " ab/c/obj/f=abc ab/d/obj/f=de ab/d/obj/g=fg ab/d/obj/h/i=hi",
     calls: None,
+    further: &[],
     room: None,
     has_tuples: true,
     log: "{\"as\":\"end\",\"bytes\":9,\"files\":4,\"folders\":6,\"largest\":6,\"longest\":26,\"objects\":2,\"sites\":4,\"told\":0}\n",
@@ -46,6 +79,7 @@ const TWO_OBJECTS: Row = Row {
 const STRAY: Row = Row {
     entries: " ab/c/.DS_Store=x ab/c/obj/f=abc",
     calls: None,
+    further: &[],
     room: None,
     has_tuples: true,
     log: "{\"as\":\"split\",\"path\":\"pairtree_root/ab/c\"}\n{\"as\":\"desktop\",\"path\":\"pairtree_root/ab/c/.DS_Store\"}\n{\"as\":\"end\",\"bytes\":4,\"files\":2,\"folders\":3,\"largest\":0,\"longest\":28,\"objects\":0,\"sites\":3,\"told\":2}\n",
@@ -54,6 +88,7 @@ const STRAY: Row = Row {
 const OTHER: Row = Row {
     entries: " ab/c/obj/l?",
     calls: None,
+    further: &[],
     room: None,
     has_tuples: true,
     log: "{\"as\":\"other\",\"path\":\"pairtree_root/ab/c/obj/l\"}\n{\"as\":\"end\",\"bytes\":0,\"files\":0,\"folders\":3,\"largest\":0,\"longest\":24,\"objects\":1,\"sites\":3,\"told\":1}\n",
@@ -62,6 +97,7 @@ const OTHER: Row = Row {
 const BAD_NAME: Row = Row {
     entries: " ^z/c/obj/f=",
     calls: None,
+    further: &[],
     room: None,
     has_tuples: true,
     log: "{\"as\":\"name\",\"path\":\"pairtree_root/^z/c\"}\n{\"as\":\"end\",\"bytes\":0,\"files\":1,\"folders\":3,\"largest\":0,\"longest\":24,\"objects\":1,\"sites\":3,\"told\":1}\n",
@@ -71,6 +107,7 @@ const BAD_NAME: Row = Row {
 const SPELLING: Row = Row {
     entries: " ^6/1b/obj/f=",
     calls: None,
+    further: &[],
     room: None,
     has_tuples: true,
     log: "{\"as\":\"spelling\",\"path\":\"pairtree_root/^6/1b\"}\n{\"as\":\"end\",\"bytes\":0,\"files\":1,\"folders\":3,\"largest\":0,\"longest\":25,\"objects\":1,\"sites\":3,\"told\":1}\n",
@@ -79,6 +116,7 @@ const SPELLING: Row = Row {
 const PAST: Row = Row {
     entries: " a/bc/obj/f=",
     calls: None,
+    further: &[],
     room: None,
     has_tuples: true,
     log: "{\"as\":\"past\",\"path\":\"pairtree_root/a/bc\"}\n{\"as\":\"end\",\"bytes\":0,\"files\":1,\"folders\":3,\"largest\":0,\"longest\":24,\"objects\":0,\"sites\":2,\"told\":1}\n",
@@ -88,15 +126,37 @@ const PAST: Row = Row {
 const FAILING: Row = Row {
     entries: " ab/c/obj/f=abc de/f/obj/g=de",
     calls: Some(3),
+    further: &[],
     room: None,
     has_tuples: true,
     log: "{\"as\":\"unreadable\",\"path\":\"pairtree_root/ab/c\",\"reason\":\"it failed\"}\n{\"as\":\"unreadable\",\"path\":\"pairtree_root/de\",\"reason\":\"it failed\"}\n{\"as\":\"end\",\"bytes\":0,\"files\":0,\"folders\":3,\"largest\":0,\"longest\":18,\"objects\":0,\"sites\":2,\"told\":2}\n",
+};
+
+// The site of `ab/c` lists its entries, but isn't judged: it counts as none, and has no object. The next one is whole.
+const PART: Row = Row {
+    entries: " ab/c/obj/f=abc ab/c/de/obj/l? de/f/obj/g=de",
+    calls: Some(3),
+    further: &["again", "and again"],
+    room: None,
+    has_tuples: true,
+    log: "{\"as\":\"unreadable\",\"path\":\"pairtree_root/ab/c\",\"reason\":\"it failed\"}\n{\"as\":\"unreadable\",\"path\":\"pairtree_root/ab/c\",\"reason\":\"again\"}\n{\"as\":\"unreadable\",\"path\":\"pairtree_root/ab/c\",\"reason\":\"and again\"}\n{\"as\":\"past\",\"path\":\"pairtree_root/ab/c/de\"}\n{\"as\":\"other\",\"path\":\"pairtree_root/ab/c/de/obj/l\"}\n{\"as\":\"end\",\"bytes\":5,\"files\":2,\"folders\":8,\"largest\":2,\"longest\":27,\"objects\":1,\"sites\":4,\"told\":5}\n",
+};
+
+// So does the top of a store.
+const PART_OF_TOP: Row = Row {
+    entries: " ab/c/obj/f=abc",
+    calls: Some(0),
+    further: &["again"],
+    room: None,
+    has_tuples: true,
+    log: "{\"as\":\"unreadable\",\"path\":\"\",\"reason\":\"it failed\"}\n{\"as\":\"unreadable\",\"path\":\"\",\"reason\":\"again\"}\n{\"as\":\"end\",\"bytes\":3,\"files\":1,\"folders\":3,\"largest\":3,\"longest\":24,\"objects\":1,\"sites\":3,\"told\":2}\n",
 };
 
 // There is room for the two bytes of `ff`, and not for the three of `d/f`; what is no file of an object needs none.
 const ROOM: Row = Row {
     entries: " ab/c/obj/d/f=abc ab/c/obj/ff=de ad/e/obj/longer/",
     calls: None,
+    further: &[],
     room: Some(2),
     has_tuples: true,
     log: "{\"as\":\"place\",\"path\":\"pairtree_root/ab/c/obj/d/f\"}\n{\"as\":\"end\",\"bytes\":5,\"files\":2,\"folders\":8,\"largest\":5,\"longest\":29,\"objects\":2,\"sites\":5,\"told\":1}\n",
@@ -106,6 +166,7 @@ const ROOM: Row = Row {
 const RESERVED: Row = Row {
     entries: " ex/te/ns/io/ns/obj/f=",
     calls: None,
+    further: &[],
     room: None,
     has_tuples: false,
     log: "{\"as\":\"reserved\",\"path\":\"pairtree_root/ex/te/ns/io/ns\"}\n{\"as\":\"end\",\"bytes\":0,\"files\":1,\"folders\":6,\"largest\":0,\"longest\":34,\"objects\":1,\"sites\":6,\"told\":1}\n",
@@ -115,7 +176,7 @@ const RESERVED: Row = Row {
 const EMPTY: &str =
     "{\"as\":\"missing\",\"path\":\"pairtree_version0_1\"}\n{\"as\":\"missing\",\"path\":\"pairtree_root\"}\n{\"as\":\"end\",\"bytes\":0,\"files\":0,\"folders\":0,\"largest\":0,\"longest\":0,\"objects\":0,\"sites\":0,\"told\":2}\n";
 
-const ROWS: [Row; 10] = [
+const ROWS: [Row; 12] = [
     WHOLE,
     TWO_OBJECTS,
     STRAY,
@@ -124,6 +185,8 @@ const ROWS: [Row; 10] = [
     SPELLING,
     PAST,
     FAILING,
+    PART,
+    PART_OF_TOP,
     ROOM,
     RESERVED,
 ];
@@ -142,11 +205,17 @@ fn wanted(room: Option<u64>, has_tuples: bool) -> Wants {
 }
 
 // Whether a check of which this is wanted ends well, and its log is this.
-fn tells(alloc: Global, source: MemSource, wants: Wants, log: &str) -> bool {
+fn tells(
+    alloc: Global,
+    source: MemSource,
+    further: &'static [&'static str],
+    wants: Wants,
+    log: &str,
+) -> bool {
     let devices = CheckDevices {
         source,
         log: MemLog::new(alloc),
-        explains: ItFailed,
+        explains: ItFailed { further },
     };
     let mut check = Check::new(alloc, devices, wants);
     let ran = check.run();
@@ -158,7 +227,8 @@ fn holds(alloc: Global, row: &Row) -> bool {
     match store(alloc, row.entries) {
         Ok(mut source) => {
             source.fuse(row.calls);
-            tells(alloc, source, wanted(row.room, row.has_tuples), row.log)
+            let wants = wanted(row.room, row.has_tuples);
+            tells(alloc, source, row.further, wants, row.log)
         }
         Err(_) => false,
     }
@@ -176,6 +246,7 @@ fn what_a_store_must_have_is_told_as_missing(rt: HostRuntime) {
         tells(
             rt.alloc(),
             MemSource::new(rt.alloc()),
+            &[],
             wanted(None, true),
             EMPTY
         )

@@ -11,7 +11,7 @@ abbrev pub invariant-loop-i : goal.invariant-loop-i
 invariant-loop-i g l = record {
   keeps : Keeps g.S.Source.told g.S.Source.keeps g.L.Log.told l.fn.self l.self;
   unfailed : g.L.Log.failed l.self.log ≡ g.L.Log.failed l.fn.self.log;
-  visited : ForSome (tree_by g.S.Source.told l.fn.self) (λ tree. VisitedTo l.fn.self.wants
+  visited : ForSome (tree_by g.S.Source.told l.fn.self) (λ tree. VisitedTo g.E.Explains.says l.fn.self.wants
       (record { path = l.path; prefix = l.prefix; here = l.within; left = l.left }) l.has_object tree l.i
       (seen_by g.S.Source.failed g.L.Log.told l.initial.self) (seen_by g.S.Source.failed g.L.Log.told l.self));
 }

@@ -37,7 +37,7 @@ returns-then-is_dir-clause-looked g c =
     let tells : TellsIf c.in_ok-version.version (missing (is_file_kind (kind_in c.args.listing.now version_file))) a m =
     subst (λ (o : Option Trouble). TellsIf c.in_ok-version.version o a m) lacks c.in_ok-tell_if.ensures.told in
     on_ok_weaker c.visit.result
-    (looked (tree_by g.S.Source.told c.args.self.now) (tree_by g.S.Source.told c.tell_if.new.self) c.args.self.now.wants c.tell_if.new.self.wants c.args.prefix.now c.args.listing.now c.in_ok-version.version
+    (looked g.E.Explains.says (tree_by g.S.Source.told c.args.self.now) (tree_by g.S.Source.told c.tell_if.new.self) c.args.self.now.wants c.tell_if.new.self.wants c.args.prefix.now c.args.listing.now c.in_ok-version.version
     c.in_ok-root.root (c.depth.result + 1) a m b c.requires c.in_ok-version.ensures c.in_ok-root.ensures left tells is c.tell_if.ensures.keeps.tree c.tell_if.ensures.keeps.wants) c.visit.ensures.visited
 
 pub returns-then-is_dir-clause-keeps : goal.returns-then-is_dir-clause-keeps
