@@ -298,7 +298,7 @@ module _ (says : Says) where
   Finds path whole a b = cond whole (b ≡ a) (TellsUnlisted path true a b)
 
   -- a folder that lists these entries is judged, and has an object or not; or it can't be listed whole, and that is told in its place:
-  -- it counts as one without an object
+  -- it counts as no site, and is taken for one without an object
   abbrev pub Begins : Wants → Folder → List Item → Bool → Seen → Seen → Type 0
   Begins wants folder items holds a b = (Judges wants (folder.path, folder.prefix) folder.here items a b
       × (holds ≡ has_object (finding_of folder.here items))) ⊎ (TellsUnlisted folder.path true a b × (holds ≡ false))

@@ -268,8 +268,8 @@ impl<S: Source, L: Log, E: Explains<S> + Drop> Check<S, L, E> {
         }
     }
 
-    // Judges a folder that was listed whole, as below. What another one is can't be said: it isn't judged, and counts as one without an
-    // object.
+    // Judges a folder that was listed whole, as below. What another one is can't be said: it isn't judged, counts as no site, and is taken
+    // for one without an object.
     fn judge_found(
         &mut self,
         path: &NamePath,

@@ -10,7 +10,7 @@ use std::alloc::Global;
 pub struct Unlisted {
     /// A reason, in words.
     pub reason: String,
-    /// Further ones, as of each further name that is none.
+    /// Further ones, as one for each further entry whose bytes are no name.
     pub further: Vec<String>,
     /// Its entries that have names, where nothing else keeps it from being listed.
     pub listing: Option<Listing>,

@@ -27,7 +27,7 @@ pub struct Parted {
 /// The names and kinds in a directory of a folder as `listing::list` gives them, but for bytes that are no name: these become `refused`, in
 /// their order, also where looking at an entry fails then.
 ///
-/// `Device` and `Memory` as there. There may be as many of either as there of names.
+/// `Device` and `Memory` as there; `Device` too where more is given once there are 16,777,216 names, or as many that are none.
 pub fn list_named<S: System>(
     syscalls: &mut Syscalls<S>,
     folder: &Folder<'_>,

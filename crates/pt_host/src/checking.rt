@@ -1,5 +1,6 @@
 //! A check of the store in a folder, on a machine.
-ghost use Rattle.std.specs.Prelude.{◌≡◌};
+ghost use Rattle.std.specs.Prelude.{◌≡◌, MatchOption, false, is_some};
+ghost use Rattle.pt_folder.specs.Failure.{name_of};
 ghost use Rattle.pt_host.specs.Checking.{ChecksOver, ChecksStore, check_call, check_status, wants_of as wants_of_options};
 ghost use Rattle.pt_host.specs.Machine.{host_io_words};
 
@@ -120,8 +121,8 @@ impl<'a, S: System> Explains<Ignoring<HostSource<'a, S>>> for LastFailure {
         }
     }
 
-    // A folder that can't be listed since bytes in it are no name is listed without them, and each such one is a reason. Where looking at an
-    // entry fails then, that is one more.
+    // A folder that can't be listed since bytes in it are no name is listed without them, and each such one is a reason. Where that fails
+    // too, why is one more.
     fn explain_listing(
         &self,
         alloc: Global,
@@ -129,7 +130,7 @@ impl<'a, S: System> Explains<Ignoring<HostSource<'a, S>>> for LastFailure {
         path: &NamePath,
     ) -> Result<Unlisted, MemoryFault> {
         let first = self.reason(alloc, source)?;
-        if !failed_for_name(source) {
+        if !is_for_name(source.source().last_failure()) {
             return Ok(Unlisted {
                 reason: first,
                 further: Vec::new(alloc),
@@ -162,9 +163,11 @@ impl<'a, S: System> Explains<Ignoring<HostSource<'a, S>>> for LastFailure {
     }
 }
 
-// Whether a folder's last failure was for bytes that are no name.
-fn failed_for_name<S: System>(source: &Ignoring<HostSource<'_, S>>) -> bool {
-    match source.source().last_failure() {
+// Whether a failure, if there is one, was for bytes that are no name.
+fn is_for_name(failure: Option<&Failure>) -> bool
+    ensures { MatchOption failure (result ≡ false) (λ f. result ≡ is_some (name_of f.now)) }
+{
+    match failure {
         Some(failure) => failure.name().is_some(),
         None => false,
     }

@@ -151,7 +151,22 @@ impl<S: ListsNamed> ListsNamed for Ignoring<S> {
         &mut self,
         path: &NamePath,
         refused: &mut Vec<Vec<u8>>,
-    ) -> Result<Listing, TreeFault> {
+    ) -> Result<Listing, TreeFault>
+        requires { CanList (told_without self.old.names (S.Source.told self.old.source)) path.now }
+        ensures listing { IfOk result
+            (IsListed (told_without self.old.names (S.Source.told self.old.source)) path.now) }
+        ensures same { told_without self.new.names (S.Source.told self.new.source)
+            ≡ told_without self.old.names (S.Source.told self.old.source) }
+        ensures failures { IsCounted (S.Source.failed self.old.source)
+            (S.Source.failed self.new.source) result }
+        ensures calls { IsOneMoreCall (S.Source.called self.old.source)
+            (S.Source.called self.new.source) }
+        ensures keeps { (self.new.names ≡ self.old.names)
+            × S.Source.keeps self.old.source self.new.source }
+        ensures left_out { IfOk result (LeavesOut (S.Source.told self.old.source) path.now
+            self.old.names self.old.left_out self.new.left_out) }
+        ensures none { OnErr result (self.new.left_out ≡ self.old.left_out) }
+    {
         let mut listing = self.source.list_named(path, refused)?;
         self.take_out(&mut listing);
         Ok(listing)

@@ -31,7 +31,7 @@
 //!   and whatever they are and hold (`without`), and with that meets `Source`, all calls: a listing is the source's without them, in its order,
 //!   and a file that is read is the source's. Each of its calls is one of the source's, and fails where that fails. So all that `migrate`
 //!   promises of a run over it is said of the store without them.
-//! - `ListsNamed`: a source that can list a directory past bytes that are no name, and gives these. Where it tells, a listing is that of `list`.
+//! - `ListsNamed`: a source that can list a directory past entries whose bytes are no name. Where it tells, a listing is that of `list`.
 //!   `Ignoring` is one over one.
 //! - `left_out`: none at first; a listing that is answered adds as many as were left out of the source's, up to 2^64 - 1, and each other call
 //!   none (`LeavesOut`). What a source lists that doesn't tell isn't said, so that of such a one no clause of `list` says how many they were; a

@@ -1,13 +1,12 @@
 ghost use Rattle.std.specs.Prelude.{◌≡◌, IfOk};
-ghost use Rattle.pt_tree.specs.Failures.{IsCounted};
+ghost use Rattle.pt_tree.specs.Failures.{IsCounted, IsOneMoreCall};
 ghost use Rattle.pt_tree.specs.Source.{CanList, IsListed};
 
 use crate::{Listing, NamePath, Source, TreeFault};
 
-/// A source that can list a directory past what there has none of the names that an entry may have.
+/// A source that can list a directory past entries whose bytes are no name.
 pub trait ListsNamed: Source {
-    /// As `list`, but what has none of these names is left out. The bytes that such entries have for one become `refused`, in their order,
-    /// also where a look at an entry fails afterwards.
+    /// As `list`, but such entries are left out, and their bytes become `refused`, sorted. Each source says for itself what these are.
     ///
     /// Where the source tells, each entry has a name, so that all are listed.
     fn list_named(
@@ -19,5 +18,6 @@ pub trait ListsNamed: Source {
         ensures listing { IfOk result (λ listing. IsListed (Self.told self.old) path.now listing) }
         ensures same { Self.told self.new ≡ Self.told self.old }
         ensures failures { IsCounted (Self.failed self.old) (Self.failed self.new) result }
+        ensures calls { IsOneMoreCall (Self.called self.old) (Self.called self.new) }
         ensures keeps { Self.keeps self.old self.new };
 }
