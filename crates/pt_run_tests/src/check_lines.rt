@@ -38,6 +38,8 @@ impl Explains<MemSource> for ItFailed {
         let mut listing = None;
         if !further.is_empty() {
             source.fuse(None);
+            // That the count is one of 64 bits, for the proof.
+            let _failures = source.failures();
             listing = source.list(path).ok();
         }
         Ok(Unlisted {
