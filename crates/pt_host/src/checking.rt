@@ -165,7 +165,8 @@ impl<'a, S: System> Explains<Ignoring<HostSource<'a, S>>> for LastFailure {
 
 // Whether a failure, if there is one, was for bytes that are no name.
 fn is_for_name(failure: Option<&Failure>) -> bool
-    ensures { MatchOption failure (result ≡ false) (λ f. result ≡ is_some (name_of f.now)) }
+    ensures { MatchOption failure.entry (result ≡ false)
+        (λ f. result ≡ is_some (name_of f.now)) }
 {
     match failure {
         Some(failure) => failure.name().is_some(),
