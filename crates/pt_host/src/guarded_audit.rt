@@ -17,9 +17,10 @@ use crate::{AuditOptions, Host, HostIo, Machine};
 use pt_extra::{AuditCounts, AuditEnd, ExtraDevices, audit};
 use pt_folder::{HostSource, System};
 use pt_messages::{
-    Counted, FaultReason, Outcome, Reads, Tally, Terminals, Watched, Words, lines_expected, reason,
+    Counted, FaultReason, Outcome, Reads, Tally, Terminals, Watch, Words, lines_expected, reason,
 };
 use pt_move::Fault;
+use pt_tree::Watched;
 use std::alloc::{AllocError, AllocGlobal};
 use std::io::Write;
 use std::rt::Clock;
@@ -102,8 +103,9 @@ where
     let watching = options.feedback.watching(words, expected);
     let ignores = !options.ignored.names().is_empty();
     let Sides { source, root, log } = both_sides(alloc, lent, options.ignored, folders);
-    let source = Watched::new(source, rt, alloc, &tally, watching);
-    let log = Counted::new(log, source.sums() | telling.records);
+    let watch = Watch::new(rt, alloc, &tally, watching);
+    let log = Counted::new(log, watch.sums() | telling.records);
+    let source = Watched::new(source, watch);
     let devices = ExtraDevices {
         store: source,
         root,
@@ -111,7 +113,7 @@ where
     };
     let AuditEnd { ran, devices } = audit(alloc, devices, options.job, options.extra, &tally);
     let source = devices.store;
-    source.end(devices.log.counts_if(ran.is_ok()));
+    source.watcher().end(devices.log.counts_if(ran.is_ok()));
     let ignoring = source.into_source();
     reason::tell_left_out(rt, telling.verbose & ignores, ignoring.left_out());
     let source = ignoring.into_source();

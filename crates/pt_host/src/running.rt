@@ -17,10 +17,10 @@ use crate::saying::{tell_fault, tell_why};
 use crate::status::{DONE, FAILED, INCOMPLETE};
 use crate::{HostIo, RunOptions};
 use pt_folder::{HostDest, HostSource, System};
-use pt_messages::{Counted, FaultReason, Outcome, Reads, Tally, Terminals, Watched, Words, reason};
+use pt_messages::{Counted, FaultReason, Outcome, Reads, Tally, Terminals, Watch, Words, reason};
 use pt_move::{Fault, Job, Report, migrate_observed};
 use pt_rehearsal::Rehearsal;
-use pt_tree::{Dest, Ignoring, Log, Source};
+use pt_tree::{Dest, Ignoring, Log, Source, Watched};
 use std::alloc::{AllocError, AllocGlobal, Global};
 use std::io::Write;
 use std::rt::Clock;
@@ -77,15 +77,16 @@ where
     let watching = options.feedback.watching(Words::Run, expected);
     let ignores = !options.ignored.names().is_empty();
     let ignoring = Ignoring::new(source, options.ignored);
-    let mut source = Watched::new(ignoring, rt, alloc, &tally, watching);
-    let mut log = Counted::new(log, source.sums() | telling.records);
+    let watch = Watch::new(rt, alloc, &tally, watching);
+    let mut log = Counted::new(log, watch.sums() | telling.records);
+    let mut source = Watched::new(ignoring, watch);
     let task = Task {
         job: options.job,
         rehearse: options.rehearse,
         tally: &tally,
     };
     let Ran { ran, dest } = run_or_rehearse(alloc, &mut source, dest, &mut log, task);
-    source.end(log.counts_if(ran.is_ok()));
+    source.watcher().end(log.counts_if(ran.is_ok()));
     let ignoring = source.into_source();
     reason::tell_left_out(rt, telling.verbose & ignores, ignoring.left_out());
     let source = ignoring.into_source();

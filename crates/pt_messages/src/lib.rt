@@ -1,7 +1,7 @@
 //! What standard error is told of a run or an audit beside how it ended: how far it is, why a fault came, and what is doubtful.
 //!
-//! `Watched` is a source: it meets the contract of the trait by that of the source within, which stays the one that it is; so what is proved of
-//! a run holds of a watched one. What is shown and said has no contract, but that each function is safe and ends.
+//! `Watch` is told of each call of a source (pt_tree, `Watched`), and can't touch it; so what is proved of a run holds of a watched one. What is
+//! shown and said has no contract, but that each function is safe and ends.
 //!
 //! `Reads` is what can be read of files beside a run: the end of a log, a list of identifiers, and a store's prefix. Its calls change nothing.
 //! `lines_expected` asks for the end of the log that is named, if one is (`AsksEnd`); what it makes of it is shown only.
@@ -31,4 +31,4 @@ pub use reason::FaultReason;
 pub use shown::escape;
 pub use tally::Tally;
 pub use terminal::Terminals;
-pub use watch::{Progress, Watched, Watching, Words};
+pub use watch::{Progress, Watch, Watching, Words};

@@ -1,12 +1,11 @@
-//! A source that is watched: as it is called, it shows on standard error how far the run is.
-ghost use Rattle.std.specs.Prelude.{◌≡◌};
+//! What watches a source: as that is called, it shows on standard error how far the run is.
 
 use crate::counted::LineCounts;
 use crate::numbers::{group_digits, size, time};
 use crate::shown::escape;
 use crate::tally::Tally;
 use crate::terminal::Terminals;
-use pt_tree::{Block, Listing, NamePath, Source, TreeFault};
+use pt_tree::{NamePath, Watcher};
 use std::alloc::{AllocError, AllocGlobal, Global};
 use std::rt::Clock;
 
@@ -52,10 +51,9 @@ pub enum Words {
     BothWays,
 }
 
-/// A source that is watched, and is the source in all else.
+/// Shows how far a run is, as its source is called.
 #[derive(Drop)]
-pub struct Watched<'a, S: Source, R> {
-    source: S,
+pub struct Watch<'a, R> {
     rt: &'a R,
     tally: &'a Tally,
     alloc: Global,
@@ -71,17 +69,9 @@ pub struct Watched<'a, S: Source, R> {
     at: Vec<u8>,
 }
 
-impl<'a, S: Source, R: Clock + Eprint + Terminals> Watched<'a, S, R> {
-    /// A source that is watched from now on, if that is to be shown.
-    pub fn new(
-        source: S,
-        rt: &'a R,
-        alloc: Global,
-        tally: &'a Tally,
-        watching: Watching,
-    ) -> Watched<'a, S, R>
-        ensures { result.source ≡ source }
-    {
+impl<'a, R: Clock + Eprint + Terminals> Watch<'a, R> {
+    /// It begins now, if anything is to be shown.
+    pub fn new(rt: &'a R, alloc: Global, tally: &'a Tally, watching: Watching) -> Watch<'a, R> {
         let on_terminal = rt.errors_are_terminal();
         let shows = !watching.quiet
             && match watching.when {
@@ -96,8 +86,7 @@ impl<'a, S: Source, R: Clock + Eprint + Terminals> Watched<'a, S, R> {
         } else {
             u64::from(watching.interval).saturating_mul(1000)
         };
-        Watched {
-            source,
+        Watch {
             rt,
             tally,
             alloc,
@@ -112,20 +101,6 @@ impl<'a, S: Source, R: Clock + Eprint + Terminals> Watched<'a, S, R> {
             due: begun.saturating_add(period),
             at: Vec::new(alloc),
         }
-    }
-
-    /// The source that is watched.
-    pub fn source(&self) -> &S
-        ensures { result.now ≡ self.now.source }
-    {
-        &self.source
-    }
-
-    /// The source that was watched, as the calls left it.
-    pub fn into_source(self) -> S
-        ensures { result ≡ self.entry.source }
-    {
-        self.source
     }
 
     /// Whether a summary is wanted at the end.
@@ -160,23 +135,8 @@ impl<'a, S: Source, R: Clock + Eprint + Terminals> Watched<'a, S, R> {
         format!(in self.alloc; "{lines}, {passed}")
     }
 
-    // Something at a path is under way.
-    fn comes_to(&mut self, path: &NamePath)
-        ensures { self.new.source ≡ self.old.source }
-    {
-        if !self.shows {
-            return;
-        }
-        if let Ok(at) = path.join() {
-            self.at = at;
-        }
-        self.show();
-    }
-
     // Shows how far the run is, where it is time to.
-    fn show(&mut self)
-        ensures { self.new.source ≡ self.old.source }
-    {
+    fn show(&mut self) {
         if !self.shows {
             return;
         }
@@ -271,39 +231,22 @@ fn millis(clock: &impl Clock) -> u64 {
     }
 }
 
-impl<'a, S: Source, R: Clock + Eprint + Terminals> Source for Watched<'a, S, R> {
-    ghost told = { λ w. S.told w.source };
-
-    ghost failed = { λ w. S.failed w.source };
-
-    ghost called = { λ w. S.called w.source };
-
-    ghost keeps = { λ a b. S.keeps a.source b.source };
-
-    ghost is_kept = { λ a. S.is_kept a.source };
-
-    ghost keeps_on = { λ a b c p q. S.keeps_on a.source b.source c.source p q };
-
-    ghost proper = { λ w. S.proper w.source };
-
-    fn failures(&self) -> u64 {
-        self.source.failures()
-    }
-
-    fn list(&mut self, path: &NamePath) -> Result<Listing, TreeFault> {
-        self.comes_to(path);
-        self.source.list(path)
-    }
-
-    fn open(&mut self, path: &NamePath) -> Result<(), TreeFault> {
-        self.comes_to(path);
-        self.source.open(path)
-    }
-
-    fn next(&mut self, block: &mut Block) -> Result<(), TreeFault> {
+impl<'a, R: Clock + Eprint + Terminals> Watcher for Watch<'a, R> {
+    fn come_to(&mut self, path: &NamePath) {
+        if !self.shows {
+            return;
+        }
+        if let Ok(at) = path.join() {
+            self.at = at;
+        }
         self.show();
-        self.source.next(block)?;
-        self.tally.add_bytes(block.len() as u64);
-        Ok(())
+    }
+
+    fn read_on(&mut self) {
+        self.show();
+    }
+
+    fn add_bytes(&mut self, count: usize) {
+        self.tally.add_bytes(count as u64);
     }
 }

@@ -31,6 +31,7 @@
 //!   and whatever they are and hold (`without`), and with that meets `Source`, all calls: a listing is the source's without them, in its order,
 //!   and a file that is read is the source's. Each of its calls is one of the source's, and fails where that fails. So all that `migrate`
 //!   promises of a run over it is said of the store without them.
+//! - `Watched`: a source of whose calls a `Watcher` is told. In all else it is the source within, and meets `Source` by that one's contracts.
 //! - `ListsNamed`: a source that can list a directory past entries whose bytes are no name. Where it tells, a listing is that of `list`.
 //!   `Ignoring` is one over one.
 //! - `left_out`: none at first; a listing that is answered adds as many as were left out of the source's, up to 2^64 - 1, and each other call
@@ -53,6 +54,7 @@ mod named;
 mod pieces;
 mod short;
 mod source;
+mod watched;
 mod writer_log;
 
 use arrayvec::ArrayVec;
@@ -68,6 +70,7 @@ pub use name::{Name, NameFault};
 pub use name_path::NamePath;
 pub use named::ListsNamed;
 pub use source::Source;
+pub use watched::{Watched, Watcher};
 pub use writer_log::{WriterLog, write_out};
 
 /// How many bytes are read at a time, at most.
