@@ -57,7 +57,7 @@ fn is_shown_in_a_path(alloc: Global, name: Name, shown: &str) -> Result<bool, Al
     if path.push(name).is_err() {
         return Ok(false);
     }
-    let Ok(kept) = NamePath::shared(alloc, path.names()) else {
+    let Ok(kept) = NamePath::of_names(alloc, path.names()) else {
         return Ok(false);
     };
     let want = format!(in alloc; "NamePath {{ names: [{shown}] }}")?;
@@ -152,7 +152,7 @@ fn is_told(alloc: Global, path: &NamePath, text: &[u8]) -> bool {
 
 // So it is with the path for keeping, which stays as it is when a copy of it goes on.
 fn is_kept(alloc: Global, path: &NamePath, text: &[u8]) -> bool {
-    match NamePath::shared(alloc, path.names()) {
+    match NamePath::of_names(alloc, path.names()) {
         Ok(kept) => {
             kept == *path
                 && has_text(&kept, text)

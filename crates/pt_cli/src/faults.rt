@@ -82,7 +82,7 @@ impl From<AllocError> for WordsFault {
 pub(crate) fn refusal(alloc: Global, error: &Error) -> WordsFault
     ensures { RefusedAs (kind_of error.now) result }
 {
-    match (error.kind(), Text::shown(alloc, error)) {
+    match (error.kind(), Text::of_display(alloc, error)) {
         (ErrorKind::OutOfMemory, _) | (_, Err(_)) => WordsFault::Memory,
         (ErrorKind::DisplayHelp, Ok(text)) => WordsFault::Help(text),
         (ErrorKind::DisplayVersion, Ok(text)) => WordsFault::Version(text),

@@ -10,7 +10,7 @@ use std::alloc::Global;
 pub(crate) fn join(path: &NamePath, inner: &NamePath) -> Result<NamePath, MemoryFault>
     ensures { IfOk result (λ whole. whole ≡ path.now ++ inner.now) }
 {
-    path.extended(inner.names())
+    path.concat(inner.names())
 }
 
 /// The content path of a logical path, or of a folder on the way to it, from the object's place on (OCFL 1.1, "Content
@@ -23,5 +23,5 @@ pub fn content_path(alloc: Global, path: &[Name]) -> Result<NamePath, MemoryFaul
         &[WellKnownName::Version, WellKnownName::Content],
         path.len(),
     )?
-    .followed_by(path)
+    .append(path)
 }

@@ -39,9 +39,9 @@ impl Text {
         Ok(Text { text: whole })
     }
 
-    /// The text that a value is shown as. Refused as `Memory`, where a growth was.
-    pub fn shown<T: fmt::Display>(alloc: Global, value: &T) -> Result<Text, MemoryFault>
-        ensures { IfOk result (λ shown. ForSome (T.output value.now) (λ text. shown ≡ text)) }
+    /// The text that a value displays as. Refused as `Memory`, where a growth was.
+    pub fn of_display<T: fmt::Display>(alloc: Global, value: &T) -> Result<Text, MemoryFault>
+        ensures { IfOk result (λ made. ForSome (T.output value.now) (λ text. made ≡ text)) }
     {
         Ok(Text {
             text: value.to_string(alloc)?,

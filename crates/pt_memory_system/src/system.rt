@@ -88,7 +88,7 @@ impl<'a> MemorySystem<'a> {
             (option_map kind_of (node_at (Dir (source_tree self.now.source)) p)) result) }
     {
         match entry_of(self.alloc, self.read, text) {
-            Ok(path) => shown(self.source.kind_at(&path)),
+            Ok(path) => answer_look(self.source.kind_at(&path)),
             Err(error) => Err(error),
         }
     }
@@ -98,7 +98,7 @@ impl<'a> MemorySystem<'a> {
             (option_map kind_of_entry (dest_tree self.now.dest p)) result) }
     {
         match entry_of(self.alloc, self.written, text) {
-            Ok(path) => shown(self.dest.kind_at(&path)),
+            Ok(path) => answer_look(self.dest.kind_at(&path)),
             Err(error) => Err(error),
         }
     }
@@ -315,7 +315,7 @@ fn is_below(folder: &str, path: &str) -> bool
 }
 
 // What a look answers, by the kind of what stands there.
-fn shown(kind: Option<Kind>) -> io::Result<Kind>
+fn answer_look(kind: Option<Kind>) -> io::Result<Kind>
     ensures { LooksRight kind result }
 {
     match kind {

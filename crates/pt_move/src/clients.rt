@@ -14,6 +14,6 @@ mod anew;
 mod ending;
 mod owning;
 
-pub use anew::{Jobs, Mended, Retries, carry_through};
+pub use anew::{Attempts, Jobs, Mended, carry_through};
 pub use ending::{carries_all, lines_told};
 pub use owning::{Most, Run};

@@ -74,7 +74,7 @@ fn end_file(state: &mut State, object: Object, bytes: u64) -> Result<Phase, Faul
     ensures scans { IfOk result (λ next. next ≡ phase.Carrying object stage.Scan) }
 {
     let names = logical_path(&object, &state.trail)?;
-    let path = NamePath::shared(state.alloc, names.names())?;
+    let path = NamePath::of_names(state.alloc, names.names())?;
     let hasher = mem::replace(&mut state.hasher, Hasher::start(state.job.algorithm));
     let digest = hasher.end();
     state.rows.push(&path, &digest, bytes)?;

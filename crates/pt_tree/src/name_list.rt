@@ -21,7 +21,7 @@ pub(crate) enum NameList {
 
 impl NameList {
     // These names for keeping: of one name, or of more than a few, a copy takes no memory.
-    pub(crate) fn shared(alloc: Global, names: &[Name]) -> Result<NameList, MemoryFault>
+    pub(crate) fn of_names(alloc: Global, names: &[Name]) -> Result<NameList, MemoryFault>
         ensures { IfOk result (λ held. held_names held ≡ names.now) }
     {
         if let [name] = names {

@@ -19,7 +19,7 @@ use std::marker::Model;
 
 /// The names from the top to an entry, seen as their list. The empty path is the top.
 ///
-/// The copies of a path that `shared` gives share its names.
+/// The copies of a path that `of_names` gives share its names.
 #[derive(Drop)]
 pub struct NamePath {
     names: NameList,
@@ -63,11 +63,11 @@ impl NamePath {
     }
 
     /// The path of these names, for keeping: of one name, and of more than eight, a copy takes no memory. `Memory` where a growth was refused.
-    pub fn shared(alloc: Global, names: &[Name]) -> Result<NamePath, MemoryFault>
+    pub fn of_names(alloc: Global, names: &[Name]) -> Result<NamePath, MemoryFault>
         ensures { IfOk result (λ path. path ≡ names.now) }
     {
         Ok(NamePath {
-            names: NameList::shared(alloc, names)?,
+            names: NameList::of_names(alloc, names)?,
         })
     }
 
@@ -110,7 +110,7 @@ impl NamePath {
     }
 
     /// The path with these names behind it. `Memory` where a growth was refused.
-    pub fn followed_by(self, names: &[Name]) -> Result<NamePath, MemoryFault>
+    pub fn append(self, names: &[Name]) -> Result<NamePath, MemoryFault>
         ensures { IfOk result (λ longer. longer ≡ self ++ names.now) }
     {
         let mut list = match self.names {
@@ -123,8 +123,8 @@ impl NamePath {
         })
     }
 
-    /// A path of its own with these names behind this one's, as `followed_by` of a copy. `Memory` where a growth was refused.
-    pub fn extended(&self, names: &[Name]) -> Result<NamePath, MemoryFault>
+    /// A path of its own with these names behind this one's, as `append` of a copy. `Memory` where a growth was refused.
+    pub fn concat(&self, names: &[Name]) -> Result<NamePath, MemoryFault>
         ensures { IfOk result (λ longer. longer ≡ self.now ++ names.now) }
     {
         let mut list: Vec<Name> = self.names.to_list(names.len())?;

@@ -32,7 +32,7 @@ pub trait Jobs {
 
 /// The same job for each of so many runs.
 #[derive(Drop)]
-pub struct Retries<J> {
+pub struct Attempts<J> {
     pub jobs: J,
     pub tries: u32,
 }
@@ -44,14 +44,14 @@ pub fn carry_through<S: Source, D: Mended, L: Log, J: Jobs + Drop>(
     source: &mut S,
     dest: &mut D,
     log: &mut L,
-    retries: Retries<J>,
+    attempts: Attempts<J>,
 ) -> bool
-    ensures { (s : Forest) (start : Tree) → MayEndAs (J.job retries.jobs) s start
+    ensures { (s : Forest) (start : Tree) → MayEndAs (J.job attempts.jobs) s start
         (states_of S.Source D.Dest L.Log source.old dest.old log.old)
         → result ≡ true
-        → dest_tree (D.Dest.told dest.new) ≡ Some (undisturbed (J.job retries.jobs) s start) }
+        → dest_tree (D.Dest.told dest.new) ≡ Some (undisturbed (J.job attempts.jobs) s start) }
 {
-    let Retries { mut jobs, tries } = retries;
+    let Attempts { mut jobs, tries } = attempts;
     for _ in 0..tries {
         let Some(job) = jobs.next() else {
             return false;

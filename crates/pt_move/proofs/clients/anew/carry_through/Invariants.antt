@@ -8,7 +8,7 @@ use Rattle.pt_move.proofs.clients.anew.carry_through.Given as goal
 -- the job stays, and what a run may leave is what it may have left at first
 abbrev pub invariant-loop : goal.invariant-loop
 invariant-loop g l =
-    let job = g.J.Jobs.job l.fn.retries.jobs in
+    let job = g.J.Jobs.job l.fn.attempts.jobs in
     let first =
     states_of g.S.Source g.D.Dest g.L.Log l.fn.source l.fn.dest l.fn.log in
     let now = states_of g.S.Source g.D.Dest g.L.Log l.source l.dest l.log in record {
