@@ -140,26 +140,20 @@ impl<'a, S: System> Explains<Ignoring<HostSource<'a, S>>> for LastFailure {
         // That the count is one of 64 bits, for the proof.
         let _failures = source.failures();
         let mut refused = Vec::new(alloc);
-        match source.list_named(path, &mut refused) {
-            Ok(listing) => {
-                let (reason, further) = reasons_of(alloc, first, &refused)?;
-                Ok(Unlisted {
-                    reason,
-                    further,
-                    listing: Some(listing),
-                })
-            }
-            Err(TreeFault::Device) => {
-                let (reason, mut further) = reasons_of(alloc, first, &refused)?;
-                further.push(self.reason(alloc, source)?)?;
-                Ok(Unlisted {
-                    reason,
-                    further,
-                    listing: None,
-                })
-            }
-            Err(TreeFault::Memory) => Err(MemoryFault::Memory),
+        let listing = match source.list_named(path, &mut refused) {
+            Ok(listing) => Some(listing),
+            Err(TreeFault::Device) => None,
+            Err(TreeFault::Memory) => return Err(MemoryFault::Memory),
+        };
+        let (reason, mut further) = reasons_of(alloc, first, &refused)?;
+        if listing.is_none() {
+            further.push(self.reason(alloc, source)?)?;
         }
+        Ok(Unlisted {
+            reason,
+            further,
+            listing,
+        })
     }
 }
 
