@@ -29,7 +29,7 @@ use Rattle.pt_state.specs.declared.state.State.{State}
 use Rattle.pt_audit.specs.Surveying.{sight_at}
 use Rattle.pt_audit.specs.Files.{IsOpened as IsOpenedFile, IsOpenedAt}
 use Rattle.pt_plan.specs.Object.{names_before}
-use Rattle.pt_audit.specs.declared.survey.Opened.{Opened as OpenedFile}
+use Rattle.pt_audit.specs.declared.survey.OpenedFile.{OpenedFile}
 use Rattle.pt_audit.specs.declared.survey.SurveyEvent.{SurveyEvent}
 use Rattle.pt_audit.specs.declared.survey.SurveyEvent.TheVariants as sight
 use Rattle.pt_tree.specs.Forest.{Dir, File, Forest, Node, Other, as_file, file_at, kind_of, node_at}

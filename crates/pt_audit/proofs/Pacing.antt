@@ -40,7 +40,7 @@ use Rattle.pt_audit.proofs.Stepping.{stands_so}
 use Rattle.pt_audit.specs.Files.{Scanned, ScansOn, is_of_object, is_scanning}
 use Rattle.pt_plan.specs.Object.{names_before}
 use Rattle.pt_audit.specs.Surveying.{IsHand, IsHandAt, Surveys, passed, sight_at}
-use Rattle.pt_audit.specs.declared.survey.AtHand.{AtHand}
+use Rattle.pt_audit.specs.declared.survey.ObjectAtHand.{ObjectAtHand}
 use Rattle.pt_audit.specs.declared.survey.SurveyEvent.{SurveyEvent}
 use Rattle.pt_audit.specs.declared.survey.SurveyEvent.TheVariants as sight
 use Rattle.pt_tree.specs.Forest.{Forest}
@@ -304,7 +304,7 @@ at_sight it = record { under_way = it.follows.under_way; saw = it.saw }
 
 -- ---- the object at hand
 
-pub alike_at_hand : (source root : Option Reading) (b : RootReader) (r : Running) (hand : AtHand) (alike : ℕ) → sight_at r.phase ≡ sight.Object → IsHand r (Some hand) → Follows source root b r → IsAlikeAt b hand.told.at hand.told.to.now alike → AreAlikeAtHand (tree_in source) (tree_in root) hand alike
+pub alike_at_hand : (source root : Option Reading) (b : RootReader) (r : Running) (hand : ObjectAtHand) (alike : ℕ) → sight_at r.phase ≡ sight.Object → IsHand r (Some hand) → Follows source root b r → IsAlikeAt b hand.told.at hand.told.to.now alike → AreAlikeAtHand (tree_in source) (tree_in root) hand alike
 unfolding AreAlike
 alike_at_hand source root b r hand alike is at it so = by r.phase is at it.paced
   where
@@ -327,7 +327,7 @@ alike_at_hand source root b r hand alike is at it so = by r.phase is at it.paced
     by _ is at paced = absurd (cc)
 
 -- so they are from where the two sides are read
-pub alike_there : (source root : Option Forest) (hand : AtHand) (alike : ℕ) (from to : Path) → from ≡ in_pairtree hand.told.at → to ≡ in_root hand.told.to.now → AreAlikeAtHand source root hand alike
+pub alike_there : (source root : Option Forest) (hand : ObjectAtHand) (alike : ℕ) (from to : Path) → from ≡ in_pairtree hand.told.at → to ≡ in_root hand.told.to.now → AreAlikeAtHand source root hand alike
     → All (λ (content : Content). StandsAlike source root to (in_content content.path) (from ++ content.path)) (take alike hand.contents.now)
 alike_there source root hand alike from to from_is to_is it =
     subst (λ (f : Path). All (λ (content : Content). StandsAlike source root to (in_content content.path) (f ++ content.path)) (take alike hand.contents.now)) (sym from_is)

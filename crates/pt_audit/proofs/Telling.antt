@@ -50,7 +50,7 @@ use Rattle.pt_state.specs.declared.job.Job as own
 use Rattle.pt_state.specs.declared.job.Report.{Report}
 use Rattle.pt_state.specs.declared.state.State.{State}
 use Rattle.pt_audit.specs.Surveying.{WasAtHand, GoesOn, HasAtHand, IsHand, IsHandAt, IsOf, IsSurvey, IsWithinWork, is_before_sites, is_before_store, Leads as SeesLeads, Nothing as SeesNothing, Sees, Skips, Surveys, is_looking, sight_at}
-use Rattle.pt_audit.specs.declared.survey.AtHand as hand
+use Rattle.pt_audit.specs.declared.survey.ObjectAtHand as hand
 use Rattle.pt_audit.specs.declared.survey.SurveyEvent.{SurveyEvent}
 use Rattle.pt_audit.specs.declared.survey.SurveyEvent.TheVariants as sight
 use Rattle.pt_audit.proofs.Seen.{has_at_hand}
@@ -236,7 +236,7 @@ unfolding Surveys
 surveys_again told again r is same (count, it) = (count, source_again is same it)
 
 -- it can be compared
-pub can_compare : (told : Option Reading) (r : Running) (at : hand.AtHand) → sight_at r.phase ≡ sight.Object → Surveys told r → IsHand r (Some at) → CanCompare told at
+pub can_compare : (told : Option Reading) (r : Running) (at : hand.ObjectAtHand) → sight_at r.phase ≡ sight.Object → Surveys told r → IsHand r (Some at) → CanCompare told at
 unfolding Surveys CanOpen MayOpenRow
 can_compare told r at is (count, it) mine = record {
   contents = of.contents ∙ held.rows.contents ∙ ap (λ l. map content_of_row (distinct l)) (sym of.rows);
@@ -262,7 +262,7 @@ can_compare told r at is (count, it) mine = record {
         record { proper = known.proper; at = known.at; bytes = known.bytes; few = known.few }
 
 -- what was found of it is what is told of its item
-found_of : {job : own.Job} {source root : Forest} {count : ℕ} {object : Object} {s : State} {at : hand.AtHand} {finding : Comparison} → s.job ≡ job → (it : HasAtHand (job_of job) source count object (held_of s [])) → IsOf object s at
+found_of : {job : own.Job} {source root : Forest} {count : ℕ} {object : Object} {s : State} {at : hand.ObjectAtHand} {finding : Comparison} → s.job ≡ job → (it : HasAtHand (job_of job) source count object (held_of s [])) → IsOf object s at
     → IsFound (sought_at_hand job at source) (inside root (in_root at.told.to.now)) finding → IsFoundOf (job_of job) source root it.item finding
 found_of {job} {source} {root} {count} {object} {s} {at} {finding} same it mine found = record {
   id = object.id;
@@ -291,7 +291,7 @@ found_of {job} {source} {root} {count} {object} {s} {at} {finding} same it mine 
     }
 
 -- its line
-line_is : {object : Object} {s : State} {at : hand.AtHand} (twin : Bool) (finding : Comparison) → IsOf object s at
+line_is : {object : Object} {s : State} {at : hand.ObjectAtHand} (twin : Bool) (finding : Comparison) → IsOf object s at
     → audit.line_text (audit.line_by (audit.told_of at.told) twin finding)
     ≡ audit.line_text (audit.line_by (record { at = path_of_source object s.trail; bytes = min (bytes_in_rows s.rows) greatest_count; empty = object.empty; files = length s.rows; id = object.id; to = object.place }) twin finding)
 line_is twin finding mine = λ i. audit.line_text (audit.line_by (record { at = mine.told.at i; bytes = mine.told.bytes i; empty = mine.told.empty i; files = mine.told.files i; id = mine.told.id i; to = mine.told.to i }) twin finding)
@@ -303,7 +303,7 @@ line_so told twin found.Absent = refl
 line_so told twin (found.Differs difference) = refl
 
 -- its line was put, and it is counted
-pub told_object : (told again : Option Reading) (source root : Option Forest) (first now new : Option (List ℕ)) (counts : Counts) (r : Running) (at : hand.AtHand) (finding : Comparison) (twin : Bool) (text : List ℕ) (job : own.Job) (later : Counts) → job ≡ r.state.job → later ≡ counts_with finding counts → sight_at r.phase ≡ sight.Object → source_tree told ≡ source → source_tree again ≡ source_tree told
+pub told_object : (told again : Option Reading) (source root : Option Forest) (first now new : Option (List ℕ)) (counts : Counts) (r : Running) (at : hand.ObjectAtHand) (finding : Comparison) (twin : Bool) (text : List ℕ) (job : own.Job) (later : Counts) → job ≡ r.state.job → later ≡ counts_with finding counts → sight_at r.phase ≡ sight.Object → source_tree told ≡ source → source_tree again ≡ source_tree told
     → IsHand r (Some at) → IsFoundAtHand job at source root finding → IsTwinAtHand source r at.told.id.now finding twin → text ≡ audit.line_text (audit.line_by (audit.told_of at.told) twin finding) → Appends now new text
     → IsSeen told (start_over source root first) now counts r → IsUnderWay again (start_over source root first) new later r
 told_object told again source root first now new counts r at finding twin text job later job_is counted_is is tree same mine found_there twin_there line puts it = record {
@@ -390,7 +390,7 @@ told_end job start now new counts told puts = λ s e r f old g.
 
 -- ---- what was found
 
-abbrev sought_from : own.Job → hand.AtHand → List ℕ → Path → Forest → Sought
+abbrev sought_from : own.Job → hand.ObjectAtHand → List ℕ → Path → Forest → Sought
 sought_from job at id from s = record {
   algorithm = job.algorithm;
   text_with = λ meta. inventory_text id at.rows.now meta job.algorithm;
@@ -398,7 +398,7 @@ sought_from job at id from s = record {
 }
 
 -- what was found of the object that was compared is what was found of the one at hand
-pub found_at_hand : (job : own.Job) (at : hand.AtHand) (id : List ℕ) (from to : Path) (source root : Option Forest) (result : Result Comparison Fault) → id ≡ at.told.id.now → from ≡ in_pairtree at.told.at → to ≡ in_root at.told.to.now
+pub found_at_hand : (job : own.Job) (at : hand.ObjectAtHand) (id : List ℕ) (from to : Path) (source root : Option Forest) (result : Result Comparison Fault) → id ≡ at.told.id.now → from ≡ in_pairtree at.told.at → to ≡ in_root at.told.to.now
     → IfOk result (λ finding. ForSome source (λ s. ForSome root (λ r. IsFound (sought_from job at id from s) (inside r to) finding))) → IfOk result (IsFoundAtHand job at source root)
 found_at_hand job at id from to source root (Err why) id_is from_is to_is is_found = tt
 found_at_hand job at id from to source root (Ok finding) id_is from_is to_is is_found = λ s e r f.

@@ -10,7 +10,7 @@ use Rattle.pt_audit.specs.Counting.{counts_with}
 use Rattle.pt_audit.specs.Lines as audit
 use Rattle.pt_audit.specs.declared.auditing.Audited.{Audited}
 use Rattle.pt_audit.specs.declared.counts.Counts.{Counts}
-use Rattle.pt_audit.specs.declared.survey.AtHand.{AtHand}
+use Rattle.pt_audit.specs.declared.survey.ObjectAtHand.{ObjectAtHand}
 use Rattle.pt_audit.specs.declared.survey.SurveyEvent.TheVariants as sight
 use Rattle.pt_audit.specs.Surveying.{GoesOn, InSkip, IsHand, IsSurvey, StopsAt, Untold, is_before_sites, is_before_store, sight_at}
 use Rattle.pt_audit.proofs.Telling.{HasTold, looking_told, put_behind, seen_after, told_end, told_object, whole_log}
@@ -102,7 +102,7 @@ follow_stops told told' root first now new counts before after same order on it 
     (seen_stops new counts after (seen_after told told' (source_tree told) root first now new counts before after refl order it went))
 
 -- a front of the line of the object at hand was put
-pub object_stops : (told : Option Reading) (root : Option Forest) (first now new : Option (List ℕ)) (counts : Counts) (r : Running) (at : AtHand) (finding : Comparison) (twin : Bool) (text : List ℕ) (job : own.Job) → job ≡ r.state.job → sight_at r.phase ≡ sight.Object
+pub object_stops : (told : Option Reading) (root : Option Forest) (first now new : Option (List ℕ)) (counts : Counts) (r : Running) (at : ObjectAtHand) (finding : Comparison) (twin : Bool) (text : List ℕ) (job : own.Job) → job ≡ r.state.job → sight_at r.phase ≡ sight.Object
     → IsHand r (Some at) → IsFoundAtHand job at (source_tree told) root finding → IsTwinAtHand (source_tree told) r at.told.id.now finding twin → text ≡ audit.line_text (audit.line_by (audit.told_of at.told) twin finding) → AppendsFront now new text
     → IsSeen told (start_over (source_tree told) root first) now counts r → FrontToldAs (job_of r.state.job) (start_over (source_tree told) root first) new
 object_stops told root first now new counts r at finding twin text job job_is is mine found twin_there line put it = λ s e o f old g.

@@ -32,7 +32,7 @@ use Rattle.pt_audit.specs.Twin.{is_differing, is_twin}
 use Rattle.pt_audit.specs.Surveying.{IsSurvey, Surveys, is_before_sites, is_before_store, sight_at}
 use Rattle.pt_audit.specs.declared.survey.SurveyEvent.{SurveyEvent}
 use Rattle.pt_audit.specs.declared.survey.SurveyEvent.TheVariants as sight
-use Rattle.pt_audit.specs.declared.survey.AtHand.{AtHand}
+use Rattle.pt_audit.specs.declared.survey.ObjectAtHand.{ObjectAtHand}
 use Rattle.pt_tree.specs.Failures.{greatest_count}
 use Rattle.pt_tree.specs.Forest.{Forest}
 use Rattle.pt_tree.specs.Path.{Path}
@@ -151,7 +151,7 @@ pub record IsUnderWay (told : Option Reading) (start : AuditStart) (now : Option
   pub opened : is_before_store r.phase ≡ false → CanGoOn start.root r
 
 -- what is sought at the place of the object at hand
-abbrev pub sought_at_hand : own.Job → AtHand → Forest → Sought
+abbrev pub sought_at_hand : own.Job → ObjectAtHand → Forest → Sought
 sought_at_hand job hand source = record {
   algorithm = job.algorithm;
   text_with = λ meta. inventory_text hand.told.id.now hand.rows.now meta job.algorithm;
@@ -159,7 +159,7 @@ sought_at_hand job hand source = record {
 }
 
 -- and this is found there, where both trees are told
-abbrev pub IsFoundAtHand : own.Job → AtHand → Option Forest → Option Forest → Comparison → Type 0
+abbrev pub IsFoundAtHand : own.Job → ObjectAtHand → Option Forest → Option Forest → Comparison → Type 0
 IsFoundAtHand job hand source root finding =
     ForSome source (λ s. ForSome root
     (λ r. IsFound (sought_at_hand job hand s) (inside r (in_root hand.told.to.now)) finding))
@@ -171,7 +171,7 @@ IsTwinAtHand source r id finding twin =
     (λ s. twin ≡ (is_differing finding && is_twin (job_of r.state.job) s (trail_path r.state.trail) id))
 
 -- the object at hand can be compared: its contents are those of its rows, these are in order, and the source's files can be opened
-pub record CanCompare (told : Option Reading) (hand : AtHand) : Type 0 where
+pub record CanCompare (told : Option Reading) (hand : ObjectAtHand) : Type 0 where
   pub contents : hand.contents.now ≡ map content_of_row (distinct hand.rows.now)
   pub order : part_in_order (row_paths hand.rows.now) ≡ true
   pub files : All (λ row. CanOpen told (in_pairtree (hand.told.at ++ row.path))) hand.rows.now

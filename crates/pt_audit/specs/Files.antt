@@ -13,7 +13,7 @@ use Rattle.pt_scan.specs.Blocks.{IsNextBlock, is_reading}
 use Rattle.pt_state.specs.States.{held_of, job_of}
 use Rattle.pt_state.specs.declared.state.State.{State}
 use Rattle.pt_audit.specs.Surveying.{Steps, passed, sight_at}
-use Rattle.pt_audit.specs.declared.survey.Opened.{Opened}
+use Rattle.pt_audit.specs.declared.survey.OpenedFile.{OpenedFile}
 use Rattle.pt_audit.specs.declared.survey.SurveyEvent.{SurveyEvent}
 use Rattle.pt_tree.specs.Source.{Reading}
 use Rattle.pt_walk.specs.Trail.{names_to}
@@ -61,12 +61,12 @@ pub record ComesTo (told told' : Option Reading) (before after : Running) (what 
   pub made : MakesStep told told' before after
 
 -- it is the file that was just opened, if one was
-abbrev pub IsOpenedAt : Phase → State → Option Opened → Type 0
+abbrev pub IsOpenedAt : Phase → State → Option OpenedFile → Type 0
 IsOpenedAt (phase.Carrying object (stage.Read zero)) s (Some file) =
     (file.place.now ≡ object.place) × (file.path ≡ names_to s.trail) × (file.before ≡ names_before object)
 IsOpenedAt (phase.Carrying object (stage.Read zero)) s None = ⊥
 IsOpenedAt _ s file = file ≡ None
 
 -- this file of the object is open, if one is
-abbrev pub IsOpened : Running → Option Opened → Type 0
+abbrev pub IsOpened : Running → Option OpenedFile → Type 0
 IsOpened r file = IsOpenedAt r.phase r.state file

@@ -21,7 +21,7 @@ use Rattle.pt_plan.specs.declared.phase.Stage.TheVariants as stage
 use Rattle.pt_state.specs.declared.state.State.{State}
 use Rattle.pt_plan.specs.Object.{names_before}
 use Rattle.pt_audit.specs.Surveying.{Surveys, sight_at}
-use Rattle.pt_audit.specs.declared.survey.AtHand.{AtHand}
+use Rattle.pt_audit.specs.declared.survey.ObjectAtHand.{ObjectAtHand}
 use Rattle.pt_audit.specs.declared.survey.SurveyEvent.{SurveyEvent}
 use Rattle.pt_tree.specs.Forest.{Forest}
 use Rattle.pt_tree.specs.Path.{Path}
@@ -143,7 +143,7 @@ pub record IsAlikeAt (b : RootReader) (from place : Path) (alike : ℕ) : Type 0
   pub all : b.from ≡ from → b.place ≡ place → alike ≡ b.alike
 
 -- so many contents of the object at hand, from the first on, stand with the bytes that the source has
-abbrev pub AreAlikeAtHand : Option Forest → Option Forest → AtHand → ℕ → Type 0
+abbrev pub AreAlikeAtHand : Option Forest → Option Forest → ObjectAtHand → ℕ → Type 0
 AreAlikeAtHand source root hand alike =
     All (λ content. StandsAlike source root (in_root hand.told.to.now) (in_content content.path)
     (in_pairtree (hand.told.at ++ content.path))) (take alike hand.contents.now)

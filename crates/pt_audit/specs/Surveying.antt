@@ -35,7 +35,7 @@ use Rattle.pt_state.specs.Telling.{IsCarried}
 use Rattle.pt_plan.specs.declared.fault.Fault.{Fault}
 use Rattle.pt_plan.specs.declared.fault.Fault.TheVariants as fault
 use Rattle.pt_audit.specs.EmptyDest.{bare}
-use Rattle.pt_audit.specs.declared.survey.AtHand.{AtHand}
+use Rattle.pt_audit.specs.declared.survey.ObjectAtHand.{ObjectAtHand}
 use Rattle.pt_audit.specs.declared.survey.SurveyEvent.{SurveyEvent}
 use Rattle.pt_audit.specs.declared.survey.SurveyEvent.TheVariants as sight
 use Rattle.pt_tree.specs.Forest.{Forest}
@@ -264,21 +264,21 @@ pub record HasAtHand (job : Job) (source : Forest) (count : ℕ) (object : Objec
   pub lines_are : line_by_verdict job item.path false item.verdict ≡ done_line object held ∷ []
 
 -- it is this object, with what is held of it
-pub record IsOf (object : Object) (s : State) (hand : AtHand) : Type 0 where
+pub record IsOf (object : Object) (s : State) (hand : ObjectAtHand) : Type 0 where
   pub told : IsCarried object s hand.told
   pub rows : hand.rows.now ≡ s.rows
   pub contents : hand.contents.now ≡ s.contents
 
 -- if there is one
-abbrev pub IsHandOf : Object → State → Option AtHand → Type 0
+abbrev pub IsHandOf : Object → State → Option ObjectAtHand → Type 0
 IsHandOf object s None = ⊥
 IsHandOf object s (Some hand) = IsOf object s hand
 
 -- at a phase, this object is at hand, if one is
-abbrev pub IsHandAt : Phase → State → Option AtHand → Type 0
+abbrev pub IsHandAt : Phase → State → Option ObjectAtHand → Type 0
 IsHandAt (phase.Carrying object stage.Line) s hand = IsHandOf object s hand
 IsHandAt _ s hand = hand ≡ None
 
 -- this object is at hand, if one is
-abbrev pub IsHand : Running → Option AtHand → Type 0
+abbrev pub IsHand : Running → Option ObjectAtHand → Type 0
 IsHand r hand = IsHandAt r.phase r.state hand

@@ -24,9 +24,9 @@ use crate::Counts;
 use crate::layout::check_layout;
 use crate::lines::{end_line, object_line};
 use crate::root_reader::RootReader;
-use crate::survey::{AtHand, Survey, SurveyEvent};
+use crate::survey::{ObjectAtHand, Survey, SurveyEvent};
 use crate::twin::{is_second, skip_prefix};
-use pt_compare::{Comparison, Root, Scanned, compare};
+use pt_compare::{Comparison, Root, ScannedObject, compare};
 use pt_move::{Job, Observer};
 use pt_plan::Fault;
 use pt_state::paths::{in_pairtree, in_storage_root};
@@ -322,7 +322,7 @@ impl Auditor {
     // What is found of the object at hand, and whether it is a twin.
     fn judge<S: Source, R: Root>(
         &self,
-        hand: &AtHand<'_>,
+        hand: &ObjectAtHand<'_>,
         source: &mut S,
         root: &mut R,
     ) -> Result<AuditFinding, Fault>
@@ -350,7 +350,7 @@ impl Auditor {
     // What is found of the object at hand.
     fn compare<S: Source, R: Root>(
         &self,
-        hand: &AtHand<'_>,
+        hand: &ObjectAtHand<'_>,
         source: &mut S,
         root: &mut R,
     ) -> Result<Comparison, Fault>
@@ -367,7 +367,7 @@ impl Auditor {
     {
         let from = in_pairtree(hand.told.at.copy()?)?;
         let to = in_storage_root(self.alloc, hand.told.to)?;
-        let object = Scanned {
+        let object = ScannedObject {
             id: hand.told.id.as_str(),
             rows: hand.rows,
             contents: hand.contents,

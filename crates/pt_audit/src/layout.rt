@@ -8,7 +8,7 @@ ghost use Rattle.pt_name.specs.Tuples.{IsLayout};
 ghost use Rattle.pt_tree.specs.Failures.{IsCounted};
 ghost use Rattle.pt_state.specs.States.{job_of};
 
-use pt_compare::{Root, standing};
+use pt_compare::{Root, find_kind};
 use pt_move::Job;
 use pt_object::{WellKnownName, root_files};
 use pt_plan::Fault;
@@ -40,7 +40,7 @@ fn is_of_layout<R: Root>(alloc: Global, root: &mut R, job: &Job) -> Result<bool,
 {
     let _entries = root.list(&NamePath::new(alloc))?;
     let top = NamePath::of_known(alloc, &[WellKnownName::StorageRoot])?;
-    let here = standing(alloc, root, &top)?;
+    let here = find_kind(alloc, root, &top)?;
     if here.is_none() {
         return Ok(true);
     }
@@ -87,7 +87,7 @@ fn has_file<R: Root>(
     ensures failures { IsCounted (R.failed root.old) (R.failed root.new) result }
 {
     let whole = in_storage_root(alloc, path)?;
-    let here = standing(alloc, root, &whole)?;
+    let here = find_kind(alloc, root, &whole)?;
     if !is_file(here) {
         return Ok(false);
     }

@@ -57,7 +57,7 @@ pub enum SurveyEvent {
 
 /// An object that was scanned whole: no entry of it is a cause against it.
 #[derive(Drop)]
-pub struct AtHand<'s> {
+pub struct ObjectAtHand<'s> {
     /// The object, as a run's line would tell of it.
     pub told: ToldObject<'s>,
     /// Its files, in the order of their logical paths.
@@ -68,7 +68,7 @@ pub struct AtHand<'s> {
 
 /// A file of an object that was opened.
 #[derive(Drop)]
-pub struct Opened<'s> {
+pub struct OpenedFile<'s> {
     /// The object's place in a storage root.
     pub place: &'s NamePath,
     /// The path of the file in the source, from below `pairtree_root` on.
@@ -158,11 +158,11 @@ impl Survey {
     }
 
     /// The object at hand, if there is one; `Memory` where a growth was refused.
-    pub fn at_hand(&self) -> Result<Option<AtHand<'_>>, MemoryFault>
+    pub fn at_hand(&self) -> Result<Option<ObjectAtHand<'_>>, MemoryFault>
         ensures { IfOk result (IsHand self.now) }
     {
         match &self.phase {
-            Phase::Carrying(object, Stage::Line) => Ok(Some(AtHand {
+            Phase::Carrying(object, Stage::Line) => Ok(Some(ObjectAtHand {
                 told: as_told(object, &self.state)?,
                 rows: &self.state.rows,
                 contents: &self.state.contents,
@@ -172,11 +172,11 @@ impl Survey {
     }
 
     /// The file that was opened, if one was; `Memory` where a growth was refused.
-    pub fn opened_file(&self) -> Result<Option<Opened<'_>>, MemoryFault>
+    pub fn opened_file(&self) -> Result<Option<OpenedFile<'_>>, MemoryFault>
         ensures { IfOk result (IsOpened self.now) }
     {
         match &self.phase {
-            Phase::Carrying(object, Stage::Read(0)) => Ok(Some(Opened {
+            Phase::Carrying(object, Stage::Read(0)) => Ok(Some(OpenedFile {
                 place: &object.place,
                 path: entry_path(&self.state.trail)?,
                 before: object.names_before(),

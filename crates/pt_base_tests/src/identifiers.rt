@@ -180,7 +180,7 @@ impl Holds for Form {
             Form::NotHeld(index, count, id) => is_held(*index, *count, id, false),
             Form::WholeIsFirst => Share::whole().is_first(),
             Form::Begins(texts, id, answer) => match owned(alloc, texts) {
-                Ok(texts) => Share::whole().only(texts).holds(id) == *answer,
+                Ok(texts) => Share::whole().with_only(texts).holds(id) == *answer,
                 Err(_) => false,
             },
         }

@@ -19,7 +19,7 @@ use crate::judging::{
 };
 use crate::prefix::open_prefix;
 use crate::reading::open_whole;
-use crate::unlisted::{Explains, Unlisted};
+use crate::unlisted::{Explains, UnlistedFolder};
 use crate::{CheckDevices, Numbers, Trouble, Wants, Within};
 use pt_object::WellKnownName;
 use pt_plan::Fault;
@@ -211,7 +211,7 @@ impl<S: Source, L: Log, E: Explains<S> + Drop> Check<S, L, E> {
             let entry = path.child(name)?;
             let bytes = self.meet(&entry, within, name, kind)?;
             if let Kind::Dir = kind {
-                let inside = within.below(has_object, name, bytes);
+                let inside = within.of_child(has_object, name, bytes);
                 let before = self.begin(inside, within);
                 self.visit(&entry, prefix, inside, left - 1)?;
                 self.end(inside, within, before);
@@ -385,7 +385,7 @@ impl<S: Source, L: Log, E: Explains<S> + Drop> Check<S, L, E> {
         ensures keeps { Keeps S.told S.keeps L.told self.old self.new }
         ensures fault { LogFailsAs (L.failed self.old.log) (L.failed self.new.log) result }
     {
-        let Unlisted {
+        let UnlistedFolder {
             reason,
             further,
             listing,

@@ -52,6 +52,6 @@ pub use checking::Check;
 pub use devices::CheckDevices;
 pub use numbers::Numbers;
 pub use trouble::Trouble;
-pub use unlisted::{Explains, Unlisted};
+pub use unlisted::{Explains, UnlistedFolder};
 pub use wants::Wants;
 pub use within::Within;

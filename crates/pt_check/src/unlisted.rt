@@ -7,7 +7,7 @@ use std::alloc::Global;
 
 /// Why a folder can't be listed, and what of it can be.
 #[derive(Drop)]
-pub struct Unlisted {
+pub struct UnlistedFolder {
     /// A reason, in words.
     pub reason: String,
     /// Further ones, as one for each further entry whose bytes are no name.
@@ -33,7 +33,7 @@ pub trait Explains<S: Source> {
         alloc: Global,
         source: &mut S,
         path: &NamePath,
-    ) -> Result<Unlisted, MemoryFault>
+    ) -> Result<UnlistedFolder, MemoryFault>
         requires { CanList (S.told source.old) path.now }
         ensures listing { IfOk result (λ unlisted. IfSome unlisted.listing
             (λ listing. IsListed (S.told source.old) path.now listing)) }

@@ -20,7 +20,7 @@ pub enum Within {
 impl Within {
     /// What a folder of this name is that stands in one which is this, and whose path has so many bytes. Where that is a site, it
     /// has an object or not.
-    pub fn below(self, has_object: bool, name: &Name, length: u64) -> Within
+    pub fn of_child(self, has_object: bool, name: &Name, length: u64) -> Within
         ensures { result ≡ below_of self has_object name.now length }
     {
         match self {

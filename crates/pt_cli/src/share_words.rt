@@ -28,7 +28,7 @@ pub(crate) fn with_only(
         ≡ with_only (option_map (λ s. map (λ t. t.now) s.now) texts.entry) share) }
 {
     match texts {
-        Some(texts) => Ok(share.only(copies(alloc, texts)?)),
+        Some(texts) => Ok(share.with_only(copies(alloc, texts)?)),
         None => Ok(share),
     }
 }

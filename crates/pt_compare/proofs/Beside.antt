@@ -7,7 +7,7 @@ use Rattle.pt_compare.specs.Marks.{Marks, inside}
 use Rattle.pt_compare.specs.Meeting.{MeetsFrom, MeetsIn}
 use Rattle.pt_folder.specs.Calls.{change_of}
 use Rattle.pt_object.specs.Object.{in_content}
-use Rattle.pt_compare.specs.declared.scanned.Scanned.{Scanned}
+use Rattle.pt_compare.specs.declared.scanned.ScannedObject.{ScannedObject}
 use Rattle.pt_compare.specs.declared.stop.Stop.{Stop}
 use Rattle.pt_compare.specs.declared.stop.Stop.TheVariants as stop
 use Rattle.pt_compare.proofs.Single.{as_item, one_stands, one_stops}
@@ -31,7 +31,7 @@ first_of_all P i (suc n) [] content within is all = absurd (cc)
 first_of_all P zero (suc n) (first ∷ contents) content within is all = let same : first ≡ content = cc in subst P same (All-head P first (take n contents) all)
 first_of_all P (suc i) (suc n) (first ∷ contents) content within is all = first_of_all P i n contents content (omega (arith, within)) is (All-tail P first (take n contents) all)
 
-pub alike_at : (source tree : Option Forest) (object : Scanned) (i : ℕ) (content : Content) → i < object.alike → slice_get object.contents.now i ≡ Some content → AreAlike source tree object → StandsAlike source tree object.to.now (in_content content.path) (object.from.now ++ content.path)
+pub alike_at : (source tree : Option Forest) (object : ScannedObject) (i : ℕ) (content : Content) → i < object.alike → slice_get object.contents.now i ≡ Some content → AreAlike source tree object → StandsAlike source tree object.to.now (in_content content.path) (object.from.now ++ content.path)
 alike_at source tree object i content within is alike = first_of_all (λ (content : Content). StandsAlike source tree object.to.now (in_content content.path) (object.from.now ++ content.path)) i object.alike object.contents.now content within is alike
 
 -- the trees are the same, and the paths

@@ -5,7 +5,7 @@ use Rattle.pt_compare.specs.Marks.{Marks, inside, without_mark}
 use Rattle.pt_compare.specs.Meeting.{IsWrongFile}
 use Rattle.pt_object.specs.Object.{in_content}
 use Rattle.pt_compare.specs.Root.{Stands, tree_in}
-use Rattle.pt_compare.specs.declared.scanned.Scanned.{Scanned}
+use Rattle.pt_compare.specs.declared.scanned.ScannedObject.{ScannedObject}
 use Rattle.pt_compare.specs.declared.stop.Stop.{Stop}
 use Rattle.pt_compare.specs.declared.stop.Stop.TheVariants as stop
 use Rattle.pt_plan.specs.declared.fault.Fault.TheVariants as fault
@@ -22,17 +22,17 @@ StandsAlike source root place p from =
     ForSome source (λ s. ForSome root (λ r. inside r place p ≡ Some (Bytes (bytes_at s from))))
 
 -- so do as many of an object's contents as are said to be alike
-abbrev pub AreAlike : Option Forest → Option Forest → Scanned → Type 0
+abbrev pub AreAlike : Option Forest → Option Forest → ScannedObject → Type 0
 AreAlike source root object =
     All (λ content. StandsAlike source root object.to.now (in_content content.path)
     (object.from.now ++ content.path)) (take object.alike object.contents.now)
 
 -- where a directory is said to stand at its place, it does
-abbrev pub IsKnownToStand : Option Forest → Scanned → Type 0
+abbrev pub IsKnownToStand : Option Forest → ScannedObject → Type 0
 IsKnownToStand root object = object.stands ≡ true → Stands root (object.to.now, kind.Dir)
 
 -- what is said to be known of an object is so
-pub record IsKnown (source root : Option Forest) (object : Scanned) : Type 0 where
+pub record IsKnown (source root : Option Forest) (object : ScannedObject) : Type 0 where
   pub alike : AreAlike source root object
   pub stands : IsKnownToStand root object
 

@@ -1,7 +1,7 @@
 -- What is found of an object at its place.
 use Rattle.std.specs.Prelude.{◌≡◌, ◌≢◌, ◌⊎◌, ℕ, List, [], ◌∷◌, ◌++◌, All, None, Some, IsSome, Result, Ok, Err, ⊤}
 use Rattle.pt_compare.specs.Described.{IsMade}
-use Rattle.pt_compare.specs.declared.scanned.Scanned.{Scanned}
+use Rattle.pt_compare.specs.declared.scanned.ScannedObject.{ScannedObject}
 use Rattle.pt_compare.specs.declared.difference.Comparison.{Comparison}
 use Rattle.pt_compare.specs.declared.difference.Comparison.TheVariants.{Absent, Differs, Same}
 use Rattle.pt_compare.specs.Marks.{Marks, all_met}
@@ -34,12 +34,12 @@ pub record Sought : Type 0 where
   pub stored : List File
 
 -- the texts of an object's inventory
-abbrev pub texts_of_object : Scanned → MetaParts → List ℕ
+abbrev pub texts_of_object : ScannedObject → MetaParts → List ℕ
 texts_of_object object meta =
     inventory_text object.id.now object.rows.now meta object.algorithm
 
 -- that of an object of a store, whose source's tree this is
-abbrev pub sought_of : Scanned → Forest → Sought
+abbrev pub sought_of : ScannedObject → Forest → Sought
 sought_of object source = record {
   algorithm = object.algorithm;
   text_with = texts_of_object object;

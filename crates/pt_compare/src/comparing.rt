@@ -18,7 +18,7 @@ use crate::entries::Entries;
 use crate::meeting::{Stored, meet_bytes, meet_folder, meet_inventory, meet_stored};
 use crate::paths::{content_path, join};
 use crate::stop::Stop;
-use crate::{Comparison, Difference, Root, Scanned, Why, standing};
+use crate::{Comparison, Difference, Root, ScannedObject, Why, find_kind};
 use pt_object::{WellKnownName, object_declaration, sidecar};
 use pt_plan::Fault;
 use pt_plan::names::alike_names;
@@ -37,7 +37,7 @@ pub fn compare<S: Source, R: Root>(
     alloc: Global,
     source: &mut S,
     root: &mut R,
-    object: &Scanned<'_>,
+    object: &ScannedObject<'_>,
 ) -> Result<Comparison, Fault>
     requires contents { object.now.contents.now
         ≡ map content_of_row (distinct object.now.rows.now) }
@@ -70,7 +70,7 @@ pub fn compare<S: Source, R: Root>(
 fn at_place<R: Root>(
     alloc: Global,
     root: &mut R,
-    object: &Scanned<'_>,
+    object: &ScannedObject<'_>,
 ) -> Result<Option<Kind>, TreeFault>
     requires { IsKnownToStand (tree_in (R.told root.old)) object.now }
     ensures kind { IfOk result (λ here. IsSeen (tree_in (R.told root.old)) object.now.to.now here) }
@@ -81,7 +81,7 @@ fn at_place<R: Root>(
     if object.stands {
         Ok(Some(Kind::Dir))
     } else {
-        standing(alloc, root, object.to)
+        find_kind(alloc, root, object.to)
     }
 }
 
@@ -104,7 +104,7 @@ fn meet_object<S: Source, R: Root>(
     alloc: Global,
     source: &mut S,
     root: &mut R,
-    object: &Scanned<'_>,
+    object: &ScannedObject<'_>,
     entries: &mut Entries,
 ) -> Result<(), Stop>
     requires contents { object.now.contents.now
@@ -152,7 +152,7 @@ fn meet_contents<S: Source, R: Root>(
     alloc: Global,
     source: &mut S,
     root: &mut R,
-    object: &Scanned<'_>,
+    object: &ScannedObject<'_>,
     entries: &mut Entries,
 ) -> Result<(), Stop>
     requires files { All (λ content. CanOpen (S.told source.old)
@@ -257,7 +257,7 @@ fn folders_met(last: &Option<NamePath>, path: &NamePath) -> usize
 fn meet_inventories<R: Root>(
     alloc: Global,
     root: &mut R,
-    object: &Scanned<'_>,
+    object: &ScannedObject<'_>,
     entries: &mut Entries,
 ) -> Result<(), Stop>
     requires contents { object.now.contents.now
@@ -280,7 +280,7 @@ fn meet_inventories<R: Root>(
 fn meet_copies<R: Root>(
     alloc: Global,
     root: &mut R,
-    object: &Scanned<'_>,
+    object: &ScannedObject<'_>,
     entries: &mut Entries,
     text: &str,
 ) -> Result<(), Stop>

@@ -9,7 +9,7 @@ ghost use Rattle.pt_compare.specs.Described.{IsGiven, IsMade, TellsMade, descrip
 ghost use Rattle.pt_compare.specs.Found.{texts_of_object};
 ghost use Rattle.pt_object.specs.Distinct.{content_of_row, distinct};
 
-use crate::Scanned;
+use crate::ScannedObject;
 use pt_object::{Meta, MetaFault, inventory};
 use pt_tree::MemoryFault;
 use serde_json::Value;
@@ -31,7 +31,7 @@ const END: &str = "}}}";
 pub(crate) fn text_if_made(
     alloc: Global,
     stands: Vec<u8>,
-    object: &Scanned<'_>,
+    object: &ScannedObject<'_>,
 ) -> Result<Option<String>, MemoryFault>
     requires { object.now.contents.now ≡ map content_of_row (distinct object.now.rows.now) }
     ensures { IfOk result (λ text. MatchOption text
@@ -51,7 +51,7 @@ pub(crate) fn text_if_made(
 
 // Whether it is such a text. What it says of its version is first sought where a run writes that, since as JSON a whole
 // inventory takes far more memory than as text.
-fn is_made(alloc: Global, stands: &str, object: &Scanned<'_>) -> Result<bool, MemoryFault>
+fn is_made(alloc: Global, stands: &str, object: &ScannedObject<'_>) -> Result<bool, MemoryFault>
     requires { object.now.contents.now ≡ map content_of_row (distinct object.now.rows.now) }
     ensures { IfOk result (TellsMade (texts_of_object object.now) stands.now) }
 {
@@ -66,7 +66,7 @@ fn is_made(alloc: Global, stands: &str, object: &Scanned<'_>) -> Result<bool, Me
 // Whether this is the text of the object's inventory with a description of its version.
 fn is_text(
     alloc: Global,
-    object: &Scanned<'_>,
+    object: &ScannedObject<'_>,
     meta: Option<Meta>,
     text: &str,
 ) -> Result<bool, MemoryFault>

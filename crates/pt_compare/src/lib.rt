@@ -8,7 +8,7 @@
 //!   (`standing_object_is_the_same`). Both trees are as they were; a device is blamed exactly where it failed.
 //! - How an object is sought at its place: each item of the script by which a run would make it, in that order, and then what is left of the
 //!   entries of its folders (`MeetsObject`).
-//! - `standing`: over a root that tells, exactly what stands at a path; None where nothing does.
+//! - `find_kind`: over a root that tells, exactly what stands at a path; None where nothing does.
 //! - The version's inventory passes exactly where, for some description of its version that a run can be given, it is the text of these rows
 //!   with that (`IsMade`, `text_if_made`).
 #![tactic(auto)]
@@ -31,5 +31,5 @@ pub use bytes::{come_next, has_ended};
 pub use comparing::compare;
 pub use difference::{Comparison, Difference, Why};
 pub use paths::content_path;
-pub use root::{Root, open_standing, standing};
-pub use scanned::Scanned;
+pub use root::{Root, find_kind, open_standing};
+pub use scanned::ScannedObject;

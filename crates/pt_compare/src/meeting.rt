@@ -18,7 +18,7 @@ use crate::entries::{Entries, note};
 use crate::inventories::text_if_made;
 use crate::paths::join;
 use crate::stop::{Stop, of_root, of_source};
-use crate::{Difference, Root, Scanned, Why};
+use crate::{Difference, Root, ScannedObject, Why};
 use pt_tree::{Block, Kind, NamePath, Source};
 use std::alloc::Global;
 
@@ -151,7 +151,7 @@ fn meet_content<S: Source, R: Root>(
 pub(crate) fn meet_inventory<R: Root>(
     alloc: Global,
     root: &mut R,
-    object: &Scanned<'_>,
+    object: &ScannedObject<'_>,
     entries: &mut Entries,
     path: NamePath,
 ) -> Result<String, Stop>

@@ -25,7 +25,7 @@ pub trait Root: Source {
 
 /// The kind of what stands at a path; None where nothing does, also below what is no directory. Each entry on its way is
 /// looked at, from the top on, up to the first that isn't a directory.
-pub fn standing<R: Root>(
+pub fn find_kind<R: Root>(
     alloc: Global,
     root: &mut R,
     path: &NamePath,

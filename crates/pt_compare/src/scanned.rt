@@ -5,7 +5,7 @@ use pt_tree::NamePath;
 
 /// An object of a store, as its scan found it, and its place in a storage root.
 #[derive(Drop)]
-pub struct Scanned<'a> {
+pub struct ScannedObject<'a> {
     /// Its identifier.
     pub id: &'a str,
     /// Its files, in the order of their logical paths.

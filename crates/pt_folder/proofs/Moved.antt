@@ -12,12 +12,12 @@ use Rattle.pt_folder.specs.Folder.{entry_text}
 use Rattle.pt_folder.specs.Moving.{AfterMove, FailsToSync, FolderMove, IsGone, IsOfGoing, IsOfMove, IsReady, IsSynced, MovesOnce}
 use Rattle.pt_folder.specs.UnsyncedChange.{move_to_sync, unsynced_after, unless_done}
 use Rattle.pt_folder.specs.declared.failure.Failure.{Failure}
-use Rattle.pt_folder.specs.declared.moving.Ready.{Ready}
+use Rattle.pt_folder.specs.declared.moving.ReadyMove.{ReadyMove}
 use Rattle.pt_folder.specs.declared.system.System.{Ghosts as OfSystem}
 use Rattle.pt_folder.specs.declared.unsynced_change.UnsyncedChange.{UnsyncedChange}
 use Rattle.pt_folder.specs.declared.unsynced_change.UnsyncedChange.TheVariants as unsynced
 
-module _ {S F D : Type 0} (sys : OfSystem S F D) (syncs : F → Result (Unit {0}) Error → F → Type 0) (ready : Ready) (old new : S) where
+module _ {S F D : Type 0} (sys : OfSystem S F D) (syncs : F → Result (Unit {0}) Error → F → Type 0) (ready : ReadyMove) (old new : S) where
   -- a directory that could not be put onto the disk is kept as a part of the move
   pub kept_sync : (mid : S) (text : List ℕ) (r : Result (Unit {0}) TreeFault) (fault : TreeFault) (last : Option Failure) → IsErrAnd r (λ y. y ≡ fault) → text ≡ string_bytes ready.holder
       → OnDevice {T = Unit {0}} (Err fault) (IsSomeAnd last (IsOfCall text (FailsToSync sys.opens syncs text mid new))) → OnDevice r (IsSomeAnd last (IsOfGoing sys syncs ready (change_of old new)))

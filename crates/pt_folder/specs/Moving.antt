@@ -11,7 +11,7 @@ use Rattle.pt_folder.specs.Laws.{IsPath}
 use Rattle.pt_folder.specs.UnsyncedChange.{move_to_sync, unsynced_after, unless_done}
 use Rattle.pt_folder.specs.declared.failure.Failure.{Failure}
 use Rattle.pt_folder.specs.declared.moving.Move.{Move}
-use Rattle.pt_folder.specs.declared.moving.Ready.{Ready}
+use Rattle.pt_folder.specs.declared.moving.ReadyMove.{ReadyMove}
 use Rattle.pt_folder.specs.declared.system.System.{Ghosts as OfSystem}
 use Rattle.pt_folder.specs.declared.unsynced_change.UnsyncedChange.{UnsyncedChange}
 use Rattle.pt_folder.specs.declared.unsynced_change.UnsyncedChange.TheVariants as unsynced
@@ -32,7 +32,7 @@ abbrev pub move_in : List ℕ → Move → FolderMove
 move_in folder m = record { folder = folder; from = m.from.now; to = m.to.now; synced = m.synced }
 
 -- a move of what is at a path of a folder is ready
-pub record IsReady (synced : Bool) (folder : List ℕ) (p q : Path) (ready : Ready) : Type 0 where
+pub record IsReady (synced : Bool) (folder : List ℕ) (p q : Path) (ready : ReadyMove) : Type 0 where
   pub from : string_bytes ready.from ≡ entry_text folder p
   pub to : string_bytes ready.to ≡ entry_text folder q
   pub holder : string_bytes ready.holder ≡ holder_text (entry_text folder q)
@@ -65,7 +65,7 @@ AfterMove opens syncs true to old new result = IsSynced opens syncs (holder_text
 
 -- a move that is ready was asked for, and by its reply this came after it
 pub record IsGone {S F D : Type 0} (sys : OfSystem S F D)
-    (syncs : F → Result (Unit {0}) Error → F → Type 0) (ready : Ready) (system : Change S)
+    (syncs : F → Result (Unit {0}) Error → F → Type 0) (ready : ReadyMove) (system : Change S)
     (left : Change (Option UnsyncedChange)) (result : Result (Unit {0}) TreeFault) : Type 0 where
   pub reply : Result (Unit {0}) Error
   pub mid : S
@@ -78,7 +78,7 @@ pub record IsGone {S F D : Type 0} (sys : OfSystem S F D)
 
 -- what a failure that is kept of it was of: the move, or putting the directory onto the disk
 abbrev pub IsOfGoing : {S F D : Type 0} → OfSystem S F D → (F → Result (Unit {0}) Error → F → Type 0)
-    → Ready → Change S → Failure → Type 0
+    → ReadyMove → Change S → Failure → Type 0
 IsOfGoing {S} sys syncs ready system f =
     IsOfCall (string_bytes ready.to)
     (λ e. sys.renames system.old (string_bytes ready.from) (string_bytes ready.to) (Err e) system.new) f

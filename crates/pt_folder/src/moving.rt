@@ -24,7 +24,7 @@ pub struct Move<'a> {
 /// A move that is ready: the system's paths of its ends, and of the directory that holds the second, and what it is while that
 /// directory isn't put onto the disk yet.
 #[derive(Drop)]
-pub struct Ready {
+pub struct ReadyMove {
     pub from: String,
     pub to: String,
     pub holder: String,
@@ -33,7 +33,7 @@ pub struct Ready {
 
 impl<'a> Move<'a> {
     // Makes it ready; nothing is asked.
-    fn ready(&self, folder: &Folder<'_>, last: &mut Last) -> Result<Ready, TreeFault>
+    fn ready(&self, folder: &Folder<'_>, last: &mut Last) -> Result<ReadyMove, TreeFault>
         ensures ready { IfOk result
             (IsReady self.now.synced folder.now.path.now self.now.from.now self.now.to.now) }
         ensures refused { IfErr result (λ fault. IsDueTo fault (length folder.now.path.now ≡ 0)) }
@@ -44,7 +44,7 @@ impl<'a> Move<'a> {
         let to = folder.text(self.to, last)?;
         let holder = holder(last.alloc, to.as_str())?;
         let left = self.to_sync()?;
-        Ok(Ready {
+        Ok(ReadyMove {
             from,
             to,
             holder,
@@ -64,7 +64,7 @@ impl<'a> Move<'a> {
     }
 }
 
-impl Ready {
+impl ReadyMove {
     // Moves what stands at the first path to the second. The move is unsynced where its directory couldn't be put onto the disk.
     fn go<S: System>(
         self,

@@ -7,7 +7,7 @@ use crate::{AuditOptions, Feedback, RunOptions};
 use pt_guard::Claim;
 use pt_messages::{Members, Progress};
 use pt_move::Job;
-use pt_name::Sought;
+use pt_name::SoughtIdentifiers;
 use std::alloc::{AllocError, Global};
 
 /// What is asked for.
@@ -41,12 +41,12 @@ impl Asked {
     }
 
     /// What it is to meet of a list of identifiers, where it has one. An error where that can't be had.
-    pub(crate) fn sought(&self) -> Result<Option<Sought>, AllocError>
+    pub(crate) fn sought_identifiers(&self) -> Result<Option<SoughtIdentifiers>, AllocError>
         ensures { IsSome (list_of self.now) ⊎ (result ≡ Ok None) }
     {
         match self {
-            Asked::Run(options) => options.job.share.sought(),
-            Asked::Audit(options) => options.job.share.sought(),
+            Asked::Run(options) => options.job.share.sought_identifiers(),
+            Asked::Audit(options) => options.job.share.sought_identifiers(),
         }
     }
 

@@ -10,7 +10,7 @@ use crate::room::room_in;
 use crate::saying::tell_fault;
 use crate::status::{DONE, FAILED, INCOMPLETE};
 use crate::{CheckOptions, Host, HostIo, Machine};
-use pt_check::{Check, CheckDevices, Explains, Numbers, Unlisted, Wants};
+use pt_check::{Check, CheckDevices, Explains, Numbers, UnlistedFolder, Wants};
 use pt_folder::{Failure, FailureReason, HostSource, System};
 use pt_move::Fault;
 use pt_tree::{Ignoring, ListsNamed, MemoryFault, NamePath, Source, TreeFault};
@@ -128,10 +128,10 @@ impl<'a, S: System> Explains<Ignoring<HostSource<'a, S>>> for LastFailure {
         alloc: Global,
         source: &mut Ignoring<HostSource<'a, S>>,
         path: &NamePath,
-    ) -> Result<Unlisted, MemoryFault> {
+    ) -> Result<UnlistedFolder, MemoryFault> {
         let first = self.reason(alloc, source)?;
         if !is_for_name(source.source().last_failure()) {
-            return Ok(Unlisted {
+            return Ok(UnlistedFolder {
                 reason: first,
                 further: Vec::new(alloc),
                 listing: None,
@@ -149,7 +149,7 @@ impl<'a, S: System> Explains<Ignoring<HostSource<'a, S>>> for LastFailure {
         if listing.is_none() {
             further.push(self.reason(alloc, source)?)?;
         }
-        Ok(Unlisted {
+        Ok(UnlistedFolder {
             reason,
             further,
             listing,

@@ -95,7 +95,7 @@ where
         (folders.entry.store.now, folders.entry.folder.now) asked (host.old, host.new)
         result.status }
 {
-    let sought = asked.sought();
+    let sought = asked.sought_identifiers();
     let Ending { status, outcome } = make_alone(rt, host, asked, folders);
     let status = end_with_unmet(rt, &sought, status);
     Ending { status, outcome }

@@ -17,7 +17,7 @@ use crate::{AuditOptions, Host, HostIo, Machine};
 use pt_extra::{AuditCounts, AuditEnd, ExtraDevices, audit};
 use pt_folder::{HostSource, System};
 use pt_messages::{
-    Counted, FaultReason, Outcome, Reads, Tally, Terminals, Watch, Words, lines_expected, reason,
+    CountedLog, FaultReason, Outcome, Reads, Tally, Terminals, Watch, Words, lines_expected, reason,
 };
 use pt_move::Fault;
 use pt_tree::Watched;
@@ -104,7 +104,7 @@ where
     let ignores = !options.ignored.names().is_empty();
     let Sides { source, root, log } = both_sides(alloc, lent, options.ignored, folders);
     let watch = Watch::new(rt, alloc, &tally, watching);
-    let log = Counted::new(log, watch.sums() | telling.records);
+    let log = CountedLog::new(log, watch.sums() | telling.records);
     let source = Watched::new(source, watch);
     let devices = ExtraDevices {
         store: source,

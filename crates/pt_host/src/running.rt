@@ -17,7 +17,9 @@ use crate::saying::{tell_fault, tell_why};
 use crate::status::{DONE, FAILED, INCOMPLETE};
 use crate::{HostIo, RunOptions};
 use pt_folder::{HostDest, HostSource, System};
-use pt_messages::{Counted, FaultReason, Outcome, Reads, Tally, Terminals, Watch, Words, reason};
+use pt_messages::{
+    CountedLog, FaultReason, Outcome, Reads, Tally, Terminals, Watch, Words, reason,
+};
 use pt_move::{Fault, Job, Report, migrate_observed};
 use pt_rehearsal::Rehearsal;
 use pt_tree::{Dest, Ignoring, Log, Source, Watched};
@@ -78,7 +80,7 @@ where
     let ignores = !options.ignored.names().is_empty();
     let ignoring = Ignoring::new(source, options.ignored);
     let watch = Watch::new(rt, alloc, &tally, watching);
-    let mut log = Counted::new(log, watch.sums() | telling.records);
+    let mut log = CountedLog::new(log, watch.sums() | telling.records);
     let mut source = Watched::new(ignoring, watch);
     let task = Task {
         job: options.job,

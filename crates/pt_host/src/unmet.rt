@@ -3,14 +3,14 @@ ghost use Rattle.std.specs.Prelude.{◌≡◌, ◌⊎◌, None, Ok, false};
 
 use crate::status::{DONE, INCOMPLETE};
 use pt_messages::escape;
-use pt_name::Sought;
+use pt_name::SoughtIdentifiers;
 use std::alloc::{AllocError, AllocGlobal};
 
 /// The status of a run or an audit that ended with this one: 1 in place of 0, where it ended well and an identifier of its list was met
 /// nowhere. Standard error is told of each.
 pub(crate) fn end_with_unmet<R: Eprint + AllocGlobal>(
     rt: &R,
-    sought: &Result<Option<Sought>, AllocError>,
+    sought: &Result<Option<SoughtIdentifiers>, AllocError>,
     status: u8,
 ) -> u8
     ensures none { sought.now ≡ Ok None → result ≡ status }
@@ -26,7 +26,10 @@ pub(crate) fn end_with_unmet<R: Eprint + AllocGlobal>(
 }
 
 // Tells of the identifiers that were met nowhere, and whether there are some. Where that can't be known it is told, as if there were.
-fn tells_unmet<R: Eprint + AllocGlobal>(rt: &R, sought: &Result<Option<Sought>, AllocError>) -> bool
+fn tells_unmet<R: Eprint + AllocGlobal>(
+    rt: &R,
+    sought: &Result<Option<SoughtIdentifiers>, AllocError>,
+) -> bool
     ensures { sought.now ≡ Ok None → result ≡ false }
 {
     match sought {
@@ -42,7 +45,7 @@ fn tells_unmet<R: Eprint + AllocGlobal>(rt: &R, sought: &Result<Option<Sought>, 
 }
 
 // Tells of each that was met nowhere, on a line of its own, and whether there are some.
-fn tells_each<R: Eprint + AllocGlobal>(rt: &R, sought: &Sought) -> bool {
+fn tells_each<R: Eprint + AllocGlobal>(rt: &R, sought: &SoughtIdentifiers) -> bool {
     let mut some = false;
     for at in 0..sought.len() {
         if let Some(id) = sought.unmet_at(at) {

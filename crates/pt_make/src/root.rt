@@ -25,7 +25,7 @@ use pt_tree::{Kind, MemoryFault, NamePath};
 use std::alloc::Global;
 
 /// Asks whether `staging` is there.
-pub fn staging<O: Io>(state: &State, out: &mut O) -> Result<Phase, Fault>
+pub fn look_at_staging<O: Io>(state: &State, out: &mut O) -> Result<Phase, Fault>
     ensures turn { TakesTurn O.Io (0, 1) (phase.Opening opening.Staging)
         (state.now, out.old) (state.now, out.new) result }
 {
@@ -37,7 +37,7 @@ pub fn staging<O: Io>(state: &State, out: &mut O) -> Result<Phase, Fault>
 }
 
 /// Asks whether the storage root is there.
-pub fn root<O: Io>(state: &State, out: &mut O) -> Result<Phase, Fault>
+pub fn look_at_root<O: Io>(state: &State, out: &mut O) -> Result<Phase, Fault>
     ensures turn { TakesTurn O.Io (0, 1) (phase.Opening opening.Root)
         (state.now, out.old) (state.now, out.new) result }
 {

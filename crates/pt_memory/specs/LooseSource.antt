@@ -58,6 +58,10 @@ abbrev pub swap_number : SwapFault → ℕ
 swap_number swap.Absent = 1
 swap_number swap.Memory = 2
 
+-- how often it failed
+abbrev pub loose_failures : LooseSource → ℕ
+loose_failures l = l.source.fuse.failures
+
 -- how often it was called
 abbrev pub loose_called : LooseSource → ℕ → Type 0
 loose_called l n = source_called l.source n

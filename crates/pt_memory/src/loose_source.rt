@@ -132,11 +132,11 @@ impl Source for LooseSource {
     ghost use Rattle.pt_tree.specs.Source.{IsListed, IsRead};
     ghost use Rattle.pt_tree.specs.Failures.{IsCounted, IsOneMoreCall};
     ghost use Rattle.pt_memory.specs.MemSource.{ListGives, OpenGives, NextGives};
-    ghost use Rattle.pt_memory.specs.LooseSource.{Then, loose_called, loose_state, untold};
+    ghost use Rattle.pt_memory.specs.LooseSource.{Then, loose_called, loose_failures, loose_state, untold};
 
     ghost told = { λ _. None };
 
-    ghost failed = { λ l. l.source.fuse.failures };
+    ghost failed = { loose_failures };
 
     ghost called = { loose_called };
 
@@ -158,8 +158,8 @@ impl Source for LooseSource {
             ListGives (loose_state self.old).source between path.now result) (loose_state self.old)
             (loose_state self.new) }
         ensures listing { IfOk result (λ listing. IsListed None path.now listing) }
-        ensures failures { IsCounted self.old.source.fuse.failures
-            self.new.source.fuse.failures result }
+        ensures failures { IsCounted (loose_failures self.old)
+            (loose_failures self.new) result }
         ensures calls { IsOneMoreCall (loose_called self.old) (loose_called self.new) }
     {
         let listing = self.source.list_at(path);
@@ -171,8 +171,8 @@ impl Source for LooseSource {
         ensures gives { Then (λ between.
             OpenGives (loose_state self.old).source between path.now result) (loose_state self.old)
             (loose_state self.new) }
-        ensures failures { IsCounted self.old.source.fuse.failures
-            self.new.source.fuse.failures result }
+        ensures failures { IsCounted (loose_failures self.old)
+            (loose_failures self.new) result }
         ensures calls { IsOneMoreCall (loose_called self.old) (loose_called self.new) }
     {
         let opened = self.source.open_at(path);
@@ -187,8 +187,8 @@ impl Source for LooseSource {
             (loose_state self.old) (loose_state self.new) }
         ensures block { OnOk result (IsRead None block.new.items) }
         ensures empty { OnErr result (block.new.items ≡ []) }
-        ensures failures { IsCounted self.old.source.fuse.failures
-            self.new.source.fuse.failures result }
+        ensures failures { IsCounted (loose_failures self.old)
+            (loose_failures self.new) result }
         ensures calls { IsOneMoreCall (loose_called self.old) (loose_called self.new) }
     {
         let read = self.source.next_of(block);

@@ -180,7 +180,8 @@ fn close_within(writing: &mut Option<NamePath>, path: &NamePath)
 
 impl Dest for MemDest {
     ghost use Rattle.std.specs.Prelude.{Some, Ok};
-    ghost use Rattle.pt_tree.specs.Dest.{CanPeek, CanWrite, IsKindAt, IsPeeked, LeavesPart, MayMake, MayMove, after_append, after_create, after_finish, after_mkdir, after_rename};
+    ghost use Rattle.pt_tree.specs.Dest.{CanPeek, CanWrite, IsKindAt, IsPeeked, LeavesPart, MayMake, MayMove, after_append, after_create};
+    ghost use Rattle.pt_tree.specs.Dest.{after_finish, after_mkdir, after_rename};
     ghost use Rattle.pt_tree.specs.Failures.{IsCounted};
     ghost use Rattle.pt_memory.specs.Fuse.{is_blown};
     ghost use Rattle.pt_memory.specs.MemDest.{Appends, Makes, Passes, after_dest_call, dest_state, dest_told};

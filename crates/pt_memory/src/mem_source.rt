@@ -24,7 +24,8 @@ pub struct MemSource {
 }
 
 impl MemSource {
-    ghost use Rattle.pt_memory.specs.MemSource.{source_state, source_tree, new_state, fused, after_source_call, swapped, IsPlanted, ListGives, OpenGives, NextGives};
+    ghost use Rattle.pt_memory.specs.MemSource.{source_state, source_tree, new_state, fused, after_source_call, swapped, IsPlanted, ListGives};
+    ghost use Rattle.pt_memory.specs.MemSource.{OpenGives, NextGives};
     ghost use Rattle.pt_memory.specs.Fuse.{fuse_answer};
     ghost use Rattle.pt_tree.specs.Forest.{Dir, file_at, kind_of, listing_at, node_at};
     ghost use Rattle.pt_tree.specs.Refusal.{Answers};

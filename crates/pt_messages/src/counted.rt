@@ -33,18 +33,18 @@ pub struct LineCounts {
 
 /// A log whose lines are counted where that is wanted, and is the log in all else. Each piece that it gets is a line.
 #[derive(Drop)]
-pub struct Counted<L: Log> {
+pub struct CountedLog<L: Log> {
     log: L,
     counts: LineCounts,
     counting: bool,
 }
 
-impl<L: Log> Counted<L> {
+impl<L: Log> CountedLog<L> {
     /// A log, of whose lines none was counted yet, and whether they are to be.
-    pub fn new(log: L, counting: bool) -> Counted<L>
+    pub fn new(log: L, counting: bool) -> CountedLog<L>
         ensures { result.log ≡ log }
     {
-        Counted {
+        CountedLog {
             log,
             counts: LineCounts::none(),
             counting,
@@ -69,7 +69,7 @@ impl<L: Log> Counted<L> {
     }
 }
 
-impl<L: Log> Log for Counted<L> {
+impl<L: Log> Log for CountedLog<L> {
     ghost told = { λ w. L.told w.log };
 
     ghost failed = { λ w. L.failed w.log };

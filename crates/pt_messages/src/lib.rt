@@ -22,7 +22,7 @@ mod tally;
 mod terminal;
 mod watch;
 
-pub use counted::{Counted, LineCounts};
+pub use counted::{CountedLog, LineCounts};
 pub use event::{Event, Outcome, VERSION};
 pub use expected::lines_expected;
 pub use members::Members;

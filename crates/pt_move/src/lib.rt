@@ -30,6 +30,6 @@ pub mod turning;
 
 pub use migration::{migrate, migrate_observed};
 pub use mover::{Mover, Turn};
-pub use observer::{Observer, Unobserved};
+pub use observer::{NoObserver, Observer};
 pub use pt_plan::Fault;
 pub use pt_state::{Job, Report};

@@ -3,7 +3,7 @@ ghost use Rattle.std.specs.Prelude.{ℕ};
 ghost use Rattle.pt_state.specs.Outside.{states_of};
 ghost use Rattle.pt_move.specs.Migrates.{Migrates};
 
-use crate::{Fault, Mover, Observer, Turn, Unobserved};
+use crate::{Fault, Mover, NoObserver, Observer, Turn};
 use pt_state::{Devices, Io, Job, Report};
 use pt_tree::{Dest, Log, Source};
 use std::alloc::Global;
@@ -33,7 +33,7 @@ pub fn migrate<S: Source, D: Dest, L: Log>(
     ensures dest_stays { D.keeps dest.old dest.new }
     ensures log_stays { L.keeps log.old log.new }
 {
-    migrate_observed(alloc, source, dest, log, job, &Unobserved)
+    migrate_observed(alloc, source, dest, log, job, &NoObserver)
 }
 
 /// A run as `migrate` makes it, and with all that is promised of that. The observer gets the run's report after each turn that isn't the

@@ -7,8 +7,8 @@ pub trait Observer<Numbers> {
 
 /// Nobody looks on.
 #[derive(Clone, Copy, Debug, PartialEq, Eq)]
-pub struct Unobserved;
+pub struct NoObserver;
 
-impl<Numbers: Copy> Observer<Numbers> for Unobserved {
+impl<Numbers: Copy> Observer<Numbers> for NoObserver {
     fn observe(&self, _so_far: Numbers) {}
 }

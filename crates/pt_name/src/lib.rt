@@ -15,7 +15,7 @@
 //!   the share that the identifier's SHA-256 gives (`share_number`) is its own, and it is `chosen`: it stands in the list or begins with one of the
 //!   texts, or there is neither; `is_first`: whether it is 1.
 //! - `IdentifierList::of`: the list of just these identifiers (`ListsAs`). `contains`: exactly whether one stands in it. Which were met, and what
-//!   `Sought` says of that, has no clause: no contract can say what a cell holds.
+//!   `SoughtIdentifiers` says of that, has no clause: no contract can say what a cell holds.
 //! - `Identifier`: a text, seen as its bytes.
 //! - `unclean`: reads a cleaned text back: gives an identifier exactly where the text reads it and it is UTF-8, and says of each other text
 //!   exactly whether it reads nothing or bytes that aren't UTF-8. `concatenate`: joins the names of a pairpath for it.
@@ -53,4 +53,4 @@ pub use layout::{Layout, LayoutFault};
 pub use prefix::{PrefixFault, is_doubtful, read_prefix};
 pub use reading::{UncleanFault, unclean};
 pub use share::{Share, ShareFault};
-pub use sought::Sought;
+pub use sought::SoughtIdentifiers;

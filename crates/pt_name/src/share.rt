@@ -4,7 +4,7 @@ ghost use Rattle.std.specs.String.{string_bytes};
 ghost use Rattle.std.specs.Option.{IsSome, option_map};
 ghost use Rattle.pt_name.specs.Share.{begins_so, begins_with, chosen, digest_number, share_number};
 
-use crate::{IdentifierList, Sought};
+use crate::{IdentifierList, SoughtIdentifiers};
 use pt_tree::MemoryFault;
 use sha2::{Digest, Sha256};
 use std::alloc::{AllocError, Global};
@@ -111,7 +111,7 @@ impl Share {
 
     /// Of the share, only the objects whose identifiers begin with one of these texts, byte for byte, the store's prefix
     /// included; all of its objects, where there is no text.
-    pub fn only(self, texts: Vec<String>) -> Share
+    pub fn with_only(self, texts: Vec<String>) -> Share
         ensures { result ≡ record self { only = map string_bytes texts.items } }
     {
         Share {
@@ -166,7 +166,7 @@ impl Share {
     }
 
     /// The identifiers of its list that it is to meet, if it has a list. `AllocError` where the list can't have one more owner.
-    pub fn sought(&self) -> Result<Option<Sought>, AllocError>
+    pub fn sought_identifiers(&self) -> Result<Option<SoughtIdentifiers>, AllocError>
         ensures { IsSome self.now.list ⊎ (result ≡ Ok None) }
     {
         let Some(list) = &self.list else {
@@ -178,7 +178,7 @@ impl Share {
             only: None,
             list: None,
         };
-        Ok(Some(Sought::of(list.clone()?, numbered)))
+        Ok(Some(SoughtIdentifiers::of(list.clone()?, numbered)))
     }
 
     /// Whether it is the first: what is passed over before an identifier is read is told by the first share alone.

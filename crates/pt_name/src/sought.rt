@@ -5,15 +5,15 @@ use std::rc::Rc;
 
 /// The identifiers of a list that are of a share. What a run of that share notes in the list is seen here.
 #[derive(Drop)]
-pub struct Sought {
+pub struct SoughtIdentifiers {
     list: Rc<IdentifierList>,
     share: Share,
 }
 
-impl Sought {
+impl SoughtIdentifiers {
     // Those of this list that the share's number takes.
-    pub(crate) fn of(list: Rc<IdentifierList>, share: Share) -> Sought {
-        Sought { list, share }
+    pub(crate) fn of(list: Rc<IdentifierList>, share: Share) -> SoughtIdentifiers {
+        SoughtIdentifiers { list, share }
     }
 
     /// How many identifiers the list has.

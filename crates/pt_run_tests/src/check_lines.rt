@@ -1,7 +1,7 @@
 //! The lines of a check over stores in memory.
 #![tactic(auto)]
 
-use pt_check::{Check, CheckDevices, Explains, Unlisted, Wants};
+use pt_check::{Check, CheckDevices, Explains, UnlistedFolder, Wants};
 use pt_memory::texts::store;
 use pt_memory::{MemLog, MemSource};
 use pt_name::Layout;
@@ -29,7 +29,7 @@ impl Explains<MemSource> for ItFailed {
         alloc: Global,
         source: &mut MemSource,
         path: &NamePath,
-    ) -> Result<Unlisted, MemoryFault> {
+    ) -> Result<UnlistedFolder, MemoryFault> {
         let reason = self.reason(alloc, source)?;
         let mut further = Vec::new(alloc);
         for reason in self.further {
@@ -42,7 +42,7 @@ impl Explains<MemSource> for ItFailed {
             let _failures = source.failures();
             listing = source.list(path).ok();
         }
-        Ok(Unlisted {
+        Ok(UnlistedFolder {
             reason,
             further,
             listing,

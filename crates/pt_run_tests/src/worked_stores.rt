@@ -1,5 +1,11 @@
 //! The worked stores, computed from the definitions by the prover.
-ghost use Rattle.pt_run_tests.specs.WorkedRuns.{BadNamesLog, BoundOfEmptyStore, BoundOfEqualContents, BoundOfGathering, DepthsAreLimited, DepthsOfChains, DividedLog, DividedSitesAreGathered, EmptyDirectoriesAreCounted, EmptyStoreLog, ExtensionsLog, FirstBadEntryCounts, LengthsAreLimited, LineFeedLog, LinesComeInOrder, OneIdentifierFlatLog, OneObjectFlatLog, OneObjectIsCarried, OneObjectIsNamed, OneObjectLog, PrefixIsRead, PresentComesFirst, SecondRunCarriesNothing, StoresAreKnown, StraysLog, UsableRootsAreTold, WaysAreTold, WorkOfFirstRuns, WorkOfGathering, WorkOfSecondRun, WorkOfSkips, WorkWithOtherTuples};
+ghost use Rattle.pt_run_tests.specs.WorkedRuns.{BadNamesLog, BoundOfEmptyStore, BoundOfEqualContents, BoundOfGathering, DepthsAreLimited};
+ghost use Rattle.pt_run_tests.specs.WorkedRuns.{DepthsOfChains, DividedLog, DividedSitesAreGathered, EmptyDirectoriesAreCounted, EmptyStoreLog};
+ghost use Rattle.pt_run_tests.specs.WorkedRuns.{ExtensionsLog, FirstBadEntryCounts, LengthsAreLimited, LineFeedLog, LinesComeInOrder};
+ghost use Rattle.pt_run_tests.specs.WorkedRuns.{OneIdentifierFlatLog, OneObjectFlatLog, OneObjectIsCarried, OneObjectIsNamed, OneObjectLog};
+ghost use Rattle.pt_run_tests.specs.WorkedRuns.{PrefixIsRead, PresentComesFirst, SecondRunCarriesNothing, StoresAreKnown, StraysLog};
+ghost use Rattle.pt_run_tests.specs.WorkedRuns.{UsableRootsAreTold, WaysAreTold, WorkOfFirstRuns, WorkOfGathering, WorkOfSecondRun, WorkOfSkips};
+ghost use Rattle.pt_run_tests.specs.WorkedRuns.{WorkWithOtherTuples};
 ghost use Rattle.pt_run_tests.specs.WorkedTurns.{EmptyStoreTurns, OneObjectTurns};
 
 use pt_invariant::laws as invariant_laws;

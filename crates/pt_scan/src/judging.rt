@@ -56,7 +56,11 @@ fn finding(state: &State) -> Finding
     ensures { result ≡ found_at (form_of_job (job_of state.now.job)) state.now.trail }
 {
     match state.trail.innermost() {
-        Some(listing) => judged(listing, state.trail.at(), form_of(state.job.gather)),
+        Some(listing) => judged(
+            listing,
+            state.trail.site_position(),
+            form_of(state.job.gather),
+        ),
         None => Finding::Interior,
     }
 }

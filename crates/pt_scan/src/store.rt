@@ -45,7 +45,11 @@ fn is_store(listing: &Listing) -> bool
 }
 
 /// Reads the prefix file, if it is there.
-pub fn prefix<O: Io>(state: &mut State, here: Option<Kind>, out: &mut O) -> Result<Phase, Fault>
+pub fn look_at_prefix<O: Io>(
+    state: &mut State,
+    here: Option<Kind>,
+    out: &mut O,
+) -> Result<Phase, Fault>
     requires { MayOpenPrefix (O.states out.old).source here }
     ensures turn { TakesTurn O.Io (2, 0) (phase.Opening (opening.Prefix here))
         (state.old, out.old) (state.new, out.new) result }

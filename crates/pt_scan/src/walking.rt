@@ -122,5 +122,5 @@ pub(crate) fn listed_path(state: &State) -> Result<NamePath, MemoryFault>
 fn is_last(trail: &Trail) -> bool
     ensures { result ≡ is_last_of (at_of (trail_path trail.now)) }
 {
-    trail.at() == At::Last
+    trail.site_position() == At::Last
 }

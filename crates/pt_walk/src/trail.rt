@@ -137,7 +137,7 @@ impl Trail {
 
     /// Where the directory of the innermost listing stands as a site, by the last name of `path`, which isn't made: it is the
     /// one at the place of the listing around it; `Root` where none is around. It takes no memory.
-    pub fn at(&self) -> At
+    pub fn site_position(&self) -> At
         ensures { result ≡ at_of (trail_path self.now) }
     {
         let count = self.frames.len();

@@ -43,15 +43,15 @@ loop-i-preserved-in-Dir g t c =
     let same_tree = starts.tree ∙ c.meet.ensures.keeps.tree ∙ c.loop-i.invariant.keeps.tree in
     let same_wants = starts.wants ∙ c.meet.ensures.keeps.wants ∙ c.loop-i.invariant.keeps.wants in
     let folder : Folder = record { path = c.args.path.now; prefix = c.args.prefix.now; here = c.args.within; left = c.args.left } in
-    let inside_is = c.below-inside.ensures ∙ ap (λ (n : ℕ). below c.args.within c.in_ok-has_object.has_object c.in-Some-get.name.now n) c.in_ok-bytes.ensures.length in
+    let inside_is = c.of_child-inside.ensures ∙ ap (λ (n : ℕ). below c.args.within c.in_ok-has_object.has_object c.in-Some-get.name.now n) c.in_ok-bytes.ensures.length in
     let meets = subst (λ (w : Wants). Meets w c.in_ok-entry.entry c.args.within (c.in-Some-get.name.now, c.in-Some-get.kind) (seen_by g.S.Source.failed g.L.Log.told c.loop-i.self) (seen_by g.S.Source.failed g.L.Log.told c.meet.new.self)) c.loop-i.invariant.keeps.wants c.in_ok-bytes.ensures.met in
     let start_is = counts c.meet.new.self c.begin-before.new.self _ c.begin-before.ensures.rest c.begin-before.ensures.numbers in
-    let end_is = counts c.visit.new.self c.end.new.self _ c.end.ensures.rest (c.end.ensures.numbers ∙ ap (λ (n : ℕ). ended c.below-inside.result c.args.within n c.visit.new.self.numbers) c.begin-before.ensures.bytes) in
+    let end_is = counts c.visit.new.self c.end.new.self _ c.end.ensures.rest (c.end.ensures.numbers ∙ ap (λ (n : ℕ). ended c.of_child-inside.result c.args.within n c.visit.new.self.numbers) c.begin-before.ensures.bytes) in
     record {
       keeps = on _ _ _ (on _ _ _ (on _ _ _ (on _ _ _ c.loop-i.invariant.keeps c.meet.ensures.keeps) starts) c.visit.ensures.keeps) (ends c.visit.new.self c.end.new.self _ c.end.ensures.rest);
       unfailed = ap (λ s. g.L.Log.failed s.log) c.end.ensures.rest ∙ c.in_ok-visit.ensures.fault ∙ ap (λ s. g.L.Log.failed s.log) c.begin-before.ensures.rest ∙ c.in_ok-bytes.ensures.fault ∙ c.loop-i.invariant.unfailed;
       visited = dir_step g.E.Explains.says here (g.met.S.Source.proper c.args.self.now.source) c.args.self.now.wants c.begin-before.new.self.wants folder c.in_ok-has_object.has_object c.in-Some.found.listing c.loop-i.i
-          c.in-Some-get.name.now c.in-Some-get.kind c.in_ok-entry.entry c.below-inside.result (seen_by g.S.Source.failed g.L.Log.told c.judge_found.new.self) (seen_by g.S.Source.failed g.L.Log.told c.loop-i.self) (seen_by g.S.Source.failed g.L.Log.told c.meet.new.self)
+          c.in-Some-get.name.now c.in-Some-get.kind c.in_ok-entry.entry c.of_child-inside.result (seen_by g.S.Source.failed g.L.Log.told c.judge_found.new.self) (seen_by g.S.Source.failed g.L.Log.told c.loop-i.self) (seen_by g.S.Source.failed g.L.Log.told c.meet.new.self)
           (seen_by g.S.Source.failed g.L.Log.told c.begin-before.new.self) (seen_by g.S.Source.failed g.L.Log.told c.visit.new.self) (seen_by g.S.Source.failed g.L.Log.told c.end.new.self) (tree_by g.S.Source.told c.begin-before.new.self)
           listed (sym c.in-Some-get.ensures) c.in-Dir.is c.in_ok-entry.ensures inside_is c.loop-i.invariant.visited meets same_tree
           same_wants start_is c.in_ok-visit.ensures.visited end_is;

@@ -1,6 +1,6 @@
 use Rattle.pt_move.specs.Running.{HasBegun}
 use Rattle.pt_state.specs.Outside.{states_of}
-use Rattle.pt_move.proofs.clients.owning.Run.steps.Given as goal
+use Rattle.pt_move.proofs.clients.owning.Run.make_steps.Given as goal
 
 -- the run is to begin, or in progress over its devices
 abbrev pub invariant-loop : goal.invariant-loop

@@ -2,7 +2,7 @@ use Rattle.std.proofs.Common.{◌≡◌, length, rules, ◌∙◌, ap}
 use Rattle.pt_walk.proofs.SiteName.{at_around, at_entry}
 use Rattle.pt_walk.specs.Sites.{at_of}
 use Rattle.pt_walk.specs.Trail.{entry_at, trail_path}
-use Rattle.pt_walk.proofs.trail.Trail.at.Goals as goal
+use Rattle.pt_walk.proofs.trail.Trail.site_position.Goals as goal
 
 pub returns-in-Some : goal.returns-in-Some
 returns-in-Some c =

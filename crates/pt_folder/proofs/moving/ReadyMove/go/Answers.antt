@@ -1,6 +1,6 @@
 use Rattle.std.proofs.Common.{refl}
 use Rattle.pt_folder.proofs.Moved.{kept_sync}
-use Rattle.pt_folder.proofs.moving.Ready.go.Goals as goal
+use Rattle.pt_folder.proofs.moving.ReadyMove.go.Goals as goal
 
 pub returns-in_err-sync_dir-clause-kept : goal.returns-in_err-sync_dir-clause-kept
 returns-in_err-sync_dir-clause-kept g c =

@@ -4,7 +4,7 @@ use Rattle.std.specs.Prelude.{None}
 use Rattle.pt_tree.specs.Path.{Path}
 use Rattle.pt_compare.specs.Root.{CanLook, IsSeen, tree_in}
 use Rattle.pt_compare.proofs.Roots.{look_below, none_below, way_more}
-use Rattle.pt_compare.proofs.root.standing.Goals as goal
+use Rattle.pt_compare.proofs.root.find_kind.Goals as goal
 
 pub returns-then-not-is_dir-clause-kind : goal.returns-then-not-is_dir-clause-kind
 returns-then-not-is_dir-clause-kind g c =
