@@ -14,7 +14,7 @@ use Rattle.pt_name.specs.Place.{place_of}
 use Rattle.pt_name.specs.Reading.{GivesReading, before, hex_value, read_character, reading_of}
 use Rattle.pt_name.specs.Share.{Portion, holds}
 use Rattle.pt_name.specs.Tuples.{Tuples}
-use Rattle.pt_name.specs.declared.identifying.Candidate.{Candidate}
+use Rattle.pt_name.specs.declared.identifying.PlacedObject.{PlacedObject}
 use Rattle.pt_name.specs.declared.identifying.Identification.{Identification}
 use Rattle.pt_name.specs.declared.identifying.Identification.TheVariants as answer
 use Rattle.pt_name.specs.declared.identifying.Refusal.{Refusal}
@@ -133,22 +133,22 @@ other_as tuples share (Ok id) is = (id, (refl, by (holds share id) refl is))
     by false held is = held
 
 -- the object's identifier is read, its place is that of the layout, and the share holds it
-pub record IsRead (tuples : Tuples) (share : Portion) (read : Result (List ℕ) Refusal) (candidate : Candidate) : Type 0 where
+pub record IsRead (tuples : Tuples) (share : Portion) (read : Result (List ℕ) Refusal) (candidate : PlacedObject) : Type 0 where
   pub id : read ≡ Ok candidate.id
   pub place : candidate.place ≡ place_of tuples candidate.id
   pub mine : holds share candidate.id ≡ true
 
-pub candidate_as : (tuples : Tuples) (share : Portion) (read : Result (List ℕ) Refusal) (candidate : Candidate) → answer.Candidate candidate ≡ identification_by tuples share read → IsRead tuples share read candidate
+pub candidate_as : (tuples : Tuples) (share : Portion) (read : Result (List ℕ) Refusal) (candidate : PlacedObject) → answer.Candidate candidate ≡ identification_by tuples share read → IsRead tuples share read candidate
 candidate_as tuples share (Err why) candidate is = absurd (cc)
 candidate_as tuples share (Ok id) candidate is = by (holds share id) refl is
   where
     by : (mine : Bool) → holds share id ≡ mine → answer.Candidate candidate ≡ cond mine (answer.Candidate (record { id = id; place = place_of tuples id })) answer.OtherShare → IsRead tuples share (Ok id) candidate
     by true held is =
         let same : candidate ≡ record { id = id; place = place_of tuples id } = cc in
-        let ids : candidate.id ≡ id = ap (λ (c : Candidate). c.id) same in
+        let ids : candidate.id ≡ id = ap (λ (c : PlacedObject). c.id) same in
         record {
           id = ap (λ (i : List ℕ). Ok i) (sym ids);
-          place = ap (λ (c : Candidate). c.place) same ∙ ap (place_of tuples) (sym ids);
+          place = ap (λ (c : PlacedObject). c.place) same ∙ ap (place_of tuples) (sym ids);
           mine = ap (holds share) ids ∙ held;
         }
     by false held is = absurd (cc)

@@ -14,7 +14,7 @@ use std::alloc::Global;
 
 /// An object with its identifier and its place.
 #[derive(Drop)]
-pub struct Candidate {
+pub struct PlacedObject {
     /// Its identifier.
     pub id: Identifier,
     /// Its place, from the storage root on.
@@ -40,7 +40,7 @@ pub enum Identification {
     /// It is of another share.
     OtherShare,
     /// It is of this share, and can be carried.
-    Candidate(Candidate),
+    Candidate(PlacedObject),
 }
 
 /// What the names of a site's path say of its object, in a store of this prefix. They are read with nothing between, and
@@ -119,7 +119,7 @@ fn with_place(
     if !held {
         return Ok(Identification::OtherShare);
     }
-    Ok(Identification::Candidate(Candidate { id, place }))
+    Ok(Identification::Candidate(PlacedObject { id, place }))
 }
 
 // Whether no tuples are used, and a place is that of the storage root's own extensions.

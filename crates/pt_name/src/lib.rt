@@ -47,7 +47,7 @@ pub use cleaning::{clean, pairpath};
 pub use encoding::{encoded, last_name};
 pub use identifier::Identifier;
 pub use identifier_list::IdentifierList;
-pub use identifying::{Candidate, Identification, Refusal, identify};
+pub use identifying::{Identification, PlacedObject, Refusal, identify};
 pub use joining::concatenate;
 pub use layout::{Layout, LayoutFault};
 pub use prefix::{PrefixFault, is_doubtful, read_prefix};

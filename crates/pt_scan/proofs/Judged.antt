@@ -6,7 +6,7 @@ use Rattle.std.proofs.lemmas.Option.{slice_get_within}
 use Rattle.std.proofs.lemmas.Bool.{le-leb}
 use Rattle.pt_name.proofs.Identified.{IsRead, candidate_as, other_as, refused_as}
 use Rattle.pt_name.specs.Identifying.{identification_of, identifier_at}
-use Rattle.pt_name.specs.declared.identifying.Candidate.{Candidate}
+use Rattle.pt_name.specs.declared.identifying.PlacedObject.{PlacedObject}
 use Rattle.pt_name.specs.declared.identifying.Identification.{Identification}
 use Rattle.pt_name.specs.declared.identifying.Identification.TheVariants as answer
 use Rattle.pt_name.specs.declared.identifying.Refusal.{Refusal}
@@ -152,7 +152,7 @@ length-object (Some index) [] = refl
 length-object (Some index) (frame ∷ frames) = refl
 
 -- it is of the share that has the identifier
-module _ (s : State) (index : Option ℕ) (candidate : Candidate) (found : FindsObject s index) (named : IsIdentified s (answer.Candidate candidate)) where
+module _ (s : State) (index : Option ℕ) (candidate : PlacedObject) (found : FindsObject s index) (named : IsIdentified s (answer.Candidate candidate)) where
   read_as : IsRead s.job.layout s.job.share (read_at s) candidate
   unfolding IsIdentified
   read_as = candidate_as s.job.layout s.job.share (read_at s) candidate named

@@ -13,7 +13,7 @@ ghost use Rattle.pt_state.specs.Turns.{TakesTurn};
 ghost use Rattle.pt_state.specs.States.{job_of};
 ghost use Rattle.pt_scan.specs.Judging.{CanPass, IsIdentified, IsJudging, IsPassedAt};
 
-use pt_name::{Candidate, Identification, Refusal, identify};
+use pt_name::{Identification, PlacedObject, Refusal, identify};
 use pt_plan::{Fault, Object, Phase, Stage};
 use pt_state::lines::{put_present, put_skip};
 use pt_state::paths::in_storage_root;
@@ -128,7 +128,7 @@ fn find_place<O: Io>(
     state: &mut State,
     site: &NamePath,
     index: Option<usize>,
-    candidate: Candidate,
+    candidate: PlacedObject,
     out: &mut O,
 ) -> Result<Phase, Fault>
     requires judges { IsJudging state.old site.now index }
@@ -184,7 +184,7 @@ fn object_at(trail: &Trail, site: &NamePath, index: Option<usize>) -> Result<Nam
 }
 
 // The turn after the one that found an object whose place is free.
-fn carry_phase(candidate: Candidate, gathered: bool, site: usize) -> Phase
+fn carry_phase(candidate: PlacedObject, gathered: bool, site: usize) -> Phase
     ensures { result ≡ phase.Carrying (record {
       id = candidate.id;
       place = candidate.place;

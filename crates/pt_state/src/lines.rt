@@ -6,7 +6,7 @@ ghost use Rattle.pt_plan.specs.ToldLines.{done_of};
 ghost use Rattle.pt_state.specs.Turns.{Told, WroteBy};
 
 use crate::{Io, Report};
-use pt_name::Candidate;
+use pt_name::PlacedObject;
 use pt_plan::Fault;
 use pt_plan::lines::{ToldObject, done_line, end_line, present_line, skip_line};
 use pt_tree::NamePath;
@@ -35,7 +35,7 @@ pub fn put_present<O: Io>(
     alloc: Global,
     out: &mut O,
     at: &NamePath,
-    object: &Candidate,
+    object: &PlacedObject,
     counts: &mut Report,
 ) -> Result<(), Fault>
     requires { counts.old.present < 2 ^ 40 }
