@@ -39,7 +39,8 @@ abbrev pub IsLeftBy : Job → Forest → Tree → Forest → Type 0
 IsLeftBy job source start root =
     (q : Path) → tree_of root (in_root q) ≡ after_all job source (root_in start) q
 
--- a run began with a description of its version that it could be given, from a proper source, with this destination; the storage root is as it left it when it ended well
+-- a run began with a description of its version that it could be given, from a proper source, with this destination; the storage root is as it left
+-- it when it ended well
 pub record HasRun (job : Job) (source : Forest) (start : Tree) (root : Forest) : Type 0 where
   pub source_is : is_proper source ≡ true
   pub start_is : IsTree start

@@ -61,7 +61,8 @@ pub record IsFoundOf (job : Job) (source root : Forest) (item : Item) (finding :
   pub found : IsFound (sought job id files)
       (inside root (in_root (place_of job.tuples id))) finding
 
--- The text that is told of an item, by the line that a run would tell of it over no root, and what is counted. Where it only leads on nothing is; what is passed over is told as a run tells it; of an object it is told what is found, and where that is a difference, whether it is a twin
+-- The text that is told of an item, by the line that a run would tell of it over no root, and what is counted. Where it only leads on nothing is;
+-- what is passed over is told as a run tells it; of an object it is told what is found, and where that is a difference, whether it is a twin
 pub data TellsOf (job : Job) (source root : Forest) (item : Item) : List Line → List ℕ → Counts → Counts → Type 0 where
   Leads : {counts : Counts} → TellsOf job source root item [] [] counts counts
   Passes : {counts : Counts} (at : Path) (why : Cause)

@@ -11,7 +11,8 @@ use Rattle.pt_state.specs.declared.job.Job as own
 use Rattle.pt_audit.specs.Surveying.{Steps, work_of_survey}
 use Rattle.pt_tree.specs.Forest.{Forest}
 
--- so many steps lead from one survey to another: each is counted, and after each no more is held than the source's bound, and nothing else than a state's fields
+-- so many steps lead from one survey to another: each is counted, and after each no more is held than the source's bound, and nothing else than a
+-- state's fields
 pub data Surveyed (source : Option Forest) (first : Running) : ℕ → Running → Type 0 where
   NoStep : Surveyed source first 0 first
   OneMore : {n : ℕ} {before after : Running} → Surveyed source first n before → Steps source before after

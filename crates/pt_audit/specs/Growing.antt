@@ -71,7 +71,8 @@ pub record BlamesRightly {T : Type 0} (source source' log log' : ℕ) (result : 
   pub log_is : Counts 3 log log' result
   pub no_dest : IfErr result (λ f. f ≢ fault.Dest)
 
--- what a turn leaves outside, whatever it answers: the source's tree is as it was, the log has grown, devices are blamed rightly, and a refusal is true and never that it has ended
+-- what a turn leaves outside, whatever it answers: the source's tree is as it was, the log has grown, devices are blamed rightly, and a refusal is
+-- true and never that it has ended
 pub record Leaves (old new : DeviceStates) (job : Job) (result : Result Phase Fault) : Type 0 where
   pub tree : source_tree new.source ≡ source_tree old.source
   pub grows : Grows old.log new.log

@@ -1,4 +1,5 @@
--- A survey under way: the turns of a run that look at a store, over a destination in which nothing stands. Its neighbours are the source's, since nothing is made.
+-- A survey under way: the turns of a run that look at a store, over a destination in which nothing stands.
+-- Its neighbours are the source's, since nothing is made.
 use Rattle.std.specs.Prelude.{◌≡◌, ◌<◌, ◌≤◌, ℕ, zero, suc, Bool, true, false, List, [], ◌∷◌, ◌++◌, ◌+◌, count_by, map, sum_by, Option, None, Some, option_to_list, slice_get}
 use Rattle.std.specs.Option.{ForSome}
 use Rattle.pt_invariant.specs.RunInvariant.{IsHistory, Start}
@@ -212,7 +213,8 @@ pub record SeesItem (job : Job) (source : Forest) (count : ℕ) (lines : List Li
   pub is : slice_get (items job source) count ≡ Some item
   pub lines_are : line_by_verdict job item.path false item.verdict ≡ lines
 
--- From where it stood, with what is held: so many items are seen after a step, and this line was told. As many as before; or one more, which only leads on, or is passed over with its line, or has the object that was at hand, of which others tell
+-- From where it stood, with what is held: so many items are seen after a step, and this line was told. As many as before; or one more, which only
+-- leads on, or is passed over with its line, or has the object that was at hand, of which others tell
 pub data Sees (job : Job) (source : Forest) (count : ℕ) : Phase → Held → Option Line → ℕ → Type 0 where
   Nothing : {here : Phase} {held : Held} → is_looking here ≡ true → Sees job source count here held None count
   Leads : {here : Phase} {held : Held} → is_looking here ≡ true → SeesItem job source count []

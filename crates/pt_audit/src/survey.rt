@@ -122,6 +122,9 @@ impl Survey {
     /// Makes one step, which is a turn of a run over a destination in which nothing stands, and calls the source no more often
     /// than that. What is passed over is told in the log as a run tells it; of an object nothing is told. A step that breaks off leaves
     /// no more of the log than a front of the line of what it passes over.
+    ///
+    /// It breaks off for `Source`, `Log`, `Memory`, `NotPairtree` and `Prefix` where a run halts for these. `Turns` is answered where the limit of
+    /// turns has been made, and `Ended` where all was seen before.
     pub fn step<S: Source, L: Log>(
         &mut self,
         source: &mut S,

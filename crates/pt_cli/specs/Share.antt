@@ -6,6 +6,7 @@ use Rattle.clap.specs.Words.{Text}
 use Rattle.pt_name.specs.Share.{Portion, share_of, whole}
 use Rattle.pt_cli.specs.Arguments.{number_of}
 
+-- what is made of something optional, if it is there: `do` below stands for it
 infixl 10 ◌>>=◌
 abbrev ◌>>=◌ : {A B : Type 0} → Option A → (A → Option B) → Option B
 o >>= f = option_and_then f o

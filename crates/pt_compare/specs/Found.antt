@@ -73,7 +73,8 @@ abbrev pub IsOtherInventory : Sought → Tree → Path → Type 0
 IsOtherInventory sought t q = (q ≡ version_inventory) × ((other : List ℕ)
     × (t q ≡ Some (Bytes other)) × ¬ (IsMade sought.text_with other))
 
--- A file has other bytes than the object: whatever the inventory, as the declaration and the contents; as the inventory in the version's folder; or as that at the top or a sidecar, with the inventory that stands in the version's folder.
+-- A file has other bytes than the object: whatever the inventory, as the declaration and the contents; as the inventory in the version's folder; or
+-- as that at the top or a sidecar, with the inventory that stands in the version's folder.
 abbrev pub IsOtherFile : Sought → Tree → Path → Type 0
 IsOtherFile sought t q =
     ((inventory : List ℕ) → HaveOtherBytes (object_with sought inventory) t q)
@@ -116,7 +117,8 @@ IsFirst sought t q why.Kind = StandsUpTo sought t q
 IsFirst sought t q why.Bytes = StandsUpTo sought t q
 IsFirst sought t q why.Extra = AllStands sought t
 
--- what is found, where this stands at the place and below it, is so: nothing stands; just the object; or at a path something is missing, of another kind, has other bytes, or is more
+-- what is found, where this stands at the place and below it, is so: nothing stands; just the object; or at a path something is missing, of another
+-- kind, has other bytes, or is more
 abbrev pub IsFound : Sought → Tree → Comparison → Type 0
 IsFound sought t Absent = t [] ≡ None
 IsFound sought t Same = IsObject sought t

@@ -1,4 +1,4 @@
-//! The bytes of the open file of a root, held against others.
+//! The bytes of the open file of a root, held against others. Where a block can't be read, the fault of `next` is answered.
 ghost use Rattle.std.specs.Prelude.{◌≡◌, true, false, IfOk};
 ghost use Rattle.pt_tree.specs.Failures.{IsCounted};
 ghost use Rattle.pt_compare.specs.Bytes.{CameNext, IsAllLeft, IsNotNext, TellsEnd, TellsRest};

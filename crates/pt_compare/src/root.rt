@@ -14,7 +14,7 @@ use std::alloc::Global;
 pub trait Root: Source {
     /// The kind of what stands at a path, links not followed; None where nothing does.
     ///
-    /// Where it tells, a directory has to be above the path. The open file stays as it is.
+    /// Where it tells, a directory has to be above the path. The open file stays as it is. The faults are those of a source's calls.
     fn kind(&mut self, path: &NamePath) -> Result<Option<Kind>, TreeFault>
         requires { CanLook (tree_in (Self.told self.old)) path.now }
         ensures kind { IfOk result (λ here. IsSeen (tree_in (Self.told self.old)) path.now here) }
@@ -25,6 +25,7 @@ pub trait Root: Source {
 
 /// The kind of what stands at a path; None where nothing does, also below what is no directory. Each entry on its way is
 /// looked at, from the top on, up to the first that isn't a directory.
+/// `Memory` where a growth was refused, else the fault of the look that failed.
 pub fn find_kind<R: Root>(
     alloc: Global,
     root: &mut R,
@@ -51,6 +52,7 @@ pub fn find_kind<R: Root>(
 ///
 /// Each folder on its way is looked at, but for those that lead to a folder that is known to stand. The folder of the file is
 /// that one from then on, if it isn't above it.
+/// `Memory` where a growth was refused, else the fault of the look or the opening that failed.
 pub fn open_standing<R: Root>(
     alloc: Global,
     root: &mut R,

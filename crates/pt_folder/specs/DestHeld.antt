@@ -48,6 +48,7 @@ tree_of_kept (Some t) open_at state law is =
     let same : told ≡ state = cc in
     subst (λ (s : Writing). IsTree s.tree) same (law t refl)
 
+-- what is told is a tree, where what stood with its move taken back is one
 tree_back : (o : Option Tree) (from to : Path) → ForSome o (λ t. IsTree (moved t to from)) → (t : Tree)
     → option_map (λ t. moved t to from) o ≡ Some t → IsTree t
 tree_back None from to held t is = absurd (cc)

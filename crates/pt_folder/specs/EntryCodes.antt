@@ -5,24 +5,29 @@ use Rattle.std.specs.Coded.{Coded, Coded-set, code_by, coded_ℕ, coded_list, co
 use base.Stored.{coded_unit}
 use Rattle.pt_tree.specs.Tree.{Bytes, Entry, Folder, IsTree, Special, Tree}
 
+-- what an entry is stored as: the bytes of a file, or one of two that have no bytes
 abbrev Parts : Type 0
 Parts = List ℕ ⊎ (Unit {0} ⊎ Unit {0})
 
+-- an entry as it is stored: a folder is the first of the two without bytes, and what is neither a file nor a folder the second
 abbrev to_parts : Entry → Parts
 to_parts (Bytes bytes) = inl bytes
 to_parts Folder = inr (inl tt)
 to_parts Special = inr (inr tt)
 
+-- the entry that is stored so
 abbrev from_parts : Parts → Entry
 from_parts (inl bytes) = Bytes bytes
 from_parts (inr (inl _)) = Folder
 from_parts (inr (inr _)) = Special
 
+-- what is stored of an entry gives that entry back
 from_parts-to_parts : (entry : Entry) → from_parts (to_parts entry) ≡ entry
 from_parts-to_parts (Bytes bytes) = refl
 from_parts-to_parts Folder = refl
 from_parts-to_parts Special = refl
 
+-- how what may stand at a path is stored: nothing, or an entry
 entry_code : Coded (Option Entry)
 entry_code = coded_option (code_by Parts (coded⊎ (coded_list coded_ℕ) (coded⊎ coded_unit coded_unit))
     to_parts from_parts from_parts-to_parts)

@@ -152,7 +152,7 @@ impl<'a, S: System> HostDest<'a, S> {
     }
 
     /// The block becomes the first bytes of what stands at a path, up to 8,192, whatever that is. On a fault the block is
-    /// empty.
+    /// empty: `Device` where the system can't give them, or where something is unsynced, `Memory` where a growth was refused.
     pub fn first_bytes(&mut self, path: &NamePath, block: &mut Block) -> Result<(), TreeFault>
         ensures empty { OnErr result (block.new.items ≡ []) }
         ensures asked { Peeks self.old self.new path.now block.new.items result }

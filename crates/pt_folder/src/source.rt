@@ -87,6 +87,7 @@ impl<'a, S: System> HostSource<'a, S> {
     /// The kind of what stands at a path, links not followed; None where nothing does.
     ///
     /// Where the system keeps a tree, a directory has to be above the path. The open file stays as it is.
+    /// `Device` where the system can't tell, `Memory` where a growth was refused.
     pub fn lstat(&mut self, path: &NamePath) -> Result<Option<Kind>, TreeFault>
         requires { ForSome (kept_by self.old) (λ f. IsSome (dir_at f (parent path.now))) }
         ensures kind { IfOk result (λ here. ForSome (kept_by self.old)

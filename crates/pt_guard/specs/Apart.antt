@@ -103,7 +103,8 @@ module _ {S L : Type 0} (does : S → PlaceCall L → S → Type 0) where
   IsUnresolved path error old new lie = (wanting : Bool) × (IsTrue wanting ↔ IsWanting error)
       × MatchBool wanting (Ends Wanting old new lie) (Stands path old new lie)
 
-  -- both paths were resolved, and the first is the second or goes on from it, name by name, or its folder or one above it, asked for one after another, is the second's; or that can't be known
+  -- both paths were resolved, and the first is the second or goes on from it, name by name, or its folder or one above it, asked for one after
+  -- another, is the second's; or that can't be known
   abbrev pub LiesIn : List ℕ → List ℕ → S → S → Nesting → Type 0
   LiesIn inner outer old new lie = (a : Result Place Error) × (mid : S) × does old (Resolve inner a) mid
       × MatchResult a (λ p. (b : Result Place Error) × (next : S) × does mid (Resolve outer b) next

@@ -28,7 +28,8 @@ HoldsBy answers claim (Ok false) came = AsksLock answers claim came
 HoldsBy answers claim (Err error) came = (IsWanting error × (came ≡ hold.Unknown error))
     ⊎ ((¬ IsWanting error) × AsksLock answers claim came)
 
--- a folder's names are asked for first; where one is a declaration's it is a root or an object itself, and else its lock is asked for, also where they can't be read
+-- a folder's names are asked for first; where one is a declaration's it is a root or an object itself, and else its lock is asked for, also where
+-- they can't be read
 abbrev pub AsksFolder : {D F : Type 0} → (D → Option (List ℕ)) → (Claim → F → Result Bool Error → Type 0)
     → Claim → LockAttempt F → Type 0
 AsksFolder remaining answers claim came = (told : Result Bool Error)

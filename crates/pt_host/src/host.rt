@@ -28,7 +28,7 @@ pub struct HostIo<S, D, W> {
     pub output: W,
 }
 
-/// A machine that runs are made on.
+/// A machine that runs are made on. A call is answered with an error where the system gives one.
 pub trait Host: Places {
     type Store: System;
 

@@ -15,7 +15,7 @@ pub trait Syncs {
     /// Having that done may answer so, and leave it so.
     ghost syncs: { Self → Result (Unit {0}) Error → Self → Type 0 };
 
-    /// Has what was written put onto its disk.
+    /// Has what was written put onto its disk; an error where that couldn't be done.
     fn sync(&mut self) -> io::Result<()>
         ensures synced { syncs self.old result self.new };
 }
@@ -26,7 +26,7 @@ pub trait SyncsOutput<W: Write>: Syncs {
     /// Having all that this writer has written put onto the disk may answer so, and leave it so.
     ghost puts: { Self → W → Result (Unit {0}) Error → Self → Type 0 };
 
-    /// Has all that a writer has written put onto its disk.
+    /// Has all that a writer has written put onto its disk; an error where that couldn't be done.
     fn sync_output(&mut self, output: &W) -> io::Result<()>
         ensures put { puts self.old output.now result self.new };
 }

@@ -20,7 +20,8 @@ use Rattle.pt_plan.specs.declared.phase.Phase.TheVariants as phase
 use Rattle.pt_invariant.specs.RunInvariant.{RunInvariant, Start}
 use Rattle.pt_invariant.specs.SourceInvariant.{IsWithinBound}
 
--- the start was a good one, nothing stood at `staging`, the destination holds the root with all objects that are carried and is as it was elsewhere, and this was told
+-- the start was a good one, nothing stood at `staging`, the destination holds the root with all objects that are carried and is as it was elsewhere,
+-- and this was told
 pub record IsEnd (job : Job) (source : Forest) (start now : Tree) (told : List ℕ) : Type 0 where
   pub begins : IsStart job source (root_in start)
   pub free : IsFree start staging

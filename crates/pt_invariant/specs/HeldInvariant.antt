@@ -75,7 +75,8 @@ pub record HoldsNoRows (held : Held) : Type 0 where
   pub rows : held.rows ≡ []
   pub contents : held.contents ≡ []
 
--- while an object is under way they are those of its files, before it is entered and between objects there are none, and of a run that has ended nothing is said
+-- while an object is under way they are those of its files, before it is entered and between objects there are none, and of a run that has ended
+-- nothing is said
 abbrev pub RowsAt : Job → (Path → List ℕ) → Phase → Held → Type 0
 RowsAt job bytes (phase.Carrying object stage.Open) held = HoldsNoRows held
 RowsAt job bytes (phase.Carrying object _) held = AreRows job bytes held
@@ -141,7 +142,9 @@ FedAt job _ held = ⊤
 
 -- ---- all of it
 
--- what is held fits the phase: the trail ends where the phase has it, the rows are in order with the digests of their bytes and the contents are theirs, all entries still to come are behind them, the phase's numbers are of those that there are, and the hasher was fed what a sidecar is made of
+-- what is held fits the phase: the trail ends where the phase has it, the rows are in order with the digests of their bytes and the contents are
+-- theirs, all entries still to come are behind them, the phase's numbers are of those that there are, and the hasher was fed what a sidecar is made
+-- of
 pub record HeldAt (job : Job) (past : History) (here : Phase) (held : Held) : Type 0 where
   pub trail : TrailAt here held
   pub ends : EndsAt job here held.trail

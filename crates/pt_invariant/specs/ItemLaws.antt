@@ -1,4 +1,5 @@
--- What holds of a run in progress where source and destination tell, of the items that are done, and of the log where it tells too, holds after each turn that goes on.
+-- What holds of the items that are done in a run in progress, where source and destination tell, holds after each turn that goes on.
+-- So does what holds of the log, where it tells too.
 use Rattle.std.specs.Prelude.{ℕ, List, Some, Ok}
 use Rattle.pt_tree.specs.Dest.{Writing}
 use Rattle.pt_tree.specs.Source.{Reading}

@@ -21,7 +21,8 @@ use Rattle.pt_plan.specs.declared.fault.Fault.{Fault}
 use Rattle.pt_plan.specs.declared.fault.Fault.TheVariants as fault
 use Rattle.pt_invariant.specs.RunInvariant.{RunInvariant, Start}
 
--- it is no store; it is one, but its prefix isn't good; a destination is refused only after it was found to be one with a good prefix; no file of it changes while it is read, so for that none is refused
+-- it is no store; it is one, but its prefix isn't good; a destination is refused only after it was found to be one with a good prefix; no file of it
+-- changes while it is read, so for that none is refused
 abbrev pub SaysOfSource : Fault → Forest → Type 0
 SaysOfSource fault.NotPairtree source = is_store source ≡ false
 SaysOfSource fault.Prefix source = (is_store source ≡ true) × (has_prefix source ≡ false)
@@ -48,7 +49,8 @@ FindsStaging =
 
 -- ---- a root that can't be gone on with
 
--- what stands at its top is no folder; or that is one, and a file of the layout isn't there with its bytes; or what stands on the way to the place of one of these objects is no folder
+-- what stands at its top is no folder; or that is one, and a file of the layout isn't there with its bytes; or what stands on the way to the place of
+-- one of these objects is no folder
 pub data IsBadTarget (job : Job) (root : Tree) (objects : Carried → Type 0) : Type 0 where
   IsNoFolder : is_folder_or_free (root []) ≡ false → IsBadTarget job root objects
   HasOtherFile : (number : ℕ) (file : File) → root [] ≡ Some Folder

@@ -1,4 +1,5 @@
--- A run in progress: what its start, what it holds and what stands outside have to do with each other. Each part is said where the devices tell that it speaks of, and of no others.
+-- A run in progress: what its start, what it holds and what stands outside have to do with each other.
+-- Each part is said where the devices tell that it speaks of, and of no others.
 use Rattle.std.specs.Prelude.{◌≡◌, ℕ, suc, true, false, List, ◌++◌, count_by, Option, None, Some, slice_get, ⊤}
 use Rattle.std.specs.Option.{ForSome}
 use Rattle.pt_name.specs.Tuples.{IsLayout}
@@ -106,7 +107,8 @@ FaultStateAt _ job source start now first last = ⊤
 
 -- ---- all of it
 
--- this past is that of the run: with one of the layouts that there are, of what it holds, of the source, of the destination, of both together, of the log, and of what is left once it has ended
+-- this past is that of the run: with one of the layouts that there are, of what it holds, of the source, of the destination, of both together, of the
+-- log, and of what is left once it has ended
 pub record IsHistory (job : Job) (start : Start) (states : DeviceStates) (run : Run) (past : History) : Type 0 where
   pub layout : IsLayout job.tuples
   pub held : HeldAt job past run.phase run.kept.held

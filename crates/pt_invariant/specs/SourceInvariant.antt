@@ -84,7 +84,8 @@ object_at source object trail =
       inside = inside_object source object trail;
     }
 
--- the trail ends at the site of the next item, at the directory that encapsulates its object, or in whatever place if the object is gathered; the item is named so
+-- the trail ends at the site of the next item, at the directory that encapsulates its object, or in whatever place if the object is gathered; the
+-- item is named so
 pub record IsSiteOf (job : Job) (source : Forest) (prefix : List ℕ) (object : Object)
     (trail : List Frame) (count : ℕ) : Type 0 where
   pub here : IsAtSite job source trail count

@@ -1,4 +1,7 @@
 //! Laws on a run in progress. Each is the contract of a function that does nothing.
+//!
+//! The turns are those of the start, of the walk, of the scan of an object, those that make one, and those of placing, which bring it to its place
+//! and tell of it and of the end.
 ghost use Rattle.pt_invariant.specs.InvariantLaws.{InvariantEnables, NewRunHoldsInvariant, TurnEndsInvariant, TurnKeepsInvariant};
 ghost use Rattle.pt_invariant.specs.BoundLaws.{HaltedIsWithinBound, TurnIsWithinBound};
 ghost use Rattle.pt_invariant.specs.DestLaws.{MakingKeepsDest, PlacingKeepsDest, ScanningKeepsDest, StartingKeepsDest, WalkingKeepsDest};
@@ -32,7 +35,8 @@ pub fn turn_ends_invariant()
     ensures { TurnEndsInvariant }
 {}
 
-/// After the turn that ends a run, where all devices tell, the start was a good one, the destination holds the root with all objects that are carried and is as it was elsewhere, the log has got all lines, and the counts are the end line's.
+/// After the turn that ends a run, where all devices tell, the start was a good one, the destination holds the root with all objects that are carried
+/// and is as it was elsewhere, the log has got all lines, and the counts are the end line's.
 pub fn ends_well()
     ensures { EndsWell }
 {}
@@ -93,7 +97,7 @@ pub fn making_keeps_source()
     ensures { MakingKeepsSource }
 {}
 
-/// So do the turns that bring an object to its place, and those that tell of it and of the end.
+/// So do the turns of placing.
 pub fn placing_keeps_source()
     ensures { PlacingKeepsSource }
 {}
@@ -118,7 +122,7 @@ pub fn making_keeps_dest()
     ensures { MakingKeepsDest }
 {}
 
-/// So do the turns that bring an object to its place, and those that tell of it and of the end.
+/// So do the turns of placing.
 pub fn placing_keeps_dest()
     ensures { PlacingKeepsDest }
 {}
@@ -143,7 +147,7 @@ pub fn making_keeps_held()
     ensures { MakingKeepsHeld }
 {}
 
-/// So do the turns that bring an object to its place, and those that tell of it and of the end.
+/// So do the turns of placing.
 pub fn placing_keeps_held()
     ensures { PlacingKeepsHeld }
 {}
@@ -169,7 +173,7 @@ pub fn making_keeps_items()
     ensures { MakingKeepsItems }
 {}
 
-/// So do the turns that bring an object to its place, and those that tell of it and of the end.
+/// So do the turns of placing.
 pub fn placing_keeps_items()
     ensures { PlacingKeepsItems }
 {}
@@ -184,7 +188,8 @@ pub fn halts_leave()
     ensures { HaltsLeave }
 {}
 
-/// Where the destination tells, a run halts for it only where nothing stood at `staging` and its root can't be gone on with: it is no folder, or has other files than the layout's, or something is in the way to an object's place.
+/// Where the destination tells, a run halts for it only where nothing stood at `staging` and its root can't be gone on with: it is no folder, or has
+/// other files than the layout's, or something is in the way to an object's place.
 pub fn finds_target()
     ensures { FindsTarget }
 {}
@@ -204,7 +209,8 @@ pub fn early_leaves_log()
     ensures { EarlyLeavesLog }
 {}
 
-/// In whatever a run leaves of a destination that tells, what stood at the start stands with what it held, and what is new stands at `ocfl` or below it, or, if nothing stood at `staging`, there or below it.
+/// In whatever a run leaves of a destination that tells, what stood at the start stands with what it held, and what is new stands at `ocfl` or below
+/// it, or, if nothing stood at `staging`, there or below it.
 pub fn left_behind_stands_still()
     ensures { LeftBehindStandsStill }
 {}

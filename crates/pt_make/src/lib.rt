@@ -1,8 +1,7 @@
 //! The turns that look at a storage root or make one, those that make an object in `staging` and bring it to its place, and
 //! those that tell of it and of the end.
 //!
-//! What it promises: each function makes a turn of the definitions of pt_plan, from the phase that it is named for, with the same answer, and
-//! calls the source and looks at the destination at most as often as they say (`TakesTurn` of pt_state). An inventory is written piece by
+//! What it promises: each function makes its turn, as those of pt_scan make theirs (`TakesTurn` of pt_state). An inventory is written piece by
 //! piece. The turn is that of one file, made with its whole text: where a piece can't be written, or memory for a further one is wanting, it
 //! leaves a front of the text, and where it goes on the hasher was fed the text that was written.
 #![tactic(auto, using(crate::proofs::MakeRules::make_rules))]

@@ -25,6 +25,8 @@ use pt_tree::{Kind, MemoryFault, NamePath};
 use std::alloc::Global;
 
 /// Asks whether `staging` is there.
+///
+/// Halts for `StagingLeft` where it is, for `Dest` where that can't be asked, and for `Memory` where a growth is refused.
 pub fn look_at_staging<O: Io>(state: &State, out: &mut O) -> Result<Phase, Fault>
     ensures turn { TakesTurn O.Io (0, 1) (phase.Opening opening.Staging)
         (state.now, out.old) (state.now, out.new) result }
@@ -37,6 +39,9 @@ pub fn look_at_staging<O: Io>(state: &State, out: &mut O) -> Result<Phase, Fault
 }
 
 /// Asks whether the storage root is there.
+///
+/// Halts for `Target` where what stands there is no directory, for `Dest` where that can't be asked, and for `Memory` where a growth is
+/// refused.
 pub fn look_at_root<O: Io>(state: &State, out: &mut O) -> Result<Phase, Fault>
     ensures turn { TakesTurn O.Io (0, 1) (phase.Opening opening.Root)
         (state.now, out.old) (state.now, out.new) result }
@@ -51,6 +56,8 @@ pub fn look_at_root<O: Io>(state: &State, out: &mut O) -> Result<Phase, Fault>
 
 /// Makes one item of a storage root in `staging`: first the directories of the layout's configuration, then the three
 /// files, of which the declaration comes last.
+///
+/// Halts for `Dest` where the item can't be made, and for `Memory` where a growth is refused. A file that was begun may be left then.
 pub fn make_root<O: Io>(state: &State, item: u8, out: &mut O) -> Result<Phase, Fault>
     requires may { MayMakeRootItem (O.states out.old).dest state.now.job.layout item }
     requires item { item < 6 }
@@ -129,6 +136,8 @@ fn after_item(item: u8) -> Phase
 }
 
 /// Renames `staging` to the storage root.
+///
+/// Halts for `Dest` where it can't be renamed, and for `Memory` where a growth is refused; nothing is changed then.
 pub fn rename_root<O: Io>(state: &State, out: &mut O) -> Result<Phase, Fault>
     requires { MayMove (O.states out.old).dest staging_path storage_root }
     ensures turn { TakesTurn O.Io (0, 0) (phase.Opening opening.RootRename)
@@ -140,6 +149,9 @@ pub fn rename_root<O: Io>(state: &State, out: &mut O) -> Result<Phase, Fault>
 }
 
 /// Compares one of the three files of the storage root that stands with what this program writes.
+///
+/// Halts for `Target` where no file stands there, or one with other bytes, for `Dest` where that can't be asked or the file not be read,
+/// and for `Memory` where a growth is refused. What is held stays then, but for the block.
 pub fn check_root<O: Io>(state: &mut State, file: usize, out: &mut O) -> Result<Phase, Fault>
     requires { file < 3 }
     ensures turn { TakesTurn O.Io (0, 2) (phase.Opening (opening.RootCheck file))

@@ -11,6 +11,7 @@ pub enum SwapFault {
     /// No file is at the path.
     #[error("no file is at the path")]
     Absent,
+    /// A growth was refused.
     #[error("out of memory")]
     Memory,
 }

@@ -105,6 +105,7 @@ impl MemSource {
     }
 
     /// The names and kinds of the directory at a path; None where none is there.
+    /// `Memory` where a growth was refused.
     pub fn listing(&self, path: &NamePath) -> Result<Option<Listing>, MemoryFault>
         ensures { IfOk result (λ listing. listing ≡ listing_at (source_tree self.now) path.now) }
     {

@@ -18,6 +18,7 @@ pub fn take_next(bytes: &[u8], place: &mut usize, count: usize, buffer: &mut [u8
 }
 
 /// Puts a name behind others, and a NUL behind it.
+/// An error where a growth was refused; the name may stand there then.
 pub fn add_name(bytes: &mut Vec<u8>, name: &Name) -> Result<(), AllocError>
     ensures { OnOk result (bytes.new.items ≡ bytes.old.items ++ (name.now ++ 0 ∷ [])) }
 {

@@ -24,6 +24,7 @@ pub enum PlantFault {
     /// Something stands at the path already; the empty path is the top.
     #[error("something stands at the path")]
     Taken,
+    /// A growth was refused.
     #[error("out of memory")]
     Memory,
 }

@@ -57,6 +57,7 @@ opens_in_source old new folder p reply named can by = record {
       (by.source p named (ap (λ (l : List ℕ). entry_text l p) (sym told.0)));
 }
 
+-- of a file that was opened all is left to read: where its bytes are these, so are those that are left
 both : (reply : Result MemFile Error) (o : Option (List ℕ)) → IfOk reply (λ f. left_in f ≡ bytes_in f)
     → IfOk reply (λ f. bytes_in f ≡ o) → IfOk reply (λ f. left_in f ≡ o)
 both (Ok f) o start is = start ∙ is
@@ -86,6 +87,7 @@ becomes old new folder change stays made =
     told_changed old.written.now new.written.now folder (dest_tree old.dest) (dest_tree new.dest) change
     stays.written made
 
+-- the written folder is as it was, where it is the same one and the destination's tree is as it was
 keeps : (old new : MemorySystem) (folder : List ℕ) → SameFolders old new
     → dest_tree new.dest ≡ dest_tree old.dest
     → kept_in new folder ≡ kept_in old folder

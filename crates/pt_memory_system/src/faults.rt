@@ -61,7 +61,7 @@ impl Faults {
     }
 }
 
-// The error of a call that fails.
+/// The error of a call that fails.
 pub fn call_error() -> io::Error
     ensures { ¬ (IsAbsent (error_kind result)) }
 {

@@ -23,7 +23,7 @@ const HOST: &str = "/proc/sys/kernel/hostname";
 // How many bytes that may have.
 const LONGEST: u64 = 1024;
 
-/// The record of a run or an audit.
+/// The record of a run or an audit. Each call that puts something into it or makes its line gives an error where a growth was refused.
 #[derive(Drop)]
 pub struct Event {
     members: Members,

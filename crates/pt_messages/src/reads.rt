@@ -15,7 +15,8 @@ const ROOT: &str = "pairtree_root";
 
 const VERSION: &str = "pairtree_version0_1";
 
-/// What can be read of files beside a run. No call changes anything.
+/// What can be read of files beside a run. No call changes anything. An error is answered where the system gives one, as where nothing stands at
+/// the path, or where a growth was refused.
 pub trait Reads {
     /// Reading the end of the file at a path may be answered so, and leave these bytes in the room for it.
     ghost ends: { Self → List ℕ → List ℕ → Result ℕ Error → Type 0 };

@@ -2,7 +2,7 @@
 use std::alloc::{AllocError, Global};
 
 /// A text on one line: each control character, and each that sets the direction of what follows, as `\u{..}` with its number in hex,
-/// and `\` doubled, so that two texts are never shown alike.
+/// and `\` doubled, so that two texts are never shown alike. An error where a growth was refused.
 pub fn escape(alloc: Global, text: &str) -> Result<String, AllocError> {
     let mut shown = String::with_capacity(alloc, text.len())?;
     for c in text.chars() {

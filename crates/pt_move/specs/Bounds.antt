@@ -12,7 +12,8 @@ use Rattle.pt_plan.specs.declared.phase.Stage.TheVariants as stage
 abbrev pub lines_put : Counts → ℕ
 lines_put counts = counts.done + counts.present + counts.skipped
 
--- after so many turns: the first two turns are those of their phases; each directory without entries that was met in the object took one of them, a file is read within its limit, and there is room for its row
+-- after so many turns: the first two turns are those of their phases; each directory without entries that was met in the object took one of them, a
+-- file is read within its limit, and there is room for its row
 abbrev pub IsWithin : Job → Phase → Held → ℕ → Type 0
 IsWithin job (phase.Opening opening.Begin) held turns = turns ≡ 0
 IsWithin job (phase.Opening (opening.Prefix here)) held turns = turns ≡ 1
@@ -27,7 +28,8 @@ pub record AreFew (job : Job) (held : Held) : Type 0 where
   pub rows : length held.rows ≤ job.limits.files
   pub lengths : bytes_in_rows held.rows ≤ length held.rows * job.limits.file_bytes
 
--- each line took a turn, and the turns are within their limit; so are the rows, and what the phase counts; and the prefix is one that a store may have (Pairtree 0.1)
+-- each line took a turn, and the turns are within their limit; so are the rows, and what the phase counts; and the prefix is one that a store may
+-- have (Pairtree 0.1)
 pub record IsBounded (job : Job) (here : Phase) (kept : Kept) : Type 0 where
   pub lines : lines_put kept.counts ≤ kept.counts.turns
   pub turns : kept.counts.turns ≤ job.limits.turns

@@ -93,7 +93,8 @@ HoldsWithinBound job source state = (s : Forest) → source ≡ Some s
 
 -- ---- refusals
 
--- a destination is refused for what stands at `staging` only where something stood there at the start, and for its root only where nothing stood there and that root can't be gone on with
+-- a destination is refused for what stands at `staging` only where something stood there at the start, and for its root only where nothing stood
+-- there and that root can't be gone on with
 abbrev pub SaysOfDest : plan.Job → Fault → Tree → Type 0
 SaysOfDest job fault.StagingLeft start = is_some (start staging) ≡ true
 SaysOfDest job fault.Target start = IsFree start staging × IsBadTarget job (root_in start) (λ object. ⊤)

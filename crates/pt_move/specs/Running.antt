@@ -90,6 +90,7 @@ HasBegun states r = (r.phase ≡ phase.Opening opening.Begin) ⊎ ((start : Star
 unfoldable pub BeganSomewhere : DeviceStates → Running → Type 0
 BeganSomewhere states r = (start : Start) × IsBegun start states r
 
--- where the destination tells: what a run leaves whatever its source gives (only whole objects at places where nothing stood, and a part of one more in `staging`), and all as it was where something stood at `staging` at the start
+-- where the destination tells: what a run leaves whatever its source gives (only whole objects at places where nothing stood, and a part of one more
+-- in `staging`), and all as it was where something stood at `staging` at the start
 unfoldable pub DestFaultStateTold : Job → Option Tree → Option Writing → Type 0
 DestFaultStateTold job start now = TellsAsBefore start now (DestFaultStateOfRun (job_of job))

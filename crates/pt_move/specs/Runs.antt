@@ -42,7 +42,8 @@ pub record AtLimit (job : Job) (old new : DeviceStates) : Type 0 where
   pub going : is_ended run.phase ≡ false
   pub turns : Turns (job_of job) old job.limits.turns run new
 
--- by the answer, which turns a whole run made: after Ok as many as are reported, after `Turns` as many as the limit, after any other fault fewer, and the one that halted it
+-- by the answer, which turns a whole run made: after Ok as many as are reported, after `Turns` as many as the limit, after any other fault fewer, and
+-- the one that halted it
 unfoldable pub IsRun : Job → DeviceStates → DeviceStates → Result Report Fault → Type 0
 IsRun job old new (Ok report) = Finished job old new report
 IsRun job old new (Err fault.Turns) = AtLimit job old new

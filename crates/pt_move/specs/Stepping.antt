@@ -31,7 +31,8 @@ pub record IsReady (states : DeviceStates) (r : Running) : Type 0 where
   pub well : TypeInvariant r
   pub turn : IsTurn r
 
--- the answer is given in its states alone: Ended after the end, Turns where the limit of turns was made before it, and any other after a turn; unless there is more to do, the run has ended
+-- the answer is given in its states alone: Ended after the end, Turns where the limit of turns was made before it, and any other after a turn; unless
+-- there is more to do, the run has ended
 abbrev pub EndsAs : Running → Running → Result Turn Fault → Type 0
 EndsAs old new (Ok turn.More) = IsTurn old × (new.phase ≢ phase.Ended)
 EndsAs old new (Ok turn.Finished) = IsTurn old × (new.phase ≡ phase.Ended)
@@ -63,7 +64,8 @@ most_calls_at r = cond (r.state.counts.turns == 1) 2 1
 
 -- ---- the turn
 
--- by the answer it is one of the definitions' turns. After the end, and where exactly as many as the limit were made, it is none: what the run holds and the devices are as they were
+-- by the answer it is one of the definitions' turns. After the end, and where exactly as many as the limit were made, it is none: what the run holds
+-- and the devices are as they were
 unfoldable pub MakesTurn : DeviceStates → DeviceStates → Running → Running → Result Turn Fault → Type 0
 MakesTurn old new before after (Ok turn.More) =
     CountedTurn before.phase before.state after.state old new (Ok after.phase)

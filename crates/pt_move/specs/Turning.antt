@@ -26,7 +26,8 @@ CountedTurn here s s' old new answer =
     × (FedAfter answer s.job.algorithm s'.hasher fed'
     × Turn (job_of s.job) here (turning (kept_of s fed)) (kept_of s' fed') old new answer))
 
--- so it is over all devices as one. The faults that are the run's own are no answers; where a file is read, the block that is held is its next one; and the source is called no more often than this
+-- so it is over all devices as one. The faults that are the run's own are no answers; where a file is read, the block that is held is its next one;
+-- and the source is called no more often than this
 pub record TakesCounted {O : Type 0} (of : OfOutside O) (most : ℕ × ℕ) (here : Phase)
     (old new : State × O) (answer : Answer) : Type 0 where
   pub turn : CountedTurn here old.0 new.0 (of.states old.1) (of.states new.1) answer

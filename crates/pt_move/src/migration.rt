@@ -18,8 +18,8 @@ use std::alloc::Global;
 /// good start none comes (`says`, `good`); turns within the store's work (`work`).
 ///
 /// `Source`, `Dest` and `Log` are answered only where that device's count of failures rose, or stood at its greatest
-/// value, and then no other answer is given; `Ended` is never answered. Each device stays the one that it is, as its calls
-/// keep it.
+/// value, and then no other answer is given; `Ended` is never answered. Each other fault comes where its variant of `Fault`
+/// says. Each device stays the one that it is, as its calls keep it.
 pub fn migrate<S: Source, D: Dest, L: Log>(
     alloc: Global,
     source: &mut S,

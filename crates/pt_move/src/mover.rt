@@ -78,9 +78,10 @@ impl Mover {
     /// made; neither it nor `Ended` is a turn, and neither calls anything.
     ///
     /// `Source`, `Dest` and `Log` are answered only where that device's count of failures rose, or stood at its greatest
-    /// value, and then no other answer is given. The three devices have to be those of the earlier steps, as those left
-    /// them, if they tell what they hold: then the run is still in progress, from the start at which it began. Each stays the
-    /// device that it is, as its calls keep it.
+    /// value, and then no other answer is given; each of the faults 4 to 9 comes where its variant of `Fault` says.
+    ///
+    /// The three devices have to be those of the earlier steps, as those left them, if they tell what they hold: then the run is
+    /// still in progress, from the start at which it began. Each stays the device that it is, as its calls keep it.
     pub fn step<S: Source, D: Dest, L: Log>(
         &mut self,
         source: &mut S,

@@ -26,7 +26,8 @@ identifier_by tuples prefix None = Err refusal.Malformed
 identifier_by tuples prefix (Some read) =
     cond (is_utf8 read) (unless_reserved tuples (prefix ++ read)) (Err refusal.NotUtf8)
 
--- the identifier that the names of a site's path read, behind the prefix, or why none is carried: they are read with nothing between (Pairtree 0.1, "Identifier string cleaning")
+-- the identifier that the names of a site's path read, behind the prefix, or why none is carried: they are read with nothing between (Pairtree 0.1,
+-- "Identifier string cleaning")
 abbrev pub identifier_at : Tuples → List ℕ → Path → Result (List ℕ) Refusal
 identifier_at tuples prefix site = identifier_by tuples prefix (reading_of (concat site))
 

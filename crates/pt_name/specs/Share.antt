@@ -54,7 +54,8 @@ whole = numbered 1 1
 unfoldable pub digest_number : List ℕ → ℕ
 digest_number id = from_be_bytes w32 (sha256 id)
 
--- the number, from 1 on, of the share that an identifier is of: `h * count / 2^32 + 1`, rounded down, where h is the first four bytes of its SHA-256 as a number; so the digests are cut into so many parts of one size
+-- the number, from 1 on, of the share that an identifier is of: `h * count / 2^32 + 1`, rounded down, where h is the first four bytes of its SHA-256
+-- as a number; so the digests are cut into so many parts of one size
 abbrev pub share_number : ℕ → List ℕ → ℕ
 share_number count id = digest_number id * count / 2 ^ 32 + 1
 

@@ -1,4 +1,5 @@
--- What a share and a list of identifiers are made of, field by field. No clause sees these fields: a further one, which might hold content or text, would have to stand here.
+-- What a share and a list of identifiers are made of, field by field.
+-- No clause sees these fields: a further one, which might hold content or text, would have to stand here.
 use Rattle.std.specs.Prelude.{ℕ, Bool, List, Option, String}
 use Rattle.std.specs.Global.{Global, Vec}
 use Rattle.std.specs.declared.cell.Cell.{Cell}

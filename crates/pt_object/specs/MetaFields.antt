@@ -1,4 +1,5 @@
--- What an inventory's description of its version is made of, field by field. No clause sees these fields: a further one, which might hold content, would have to stand here.
+-- What an inventory's description of its version is made of, field by field.
+-- No clause sees these fields: a further one, which might hold content, would have to stand here.
 use Rattle.std.specs.Prelude.{Option, String}
 use Rattle.std.specs.Global.{Global}
 use Rattle.pt_object.specs.declared.meta.Meta.TheInside as meta

@@ -76,7 +76,8 @@ object_of_rows id rows held meta algorithm =
     holding (object_files algorithm (inventory_text id rows meta algorithm)
     (stored_files rows held))
 
--- the object with this identifier and these files: its declaration, each distinct file at `v1/content/` and its path, the inventory and its sidecar in `v1` and at the top, and the folders above them (OCFL 1.1, "Object Structure", "Content Directory")
+-- the object with this identifier and these files: its declaration, each distinct file at `v1/content/` and its path, the inventory and its sidecar
+-- in `v1` and at the top, and the folders above them (OCFL 1.1, "Object Structure", "Content Directory")
 abbrev pub object_of : List ℕ → List File → MetaParts → Algorithm → Tree
 object_of id files meta algorithm =
     object_of_rows id (rows_of algorithm files) (bytes_in files) meta algorithm

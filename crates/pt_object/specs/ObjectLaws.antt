@@ -73,7 +73,8 @@ LastFileTellsFolders =
     → is_some (rest_below folder next.0) ≡ true
     → leads_to (earlier ++ last ∷ []) folder ≡ is_some (rest_below folder last.0)
 
--- What is held at the path where the content of a row is stored has the row's digest, for each row. Then the object of the rows is that of the files that have these bytes at the rows' paths.
+-- What is held at the path where the content of a row is stored has the row's digest, for each row. Then the object of the rows is that of the files
+-- that have these bytes at the rows' paths.
 abbrev pub RowsAreFiles : Type 0
 RowsAreFiles =
     (id : List ℕ) (rows : List Row) (held : Path → List ℕ) (meta : MetaParts) (algorithm : Algorithm)

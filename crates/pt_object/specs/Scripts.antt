@@ -57,7 +57,8 @@ script_of_rows id rows held meta algorithm =
     map (item_in staging)
     (object_items algorithm (inventory_text id rows meta algorithm) (stored_files rows held))
 
--- the script of the object with this identifier and these files: for each stored file in order the folders of its content path that no earlier one needed, outermost first, then the file; then inventory and sidecar of `v1`, then the object's own
+-- the script of the object with this identifier and these files: for each stored file in order the folders of its content path that no earlier one
+-- needed, outermost first, then the file; then inventory and sidecar of `v1`, then the object's own
 abbrev pub script_of : List ℕ → List File → MetaParts → Algorithm → List Item
 script_of id files meta algorithm =
     script_of_rows id (rows_of algorithm files) (bytes_in files) meta algorithm

@@ -1,4 +1,5 @@
--- What the tables of an object are made of, field by field. No clause sees these fields: a further one, which might hold content or text, would have to stand here.
+-- What the tables of an object are made of, field by field.
+-- No clause sees these fields: a further one, which might hold content or text, would have to stand here.
 use Rattle.std.specs.Prelude.{ℕ, List}
 use Rattle.std.specs.Global.{Vec}
 use Rattle.pt_object.specs.declared.table.contents.Content.{Content}

@@ -15,7 +15,8 @@ abbrev pub DigestsTellApart : Algorithm → List File → Type 0
 DigestsTellApart algorithm files =
     All (λ f. All (λ g. digest_of algorithm f.1 ≡ digest_of algorithm g.1 → f.1 ≡ g.1) files) files
 
--- Wherever the object of these files stands in a tree, the state of its version is those files: their paths are logical ones and come in order, none leading to another, and their digests tell their bytes apart.
+-- Wherever the object of these files stands in a tree, the state of its version is those files: their paths are logical ones and come in order, none
+-- leading to another, and their digests tell their bytes apart.
 abbrev pub StateIsTheFiles : Type 0
 StateIsTheFiles =
     (id : List ℕ) (files : List File) (meta : MetaParts) (algorithm : Algorithm) (t : Tree) (place : Path)

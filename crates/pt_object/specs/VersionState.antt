@@ -104,7 +104,8 @@ state_by t place inventory =
     (λ state. option_map in_order (files_of_state t place manifest state)) (state_in inventory))
     (option_and_then members_of (get (codes "manifest") inventory))
 
--- the files that the first version of the object at a place has (OCFL 1.1, "Manifest", "Versions Block"): each logical path of its state with the bytes at the first content path that the manifest has under the digest, in rising order of their paths, compared name by name
+-- the files that the first version of the object at a place has (OCFL 1.1, "Manifest", "Versions Block"): each logical path of its state with the
+-- bytes at the first content path that the manifest has under the digest, in rising order of their paths, compared name by name
 abbrev pub v1_state : Tree → Path → Option (List File)
 v1_state t place =
     option_and_then (state_by t place)

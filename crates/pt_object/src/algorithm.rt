@@ -8,7 +8,9 @@ use crate::WellKnownName;
 /// The digest algorithms that an inventory may name (OCFL 1.1, "Digests").
 #[derive(Clone, Copy, Debug, PartialEq, Eq)]
 pub enum Algorithm {
+    /// SHA-512, of 64 bytes: `sha512`.
     Sha512,
+    /// SHA-256, of 32 bytes: `sha256`.
     Sha256,
 }
 

@@ -56,6 +56,7 @@ impl Hasher {
     }
 
     /// Another hasher that has been fed the same.
+    /// `Memory` where a growth was refused.
     pub fn copy(&self) -> Result<Hasher, MemoryFault>
         ensures { (algorithm : Algorithm) (fed : List ℕ) →
             HasBeenFed algorithm self.now fed

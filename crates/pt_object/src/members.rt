@@ -7,6 +7,7 @@ use serde_json::{Map, Value};
 use std::alloc::{AllocError, Global};
 
 /// Puts a text at a key.
+/// An error where a growth was refused.
 pub fn put_text(
     members: &mut Map<String, Value>,
     alloc: Global,
@@ -21,6 +22,7 @@ pub fn put_text(
 }
 
 /// Puts a number at a key.
+/// An error where a growth was refused.
 pub fn put_number(
     members: &mut Map<String, Value>,
     alloc: Global,

@@ -14,8 +14,10 @@ pub enum MetaFault {
     /// The moment isn't one of RFC 3339 to the second.
     #[error("the moment is not one of RFC 3339 to the second")]
     Created,
+    /// The name is the empty text.
     #[error("the name is empty")]
     EmptyName,
+    /// A growth was refused.
     #[error("out of memory")]
     Memory,
 }

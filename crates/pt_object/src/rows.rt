@@ -10,8 +10,11 @@ use std::marker::Model;
 /// A file of an object: its logical path, its digest and its length in bytes.
 #[derive(Debug, Drop)]
 pub struct Row {
+    /// Its logical path.
     pub path: NamePath,
+    /// The digest of its bytes.
     pub digest: Digest,
+    /// How many bytes it has.
     pub length: u64,
 }
 

@@ -58,6 +58,7 @@ held_at_item job top item = held_by_visit top item.path item.visit ++ held_by_ve
 abbrev pub greatest : List ℕ → ℕ
 greatest = fold max 0
 
--- the greatest of these numbers over all items; 0 where there is no pairtree. At each listed site the entries listed down to it; in each object, at each directory before the first bad entry, the entries listed down to it, the files before that entry and their distinct contents
+-- the greatest of these numbers over all items; 0 where there is no pairtree. At each listed site the entries listed down to it; in each object, at
+-- each directory before the first bad entry, the entries listed down to it, the files before that entry and their distinct contents
 abbrev pub bound : Job → Forest → ℕ
 bound job source = greatest (flat_map (held_at_item job (pairtree_of source)) (items job source))

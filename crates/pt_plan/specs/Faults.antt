@@ -41,7 +41,9 @@ abbrev pub on_the_way_to : Job → Forest → Tree → ℕ → Carried → ℕ �
 on_the_way_to job source root k object tuples =
     with_folders (take tuples (tuple_folders job object)) (after job source root k)
 
--- what a fault leaves of a start, and what was told: all as it was; a part of a new root in `staging`, nothing told; the root after k items, with the lines of all but the last of them and some of what comes next; or that and, of an object that is carried next, some tuple directories and a part of its script in `staging`
+-- what a fault leaves of a start, and what was told: all as it was; a part of a new root in `staging`, nothing told; the root after k items, with the
+-- lines of all but the last of them and some of what comes next; or that and, of an object that is carried next, some tuple directories and a part of
+-- its script in `staging`
 pub data FaultStateOfFree (job : Job) (source : Forest) (start : Tree) : Tree → List ℕ → Type 0 where
   AsItWas : FaultStateOfFree job source start start []
   MakingRoot : (now : Tree) → IsFree (root_in start) []

@@ -41,7 +41,9 @@ come_to_free_places job root (object ∷ objects) =
     && (is_place_free job root object
     && come_to_free_places job (with_objects job (object ∷ []) root) objects)
 
--- what is left of a start whatever the source gives: all as it was; a part of a new root in `staging`; the root, or a new one, with objects that came one after another to free places; or that and some tuple directories of one more object, and a part of it in `staging`, whose last item, if it is a content, may hold any bytes
+-- what is left of a start whatever the source gives: all as it was; a part of a new root in `staging`; the root, or a new one, with objects that came
+-- one after another to free places; or that and some tuple directories of one more object, and a part of it in `staging`, whose last item, if it is a
+-- content, may hold any bytes
 pub data DestFaultState (job : Job) (start : Tree) : Tree → Type 0 where
   AsItWas : DestFaultState job start start
   MakingRoot : (now : Tree) → IsFree (root_in start) []

@@ -8,7 +8,8 @@ use Rattle.pt_walk.specs.Limits.{Bounds}
 use Rattle.pt_walk.specs.declared.site.Form.{Form}
 use Rattle.pt_walk.specs.declared.site.Form.TheVariants as form
 
--- how the objects' versions are described, the layout's tuples, the algorithm of the inventories, the limits, whether divided sites are gathered, and the share of the store
+-- how the objects' versions are described, the layout's tuples, the algorithm of the inventories, the limits, whether divided sites are gathered, and
+-- the share of the store
 pub record Job : Type 0 where
   pub meta : MetaParts
   pub tuples : Tuples

@@ -19,7 +19,8 @@ NamedIsNotReserved =
     → slice_get (items job source) k ≡ Some item → item.verdict ≡ Named id object
     → is_reserved job id ≡ false
 
--- At a place that isn't reserved something stands after the first items exactly where it stood in the root, or one of them against whose object there is no cause has that place: so no place is a root file, a folder above one, a tuple directory, or inside another object.
+-- At a place that isn't reserved something stands after the first items exactly where it stood in the root, or one of them against whose object there
+-- is no cause has that place: so no place is a root file, a folder above one, a tuple directory, or inside another object.
 abbrev pub PlaceStandsWhereTaken : Type 0
 PlaceStandsWhereTaken =
     (job : Job) (source : Forest) (root : Tree) (k : ℕ) (id : List ℕ) → IsRooted root

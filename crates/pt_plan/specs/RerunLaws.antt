@@ -28,7 +28,8 @@ RerunEndsAlike =
     → IsTarget job source (root_in start) → FaultState job source start now log
     → EndsAlike job source (root_in start) (root_in now)
 
--- a run over what is left, once `staging` is taken away: it may end well, nothing stands at `staging`, and what it then leaves is what one undisturbed run leaves
+-- a run over what is left, once `staging` is taken away: it may end well, nothing stands at `staging`, and what it then leaves is what one
+-- undisturbed run leaves
 pub record RerunEnds (job : Job) (source : Forest) (start now : Tree) : Type 0 where
   pub begins : IsStart job source (root_in (without now staging))
   pub free : IsFree (without now staging) staging

@@ -7,7 +7,8 @@ use Rattle.pt_plan.specs.declared.phase.Opening.TheVariants as opening
 use Rattle.pt_plan.specs.declared.phase.Phase.TheVariants as phase
 use Rattle.pt_walk.specs.declared.frame.Frame.{Frame}
 
--- what it holds of the source: the listings on the way, the files of the object that it is at, which of them are stored, and what its hasher has been fed: what it has read of the open file since it opened it, or an inventory's text until its sidecar is made
+-- what it holds of the source: the listings on the way, the files of the object that it is at, which of them are stored, and what its hasher has been
+-- fed: what it has read of the open file since it opened it, or an inventory's text until its sidecar is made
 pub record Held : Type 0 where
   pub trail : List Frame
   pub rows : List Row

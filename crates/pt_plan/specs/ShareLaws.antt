@@ -1,4 +1,5 @@
--- The shares of a store, each carried by a run of its own over the same root, are together what one run carries; and so are any choices that divide its identifiers.
+-- The shares of a store, each carried by a run of its own over the same root, are together what one run carries.
+-- So are any choices that divide its identifiers.
 use Rattle.std.specs.Prelude.{◌≡◌, ◌≢◌, ◌⊎◌, ◌↔◌, ◌≤◌, ℕ, zero, suc, ◌+◌, Bool, true, false, List, count_by, Some}
 use Rattle.std.specs.List.{list_all}
 use Rattle.pt_name.specs.Place.{place_of}
@@ -36,7 +37,8 @@ abbrev pub sum_of_shares : (ℕ → ℕ) → ℕ → ℕ
 sum_of_shares f zero = 0
 sum_of_shares f (suc count) = sum_of_shares f count + f (suc count)
 
--- whatever is asked of lines, as many of the whole's log are such as of the logs of all shares together: each line of the whole stands in exactly one share's log, and there is no other
+-- whatever is asked of lines, as many of the whole's log are such as of the logs of all shares together: each line of the whole stands in exactly one
+-- share's log, and there is no other
 abbrev pub SharesTellTheWhole : Type 0
 SharesTellTheWhole =
     (job : Job) (source : Forest) (root : Tree) (count : ℕ) → 1 ≤ count → (test : Line → Bool)
@@ -82,7 +84,8 @@ pub record Divide (tuples : Tuples) (known : List ℕ → Bool) (count : ℕ) (c
       → known a ≡ true → known b ≡ true → holds (choices index) a ≡ true
       → holds (choices other) b ≡ true → place_of tuples a ≡ place_of tuples b → index ≡ other
 
--- what stands at a path after a run of the whole stands there after the run of some choice, as it is, and nothing else stands there after any choice's, where the choices divide the store
+-- what stands at a path after a run of the whole stands there after the run of some choice, as it is, and nothing else stands there after any
+-- choice's, where the choices divide the store
 abbrev pub ChoicesLeaveTheWhole : Type 0
 ChoicesLeaveTheWhole =
     (job : Job) (source : Forest) (root : Tree) (known : List ℕ → Bool) (count : ℕ)

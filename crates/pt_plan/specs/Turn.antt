@@ -1,4 +1,5 @@
--- One turn of a run: what it does where all calls succeed, and what it leaves where it breaks off. Faults of devices and want of memory apart, what is held and what the devices tell leave it no choice.
+-- One turn of a run: what it does where all calls succeed, and what it leaves where it breaks off.
+-- Faults of devices and want of memory apart, what is held and what the devices tell leave it no choice.
 use Rattle.std.specs.Prelude.{◌≡◌, ◌⊎◌, ℕ, ◌+◌, List, Option, None, Some, Ok, Err, ⊤}
 use Rattle.pt_object.specs.declared.rows.Row.{Row}
 use Rattle.pt_tree.specs.Failures.{HasRisen}
@@ -113,7 +114,9 @@ pub record IsHalted (rows : List Row) (before after : Kept) : Type 0 where
 abbrev pub HoldsMore : List Row → Held → Calls → DeviceStates → DeviceStates → Type 0
 HoldsMore rows held calls old new = (rows ≡ held.rows) × Answers calls.asked old.source new.source
 
--- from a phase, what is kept and the devices' states to what is kept and their states after, with the answer: all calls succeed; or what they answer halts it; or a device that failed, or want of memory, halts it, and of what it was to change nothing or a part from its start is left. Its own count isn't spoken of: it is made as the turn begins
+-- from a phase, what is kept and the devices' states to what is kept and their states after, with the answer: all calls succeed; or what they answer
+-- halts it; or a device that failed, or want of memory, halts it, and of what it was to change nothing or a part from its start is left. Its own
+-- count isn't spoken of: it is made as the turn begins
 pub data Turn (job : Job) (here : Phase) (before after : Kept) (old new : DeviceStates) : Answer → Type 0 where
   -- all calls succeed, and the run goes on at the next phase
   GoesOn : (calls : Calls) (next : Phase)

@@ -22,7 +22,8 @@ abbrev pub CarriedStandWhole : Type 0
 CarriedStandWhole = (job : Job) (source : Forest) (root : Tree) (k : ℕ) → HasNoGaps root
     → All (StandsWhole job (after job source root k)) (carried_among job source root k)
 
--- the state of the object's version is its files, each at its logical path with its bytes, where no two of them whose bytes differ have one digest (OCFL 1.1, "Version Block")
+-- the state of the object's version is its files, each at its logical path with its bytes, where no two of them whose bytes differ have one digest
+-- (OCFL 1.1, "Version Block")
 abbrev pub HasItsFiles : Job → Tree → Carried → Type 0
 HasItsFiles job now object =
     DigestsTellApart job.algorithm object.files

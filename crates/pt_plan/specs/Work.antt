@@ -82,6 +82,7 @@ work_on_site Deep = 0
 abbrev pub work_on_item : Job → Marked → ℕ
 work_on_item job m = work_on_site m.0.visit + work_on_object job m.0.visit m.1 m.0.verdict
 
--- the start, a new root and the end take 13 turns at most; then each item its own: a listed site 2 and its entries; a named object whose place is free the turns to meet its entries, and, where none is bad, its script, the second reading of each content, its tuples and its line
+-- the start, a new root and the end take 13 turns at most; then each item its own: a listed site 2 and its entries; a named object whose place is
+-- free the turns to meet its entries, and, where none is bad, its script, the second reading of each content, its tuples and its line
 abbrev pub work : Job → Forest → Tree → ℕ
 work job source root = 13 + sum_by (work_on_item job) (marked job source root)

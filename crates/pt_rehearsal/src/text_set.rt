@@ -43,7 +43,7 @@ struct Halves {
 impl TextSet {
     ghost use Rattle.pt_rehearsal.specs.Texts.{has, with_text};
 
-    // No text. It takes no memory.
+    /// No text. It takes no memory.
     pub fn new(alloc: Global) -> TextSet
         ensures { has result ≡ (λ _. false) }
     {
@@ -55,7 +55,7 @@ impl TextSet {
         }
     }
 
-    // Whether a text is in it.
+    /// Whether a text is in it.
     pub fn contains(&self, text: &[u8]) -> bool
         ensures { result ≡ has self.now text.now }
     {
@@ -65,7 +65,7 @@ impl TextSet {
         }
     }
 
-    // Adds a text. After `Memory`, where a growth was refused, the set is as before.
+    /// Adds a text. After `Memory`, where a growth was refused, the set is as before.
     pub fn put(&mut self, text: &[u8]) -> Result<(), MemoryFault>
         requires { HasNoNul text.now }
         ensures ok { OnOk result (has self.new ≡ with_text text.now (has self.old)) }

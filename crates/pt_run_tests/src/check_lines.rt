@@ -50,7 +50,8 @@ impl Explains<MemSource> for ItFailed {
     }
 }
 
-// A check: the store's entries, how many calls of it pass, the further reasons of one that doesn't, the room of a destination, whether its places have tuples, and the log.
+// A check: the store's entries, how many calls of it pass, the further reasons of one that doesn't, the room of a destination, whether its places
+// have tuples, and the log.
 struct Row {
     entries: &'static str,
     calls: Option<u64>,

@@ -22,6 +22,9 @@ use pt_tree::{Block, Kind, KnownName, Listing, NamePath};
 use std::alloc::Global;
 
 /// Lists the top.
+///
+/// Halts for `NotPairtree` where it has no file `pairtree_version0_1` or no directory `pairtree_root`, for `Source` where it can't be
+/// listed, and for `Memory` where a growth is refused.
 pub fn begin<O: Io>(state: &State, out: &mut O) -> Result<Phase, Fault>
     requires { CanList (O.states out.old).source [] }
     ensures turn { TakesTurn O.Io (1, 0) (phase.Opening opening.Begin)
@@ -45,6 +48,9 @@ fn is_store(listing: &Listing) -> bool
 }
 
 /// Reads the prefix file, if it is there.
+///
+/// Halts for `Prefix` where it is no file, has more than 1,024 bytes, or isn't UTF-8 without the line ends at its end, for `Source` where
+/// it can't be opened or read, and for `Memory` where a growth is refused. What is held stays then, but for the block.
 pub fn look_at_prefix<O: Io>(
     state: &mut State,
     here: Option<Kind>,

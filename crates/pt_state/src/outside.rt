@@ -116,8 +116,11 @@ pub trait Io {
 /// The three devices of a run.
 #[derive(Drop)]
 pub struct Devices<'s, 'd, 'l, S: Source, D: Dest, L: Log> {
+    /// What is read.
     pub source: &'s mut S,
+    /// What is written.
     pub dest: &'d mut D,
+    /// What the lines are put to.
     pub log: &'l mut L,
 }
 

@@ -1,4 +1,4 @@
-//! The paths of a run, in the source and in the destination.
+//! The paths of a run, in the source and in the destination. Each is answered `Memory` where a growth was refused.
 ghost use Rattle.std.specs.Prelude.{◌≡◌, ◌++◌, IfOk, take, length, ◌≤◌, option_to_list};
 ghost use Rattle.std.specs.Option.{option_map};
 ghost use Rattle.pt_plan.specs.TurnMake.{staged_content, path_of_source};

@@ -4,22 +4,25 @@ use pt_tree::Block;
 use pt_walk::Trail;
 use std::alloc::Global;
 
-// What a run holds between two turns.
+/// What a run holds between two turns.
 #[derive(Drop)]
 pub struct State {
+    /// What the run asks for memory.
     pub alloc: Global,
+    /// What the run has to do.
     pub job: Job,
-    // What stands in front of each identifier; at most 1,024 bytes.
+    /// What stands in front of each identifier; at most 1,024 bytes.
     pub prefix: String,
-    // The listings from `pairtree_root` to where the run stands.
+    /// The listings from `pairtree_root` to where the run stands.
     pub trail: Trail,
-    // The files of the object that is being carried, as they were read.
+    /// The files of the object that is being carried, as they were read.
     pub rows: Rows,
-    // Which of them are stored.
+    /// Which of them are stored.
     pub contents: Contents,
-    // What was read last.
+    /// What was read last.
     pub block: Block,
-    // What was read of the open file.
+    /// What was read of the open file.
     pub hasher: Hasher,
+    /// How many lines of each kind were put, and how many turns were made.
     pub counts: Report,
 }

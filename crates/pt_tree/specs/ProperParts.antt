@@ -10,6 +10,7 @@ use Rattle.pt_tree.specs.Forest.{Forest, none, file, other, dir, comes_before, i
 use Rattle.pt_tree.specs.Listing.{is_before}
 use Rattle.pt_tree.specs.Name.{is_name}
 
+-- an order that is told as less is Less
 Less-from_is_lt : (o : Ordering) → is_lt o ≡ true → o ≡ Less
 Less-from_is_lt Less h = refl
 Less-from_is_lt Equal h = absurd (false≢true h)

@@ -13,6 +13,7 @@ pub enum ListingFault {
     /// The name doesn't come after the last one in the order of their bytes.
     #[error("the names of the listing do not rise")]
     NotRising,
+    /// A growth was refused.
     #[error("out of memory")]
     Memory,
 }

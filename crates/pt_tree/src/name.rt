@@ -23,15 +23,19 @@ const LONGEST: usize = 255;
 /// Why bytes are no name.
 #[derive(Clone, Copy, Debug, PartialEq, Eq, Error)]
 pub enum NameFault {
+    /// It has no byte.
     #[error("the name is empty")]
     Empty,
+    /// It has more than 255 bytes.
     #[error("the name has more than 255 bytes")]
     TooLong,
+    /// Its bytes aren't UTF-8.
     #[error("the name is not UTF-8")]
     NotUtf8,
     /// It holds `/` or NUL, or is `.` or `..`.
     #[error("the name holds a slash or a NUL, or is a dot or two")]
     Forbidden,
+    /// A growth was refused.
     #[error("out of memory")]
     Memory,
 }

@@ -262,7 +262,7 @@ impl NamePath {
         is_below(other.names(), self.names())
     }
 
-    /// The names with `/` between, as a text in UTF-8.
+    /// The names with `/` between, as a text in UTF-8. `Memory` where a growth was refused.
     pub fn join(&self) -> Result<Vec<u8>, MemoryFault>
         ensures names { IfOk result (λ text. text.items ≡ joined self.now) }
         ensures utf8 { IfOk result (λ text. IsTrue (is_utf8 text.items)) }

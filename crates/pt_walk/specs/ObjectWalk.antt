@@ -1,4 +1,5 @@
--- What of a walk through an object is still to come, when the trail changes. So many frames are the object's own; where it is gathered, the outermost of them is the site, whose shorties are passed.
+-- What of a walk through an object is still to come, when the trail changes.
+-- So many frames are the object's own; where it is gathered, the outermost of them is the site, whose shorties are passed.
 use Rattle.std.specs.Prelude.{◌≡◌, ℕ, suc, Bool, true, false, List, [], ◌∷◌, ◌++◌, None, Some, take}
 use Rattle.pt_tree.specs.declared.kind.Kind.TheVariants as kind
 use Rattle.pt_tree.specs.Forest.{Forest, File, Dir, Other, is_proper, listing_of}

@@ -3,7 +3,7 @@ ghost use Rattle.pt_walk.specs.Trail.{name_at};
 
 use pt_tree::{Listing, MemoryFault, NamePath};
 
-// A listing, and the place reached in it, from 0 to its length.
+/// A listing, and the place reached in it, from 0 to its length.
 #[derive(Debug, Drop)]
 pub struct Frame {
     pub listing: Listing,
@@ -11,7 +11,7 @@ pub struct Frame {
 }
 
 impl Frame {
-    // Adds the name of the entry at the place, if one is there.
+    /// Adds the name of the entry at the place, if one is there. `Memory` where a growth was refused.
     pub fn add_name(&self, path: &mut NamePath) -> Result<(), MemoryFault>
         ensures { OnOk result (path.new ≡ path.old ++ name_at self.now) }
     {

@@ -9,15 +9,20 @@ use pt_tree::{Kind, Listing, Name};
 /// Where a site stands: it is the top directory `pairtree_root`, or its own name has two bytes, or one.
 #[derive(Clone, Copy, Debug, PartialEq, Eq)]
 pub enum At {
+    /// It is `pairtree_root`.
     Root,
+    /// Its name has two bytes.
     Pair,
+    /// Its name has one byte.
     Last,
 }
 
 /// Whether what a site holds beside its shorties makes an object where it is more than one directory.
 #[derive(Clone, Copy, Debug, PartialEq, Eq)]
 pub enum Form {
+    /// It makes none.
     Plain,
+    /// It makes one object of all.
     Gathering,
 }
 

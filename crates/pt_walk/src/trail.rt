@@ -108,6 +108,7 @@ impl Trail {
     }
 
     /// The path from the outermost listing to the innermost: the names at the places of all but the innermost.
+    /// `Memory` where a growth was refused.
     pub fn path(&self) -> Result<NamePath, MemoryFault>
         ensures { IfOk result (λ path. path ≡ trail_path self.now) }
     {
@@ -117,6 +118,7 @@ impl Trail {
     }
 
     /// That path behind another: so no name has to move to make room in front.
+    /// `Memory` where a growth was refused.
     pub fn path_below(&self, above: NamePath) -> Result<NamePath, MemoryFault>
         ensures { IfOk result (λ path. path ≡ above ++ trail_path self.now) }
     {

@@ -32,7 +32,8 @@ pub record EndsItem (job : Job) (source : Forest) (root : Tree) (count : ℕ) (l
   pub told : line_of job m ≡ option_to_list line
   pub gained : carried_by job m.1 m.0.verdict ≡ more
 
--- so many items are done after the turn, and these are carried of them: the same as before, and no line is told but the last one; or one more, and its line is told
+-- so many items are done after the turn, and these are carried of them: the same as before, and no line is told but the last one; or one more, and
+-- its line is told
 pub data Tells (job : Job) (source : Forest) (root : Tree) (count : ℕ) : Phase → Option Line → ℕ → List Carried → Type 0 where
   Nothing : {next : Phase} → Tells job source root count next None count []
   OneItem : {next : Phase} {line : Option Line} {more : List Carried} → EndsItem job source root count line more → Tells job source root count next line (suc count) more

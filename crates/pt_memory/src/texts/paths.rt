@@ -4,6 +4,7 @@ use pt_tree::{Name, NameFault, NamePath, TreeFault};
 use std::alloc::Global;
 
 /// The path of these names, with `/` between. The empty text is the top.
+/// `Device` where a piece between them is no name, `Memory` where a growth was refused.
 pub fn path(alloc: Global, text: &str) -> Result<NamePath, TreeFault> {
     NamePath::of_text(alloc, text.as_bytes()).map_err(fault_of)
 }

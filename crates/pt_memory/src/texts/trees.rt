@@ -6,10 +6,10 @@ use std::alloc::Global;
 
 /// A tree in memory that directories and files can be planted in.
 pub trait Plants {
-    /// Plants an empty directory.
+    /// Plants an empty directory; refused as `plant_dir` of the tree is.
     fn dir(&mut self, path: &NamePath) -> Result<(), PlantFault>;
 
-    /// Plants a file of these bytes.
+    /// Plants a file of these bytes; refused as `plant_file` of the tree is.
     fn file(&mut self, path: &NamePath, bytes: &[u8]) -> Result<(), PlantFault>;
 }
 
@@ -34,6 +34,7 @@ impl Plants for MemDest {
 }
 
 /// A destination with these files, and with the directories on the way to them. A path that ends in `/` is a directory.
+/// The faults are those of `add`.
 pub fn tree(alloc: Global, files: &[(&str, &str)]) -> Result<MemDest, TreeFault> {
     let mut dest = MemDest::new(alloc);
     add(alloc, &mut dest, files)?;
@@ -41,6 +42,9 @@ pub fn tree(alloc: Global, files: &[(&str, &str)]) -> Result<MemDest, TreeFault>
 }
 
 /// Adds such files to a tree.
+///
+/// `Device` where a piece of a path is no name, or a file can't be planted; `Memory` where a growth was refused for these. A directory that
+/// can't be planted is passed over.
 pub fn add<T: Plants>(
     alloc: Global,
     tree: &mut T,

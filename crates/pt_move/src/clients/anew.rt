@@ -33,7 +33,9 @@ pub trait Jobs {
 /// The same job for each of so many runs.
 #[derive(Drop)]
 pub struct Attempts<J> {
+    /// What makes the job of each run.
     pub jobs: J,
+    /// How many runs are made at most.
     pub tries: u32,
 }
 

@@ -31,6 +31,7 @@ pub fn carries_all<S: Source, D: Dest, L: Log>(
 
 /// How many lines a run told before its end line. Whatever the devices are, and though they tell nothing, they are no more than its limit of
 /// turns.
+/// The faults are those of `migrate`.
 pub fn lines_told<S: Source, D: Dest, L: Log>(
     alloc: Global,
     source: &mut S,

@@ -48,6 +48,7 @@ impl<S: Source, D: Dest, L: Log> Run<S, D, L> {
 
     /// Makes one turn, with all that a step promises: from whatever start it is in progress, it keeps the promises of the run so far.
     /// What it asks for holds of a new run, and after each step.
+    /// The faults are those of `Mover::step`.
     pub fn step(&mut self) -> Result<Turn, Fault>
         requires { HasBegun
             (states_of S.Source D.Dest L.Log self.old.source self.old.dest self.old.log)
@@ -62,6 +63,7 @@ impl<S: Source, D: Dest, L: Log> Run<S, D, L> {
     }
 
     /// Makes so many turns, unless the run ends before: whether there is more to do.
+    /// The fault of the first turn that has one is answered, as `step` does.
     pub fn make_steps(&mut self, most: u64) -> Result<bool, Fault>
         requires { HasBegun
             (states_of S.Source D.Dest L.Log self.old.source self.old.dest self.old.log)

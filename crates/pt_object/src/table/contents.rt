@@ -14,7 +14,9 @@ use std::marker::Model;
 /// A digest, with the path of the first file that has it.
 #[derive(Debug, Drop)]
 pub struct Content {
+    /// The digest.
     pub digest: Digest,
+    /// The path of the first file that has it.
     pub path: NamePath,
 }
 
