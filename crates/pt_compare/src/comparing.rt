@@ -11,7 +11,8 @@ ghost use Rattle.pt_compare.specs.Root.{IsSeen, KeepsRoot, tree_in};
 ghost use Rattle.pt_tree.specs.Failures.{IsCounted};
 ghost use Rattle.pt_plan.specs.declared.fault.Fault.TheVariants as fault;
 ghost use Rattle.pt_object.specs.Distinct.{content_of_row, distinct};
-ghost use Rattle.pt_object.specs.FilePaths.{part_in_order, row_paths};
+ghost use Rattle.pt_object.specs.FilePaths.{row_paths};
+ghost use Rattle.pt_tree.specs.PathOrder.{part_in_order};
 ghost use Rattle.pt_tree.specs.Source.{CanOpen};
 
 use crate::entries::Entries;

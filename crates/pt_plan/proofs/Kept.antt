@@ -5,7 +5,8 @@ use Rattle.std.specs.List.{list_all}
 use Rattle.std.proofs.lemmas.Bool.{and_from, and_parts}
 use Rattle.std.proofs.lemmas.List.Folds.{list_all-append}
 use Rattle.pt_object.proofs.ObjectScripts.{in_order_apart}
-use Rattle.pt_object.specs.FilePaths.{are_apart, is_logical, part_in_order, paths_of, row_paths}
+use Rattle.pt_object.specs.FilePaths.{are_apart, paths_of, row_paths}
+use Rattle.pt_tree.specs.PathOrder.{is_logical, part_in_order}
 use Rattle.pt_object.specs.Object.{stored_path}
 use Rattle.pt_object.specs.Root.{base}
 use Rattle.pt_object.specs.declared.rows.Row.{Row}

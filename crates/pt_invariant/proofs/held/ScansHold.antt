@@ -9,7 +9,8 @@ use Rattle.pt_object.proofs.Noting.{noting_gives_distinct}
 use Rattle.pt_object.specs.Algorithm.{digest_of}
 use Rattle.pt_object.specs.Contents.{noted}
 use Rattle.pt_object.specs.Distinct.{content_of_row, distinct}
-use Rattle.pt_object.specs.FilePaths.{part_in_order, parts_before, row_paths}
+use Rattle.pt_object.specs.FilePaths.{row_paths}
+use Rattle.pt_tree.specs.PathOrder.{part_in_order, parts_before}
 use Rattle.pt_object.specs.Rows.{row_of}
 use Rattle.pt_object.specs.declared.table.contents.Content.{Content}
 use Rattle.pt_object.specs.declared.rows.Row.{Row}
