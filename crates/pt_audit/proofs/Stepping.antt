@@ -48,7 +48,9 @@ use Rattle.pt_move.proofs.Answering.{fed_going, fed_to_end, has_fed, left_by_tur
 use Rattle.pt_move.proofs.Keeping.{keeps_after, tree_stays}
 use Rattle.pt_tree.specs.Failures.{HasRisen}
 use Rattle.pt_audit.specs.EmptyDest.{bare}
-use Rattle.pt_audit.specs.Growing.{BlamesRightly, Grows, Leaves, grows_none}
+use Rattle.pt_audit.specs.Growing.{BlamesRightly, Leaves}
+use Rattle.pt_tree.specs.Log.{Grows}
+use Rattle.pt_tree.proofs.Growing.{grows_none}
 use Rattle.pt_plan.specs.TurnPlace.{done_line}
 use Rattle.pt_audit.specs.Surveying.{WasAtHand, GoesOn, HasAtHand, IsReady, IsSurvey, IsWithinWork, SurveySays, is_at_hand, is_of_dest, Leads, Nothing, Skips, Sees, Surveys, is_looking, is_of_survey, no_start, passed, source_alone}
 use Rattle.pt_audit.proofs.Alone.{counted_alone, no_change, no_line}

@@ -1,7 +1,6 @@
 -- A log in which what stood stands, and which device a step blames.
-use Rattle.std.proofs.Common.{◌≡◌, ◌≢◌, ◌∙◌, ap, append-nil, append_assoc, sym}
-use Rattle.std.specs.Prelude.{ℕ, List, [], ◌++◌, Option, None, Some, IfErr, Result}
-use Rattle.std.specs.Io.KnownBytes.{Appends}
+use Rattle.std.proofs.Common.{◌≡◌, ◌≢◌, ◌∙◌}
+use Rattle.std.specs.Prelude.{ℕ, List, Option, IfErr, Result}
 use Rattle.pt_move.specs.Counting.{Counts}
 use Rattle.pt_plan.specs.declared.fault.Fault.{Fault}
 use Rattle.pt_plan.specs.declared.fault.Fault.TheVariants as fault
@@ -11,28 +10,10 @@ use Rattle.pt_state.specs.declared.job.Job.{Job}
 use Rattle.pt_audit.specs.Surveying.{SurveySays}
 use Rattle.pt_compare.specs.Root.{KeepsRoot}
 use Rattle.pt_state.specs.Counting.{AtMostCalls}
+use Rattle.pt_tree.specs.Log.{Grows}
 use Rattle.pt_tree.specs.Source.{Reading}
 use Rattle.pt_tree.specs.declared.log.Log.{Ghosts as OfLog}
 use Rattle.pt_tree.specs.declared.source.Source.{Ghosts as OfSource}
-
--- what stood in a log stands, and bytes may stand behind it
-abbrev pub Grows : Option (List ℕ) → Option (List ℕ) → Type 0
-Grows old new = (more : List ℕ) × Appends old new more
-
--- it does where nothing is put
-pub grows_none : (told : Option (List ℕ)) → Grows told told
-grows_none None = ([], tt)
-grows_none (Some xs) = ([], sym (append-nil xs))
-
--- and where it does twice
-pub grows_on : (a b c : Option (List ℕ)) → Grows a b → Grows b c → Grows a c
-grows_on None b c p q = ([], tt)
-grows_on (Some xs) None c p q = absurd (p.1)
-grows_on (Some xs) (Some ys) None p q = absurd (q.1)
-grows_on (Some xs) (Some ys) (Some zs) p q = (
-  p.0 ++ q.0,
-  q.1 ∙ ap (λ l. l ++ q.0) p.1 ∙ append_assoc xs p.0 q.0,
-)
 
 -- it is the same log still, in which what stood stands
 abbrev pub KeepsLog : {L : Type 0} → (L → Option (List ℕ)) → (L → L → Type 0) → L → L → Type 0

@@ -28,6 +28,7 @@ use Rattle.pt_plan.specs.TurnStart.{is_dir_kind, is_file_kind, kind_in}
 use Rattle.pt_tree.specs.Failures.{HasRisen}
 use Rattle.pt_tree.specs.Forest.{Forest, File, none, file, other, dir, listing_of}
 use Rattle.pt_tree.specs.Listing.{Item}
+use Rattle.pt_tree.specs.Log.{Grows}
 use Rattle.pt_tree.specs.Path.{Path, joined}
 use Rattle.pt_tree.specs.Source.{Reading}
 use Rattle.pt_tree.specs.declared.kind.Kind.{Kind}
@@ -59,10 +60,6 @@ tree_in told = option_map (λ s. s.tree) told
 -- the tree of its source, if that tells
 abbrev pub tree_by : {S L E : Type 0} → (S → Option Reading) → Check S L E → Option Forest
 tree_by told check = tree_in (told check.source)
-
--- what stood in a log stands, and bytes may stand behind it
-abbrev pub Grows : Option (List ℕ) → Option (List ℕ) → Type 0
-Grows old new = (more : List ℕ) × Appends old new more
 
 -- its source is the same one still, with its tree; as much is wanted of it as before; and its log has only grown
 pub record Keeps {S L E : Type 0} (told : S → Option Reading) (keeps : S → S → Type 0)

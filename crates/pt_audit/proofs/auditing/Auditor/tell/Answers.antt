@@ -4,7 +4,7 @@ use Rattle.pt_audit.proofs.Pacing.{at_sight, follows_told}
 use Rattle.pt_audit.proofs.Telling.{end_at, not_told, on_end, on_more, on_store}
 use Rattle.pt_audit.proofs.ToldFront.{at_err, seen_stops_any}
 use Rattle.pt_audit.specs.Auditing.{IsAt, is_told}
-use Rattle.pt_audit.specs.Growing.{grows_none}
+use Rattle.pt_tree.proofs.Growing.{grows_none}
 use Rattle.pt_compare.specs.Root.{tree_in}
 use Rattle.pt_plan.specs.DeviceStates.{source_tree}
 use Rattle.pt_audit.proofs.auditing.Auditor.tell.Goals as goal
