@@ -15,7 +15,7 @@ use Rattle.pt_tree.specs.Forest.{Dir, File, Forest, Node, Other, as_dir, dir, di
 use Rattle.pt_tree.specs.Listing.{Item}
 use Rattle.pt_tree.specs.Name.{AreNames, is_forbidden_name, is_name, name_refusal}
 use Rattle.pt_tree.specs.Path.{Path, last_name, same_path, split_path}
-use Rattle.pt_tree.specs.Source.{IsListed, Reading}
+use Rattle.pt_tree.specs.Source.{IsListed, Reading, tree_in}
 use Rattle.pt_tree.specs.Pieces.{IsRefusal, earlier, first_refusal, names_in}
 use Rattle.pt_tree.specs.declared.kind.Kind.{Kind}
 use Rattle.pt_tree.specs.declared.kind.Kind.TheVariants as kind
@@ -43,7 +43,7 @@ use Rattle.pt_plan.specs.declared.phase.Phase.TheVariants as phase
 use Rattle.pt_plan.specs.declared.phase.Stage.TheVariants as stage
 use Rattle.pt_invariant.specs.SourceInvariant.{SourcePart}
 use Rattle.pt_invariant.proofs.source.InPairtree.{listing_in}
-use Rattle.pt_compare.specs.Root.{Stands, kind_at, same_kind, tree_in}
+use Rattle.pt_compare.specs.Root.{Stands, kind_at, same_kind}
 use Rattle.pt_plan.specs.TurnMake.{common_names}
 use Rattle.pt_compare.specs.declared.difference.Comparison.{Comparison}
 use Rattle.pt_compare.proofs.Listed.{node_in}

@@ -22,7 +22,6 @@ use Rattle.pt_plan.specs.Job.{Job}
 use Rattle.pt_plan.specs.Lines.{Done, Line, Skipped, line_by_verdict, line_text}
 use Rattle.pt_plan.specs.Store.{prefix_of}
 use Rattle.pt_plan.specs.TurnWalk.{in_pairtree, in_root}
-use Rattle.pt_plan.specs.DeviceStates.{source_tree}
 use Rattle.pt_plan.specs.declared.fault.Fault.{Fault}
 use Rattle.pt_plan.specs.declared.phase.Phase.{Phase}
 use Rattle.pt_plan.specs.declared.phase.Phase.TheVariants as phase
@@ -37,7 +36,7 @@ use Rattle.pt_audit.specs.declared.survey.AtHand.{AtHand}
 use Rattle.pt_tree.specs.Failures.{greatest_count}
 use Rattle.pt_tree.specs.Forest.{Forest}
 use Rattle.pt_tree.specs.Path.{Path}
-use Rattle.pt_tree.specs.Source.{CanOpen, Reading}
+use Rattle.pt_tree.specs.Source.{CanOpen, Reading, tree_in}
 use Rattle.pt_walk.specs.Left.{bytes_at}
 use Rattle.pt_walk.specs.Trail.{trail_path}
 use Rattle.pt_walk.specs.declared.cause.Cause.{Cause}
@@ -265,14 +264,14 @@ LogsAs job source root first now (Err why) = StopsAs job source root first now
 -- where an audit was under way so, the log is left with a front of what is told
 abbrev pub StopsUnderWay : Option Reading → Option Forest → Option (List ℕ) → Counts → Running → Option (List ℕ) → Type 0
 StopsUnderWay told root now counts r new =
-    (first : Option (List ℕ)) → IsUnderWay told (start_over (source_tree told) root first) now counts r
-    → FrontToldAs (job_of r.state.job) (start_over (source_tree told) root first) new
+    (first : Option (List ℕ)) → IsUnderWay told (start_over (tree_in told) root first) now counts r
+    → FrontToldAs (job_of r.state.job) (start_over (tree_in told) root first) new
 
 -- and so where a step was made, and of nothing was told that it came to
 abbrev pub StopsSeen : Option Reading → Option Forest → Option (List ℕ) → Counts → Running → Option (List ℕ) → Type 0
 StopsSeen told root now counts r new =
-    (first : Option (List ℕ)) → IsSeen told (start_over (source_tree told) root first) now counts r
-    → FrontToldAs (job_of r.state.job) (start_over (source_tree told) root first) new
+    (first : Option (List ℕ)) → IsSeen told (start_over (tree_in told) root first) now counts r
+    → FrontToldAs (job_of r.state.job) (start_over (tree_in told) root first) new
 
 -- a step leaves the audit under way, or at its end with these counts
 abbrev pub GoesOn : Bool → Option Reading → AuditStart → Option (List ℕ) → Counts → Running → Type 0

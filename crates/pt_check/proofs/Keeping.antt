@@ -1,12 +1,12 @@
 -- What a check keeps of its source and its log.
 use Rattle.std.proofs.Common.{◌≡◌, ℕ, List, refl, sym, ap, ◌∙◌, subst}
 use Rattle.std.specs.Prelude.{Option}
-use Rattle.pt_check.specs.Visits.{Keeps, seen_by, tree_in}
+use Rattle.pt_check.specs.Visits.{Keeps, seen_by}
 use Rattle.pt_tree.specs.Log.{Grows}
 use Rattle.pt_check.specs.declared.checking.Check.{Check}
 use Rattle.pt_check.specs.declared.numbers.Numbers.{Numbers}
 use Rattle.pt_tree.proofs.Growing.{grows_none, grows_on}
-use Rattle.pt_tree.specs.Source.{Reading}
+use Rattle.pt_tree.specs.Source.{Reading, tree_in}
 
 -- and what is kept twice is kept
 pub keeps_on : {S L E : Type 0} (told : S → Option Reading) (keeps : S → S → Type 0) (held : L → Option (List ℕ))

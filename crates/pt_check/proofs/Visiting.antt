@@ -5,7 +5,7 @@ use Rattle.std.specs.Option.{ForSome, option_and_then, option_map}
 use Rattle.std.specs.Str.{bytes_eq}
 use Rattle.std.specs.Prelude.{◌⊎◌, IsSome, is_some, Option, None, Some, slice_get, unwrap_or}
 use Rattle.pt_check.specs.Lines.{Told}
-use Rattle.pt_check.specs.Visits.{Begins, Enters, Finds, Folder, Judges, Meets, Opens, OpensIf, Says, Seen, Tells, TellsUnlisted, Visits, VisitsFolder, begun, counting, ended, finding_of, folder_in, has_object, tree_in}
+use Rattle.pt_check.specs.Visits.{Begins, Enters, Finds, Folder, Judges, Meets, Opens, OpensIf, Says, Seen, Tells, TellsUnlisted, Visits, VisitsFolder, begun, counting, ended, finding_of, folder_in, has_object}
 use Rattle.pt_check.specs.Within.{below}
 use Rattle.pt_check.specs.declared.trouble.Trouble.TheVariants as trouble
 use Rattle.pt_check.specs.declared.wants.Wants.{Wants}
@@ -13,7 +13,7 @@ use Rattle.pt_check.specs.declared.within.Within.{Within}
 use Rattle.pt_tree.specs.Forest.{Forest, none, file, other, dir, Node, File, Dir, Other, as_dir, as_file, dir_at, file_at, find, is_proper, kind_of, listing_at, listing_of, node_at}
 use Rattle.pt_tree.specs.Listing.{Item}
 use Rattle.pt_tree.specs.Path.{Path, joined}
-use Rattle.pt_tree.specs.Source.{Reading, IsListed}
+use Rattle.pt_tree.specs.Source.{Reading, IsListed, tree_in}
 use Rattle.pt_plan.specs.TurnStart.{is_dir_kind, kind_in}
 use Rattle.pt_tree.specs.declared.kind.Kind.{Kind}
 use Rattle.pt_tree.specs.declared.kind.Kind.TheVariants as kind

@@ -2,7 +2,6 @@
 use Rattle.std.proofs.Common.{◌≡◌, ◌≤◌, ◌<◌, ◌+◌, ◌-◌, ◌==◌, ℕ, Bool, true, false, suc, zero, List, [], ◌∷◌, ◌++◌, refl, sym, ap, ◌∙◌, subst, arith, length, cond, append-nil, append_assoc}
 use Rattle.std.specs.Option.{ForSome, option_map}
 use Rattle.std.specs.Prelude.{IsSome, Option, None, Some, ◌||◌, slice_get, unwrap_or}
-use Rattle.pt_compare.specs.Root.{tree_in}
 use Rattle.pt_extra.proofs.Telling.{front_more, front_none, front_on, puts_none, puts_on, texts_on}
 use Rattle.pt_extra.specs.Findings.{Against, found_at, is_object, is_part, of_entries, of_leaf, of_object, of_unnamed}
 use Rattle.pt_extra.specs.Inventories.{id_of}
@@ -13,7 +12,7 @@ use Rattle.pt_tree.specs.Forest.{Forest, none, dir_at, is_proper, listing_at, li
 use Rattle.pt_tree.specs.Listing.{Item}
 use Rattle.pt_tree.specs.Log.{AppendsFront}
 use Rattle.pt_tree.specs.Path.{Path}
-use Rattle.pt_tree.specs.Source.{CanList, IsListed, Reading}
+use Rattle.pt_tree.specs.Source.{CanList, IsListed, Reading, tree_in}
 use Rattle.pt_tree.specs.declared.kind.Kind.{Kind}
 use Rattle.pt_tree.specs.declared.kind.Kind.TheVariants as kind
 use Rattle.pt_walk.proofs.Ahead.{dir_ahead, file_ahead, nothing_ahead, other_ahead}

@@ -1,7 +1,7 @@
 //! The walk over a root.
 ghost use Rattle.std.specs.Prelude.{◌≡◌, ◌<◌, ◌∷◌, [], IfOk, IsSome, OnErr, OnOk, length};
 ghost use Rattle.std.specs.Option.{ForSome};
-ghost use Rattle.pt_compare.specs.Root.{tree_in};
+ghost use Rattle.pt_tree.specs.Source.{tree_in};
 ghost use Rattle.pt_extra.specs.Counting.{no_numbers, with_finding};
 ghost use Rattle.pt_extra.specs.Findings.{is_held};
 ghost use Rattle.pt_extra.specs.Lines.{Extra, ExtraFinding, Stray, line_text, texts};
