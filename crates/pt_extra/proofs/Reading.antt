@@ -3,7 +3,7 @@ use Rattle.std.proofs.Common.{◌≡◌, ◌≤◌, ◌<◌, ◌+◌, ℕ, Bool,
 use Rattle.std.specs.Global.{Vec}
 use Rattle.std.specs.Option.{ForSome, option_and_then, option_map}
 use Rattle.std.specs.Prelude.{IsSome, is_some, nat_le, Option, None, Some, unwrap_or}
-use Rattle.pt_audit.proofs.Twins.{kind_listed}
+use Rattle.pt_plan.proofs.FoundKinds.{kind_listed}
 use Rattle.pt_compare.specs.Bytes.{CameNext, IsAllLeft, left_in}
 use Rattle.pt_compare.specs.Root.{Reads, is_reading}
 use Rattle.pt_extra.specs.Inventories.{id_in, id_of, inventory_in, most_bytes, unless_long}
@@ -17,7 +17,7 @@ use Rattle.pt_tree.specs.Source.{CanOpen, Reading, after_open, tree_in}
 use Rattle.pt_walk.proofs.Paths.{dir_listed, node_below}
 use Rattle.pt_walk.specs.Left.{inside_at}
 use Rattle.std.proofs.lemmas.List.{length-append}
-use Rattle.pt_extra.proofs.Visiting.{inside_lists}
+use Rattle.pt_walk.proofs.Ahead.{inside_lists}
 use Rattle.pt_extra.specs.Inventories.{id_by}
 use Rattle.serde_json.specs.Data.{null}
 use Rattle.serde_json.specs.Read.{read}

@@ -148,7 +148,7 @@ impl<S: Source, R: Source, L: Log> Extras<S, R, L> {
     }
 
     // The listing of a folder of the destination.
-    #[tactic(auto, using(crate::proofs::Visiting::listed_in))]
+    #[tactic(auto, using(pt_tree::proofs::Told::listed_in))]
     fn list(&mut self, folder: &NamePath) -> Result<Listing, Fault>
         requires { ForSome (tree_in (R.told self.old.root))
             (λ tree. IsSome (dir_at tree folder.now)) }

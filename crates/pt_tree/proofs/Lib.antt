@@ -17,4 +17,5 @@ pub mod Rising
 pub mod Trees
 pub mod Written
 mod TreesWithout
+pub mod Told
 mod ToldWithout
