@@ -7,7 +7,8 @@ use Rattle.std.specs.Io.KnownBytes.{Appends}
 use Rattle.std.proofs.lemmas.Bool.{true≢false}
 use Rattle.std.proofs.lemmas.List.{drop-map}
 use Rattle.std.proofs.lemmas.Option.{slice_get-get_or}
-use Rattle.pt_audit.specs.Auditing.{AllToldAs, AuditStart, CanCompare, EndsAs, Finds, GoesOn as AuditGoesOn, HasSeenAll, IsAllTold, IsAuditLog, Nothing, HasToldOf, IsAt, IsFoundAtHand, IsFoundOf, IsSeen, IsTwinAtHand, IsUnderWay, CanGoOn, Leads, Next, is_told, Passes, TellsOf, Told, counted, last_text, sought, sought_at_hand, start_over, told_at}
+use Rattle.pt_audit.specs.Auditing.{AllToldAs, AuditStart, CanCompare, EndsAs, Finds, GoesOn as AuditGoesOn, HasSeenAll, IsAllTold, IsAuditLog, Nothing, HasToldOf, IsAt, IsFoundAtHand, IsFoundOf, IsSeen, IsTwinAtHand, IsUnderWay, CanGoOn, Leads, Next, is_told, Passes, TellsOf, Told, counted, last_text, sought, sought_at_hand, start_over}
+use Rattle.pt_invariant.specs.RunInvariant.{items_through}
 use Rattle.pt_audit.specs.Counting.{counts_with, no_counts}
 use Rattle.pt_audit.specs.Layout.{IsOfLayout}
 use Rattle.pt_audit.specs.Twin.{is_differing, is_twin}
@@ -73,15 +74,15 @@ object_at_hand (phase.Opening opening.OpenRoot) is = absurd (cc)
 object_at_hand _ is = absurd (cc)
 
 -- where none is at hand, of the items that were seen is told
-told_there : (here : Phase) (count : ℕ) (what : SurveyEvent) → sight_at here ≡ what → is_told what ≡ false → told_at here count ≡ count
+told_there : (here : Phase) (count : ℕ) (what : SurveyEvent) → sight_at here ≡ what → is_told what ≡ false → items_through here count ≡ count
 told_there (phase.Carrying object stage.Line) count what is more = absurd (true≢false (ap is_told is ∙ more))
 told_there _ count what is more = refl
 
-told_store : (here : Phase) (count : ℕ) → sight_at here ≡ sight.Store → told_at here count ≡ count
+told_store : (here : Phase) (count : ℕ) → sight_at here ≡ sight.Store → items_through here count ≡ count
 told_store (phase.Carrying object stage.Line) count is = absurd (cc)
 told_store _ count is = refl
 
-pub looking_told : (here : Phase) (count : ℕ) → is_looking here ≡ true → told_at here count ≡ count
+pub looking_told : (here : Phase) (count : ℕ) → is_looking here ≡ true → items_through here count ≡ count
 looking_told (phase.Carrying object stage.Line) count is = absurd (cc)
 looking_told _ count is = refl
 
@@ -113,7 +114,7 @@ HasTold job source root old now n counts = (text : List ℕ) × (now ≡ Some (o
 
 -- with what a step saw
 saw_on : (job : Job) (source root : Forest) (old : List ℕ) {here : Phase} {held : Held} (count next : ℕ) (counts : Counts) (skipped : ℕ) {line : Option Line} (now new : Option (List ℕ)) → Sees job source count here held line next → Puts line now new → skipped ≡ counts.skipped + count_by is_skipped (option_to_list line)
-    → HasTold job source root old now (told_at here count) counts → HasTold job source root old new next (record counts { skipped = skipped })
+    → HasTold job source root old now (items_through here count) counts → HasTold job source root old new next (record counts { skipped = skipped })
 unfolding Puts
 saw_on job source root old {here} count next counts skipped now new (SeesNothing looks) puts skips (text, told, lines) = (
   text,
@@ -310,12 +311,12 @@ pub told_object : (told again : Option Reading) (source root : Option Forest) (f
 told_object told again source root first now new counts r at finding twin text job later job_is counted_is is tree same mine found_there twin_there line puts it = record {
   count = it.count;
   is = source_again is same it.is;
-  so_far = subst (λ (k : Counts). HasToldOf (job_of r.state.job) (start_over source root first) new (told_at r.phase it.count) (counted k r)) (sym counted_is) (λ s e o f old g.
+  so_far = subst (λ (k : Counts). HasToldOf (job_of r.state.job) (start_over source root first) new (items_through r.phase it.count) (counted k r)) (sym counted_is) (λ s e o f old g.
       let told_is = reading_of told (tree ∙ e) in
       let had = it.so_far s e o f old g in
       let item = subst (λ (t : Forest). HasAtHand (job_of r.state.job) t it.count here.0 (held_of r.state [])) told_is.2
       (subst (λ (n : ℕ). HasAtHand (job_of r.state.job) told_is.0.tree n here.0 (held_of r.state [])) it.is.seen (at_hand_there told_is.0 told_is.1)) in
-      subst (λ (n : ℕ). HasTold (job_of r.state.job) s o old new n (counted (counts_with finding counts) r)) (sym (ap (λ (p : Phase). told_at p it.count) here.1)) (
+      subst (λ (n : ℕ). HasTold (job_of r.state.job) s o old new n (counted (counts_with finding counts) r)) (sym (ap (λ (p : Phase). items_through p it.count) here.1)) (
         had.0 ++ text,
         put_behind old had.0 text now new had.1 puts,
         subst (λ (k : Counts). Told (job_of r.state.job) s o (suc it.count) (had.0 ++ text) k) (counts_are finding)
@@ -454,7 +455,7 @@ first_step job told source root first counts r new it none = record {
   count = 0;
   is = it;
   so_far = λ s e o f old g.
-      subst (λ (n : ℕ). HasTold (job_of r.state.job) s o old first n (counted counts r)) (sym (ap (λ (p : Phase). told_at p 0) new.phase))
+      subst (λ (n : ℕ). HasTold (job_of r.state.job) s o old first n (counted counts r)) (sym (ap (λ (p : Phase). items_through p 0) new.phase))
       ([], g ∙ ap (λ l. Some l) (sym (append-nil old)), subst (λ (k : Counts). Told (job_of r.state.job) s o 0 [] k) (sym same) Nothing);
   opened = λ later. absurd (true≢false (sym (ap is_before_store new.phase) ∙ later));
 }

@@ -5,7 +5,8 @@ use Rattle.std.specs.Option.{ForSome}
 use Rattle.std.specs.Io.KnownBytes.{Appends}
 use Rattle.std.proofs.Math.Seq.{take-append-add}
 use Rattle.std.proofs.lemmas.List.{append_cancel_left, take_all}
-use Rattle.pt_audit.specs.Auditing.{AllToldAs, AuditStart, EndsAs, FrontToldAs, IsFoundAtHand, IsOfItems, IsSeen, IsTwinAtHand, IsUnderWay, LogsAs, Next, OfItems, Passes, StopsSeen, TellsItems, TellsOf, Told, WithEnd, counted, last_text, start_over, told_at}
+use Rattle.pt_audit.specs.Auditing.{AllToldAs, AuditStart, EndsAs, FrontToldAs, IsFoundAtHand, IsOfItems, IsSeen, IsTwinAtHand, IsUnderWay, LogsAs, Next, OfItems, Passes, StopsSeen, TellsItems, TellsOf, Told, WithEnd, counted, last_text, start_over}
+use Rattle.pt_invariant.specs.RunInvariant.{items_through}
 use Rattle.pt_audit.specs.Counting.{counts_with}
 use Rattle.pt_audit.specs.Lines as audit
 use Rattle.pt_audit.specs.declared.auditing.Audited.{Audited}
@@ -77,7 +78,7 @@ pub step_stops : (told : Option Reading) (root : Option Forest) (first now new :
 step_stops told root first now new counts before stops it = λ s e r f old g.
     by s r old (stops it.count it.is s e) (it.so_far s e r f old g)
   where
-    by : (s r : Forest) (old : List ℕ) → StopsAt (job_of before.state.job) s it.count before.phase now new → HasTold (job_of before.state.job) s r old now (told_at before.phase it.count) (counted counts before) → HasFront (job_of before.state.job) s r old new
+    by : (s r : Forest) (old : List ℕ) → StopsAt (job_of before.state.job) s it.count before.phase now new → HasTold (job_of before.state.job) s r old now (items_through before.phase it.count) (counted counts before) → HasFront (job_of before.state.job) s r old new
     by s r old (Untold same) (text, told, lines) = front_told (job_of before.state.job) s r old text new (same ∙ told) lines
     by s r old (InSkip looks at why item put) (text, told, lines) =
         front_stopped (job_of before.state.job) s r old before.phase it.count (counted counts before) now new

@@ -71,17 +71,17 @@ pub record AreRows (job : Job) (bytes : Path → List ℕ) (held : Held) : Type 
   pub digests : All (λ row. digest_of job.algorithm (bytes row.path) ≡ row.digest) held.rows
   pub contents : held.contents ≡ map content_of_row (distinct held.rows)
 
--- none is held
-pub record HoldsNoRows (held : Held) : Type 0 where
+-- nothing is held of an object
+pub record HoldsNoObject (held : Held) : Type 0 where
   pub rows : held.rows ≡ []
   pub contents : held.contents ≡ []
 
 -- while an object is under way they are those of its files, before it is entered and between objects there are none, and of a run that has ended nothing is said
 abbrev pub RowsAt : Job → (Path → List ℕ) → Phase → Held → Type 0
-RowsAt job bytes (phase.Carrying object stage.Open) held = HoldsNoRows held
+RowsAt job bytes (phase.Carrying object stage.Open) held = HoldsNoObject held
 RowsAt job bytes (phase.Carrying object _) held = AreRows job bytes held
 RowsAt job bytes phase.Ended held = ⊤
-RowsAt job bytes _ held = HoldsNoRows held
+RowsAt job bytes _ held = HoldsNoObject held
 
 -- ---- what is behind the rows
 
