@@ -28,7 +28,8 @@ use Rattle.pt_name.specs.declared.identifying.Refusal.TheVariants as refusal
 use Rattle.pt_name.specs.declared.prefix.PrefixFault.TheVariants as prefix
 use Rattle.pt_object.proofs.InventoryIsText.{inventory_is_text}
 use Rattle.pt_object.proofs.ObjectScripts.{in_order_apart, paths_of_rows}
-use Rattle.pt_object.specs.FilePaths.{File, is_logical, part_in_order, paths_of}
+use Rattle.pt_object.specs.FilePaths.{File, paths_of}
+use Rattle.pt_tree.specs.PathOrder.{is_logical, part_in_order}
 use Rattle.pt_object.specs.Inventory.{inventory_text}
 use Rattle.pt_object.specs.Object.{bytes_in, object_of, row_of_file, rows_of}
 use Rattle.pt_object.specs.declared.algorithm.Algorithm.{Algorithm}

@@ -14,7 +14,7 @@ use Rattle.pt_compare.specs.Beside.{OpensStanding, StandsAlike}
 use Rattle.pt_compare.specs.Bytes.{CameNext, TellsEnd, left_in}
 use Rattle.pt_compare.specs.Marks.{inside}
 use Rattle.pt_object.specs.Object.{in_content}
-use Rattle.pt_compare.specs.Root.{is_standing, same_kind, tree_in}
+use Rattle.pt_compare.specs.Root.{is_standing, same_kind}
 use Rattle.pt_move.proofs.Outcomes.{reading_of}
 use Rattle.pt_move.specs.Running.{Running}
 use Rattle.pt_object.specs.declared.table.contents.Content.{Content}
@@ -34,7 +34,7 @@ use Rattle.pt_audit.specs.declared.survey.SurveyEvent.{SurveyEvent}
 use Rattle.pt_audit.specs.declared.survey.SurveyEvent.TheVariants as sight
 use Rattle.pt_tree.specs.Forest.{Dir, File, Forest, Node, Other, as_file, file_at, kind_of, node_at}
 use Rattle.pt_tree.specs.Path.{Path}
-use Rattle.pt_tree.specs.Source.{Reading, after_open}
+use Rattle.pt_tree.specs.Source.{Reading, after_open, tree_in}
 use Rattle.pt_tree.specs.Tree.{Bytes, entry_of, tree_of}
 use Rattle.pt_tree.specs.declared.kind.Kind.TheVariants as kind
 use Rattle.pt_walk.specs.Trail.{names_to}

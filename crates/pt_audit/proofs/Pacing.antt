@@ -17,7 +17,7 @@ use Rattle.pt_compare.specs.Beside.{StandsAlike}
 use Rattle.pt_compare.specs.Bytes.{left_in}
 use Rattle.pt_object.specs.Object.{in_content}
 use Rattle.pt_compare.proofs.Roots.{top_stands}
-use Rattle.pt_compare.specs.Root.{Reads, Stands, tree_in}
+use Rattle.pt_compare.specs.Root.{Reads, Stands}
 use Rattle.pt_move.specs.Running.{Running}
 use Rattle.pt_object.specs.Algorithm.{digest_of}
 use Rattle.pt_object.specs.Contents.{content_of, is_noted, noted}
@@ -46,7 +46,7 @@ use Rattle.pt_audit.specs.declared.survey.SurveyEvent.TheVariants as sight
 use Rattle.pt_tree.specs.Forest.{Forest}
 use Rattle.pt_tree.proofs.Below.{whole_of}
 use Rattle.pt_tree.specs.Path.{Path, rest_below}
-use Rattle.pt_tree.specs.Source.{IsRead, Reading, after_next}
+use Rattle.pt_tree.specs.Source.{IsRead, Reading, after_next, tree_in}
 use Rattle.pt_tree.specs.declared.kind.Kind.TheVariants as kind
 use Rattle.pt_walk.specs.Left.{bytes_at}
 use Rattle.pt_walk.specs.Trail.{names_to}

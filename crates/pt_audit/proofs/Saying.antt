@@ -16,7 +16,7 @@ use Rattle.pt_move.specs.Running.{IsNew, Running}
 use Rattle.pt_move.proofs.Outcomes.{reading_of}
 use Rattle.pt_plan.specs.Store.{has_prefix, is_store}
 use Rattle.pt_plan.specs.Turn.{HasFailed}
-use Rattle.pt_plan.specs.DeviceStates.{Failures, source_tree}
+use Rattle.pt_plan.specs.DeviceStates.{Failures}
 use Rattle.pt_plan.specs.declared.fault.Fault.TheVariants as fault
 use Rattle.pt_plan.specs.declared.phase.Phase.{Phase}
 use Rattle.pt_plan.specs.declared.phase.Opening.TheVariants as opening
@@ -29,7 +29,7 @@ use Rattle.pt_audit.specs.declared.survey.SurveyEvent.{SurveyEvent}
 use Rattle.pt_audit.specs.declared.survey.SurveyEvent.TheVariants as sight
 use Rattle.pt_tree.specs.Failures.{HasRisen}
 use Rattle.pt_tree.specs.Forest.{Forest}
-use Rattle.pt_tree.specs.Source.{Reading}
+use Rattle.pt_tree.specs.Source.{Reading, tree_in}
 
 -- ---- what they say
 
@@ -95,10 +95,10 @@ store_at (phase.Carrying object (stage.Read zero)) is = absurd (cc)
 store_at (phase.Carrying object (stage.Read (suc bytes))) is = absurd (cc)
 store_at _ is = absurd (cc)
 
-pub says_layout : (told : Option Reading) (root : Option Forest) (r : Running) (why : Fault) (old new : ℕ) → (job : own.Job) → job ≡ r.state.job → IsAt told sight.Store r → ForSome root (TellsLayout {T = Unit {0}} (job_of job) (Err why)) → RootFailsAs {T = Unit {0}} (Err why) old new → AuditSays r.state.job (source_tree told) root why
+pub says_layout : (told : Option Reading) (root : Option Forest) (r : Running) (why : Fault) (old new : ℕ) → (job : own.Job) → job ≡ r.state.job → IsAt told sight.Store r → ForSome root (TellsLayout {T = Unit {0}} (job_of job) (Err why)) → RootFailsAs {T = Unit {0}} (Err why) old new → AuditSays r.state.job (tree_in told) root why
 unfolding SaysRightly Surveys
-says_layout told root r fault.Dest old new job same at layout it = says_failed r.state.job (source_tree told) root fault.Dest (failures 0 old 0) (failures 0 new 0) (refl, it, refl)
-says_layout told root r fault.Memory old new job same at layout it = says_failed r.state.job (source_tree told) root fault.Memory (failures 0 old 0) (failures 0 old 0) refl
+says_layout told root r fault.Dest old new job same at layout it = says_failed r.state.job (tree_in told) root fault.Dest (failures 0 old 0) (failures 0 new 0) (refl, it, refl)
+says_layout told root r fault.Memory old new job same at layout it = says_failed r.state.job (tree_in told) root fault.Memory (failures 0 old 0) (failures 0 old 0) refl
 says_layout told root r fault.Target old new job same at layout it = record {
   rightly = (λ s e. started s e at.under_way, λ t e. absurd (cc), λ s t e f. absurd (cc));
   target = λ is. subst (λ (j : own.Job). ForSome root (IsOfAnother (job_of j))) same layout;
@@ -107,7 +107,7 @@ says_layout told root r fault.Target old new job same at layout it = record {
   ended = λ is. absurd (cc);
 }
   where
-    started : (s : Forest) → source_tree told ≡ Some s → (count : ℕ) × IsSurvey told count r → (is_store s ≡ true) × (has_prefix s ≡ true)
+    started : (s : Forest) → tree_in told ≡ Some s → (count : ℕ) × IsSurvey told count r → (is_store s ≡ true) × (has_prefix s ≡ true)
     started s e (count, it) =
         let had = reading_of told e in
         let part = subst (λ (p : Phase). SourcePart (job_of r.state.job) it.past p (string_bytes r.state.prefix) (held_of r.state it.fed) had.0) (store_at r.phase (sym at.saw)) (it.is.source had.0 had.1) in

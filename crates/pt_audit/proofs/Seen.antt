@@ -24,7 +24,8 @@ use Rattle.pt_plan.specs.Run.{Counts, Held}
 use Rattle.pt_plan.specs.Store.{is_store, pairtree_of, prefix_of, sites_of}
 use Rattle.pt_plan.specs.Turn.{Next, Make, Place, Scan, Start, Walk}
 use Rattle.pt_object.proofs.ObjectScripts.{in_order_apart}
-use Rattle.pt_object.specs.FilePaths.{File, part_in_order, row_paths}
+use Rattle.pt_object.specs.FilePaths.{File, row_paths}
+use Rattle.pt_tree.specs.PathOrder.{part_in_order}
 use Rattle.pt_object.specs.Object.{bytes_in, rows_of, stored_files}
 use Rattle.pt_object.specs.declared.rows.Row.{Row}
 use Rattle.pt_plan.specs.TurnMake.{path_of_source}

@@ -7,7 +7,7 @@ use Rattle.pt_name.specs.Tuples.{IsLayout}
 use Rattle.pt_object.specs.Hasher.{HasBeenFed}
 use Rattle.pt_tree.specs.Dest.{Writing}
 use Rattle.pt_tree.specs.Forest.{Forest, is_proper}
-use Rattle.pt_tree.specs.Source.{Reading}
+use Rattle.pt_tree.specs.Source.{Reading, tree_in}
 use Rattle.pt_plan.specs.Answer.{Answer, phase_after}
 use Rattle.pt_plan.specs.Job.{Job}
 use Rattle.pt_plan.specs.Lines.{Done, End, Line, Present, Skipped, is_skipped, line_text}
@@ -17,7 +17,7 @@ use Rattle.pt_plan.specs.Turn.{Did, FailsAtFirst, FailsLater, Next, GoesOn as Tu
 use Rattle.pt_plan.specs.TurnMake as make
 use Rattle.pt_plan.specs.TurnPlace as place
 use Rattle.pt_plan.specs.TurnStart as start
-use Rattle.pt_plan.specs.DeviceStates.{Answers, Calls, Failures, LeavesFront, Puts, DeviceStates, source_tree}
+use Rattle.pt_plan.specs.DeviceStates.{Answers, Calls, Failures, LeavesFront, Puts, DeviceStates}
 use Rattle.pt_plan.specs.declared.fault.Fault.{Fault}
 use Rattle.pt_plan.specs.declared.fault.Fault.TheVariants as fault
 use Rattle.pt_plan.specs.declared.object.Object.{Object}
@@ -48,7 +48,9 @@ use Rattle.pt_move.proofs.Answering.{fed_going, fed_to_end, has_fed, left_by_tur
 use Rattle.pt_move.proofs.Keeping.{keeps_after, tree_stays}
 use Rattle.pt_tree.specs.Failures.{HasRisen}
 use Rattle.pt_audit.specs.EmptyDest.{bare}
-use Rattle.pt_audit.specs.Growing.{BlamesRightly, Grows, Leaves, grows_none}
+use Rattle.pt_audit.specs.Growing.{BlamesRightly, Leaves}
+use Rattle.pt_tree.specs.Log.{Grows}
+use Rattle.pt_tree.proofs.Growing.{grows_none}
 use Rattle.pt_plan.specs.TurnPlace.{done_line}
 use Rattle.pt_audit.specs.Surveying.{WasAtHand, GoesOn, HasAtHand, IsReady, IsSurvey, IsWithinWork, SurveySays, is_at_hand, is_of_dest, Leads, Nothing, Skips, Sees, Surveys, is_looking, is_of_survey, no_start, passed, source_alone}
 use Rattle.pt_audit.proofs.Alone.{counted_alone, no_change, no_line}
@@ -265,7 +267,7 @@ module _ (here : Phase) (s s' : State) (told told' : Option Reading) (w v : Opti
   alone : Counted → CountedTurn here s s' Old New answer
   alone counted = counted_alone here s s' told told' w v l l' a b c a' b' c' answer counted
 
-  pub tree_of_turn : Surveys told (record { phase = here; state = s }) → Counted → source_tree told' ≡ source_tree told
+  pub tree_of_turn : Surveys told (record { phase = here; state = s }) → Counted → tree_in told' ≡ tree_in told
   unfolding Surveys
   tree_of_turn (count, it) counted = tree_stays here s s' Old New answer (going here it.stands) (began a b c it) (alone counted)
 
@@ -341,7 +343,7 @@ no_end : (why : Fault) → IsOfTurn why → why ≡ fault.Ended → ⊥
 no_end why own is = subst IsOfTurn is own
 
 pub says_of_turn : (here : Phase) (s s' : State) (told told' : Option Reading) (w v : Option Writing) (l l' : Option (List ℕ)) (a c a' c' : ℕ) (why : Fault) → Surveys told (record { phase = here; state = s }) → CountedTurn here s s' (states told w l a 0 c) (states told' v l' a' 0 c') (Err why)
-    → (at : Phase) → SurveySays s.job at (source_tree told) why
+    → (at : Phase) → SurveySays s.job at (tree_in told) why
 unfolding Surveys TurnKeeps CountedTurn Did FailsUnchanged FailsPartway
 says_of_turn here s s' told told' w v l l' a c a' c' why (count, it) counted at = record {
   rightly = (keeps_after here s s' (states told None None a 0 c) (states told' None None a' 0 c') (Err why) (going here it.stands) (counted_alone here s s' told told' w v l l' a 0 c a' 0 c' (Err why) counted) no_start (is_begun a 0 c it)).says.says;
@@ -357,7 +359,7 @@ says_of_turn here s s' told told' w v l l' a c a' c' why (count, it) counted at 
 
 -- what is held after it
 pub bound_of_turn : (here : Phase) (s s' : State) (told told' : Option Reading) (w v : Option Writing) (l l' : Option (List ℕ)) (a b c a' b' c' : ℕ) (answer : Answer) → Surveys told (record { phase = here; state = s }) → CountedTurn here s s' (states told w l a b c) (states told' v l' a' b' c') answer
-    → HoldsWithinBound s.job (source_tree told) s'
+    → HoldsWithinBound s.job (tree_in told) s'
 unfolding Surveys TurnKeeps
 bound_of_turn here s s' told told' w v l l' a b c a' b' c' answer (count, it) counted =
     (keeps_after here s s' (states told None None a b c) (states told' None None a' b' c') answer (going here it.stands) (counted_alone here s s' told told' w v l l' a b c a' b' c' answer counted) no_start (is_begun a b c it)).bound
@@ -452,7 +454,7 @@ new_survey r job new layout told proper = record {
     run_is = λ i. record { phase = new.phase i; kept = new.kept i }
 
 -- a step that isn't made
-pub says_no_turn : (told : Option Reading) (r : Running) → Surveys told r → r.state.job.limits.turns ≤ r.state.counts.turns → SurveySays r.state.job r.phase (source_tree told) fault.Turns
+pub says_no_turn : (told : Option Reading) (r : Running) → Surveys told r → r.state.job.limits.turns ≤ r.state.counts.turns → SurveySays r.state.job r.phase (tree_in told) fault.Turns
 unfolding Surveys SaysRightly
 says_no_turn told r (count, it) most = record {
   rightly = (λ s e. tt, λ t e. absurd (cc), λ s t e f. absurd (cc));
@@ -462,7 +464,7 @@ says_no_turn told r (count, it) most = record {
 }
 
 -- nor is one where all was seen
-pub says_ended : (told : Option Reading) (r : Running) (here : Phase) → here ≡ r.phase → Surveys told r → (here ≡ phase.Ended) ⊎ (here ≡ phase.End) → SurveySays r.state.job r.phase (source_tree told) fault.Ended
+pub says_ended : (told : Option Reading) (r : Running) (here : Phase) → here ≡ r.phase → Surveys told r → (here ≡ phase.Ended) ⊎ (here ≡ phase.End) → SurveySays r.state.job r.phase (tree_in told) fault.Ended
 unfolding Surveys SaysRightly
 says_ended told r here same (count, it) (inl ended) = absurd (going r.phase it.stands (sym same ∙ ended))
 says_ended told r here same (count, it) (inr end) = record {

@@ -3,12 +3,12 @@ use Rattle.std.proofs.Common.{◌≡◌, ◌≢◌, arith, ℕ, true, false, Lis
 use Rattle.std.specs.Prelude.{◌<◌, Option, Ok}
 use Rattle.std.proofs.lemmas.Bool.{true≢false}
 use Rattle.pt_tree.specs.Dest.{Writing}
-use Rattle.pt_tree.specs.Source.{Reading}
+use Rattle.pt_tree.specs.Source.{Reading, tree_in}
 use Rattle.pt_plan.specs.Job.{Job}
 use Rattle.pt_plan.specs.Run.{Counts, Held, Kept}
 use Rattle.pt_plan.specs.Turn.{Next, GoesOn as TurnGoesOn, Make, Place, Scan, Start, Turn, Walk}
 use Rattle.pt_plan.specs.TurnStart as start
-use Rattle.pt_plan.specs.DeviceStates.{Calls, source_tree}
+use Rattle.pt_plan.specs.DeviceStates.{Calls}
 use Rattle.pt_plan.specs.declared.phase.Phase.{Phase}
 use Rattle.pt_plan.specs.declared.phase.Opening.TheVariants as opening
 use Rattle.pt_plan.specs.declared.phase.Phase.TheVariants as phase
@@ -39,7 +39,7 @@ opens _ is _ = absurd (true≢false (sym is))
 
 module _ (here next : Phase) (s s' : State) (told told' : Option Reading) (w v : Option Writing) (l l' : Option (List ℕ)) (a b c a' b' c' : ℕ) where
   steps_there : Surveys told (record { phase = here; state = s }) → s.counts.turns < s.job.limits.turns → CountedTurn here s s' (states told w l a b c) (states told' v l' a' b' c') (Ok next)
-      → Steps (source_tree told) (record { phase = here; state = s }) (record { phase = passed next; state = s' })
+      → Steps (tree_in told) (record { phase = here; state = s }) (record { phase = passed next; state = s' })
   unfolding Surveys CountedTurn
   steps_there (count, it) more counted =
       let under_way : Surveys told (record { phase = here; state = s }) = (count, it) in
@@ -58,5 +58,5 @@ module _ (here next : Phase) (s s' : State) (told told' : Option Reading) (w v :
       by (TurnGoesOn calls _ follows did counts) is = opens here is follows
 
   pub step_steps : (at : Phase) → at ≡ passed next → IsReady told here s → CountedTurn here s s' (states told w l a b c) (states told' v l' a' b' c') (Ok next)
-      → Steps (source_tree told) (record { phase = here; state = s }) (record { phase = at; state = s' })
-  step_steps at is ready counted = subst (λ (p : Phase). Steps (source_tree told) (record { phase = here; state = s }) (record { phase = p; state = s' })) (sym is) (steps_there ready.under_way ready.within counted)
+      → Steps (tree_in told) (record { phase = here; state = s }) (record { phase = at; state = s' })
+  step_steps at is ready counted = subst (λ (p : Phase). Steps (tree_in told) (record { phase = here; state = s }) (record { phase = p; state = s' })) (sym is) (steps_there ready.under_way ready.within counted)

@@ -5,10 +5,10 @@ use Rattle.std.specs.Option.{ForSome}
 use Rattle.std.proofs.lemmas.Bool.{true≢false}
 use Rattle.pt_tree.specs.Dest.{IsKindAt, Writing}
 use Rattle.pt_tree.specs.Forest.{Forest}
-use Rattle.pt_tree.specs.Source.{IsRead, Reading, after_next}
+use Rattle.pt_tree.specs.Source.{IsRead, Reading, after_next, tree_in}
 use Rattle.pt_walk.specs.Trail.{is_trail}
 use Rattle.pt_plan.specs.Answer.{Answer}
-use Rattle.pt_plan.specs.DeviceStates.{Answers, Calls, Changes, LeavesFront, Puts, WasFound, WasRead, source_tree}
+use Rattle.pt_plan.specs.DeviceStates.{Answers, Calls, Changes, LeavesFront, Puts, WasFound, WasRead}
 use Rattle.pt_plan.specs.Job.{Job}
 use Rattle.pt_plan.specs.Lines.{Line}
 use Rattle.pt_plan.specs.Run.{Counts, Held, Kept, turning}
@@ -88,7 +88,7 @@ refused_untold is (Place turn) put = absurd (true≢false (sym is ∙ placing_is
 -- ---- of a step
 
 looks_halted : (here : Phase) (why : Fault) (s s' : State) (told told' : Option Reading) (v : Option Writing) (l l' : Option (List ℕ)) (a b c a' b' c' : ℕ) (count : ℕ) → is_looking here ≡ true → IsSurvey told count (record { phase = here; state = s })
-    → CountedTurn here s s' (states told (Some bare) l a b c) (states told' v l' a' b' c') (Err why) → ForSome (source_tree told) (λ f. StopsAt (job_of s.job) f count here l l')
+    → CountedTurn here s s' (states told (Some bare) l a b c) (states told' v l' a' b' c') (Err why) → ForSome (tree_in told) (λ f. StopsAt (job_of s.job) f count here l l')
 unfolding CountedTurn Did FailsUnchanged FailsPartway
 looks_halted here why s s' told told' v l l' a b c a' b' c' count looking it counted = λ f e.
     let had = reading_of told e in
@@ -103,18 +103,18 @@ looks_halted here why s s' told told' v l l' a b c a' b' c' count looking it cou
 
 module _ (here : Phase) (why : Fault) (s s' : State) (told told' : Option Reading) (v : Option Writing) (l l' : Option (List ℕ)) (a c a' c' : ℕ) (answer : Answer) where
   pub halt_stops : (count : ℕ) → answer ≡ Err why → is_looking here ≡ true → CountedTurn here s s' (states told (Some bare) l a 0 c) (states told' v l' a' 0 c') (Err why) → IsSurvey told count (record { phase = here; state = s })
-      → OnErr answer (ForSome (source_tree told) (λ f. StopsAt (job_of s.job) f count here l l'))
+      → OnErr answer (ForSome (tree_in told) (λ f. StopsAt (job_of s.job) f count here l l'))
   halt_stops count is looking counted it =
-      subst (λ (r : Answer). OnErr r (ForSome (source_tree told) (λ f. StopsAt (job_of s.job) f count here l l'))) (sym is)
+      subst (λ (r : Answer). OnErr r (ForSome (tree_in told) (λ f. StopsAt (job_of s.job) f count here l l'))) (sym is)
       (looks_halted here why s s' told told' v l l' a 0 c a' 0 c' count looking it counted)
 
 -- so it is of a survey that is seen so
 pub halt_seen : {T : Type 0} (answer : Result T Fault) (why : Fault) (told : Option Reading) (l l' : Option (List ℕ)) (here : Phase) (s : State) (r : Running) → answer ≡ Err why → here ≡ r.phase → s ≡ r.state
-    → ((count : ℕ) → IsSurvey told count (record { phase = here; state = s }) → ForSome (source_tree told) (λ f. StopsAt (job_of s.job) f count here l l'))
-    → (count : ℕ) → IsSurvey told count r → OnErr answer (ForSome (source_tree told) (λ f. StopsAt (job_of r.state.job) f count r.phase l l'))
+    → ((count : ℕ) → IsSurvey told count (record { phase = here; state = s }) → ForSome (tree_in told) (λ f. StopsAt (job_of s.job) f count here l l'))
+    → (count : ℕ) → IsSurvey told count r → OnErr answer (ForSome (tree_in told) (λ f. StopsAt (job_of r.state.job) f count r.phase l l'))
 halt_seen {T} answer why told l l' here s r is at state stops count it =
-    subst (λ (a : Result T Fault). OnErr a (ForSome (source_tree told) (λ f. StopsAt (job_of r.state.job) f count r.phase l l'))) (sym is)
-    (subst (λ (x : Running). ForSome (source_tree told) (λ f. StopsAt (job_of x.state.job) f count x.phase l l')) same (stops count (subst (IsSurvey told count) (sym same) it)))
+    subst (λ (a : Result T Fault). OnErr a (ForSome (tree_in told) (λ f. StopsAt (job_of r.state.job) f count r.phase l l'))) (sym is)
+    (subst (λ (x : Running). ForSome (tree_in told) (λ f. StopsAt (job_of x.state.job) f count x.phase l l')) same (stops count (subst (IsSurvey told count) (sym same) it)))
   where
     same : record { phase = here; state = s } ≡ r
     same = λ i. record { phase = at i; state = state i }

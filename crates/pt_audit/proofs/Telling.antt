@@ -7,7 +7,8 @@ use Rattle.std.specs.Io.KnownBytes.{Appends}
 use Rattle.std.proofs.lemmas.Bool.{true≢false}
 use Rattle.std.proofs.lemmas.List.{drop-map}
 use Rattle.std.proofs.lemmas.Option.{slice_get-get_or}
-use Rattle.pt_audit.specs.Auditing.{AllToldAs, AuditStart, CanCompare, EndsAs, Finds, GoesOn as AuditGoesOn, HasSeenAll, IsAllTold, IsAuditLog, Nothing, HasToldOf, IsAt, IsFoundAtHand, IsFoundOf, IsSeen, IsTwinAtHand, IsUnderWay, CanGoOn, Leads, Next, is_told, Passes, TellsOf, Told, counted, last_text, sought, sought_at_hand, start_over, told_at}
+use Rattle.pt_audit.specs.Auditing.{AllToldAs, AuditStart, CanCompare, EndsAs, Finds, GoesOn as AuditGoesOn, HasSeenAll, IsAllTold, IsAuditLog, Nothing, HasToldOf, IsAt, IsFoundAtHand, IsFoundOf, IsSeen, IsTwinAtHand, IsUnderWay, CanGoOn, Leads, Next, is_told, Passes, TellsOf, Told, counted, last_text, sought, sought_at_hand, start_over}
+use Rattle.pt_invariant.specs.RunInvariant.{items_through}
 use Rattle.pt_audit.specs.Counting.{counts_with, no_counts}
 use Rattle.pt_audit.specs.Layout.{IsOfLayout}
 use Rattle.pt_audit.specs.Twin.{is_differing, is_twin}
@@ -24,7 +25,8 @@ use Rattle.pt_move.specs.Running.{IsNew, Running, run_of}
 use Rattle.pt_move.proofs.Outcomes.{reading_of}
 use Rattle.pt_name.specs.Place.{place_of}
 use Rattle.pt_object.specs.Distinct.{content_of_row, distinct}
-use Rattle.pt_object.specs.FilePaths.{part_in_order, row_paths}
+use Rattle.pt_object.specs.FilePaths.{row_paths}
+use Rattle.pt_tree.specs.PathOrder.{part_in_order}
 use Rattle.pt_object.specs.Inventory.{inventory_text}
 use Rattle.pt_object.specs.Object.{bytes_in, rows_of, stored_files}
 use Rattle.pt_object.specs.declared.rows.Row.{Row}
@@ -37,7 +39,7 @@ use Rattle.pt_plan.specs.Store.{prefix_of, sites_of}
 use Rattle.pt_plan.specs.TurnPlace.{bytes_in_rows, done_line}
 use Rattle.pt_plan.specs.TurnMake.{path_of_source}
 use Rattle.pt_plan.specs.TurnWalk.{in_pairtree, in_root}
-use Rattle.pt_plan.specs.DeviceStates.{Puts, source_tree}
+use Rattle.pt_plan.specs.DeviceStates.{Puts}
 use Rattle.pt_plan.specs.declared.fault.Fault.{Fault}
 use Rattle.pt_plan.specs.declared.object.Object.{Object}
 use Rattle.pt_plan.specs.declared.phase.Part.TheVariants as part
@@ -57,7 +59,7 @@ use Rattle.pt_audit.proofs.Seen.{has_at_hand}
 use Rattle.pt_tree.specs.Failures.{greatest_count}
 use Rattle.pt_tree.specs.Forest.{Forest, file_at}
 use Rattle.pt_tree.specs.Path.{Path}
-use Rattle.pt_tree.specs.Source.{CanOpen, Reading}
+use Rattle.pt_tree.specs.Source.{CanOpen, Reading, tree_in}
 use Rattle.pt_walk.specs.Left.{bytes_at}
 use Rattle.pt_walk.specs.Trail.{trail_path}
 
@@ -72,15 +74,15 @@ object_at_hand (phase.Opening opening.OpenRoot) is = absurd (cc)
 object_at_hand _ is = absurd (cc)
 
 -- where none is at hand, of the items that were seen is told
-told_there : (here : Phase) (count : ℕ) (what : SurveyEvent) → sight_at here ≡ what → is_told what ≡ false → told_at here count ≡ count
+told_there : (here : Phase) (count : ℕ) (what : SurveyEvent) → sight_at here ≡ what → is_told what ≡ false → items_through here count ≡ count
 told_there (phase.Carrying object stage.Line) count what is more = absurd (true≢false (ap is_told is ∙ more))
 told_there _ count what is more = refl
 
-told_store : (here : Phase) (count : ℕ) → sight_at here ≡ sight.Store → told_at here count ≡ count
+told_store : (here : Phase) (count : ℕ) → sight_at here ≡ sight.Store → items_through here count ≡ count
 told_store (phase.Carrying object stage.Line) count is = absurd (cc)
 told_store _ count is = refl
 
-pub looking_told : (here : Phase) (count : ℕ) → is_looking here ≡ true → told_at here count ≡ count
+pub looking_told : (here : Phase) (count : ℕ) → is_looking here ≡ true → items_through here count ≡ count
 looking_told (phase.Carrying object stage.Line) count is = absurd (cc)
 looking_told _ count is = refl
 
@@ -112,7 +114,7 @@ HasTold job source root old now n counts = (text : List ℕ) × (now ≡ Some (o
 
 -- with what a step saw
 saw_on : (job : Job) (source root : Forest) (old : List ℕ) {here : Phase} {held : Held} (count next : ℕ) (counts : Counts) (skipped : ℕ) {line : Option Line} (now new : Option (List ℕ)) → Sees job source count here held line next → Puts line now new → skipped ≡ counts.skipped + count_by is_skipped (option_to_list line)
-    → HasTold job source root old now (told_at here count) counts → HasTold job source root old new next (record counts { skipped = skipped })
+    → HasTold job source root old now (items_through here count) counts → HasTold job source root old new next (record counts { skipped = skipped })
 unfolding Puts
 saw_on job source root old {here} count next counts skipped now new (SeesNothing looks) puts skips (text, told, lines) = (
   text,
@@ -151,7 +153,7 @@ saw_on job source root old count next counts skipped now new (WasAtHand it) puts
     same_skips is = omega (arith, is)
 
 -- a step of the survey was made
-pub seen_after : (told told' : Option Reading) (source root : Option Forest) (first now new : Option (List ℕ)) (counts : Counts) (before after : Running) → source_tree told ≡ source → (is_before_store before.phase ≡ true → is_before_sites after.phase ≡ true)
+pub seen_after : (told told' : Option Reading) (source root : Option Forest) (first now new : Option (List ℕ)) (counts : Counts) (before after : Running) → tree_in told ≡ source → (is_before_store before.phase ≡ true → is_before_sites after.phase ≡ true)
     → (it : IsUnderWay told (start_over source root first) now counts before) → GoesOn (told, now) (told', new) it.count before after → IsSeen told' (start_over source root first) new counts after
 seen_after told told' source root first now new counts before after same order it on = record {
   count = on.next;
@@ -196,7 +198,7 @@ goes_on_store now counts r is layout it = record {
 -- ---- the object at hand
 
 -- a survey at an object stands so over any source that tells this tree
-source_again : {told again : Option Reading} {r : Running} {count : ℕ} → sight_at r.phase ≡ sight.Object → source_tree again ≡ source_tree told → IsSurvey told count r → IsSurvey again count r
+source_again : {told again : Option Reading} {r : Running} {count : ℕ} → sight_at r.phase ≡ sight.Object → tree_in again ≡ tree_in told → IsSurvey told count r → IsSurvey again count r
 source_again {told} {again} {r} {count} is same it = record {
   fed = it.fed;
   was = it.was;
@@ -231,7 +233,7 @@ source_again {told} {again} {r} {count} is same it = record {
     with_tree s had same part = subst (λ (t : Forest). PartAt (phase.Carrying here.0 stage.Line) (record { tree = t; unread = s.unread })) same
         (record { proper = part.proper; at = part.at; bytes = part.bytes; few = part.few })
 
-pub surveys_again : (told again : Option Reading) (r : Running) → sight_at r.phase ≡ sight.Object → source_tree again ≡ source_tree told → Surveys told r → Surveys again r
+pub surveys_again : (told again : Option Reading) (r : Running) → sight_at r.phase ≡ sight.Object → tree_in again ≡ tree_in told → Surveys told r → Surveys again r
 unfolding Surveys
 surveys_again told again r is same (count, it) = (count, source_again is same it)
 
@@ -303,18 +305,18 @@ line_so told twin found.Absent = refl
 line_so told twin (found.Differs difference) = refl
 
 -- its line was put, and it is counted
-pub told_object : (told again : Option Reading) (source root : Option Forest) (first now new : Option (List ℕ)) (counts : Counts) (r : Running) (at : hand.ObjectAtHand) (finding : Comparison) (twin : Bool) (text : List ℕ) (job : own.Job) (later : Counts) → job ≡ r.state.job → later ≡ counts_with finding counts → sight_at r.phase ≡ sight.Object → source_tree told ≡ source → source_tree again ≡ source_tree told
+pub told_object : (told again : Option Reading) (source root : Option Forest) (first now new : Option (List ℕ)) (counts : Counts) (r : Running) (at : hand.ObjectAtHand) (finding : Comparison) (twin : Bool) (text : List ℕ) (job : own.Job) (later : Counts) → job ≡ r.state.job → later ≡ counts_with finding counts → sight_at r.phase ≡ sight.Object → tree_in told ≡ source → tree_in again ≡ tree_in told
     → IsHand r (Some at) → IsFoundAtHand job at source root finding → IsTwinAtHand source r at.told.id.now finding twin → text ≡ audit.line_text (audit.line_by (audit.told_of at.told) twin finding) → Appends now new text
     → IsSeen told (start_over source root first) now counts r → IsUnderWay again (start_over source root first) new later r
 told_object told again source root first now new counts r at finding twin text job later job_is counted_is is tree same mine found_there twin_there line puts it = record {
   count = it.count;
   is = source_again is same it.is;
-  so_far = subst (λ (k : Counts). HasToldOf (job_of r.state.job) (start_over source root first) new (told_at r.phase it.count) (counted k r)) (sym counted_is) (λ s e o f old g.
+  so_far = subst (λ (k : Counts). HasToldOf (job_of r.state.job) (start_over source root first) new (items_through r.phase it.count) (counted k r)) (sym counted_is) (λ s e o f old g.
       let told_is = reading_of told (tree ∙ e) in
       let had = it.so_far s e o f old g in
       let item = subst (λ (t : Forest). HasAtHand (job_of r.state.job) t it.count here.0 (held_of r.state [])) told_is.2
       (subst (λ (n : ℕ). HasAtHand (job_of r.state.job) told_is.0.tree n here.0 (held_of r.state [])) it.is.seen (at_hand_there told_is.0 told_is.1)) in
-      subst (λ (n : ℕ). HasTold (job_of r.state.job) s o old new n (counted (counts_with finding counts) r)) (sym (ap (λ (p : Phase). told_at p it.count) here.1)) (
+      subst (λ (n : ℕ). HasTold (job_of r.state.job) s o old new n (counted (counts_with finding counts) r)) (sym (ap (λ (p : Phase). items_through p it.count) here.1)) (
         had.0 ++ text,
         put_behind old had.0 text now new had.1 puts,
         subst (λ (k : Counts). Told (job_of r.state.job) s o (suc it.count) (had.0 ++ text) k) (counts_are finding)
@@ -355,7 +357,7 @@ told_object told again source root first now new counts r at finding twin text j
 
 -- ---- the end
 
-pub seen_all : (told : Option Reading) (source root : Option Forest) (first now : Option (List ℕ)) (counts : Counts) (r : Running) → sight_at r.phase ≡ sight.End → source_tree told ≡ source
+pub seen_all : (told : Option Reading) (source root : Option Forest) (first now : Option (List ℕ)) (counts : Counts) (r : Running) → sight_at r.phase ≡ sight.End → tree_in told ≡ source
     → IsSeen told (start_over source root first) now counts r → HasSeenAll (start_over source root first) now (counted counts r) r
 seen_all told source root first now counts r is tree it = record {
   told = λ s e o f old g.
@@ -429,9 +431,9 @@ on_more now counts r what more at it = goes_on now counts r what (sym at.saw) mo
 pub on_store : {told : Option Reading} {source root : Option Forest} {first : Option (List ℕ)} (now : Option (List ℕ)) (counts : Counts) (r : Running) (job : own.Job) → job ≡ r.state.job → ForSome root (IsOfLayout (job_of job)) → IsAt told sight.Store r → IsSeen told (start_over source root first) now counts r → IsUnderWay told (start_over source root first) now counts r
 on_store {root} now counts r job same layout at it = goes_on_store now counts r (sym at.saw) (subst (λ (j : own.Job). ForSome root (IsOfLayout (job_of j))) same layout) it
 
-pub on_end : (told : Option Reading) (what : SurveyEvent) (root : Option Forest) (first now : Option (List ℕ)) (counts : Counts) (r : Running) → what ≡ sight.End → IsAt told what r → IsSeen told (start_over (source_tree told) root first) now counts r
-    → HasSeenAll (start_over (source_tree told) root first) now (counted counts r) r
-on_end told what root first now counts r end at it = seen_all told (source_tree told) root first now counts r (sym at.saw ∙ end) refl it
+pub on_end : (told : Option Reading) (what : SurveyEvent) (root : Option Forest) (first now : Option (List ℕ)) (counts : Counts) (r : Running) → what ≡ sight.End → IsAt told what r → IsSeen told (start_over (tree_in told) root first) now counts r
+    → HasSeenAll (start_over (tree_in told) root first) now (counted counts r) r
+on_end told what root first now counts r end at it = seen_all told (tree_in told) root first now counts r (sym at.saw ∙ end) refl it
 
 -- ---- a step, and what was told of it
 
@@ -439,13 +441,13 @@ pub surveys_on : (told told' : Option Reading) (now new : Option (List ℕ)) (be
 unfolding Surveys
 surveys_on told told' now new before after (count, it) on = let later = on count it in (later.next, later.is)
 
-pub step_told : (more : Bool) (told told' told'' : Option Reading) (root root' : Option Forest) (first now new last : Option (List ℕ)) (counts later : Counts) (before after : Running) → source_tree told' ≡ source_tree told → root' ≡ root → (is_before_store before.phase ≡ true → is_before_sites after.phase ≡ true) → ((count : ℕ) → IsSurvey told count before → GoesOn (told, now) (told', new) count before after)
-    → ((first : Option (List ℕ)) → IsSeen told' (start_over (source_tree told') root' first) new counts after → AuditGoesOn more told'' (start_over (source_tree told') root' first) last later after) → IsUnderWay told (start_over (source_tree told) root first) now counts before → AuditGoesOn more told'' (start_over (source_tree told) root first) last later after
+pub step_told : (more : Bool) (told told' told'' : Option Reading) (root root' : Option Forest) (first now new last : Option (List ℕ)) (counts later : Counts) (before after : Running) → tree_in told' ≡ tree_in told → root' ≡ root → (is_before_store before.phase ≡ true → is_before_sites after.phase ≡ true) → ((count : ℕ) → IsSurvey told count before → GoesOn (told, now) (told', new) count before after)
+    → ((first : Option (List ℕ)) → IsSeen told' (start_over (tree_in told') root' first) new counts after → AuditGoesOn more told'' (start_over (tree_in told') root' first) last later after) → IsUnderWay told (start_over (tree_in told) root first) now counts before → AuditGoesOn more told'' (start_over (tree_in told) root first) last later after
 step_told more told told' told'' root root' first now new last counts later before after same stays order on tells it =
     subst (λ (s : Option Forest). AuditGoesOn more told'' (start_over s root first) last later after) same
-    (subst (λ (t : Option Forest). AuditGoesOn more told'' (start_over (source_tree told') t first) last later after) stays
+    (subst (λ (t : Option Forest). AuditGoesOn more told'' (start_over (tree_in told') t first) last later after) stays
     (tells first (subst (λ (s : Option Forest). IsSeen told' (start_over s root' first) new counts after) (sym same)
-    (subst (λ (t : Option Forest). IsSeen told' (start_over (source_tree told) t first) new counts after) (sym stays) (seen_after told told' (source_tree told) root first now new counts before after refl order it (on it.count it.is))))))
+    (subst (λ (t : Option Forest). IsSeen told' (start_over (tree_in told) t first) new counts after) (sym stays) (seen_after told told' (tree_in told) root first now new counts before after refl order it (on it.count it.is))))))
 
 -- an audit that is to begin
 pub first_step : (job : own.Job) (told : Option Reading) (source root : Option Forest) (first : Option (List ℕ)) (counts : Counts) (r : Running) → IsNew job r → IsSurvey told 0 r → counts ≡ no_counts → IsUnderWay told (start_over source root first) first counts r
@@ -453,7 +455,7 @@ first_step job told source root first counts r new it none = record {
   count = 0;
   is = it;
   so_far = λ s e o f old g.
-      subst (λ (n : ℕ). HasTold (job_of r.state.job) s o old first n (counted counts r)) (sym (ap (λ (p : Phase). told_at p 0) new.phase))
+      subst (λ (n : ℕ). HasTold (job_of r.state.job) s o old first n (counted counts r)) (sym (ap (λ (p : Phase). items_through p 0) new.phase))
       ([], g ∙ ap (λ l. Some l) (sym (append-nil old)), subst (λ (k : Counts). Told (job_of r.state.job) s o 0 [] k) (sym same) Nothing);
   opened = λ later. absurd (true≢false (sym (ap is_before_store new.phase) ∙ later));
 }

@@ -5,7 +5,8 @@ use Rattle.std.specs.Option.{ForSome}
 use Rattle.std.specs.Io.KnownBytes.{Appends}
 use Rattle.std.proofs.Math.Seq.{take-append-add}
 use Rattle.std.proofs.lemmas.List.{append_cancel_left, take_all}
-use Rattle.pt_audit.specs.Auditing.{AllToldAs, AuditStart, EndsAs, FrontToldAs, IsFoundAtHand, IsOfItems, IsSeen, IsTwinAtHand, IsUnderWay, LogsAs, Next, OfItems, Passes, StopsSeen, TellsItems, TellsOf, Told, WithEnd, counted, last_text, start_over, told_at}
+use Rattle.pt_audit.specs.Auditing.{AllToldAs, AuditStart, EndsAs, FrontToldAs, IsFoundAtHand, IsOfItems, IsSeen, IsTwinAtHand, IsUnderWay, LogsAs, Next, OfItems, Passes, StopsSeen, TellsItems, TellsOf, Told, WithEnd, counted, last_text, start_over}
+use Rattle.pt_invariant.specs.RunInvariant.{items_through}
 use Rattle.pt_audit.specs.Counting.{counts_with}
 use Rattle.pt_audit.specs.Lines as audit
 use Rattle.pt_audit.specs.declared.auditing.Audited.{Audited}
@@ -19,14 +20,13 @@ use Rattle.pt_invariant.proofs.source.InPairtree.{some_same}
 use Rattle.pt_move.specs.Running.{Running}
 use Rattle.pt_plan.specs.Job.{Job}
 use Rattle.pt_plan.specs.Lines.{Line, Skipped, line_text}
-use Rattle.pt_plan.specs.DeviceStates.{source_tree}
 use Rattle.pt_plan.specs.declared.fault.Fault.{Fault}
 use Rattle.pt_plan.specs.declared.phase.Phase.{Phase}
 use Rattle.pt_state.specs.States.{job_of}
 use Rattle.pt_state.specs.declared.job.Job as own
 use Rattle.pt_tree.specs.Forest.{Forest}
 use Rattle.pt_tree.specs.Log.{AppendsFront}
-use Rattle.pt_tree.specs.Source.{Reading}
+use Rattle.pt_tree.specs.Source.{Reading, tree_in}
 
 -- ---- over bytes
 
@@ -73,12 +73,12 @@ module _ (job : Job) (source root : Forest) (old : List ℕ) where
 -- ---- over an audit
 
 -- a step of the survey broke off
-pub step_stops : (told : Option Reading) (root : Option Forest) (first now new : Option (List ℕ)) (counts : Counts) (before : Running) → ((count : ℕ) → IsSurvey told count before → ForSome (source_tree told) (λ f. StopsAt (job_of before.state.job) f count before.phase now new))
-    → IsUnderWay told (start_over (source_tree told) root first) now counts before → FrontToldAs (job_of before.state.job) (start_over (source_tree told) root first) new
+pub step_stops : (told : Option Reading) (root : Option Forest) (first now new : Option (List ℕ)) (counts : Counts) (before : Running) → ((count : ℕ) → IsSurvey told count before → ForSome (tree_in told) (λ f. StopsAt (job_of before.state.job) f count before.phase now new))
+    → IsUnderWay told (start_over (tree_in told) root first) now counts before → FrontToldAs (job_of before.state.job) (start_over (tree_in told) root first) new
 step_stops told root first now new counts before stops it = λ s e r f old g.
     by s r old (stops it.count it.is s e) (it.so_far s e r f old g)
   where
-    by : (s r : Forest) (old : List ℕ) → StopsAt (job_of before.state.job) s it.count before.phase now new → HasTold (job_of before.state.job) s r old now (told_at before.phase it.count) (counted counts before) → HasFront (job_of before.state.job) s r old new
+    by : (s r : Forest) (old : List ℕ) → StopsAt (job_of before.state.job) s it.count before.phase now new → HasTold (job_of before.state.job) s r old now (items_through before.phase it.count) (counted counts before) → HasFront (job_of before.state.job) s r old new
     by s r old (Untold same) (text, told, lines) = front_told (job_of before.state.job) s r old text new (same ∙ told) lines
     by s r old (InSkip looks at why item put) (text, told, lines) =
         front_stopped (job_of before.state.job) s r old before.phase it.count (counted counts before) now new
@@ -94,20 +94,20 @@ seen_stops_any (Ok x) told root now counts r = tt
 seen_stops_any (Err why) told root now counts r = λ first it. seen_stops now counts r it
 
 -- after a step of the survey the root couldn't be read as far
-pub follow_stops : (told told' : Option Reading) (root : Option Forest) (first now new : Option (List ℕ)) (counts : Counts) (before after : Running) → source_tree told' ≡ source_tree told → (is_before_store before.phase ≡ true → is_before_sites after.phase ≡ true)
-    → ((count : ℕ) → IsSurvey told count before → GoesOn (told, now) (told', new) count before after) → IsUnderWay told (start_over (source_tree told) root first) now counts before → FrontToldAs (job_of before.state.job) (start_over (source_tree told) root first) new
+pub follow_stops : (told told' : Option Reading) (root : Option Forest) (first now new : Option (List ℕ)) (counts : Counts) (before after : Running) → tree_in told' ≡ tree_in told → (is_before_store before.phase ≡ true → is_before_sites after.phase ≡ true)
+    → ((count : ℕ) → IsSurvey told count before → GoesOn (told, now) (told', new) count before after) → IsUnderWay told (start_over (tree_in told) root first) now counts before → FrontToldAs (job_of before.state.job) (start_over (tree_in told) root first) new
 follow_stops told told' root first now new counts before after same order on it =
     let went = on it.count it.is in
-    subst (λ (j : own.Job). FrontToldAs (job_of j) (start_over (source_tree told) root first) new) went.job
-    (seen_stops new counts after (seen_after told told' (source_tree told) root first now new counts before after refl order it went))
+    subst (λ (j : own.Job). FrontToldAs (job_of j) (start_over (tree_in told) root first) new) went.job
+    (seen_stops new counts after (seen_after told told' (tree_in told) root first now new counts before after refl order it went))
 
 -- a front of the line of the object at hand was put
 pub object_stops : (told : Option Reading) (root : Option Forest) (first now new : Option (List ℕ)) (counts : Counts) (r : Running) (at : ObjectAtHand) (finding : Comparison) (twin : Bool) (text : List ℕ) (job : own.Job) → job ≡ r.state.job → sight_at r.phase ≡ sight.Object
-    → IsHand r (Some at) → IsFoundAtHand job at (source_tree told) root finding → IsTwinAtHand (source_tree told) r at.told.id.now finding twin → text ≡ audit.line_text (audit.line_by (audit.told_of at.told) twin finding) → AppendsFront now new text
-    → IsSeen told (start_over (source_tree told) root first) now counts r → FrontToldAs (job_of r.state.job) (start_over (source_tree told) root first) new
+    → IsHand r (Some at) → IsFoundAtHand job at (tree_in told) root finding → IsTwinAtHand (tree_in told) r at.told.id.now finding twin → text ≡ audit.line_text (audit.line_by (audit.told_of at.told) twin finding) → AppendsFront now new text
+    → IsSeen told (start_over (tree_in told) root first) now counts r → FrontToldAs (job_of r.state.job) (start_over (tree_in told) root first) new
 object_stops told root first now new counts r at finding twin text job job_is is mine found twin_there line put it = λ s e o f old g.
     let had = it.so_far s e o f old g in
-    let would = (told_object told told (source_tree told) root first now (Some ((old ++ had.0) ++ text)) counts r at finding twin text job (counts_with finding counts) job_is refl is refl refl mine found twin_there line (subst (λ (l : Option (List ℕ)). Appends l (Some ((old ++ had.0) ++ text)) text) (sym had.1) refl) it).so_far s e o f old g in
+    let would = (told_object told told (tree_in told) root first now (Some ((old ++ had.0) ++ text)) counts r at finding twin text job (counts_with finding counts) job_is refl is refl refl mine found twin_there line (subst (λ (l : Option (List ℕ)). Appends l (Some ((old ++ had.0) ++ text)) text) (sym had.1) refl) it).so_far s e o f old g in
     front_would (job_of r.state.job) s o old had.0 text would.0 now new had.1 put would.1 (_, _, would.2)
 
 -- ---- what a step of an audit says that breaks off
@@ -124,18 +124,18 @@ same_stops answer why job job' source source' root root' first now is j s o it =
     (subst (λ (t : Option Forest). FrontToldAs (job_of job') (start_over source' t first) now) o it)))
 
 -- a step was made, and of what it came to not all was told
-pub tell_stops : (told told' : Option Reading) (root root' : Option Forest) (first now new last : Option (List ℕ)) (counts : Counts) (before after : Running) → source_tree told' ≡ source_tree told → root' ≡ root → (is_before_store before.phase ≡ true → is_before_sites after.phase ≡ true)
+pub tell_stops : (told told' : Option Reading) (root root' : Option Forest) (first now new last : Option (List ℕ)) (counts : Counts) (before after : Running) → tree_in told' ≡ tree_in told → root' ≡ root → (is_before_store before.phase ≡ true → is_before_sites after.phase ≡ true)
     → ((count : ℕ) → IsSurvey told count before → GoesOn (told, now) (told', new) count before after)
-    → ((first : Option (List ℕ)) → IsSeen told' (start_over (source_tree told') root' first) new counts after → FrontToldAs (job_of after.state.job) (start_over (source_tree told') root' first) last) → IsUnderWay told (start_over (source_tree told) root first) now counts before
-    → FrontToldAs (job_of before.state.job) (start_over (source_tree told) root first) last
+    → ((first : Option (List ℕ)) → IsSeen told' (start_over (tree_in told') root' first) new counts after → FrontToldAs (job_of after.state.job) (start_over (tree_in told') root' first) last) → IsUnderWay told (start_over (tree_in told) root first) now counts before
+    → FrontToldAs (job_of before.state.job) (start_over (tree_in told) root first) last
 tell_stops told told' root root' first now new last counts before after same stays order on stops it =
     let went = on it.count it.is in
-    subst (λ (j : own.Job). FrontToldAs (job_of j) (start_over (source_tree told) root first) last) went.job
-    (subst (λ (t : Option Forest). FrontToldAs (job_of after.state.job) (start_over (source_tree told) t first) last) stays
+    subst (λ (j : own.Job). FrontToldAs (job_of j) (start_over (tree_in told) root first) last) went.job
+    (subst (λ (t : Option Forest). FrontToldAs (job_of after.state.job) (start_over (tree_in told) t first) last) stays
     (subst (λ (t : Option Forest). FrontToldAs (job_of after.state.job) (start_over t root' first) last) same
     (stops first (subst (λ (t : Option Forest). IsSeen told' (start_over t root' first) new counts after) (sym same)
-    (subst (λ (t : Option Forest). IsSeen told' (start_over (source_tree told) t first) new counts after) (sym stays)
-    (seen_after told told' (source_tree told) root first now new counts before after refl order it went))))))
+    (subst (λ (t : Option Forest). IsSeen told' (start_over (tree_in told) t first) new counts after) (sym stays)
+    (seen_after told told' (tree_in told) root first now new counts before after refl order it went))))))
 
 -- ---- what a whole audit says of its log
 

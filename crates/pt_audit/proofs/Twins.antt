@@ -11,11 +11,11 @@ use Rattle.std.proofs.lemmas.List.{drop_more, take-append-drop}
 use Rattle.std.proofs.lemmas.List.Elements.{All-append, All-cons, All-head, All-nil, All-tail, All-weaker}
 use Rattle.std.proofs.lemmas.Str.{IsUtf8-from_ascii, is_utf8-from_IsUtf8}
 use Rattle.std.proofs.lemmas.Str.Ascii.{IsAscii-from_all}
-use Rattle.pt_tree.specs.Forest.{Dir, File, Forest, Node, Other, as_dir, dir, dir_at, file, find, kind_of, listing_at, listing_of, node_at, none, other}
+use Rattle.pt_tree.specs.Forest.{Dir, File, Forest, Node, Other, as_dir, dir_at, find, kind_of, listing_at, listing_of, node_at, none}
 use Rattle.pt_tree.specs.Listing.{Item}
 use Rattle.pt_tree.specs.Name.{AreNames, is_forbidden_name, is_name, name_refusal}
 use Rattle.pt_tree.specs.Path.{Path, last_name, same_path, split_path}
-use Rattle.pt_tree.specs.Source.{IsListed, Reading}
+use Rattle.pt_tree.specs.Source.{IsListed, Reading, tree_in}
 use Rattle.pt_tree.specs.Pieces.{IsRefusal, earlier, first_refusal, names_in}
 use Rattle.pt_tree.specs.declared.kind.Kind.{Kind}
 use Rattle.pt_tree.specs.declared.kind.Kind.TheVariants as kind
@@ -43,7 +43,7 @@ use Rattle.pt_plan.specs.declared.phase.Phase.TheVariants as phase
 use Rattle.pt_plan.specs.declared.phase.Stage.TheVariants as stage
 use Rattle.pt_invariant.specs.SourceInvariant.{SourcePart}
 use Rattle.pt_invariant.proofs.source.InPairtree.{listing_in}
-use Rattle.pt_compare.specs.Root.{Stands, kind_at, same_kind, tree_in}
+use Rattle.pt_compare.specs.Root.{Stands, kind_at, same_kind}
 use Rattle.pt_plan.specs.TurnMake.{common_names}
 use Rattle.pt_compare.specs.declared.difference.Comparison.{Comparison}
 use Rattle.pt_compare.proofs.Listed.{node_in}
@@ -57,6 +57,7 @@ use Rattle.pt_audit.proofs.Telling.{object_at_hand}
 use Rattle.pt_audit.specs.Auditing.{IsTwinAtHand}
 use Rattle.pt_audit.specs.Surveying.{Surveys, sight_at}
 use Rattle.pt_audit.specs.Twin.{has_object, has_object_in, is_differing, is_second, is_twin, object_stands, proper_site}
+use Rattle.pt_plan.proofs.FoundKinds.{kind_listed}
 use Rattle.pt_audit.specs.declared.survey.SurveyEvent.TheVariants as sight
 
 -- ---- the pieces of a cleaned identifier are names
@@ -184,17 +185,6 @@ at_below (n ∷ p) above last is =
     ap (λ (x : List ℕ). cond (length x == 1) at.Last at.Pair) same ∙ sym (last_at n p)
 
 -- ---- what a directory lists
-
-either_kind : (b : Bool) (node : Node) {l : Option Kind} (o : Option Node) → l ≡ option_map kind_of o → cond b (Some (kind_of node)) l ≡ option_map kind_of (cond b (Some node) o)
-either_kind true node o e = refl
-either_kind false node o e = e
-
--- the kind that is listed is that of what stands there
-pub kind_listed : (f : Forest) (n : List ℕ) → kind_in (listing_of f) n ≡ option_map kind_of (find f n)
-kind_listed none n = refl
-kind_listed (file m bytes after) n = either_kind (bytes_eq m n) (File bytes) (find after n) (kind_listed after n)
-kind_listed (other m after) n = either_kind (bytes_eq m n) Other (find after n) (kind_listed after n)
-kind_listed (dir m inside after) n = either_kind (bytes_eq m n) (Dir inside) (find after n) (kind_listed after n)
 
 -- a directory stands there where that is the kind of what does
 standing_dir : (o : Option Kind) → option_map_or (same_kind kind.Dir) o false ≡ is_dir_kind o

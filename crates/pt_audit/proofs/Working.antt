@@ -3,13 +3,13 @@ use Rattle.std.proofs.Common.{◌≡◌, ◌<◌, ◌≤◌, ℕ, zero, suc, Boo
 use Rattle.std.specs.Prelude.{Option, Some, Ok, slice_get}
 use Rattle.std.specs.Option.{ForSome}
 use Rattle.pt_tree.specs.Forest.{Forest}
-use Rattle.pt_tree.specs.Source.{Reading}
+use Rattle.pt_tree.specs.Source.{Reading, tree_in}
 use Rattle.pt_plan.specs.Carried.{Marked}
 use Rattle.pt_plan.specs.Items.{Item, items}
 use Rattle.pt_plan.specs.Job.{Job}
 use Rattle.pt_plan.specs.Run.{Counts, Held, turning}
 use Rattle.pt_plan.specs.Turn.{Next, counted as counted_with}
-use Rattle.pt_plan.specs.DeviceStates.{Answers, Calls, source_tree}
+use Rattle.pt_plan.specs.DeviceStates.{Answers, Calls}
 use Rattle.pt_plan.specs.declared.phase.Part.TheVariants as part
 use Rattle.pt_plan.specs.declared.phase.Phase.{Phase}
 use Rattle.pt_plan.specs.declared.phase.Opening.TheVariants as opening
@@ -87,14 +87,14 @@ module _ {told : Option Reading} {count : ℕ} {r : Running} (it : IsSurvey told
   abbrev Job_of : Job
   Job_of = job_of r.state.job
 
-  pub made : ForSome (source_tree told) (λ s. r.state.counts.turns ≤ work_of_survey Job_of s)
+  pub made : ForSome (tree_in told) (λ s. r.state.counts.turns ≤ work_of_survey Job_of s)
   made = λ s is.
       let reading = reading_of told is in
       let within = it.within reading.0 reading.1 in
       subst (λ (f : Forest). r.state.counts.turns ≤ work_of_survey Job_of f) reading.2 (omega (arith, within))
 
   -- before its end a step is left
-  pub is_left : (r.phase ≡ phase.Ended → ⊥) → ForSome (source_tree told) (λ s. r.state.counts.turns < work_of_survey Job_of s)
+  pub is_left : (r.phase ≡ phase.Ended → ⊥) → ForSome (tree_in told) (λ s. r.state.counts.turns < work_of_survey Job_of s)
   is_left going = λ s is.
       let reading = reading_of told is in
       let within = it.within reading.0 reading.1 in

@@ -10,10 +10,12 @@ use Rattle.pt_audit.specs.declared.counts.Counts.{Counts}
 use Rattle.pt_compare.specs.Found.{IsFound, Sought}
 use Rattle.pt_compare.specs.Marks.{inside}
 use Rattle.pt_compare.specs.declared.difference.Comparison.{Comparison}
+use Rattle.pt_invariant.specs.RunInvariant.{items_through}
 use Rattle.pt_move.specs.Running.{Running}
 use Rattle.pt_name.specs.Place.{place_of}
 use Rattle.pt_object.specs.Distinct.{content_of_row, distinct}
-use Rattle.pt_object.specs.FilePaths.{File, part_in_order, row_paths}
+use Rattle.pt_object.specs.FilePaths.{File, row_paths}
+use Rattle.pt_tree.specs.PathOrder.{part_in_order}
 use Rattle.pt_object.specs.Inventory.{inventory_text}
 use Rattle.pt_object.specs.Object.{bytes_in, rows_of, stored_files}
 use Rattle.pt_plan.specs.Items.{Holds, Item, Named, PairtreeObject, items, outcome}
@@ -21,11 +23,7 @@ use Rattle.pt_plan.specs.Job.{Job}
 use Rattle.pt_plan.specs.Lines.{Done, Line, Skipped, line_by_verdict, line_text}
 use Rattle.pt_plan.specs.Store.{prefix_of}
 use Rattle.pt_plan.specs.TurnWalk.{in_pairtree, in_root}
-use Rattle.pt_plan.specs.DeviceStates.{source_tree}
 use Rattle.pt_plan.specs.declared.fault.Fault.{Fault}
-use Rattle.pt_plan.specs.declared.phase.Phase.{Phase}
-use Rattle.pt_plan.specs.declared.phase.Phase.TheVariants as phase
-use Rattle.pt_plan.specs.declared.phase.Stage.TheVariants as stage
 use Rattle.pt_state.specs.States.{job_of}
 use Rattle.pt_state.specs.declared.job.Job as own
 use Rattle.pt_audit.specs.Twin.{is_differing, is_twin}
@@ -36,7 +34,7 @@ use Rattle.pt_audit.specs.declared.survey.ObjectAtHand.{ObjectAtHand}
 use Rattle.pt_tree.specs.Failures.{greatest_count}
 use Rattle.pt_tree.specs.Forest.{Forest}
 use Rattle.pt_tree.specs.Path.{Path}
-use Rattle.pt_tree.specs.Source.{CanOpen, Reading}
+use Rattle.pt_tree.specs.Source.{CanOpen, Reading, tree_in}
 use Rattle.pt_walk.specs.Left.{bytes_at}
 use Rattle.pt_walk.specs.Trail.{trail_path}
 use Rattle.pt_walk.specs.declared.cause.Cause.{Cause}
@@ -114,11 +112,6 @@ HasToldOf job start now count counts =
 abbrev pub counted : Counts → Running → Counts
 counted counts r = record counts { skipped = r.state.counts.skipped }
 
--- of which items is told between two steps: of the one whose object is at hand too
-abbrev pub told_at : Phase → ℕ → ℕ
-told_at (phase.Carrying object stage.Line) count = suc count
-told_at _ count = count
-
 -- where the root is told, it is one that a run could go on with
 abbrev pub CanGoOn : Option Forest → Running → Type 0
 CanGoOn root r = ForSome root (IsOfLayout (job_of r.state.job))
@@ -143,12 +136,12 @@ pub record IsAt (told : Option Reading) (what : SurveyEvent) (r : Running) : Typ
   pub under_way : Surveys told r
   pub saw : what ≡ sight_at r.phase
 
--- between two steps
+-- between two steps: of the item whose object is at hand is told too
 pub record IsUnderWay (told : Option Reading) (start : AuditStart) (now : Option (List ℕ))
     (counts : Counts) (r : Running) : Type 0 where
   pub count : ℕ
   pub is : IsSurvey told count r
-  pub so_far : HasToldOf (job_of r.state.job) start now (told_at r.phase count) (counted counts r)
+  pub so_far : HasToldOf (job_of r.state.job) start now (items_through r.phase count) (counted counts r)
   pub opened : is_before_store r.phase ≡ false → CanGoOn start.root r
 
 -- what is sought at the place of the object at hand
@@ -265,14 +258,14 @@ LogsAs job source root first now (Err why) = StopsAs job source root first now
 -- where an audit was under way so, the log is left with a front of what is told
 abbrev pub StopsUnderWay : Option Reading → Option Forest → Option (List ℕ) → Counts → Running → Option (List ℕ) → Type 0
 StopsUnderWay told root now counts r new =
-    (first : Option (List ℕ)) → IsUnderWay told (start_over (source_tree told) root first) now counts r
-    → FrontToldAs (job_of r.state.job) (start_over (source_tree told) root first) new
+    (first : Option (List ℕ)) → IsUnderWay told (start_over (tree_in told) root first) now counts r
+    → FrontToldAs (job_of r.state.job) (start_over (tree_in told) root first) new
 
 -- and so where a step was made, and of nothing was told that it came to
 abbrev pub StopsSeen : Option Reading → Option Forest → Option (List ℕ) → Counts → Running → Option (List ℕ) → Type 0
 StopsSeen told root now counts r new =
-    (first : Option (List ℕ)) → IsSeen told (start_over (source_tree told) root first) now counts r
-    → FrontToldAs (job_of r.state.job) (start_over (source_tree told) root first) new
+    (first : Option (List ℕ)) → IsSeen told (start_over (tree_in told) root first) now counts r
+    → FrontToldAs (job_of r.state.job) (start_over (tree_in told) root first) new
 
 -- a step leaves the audit under way, or at its end with these counts
 abbrev pub GoesOn : Bool → Option Reading → AuditStart → Option (List ℕ) → Counts → Running → Type 0

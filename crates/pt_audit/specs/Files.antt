@@ -4,7 +4,7 @@ use Rattle.std.specs.Bool.{MatchBool, OnTrue}
 use Rattle.pt_move.specs.Running.{Running}
 use Rattle.pt_plan.specs.Object.{names_before}
 use Rattle.pt_plan.specs.TurnScan.{ScanStep}
-use Rattle.pt_plan.specs.DeviceStates.{Answers, Calls, source_tree}
+use Rattle.pt_plan.specs.DeviceStates.{Answers, Calls}
 use Rattle.pt_plan.specs.declared.object.Object.{Object}
 use Rattle.pt_plan.specs.declared.phase.Phase.{Phase}
 use Rattle.pt_plan.specs.declared.phase.Phase.TheVariants as phase
@@ -15,7 +15,7 @@ use Rattle.pt_state.specs.declared.state.State.{State}
 use Rattle.pt_audit.specs.Surveying.{Steps, passed, sight_at}
 use Rattle.pt_audit.specs.declared.survey.OpenedFile.{OpenedFile}
 use Rattle.pt_audit.specs.declared.survey.SurveyEvent.{SurveyEvent}
-use Rattle.pt_tree.specs.Source.{Reading}
+use Rattle.pt_tree.specs.Source.{Reading, tree_in}
 use Rattle.pt_walk.specs.Trail.{names_to}
 
 -- an object is opened, its entries are looked at, or a file of it is read
@@ -52,7 +52,7 @@ ScansOn told told' before after =
 
 -- what a step does: it keeps to the measures of a survey, and in an object it makes a turn of a scan
 pub record MakesStep (told told' : Option Reading) (before after : Running) : Type 0 where
-  pub steps : Steps (source_tree told) before after
+  pub steps : Steps (tree_in told) before after
   pub scans : ScansOn told told' before after
 
 -- such a step came to this

@@ -1,38 +1,19 @@
 -- A log in which what stood stands, and which device a step blames.
-use Rattle.std.proofs.Common.{◌≡◌, ◌≢◌, ◌∙◌, ap, append-nil, append_assoc, sym}
-use Rattle.std.specs.Prelude.{ℕ, List, [], ◌++◌, Option, None, Some, IfErr, Result}
-use Rattle.std.specs.Io.KnownBytes.{Appends}
+use Rattle.std.proofs.Common.{◌≡◌, ◌≢◌, ◌∙◌}
+use Rattle.std.specs.Prelude.{ℕ, List, Option, IfErr, Result}
 use Rattle.pt_move.specs.Counting.{Counts}
 use Rattle.pt_plan.specs.declared.fault.Fault.{Fault}
 use Rattle.pt_plan.specs.declared.fault.Fault.TheVariants as fault
-use Rattle.pt_plan.specs.DeviceStates.{DeviceStates, source_tree}
+use Rattle.pt_plan.specs.DeviceStates.{DeviceStates}
 use Rattle.pt_plan.specs.declared.phase.Phase.{Phase}
 use Rattle.pt_state.specs.declared.job.Job.{Job}
 use Rattle.pt_audit.specs.Surveying.{SurveySays}
 use Rattle.pt_compare.specs.Root.{KeepsRoot}
 use Rattle.pt_state.specs.Counting.{AtMostCalls}
-use Rattle.pt_tree.specs.Source.{Reading}
+use Rattle.pt_tree.specs.Log.{Grows}
+use Rattle.pt_tree.specs.Source.{Reading, tree_in}
 use Rattle.pt_tree.specs.declared.log.Log.{Ghosts as OfLog}
 use Rattle.pt_tree.specs.declared.source.Source.{Ghosts as OfSource}
-
--- what stood in a log stands, and bytes may stand behind it
-abbrev pub Grows : Option (List ℕ) → Option (List ℕ) → Type 0
-Grows old new = (more : List ℕ) × Appends old new more
-
--- it does where nothing is put
-pub grows_none : (told : Option (List ℕ)) → Grows told told
-grows_none None = ([], tt)
-grows_none (Some xs) = ([], sym (append-nil xs))
-
--- and where it does twice
-pub grows_on : (a b c : Option (List ℕ)) → Grows a b → Grows b c → Grows a c
-grows_on None b c p q = ([], tt)
-grows_on (Some xs) None c p q = absurd (p.1)
-grows_on (Some xs) (Some ys) None p q = absurd (q.1)
-grows_on (Some xs) (Some ys) (Some zs) p q = (
-  p.0 ++ q.0,
-  q.1 ∙ ap (λ l. l ++ q.0) p.1 ∙ append_assoc xs p.0 q.0,
-)
 
 -- it is the same log still, in which what stood stands
 abbrev pub KeepsLog : {L : Type 0} → (L → Option (List ℕ)) → (L → L → Type 0) → L → L → Type 0
@@ -40,7 +21,7 @@ KeepsLog told keeps old new = keeps old new × Grows (told old) (told new)
 
 -- it is the same source still, with the same tree
 abbrev pub KeepsTree : {S : Type 0} → (S → Option Reading) → (S → S → Type 0) → S → S → Type 0
-KeepsTree told keeps old new = keeps old new × (source_tree (told new) ≡ source_tree (told old))
+KeepsTree told keeps old new = keeps old new × (tree_in (told new) ≡ tree_in (told old))
 
 -- store and root are the same ones still, with their trees
 pub record KeepsSides {S R : Type 0} (tells : S → Option Reading) (keeps : S → S → Type 0)
@@ -74,8 +55,8 @@ pub record BlamesRightly {T : Type 0} (source source' log log' : ℕ) (result : 
 -- what a turn leaves outside, whatever it answers: the source's tree is as it was, the log has grown, devices are blamed rightly, and a refusal is
 -- true and never that it has ended
 pub record Leaves (old new : DeviceStates) (job : Job) (result : Result Phase Fault) : Type 0 where
-  pub tree : source_tree new.source ≡ source_tree old.source
+  pub tree : tree_in new.source ≡ tree_in old.source
   pub grows : Grows old.log new.log
   pub blames : BlamesRightly old.failures.source new.failures.source
       old.failures.log new.failures.log result
-  pub says : IfErr result (λ why. (here : Phase) → SurveySays job here (source_tree old.source) why)
+  pub says : IfErr result (λ why. (here : Phase) → SurveySays job here (tree_in old.source) why)

@@ -9,7 +9,7 @@ use Rattle.pt_audit.specs.declared.root_reader.RootReader.{RootReader}
 use Rattle.pt_compare.specs.Beside.{StandsAlike}
 use Rattle.pt_compare.specs.Marks.{inside}
 use Rattle.pt_object.specs.Object.{in_content}
-use Rattle.pt_compare.specs.Root.{Reads, Stands, tree_in}
+use Rattle.pt_compare.specs.Root.{Reads, Stands}
 use Rattle.pt_move.specs.Running.{Running}
 use Rattle.pt_object.specs.declared.table.contents.Content.{Content}
 use Rattle.pt_plan.specs.TurnScan.{logical_path}
@@ -25,7 +25,7 @@ use Rattle.pt_audit.specs.declared.survey.ObjectAtHand.{ObjectAtHand}
 use Rattle.pt_audit.specs.declared.survey.SurveyEvent.{SurveyEvent}
 use Rattle.pt_tree.specs.Forest.{Forest}
 use Rattle.pt_tree.specs.Path.{Path}
-use Rattle.pt_tree.specs.Source.{Reading}
+use Rattle.pt_tree.specs.Source.{Reading, tree_in}
 use Rattle.pt_tree.specs.Tree.{Bytes}
 use Rattle.pt_tree.specs.declared.kind.Kind.TheVariants as kind
 use Rattle.pt_walk.specs.Left.{bytes_at}

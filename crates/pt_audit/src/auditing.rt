@@ -12,9 +12,9 @@ ghost use Rattle.pt_audit.specs.RootReader.{Begins, Follows, FollowsOn, Saw};
 ghost use Rattle.pt_audit.specs.Bounds.{IsMade, IsMadeFrom, counts_in};
 ghost use Rattle.pt_audit.specs.Failing.{AuditSays, BlamesRightly, FailsAs, TellFails, failures};
 ghost use Rattle.pt_audit.specs.Layout.{IsOfLayout};
-ghost use Rattle.pt_compare.specs.Root.{KeepsRoot, tree_in};
+ghost use Rattle.pt_compare.specs.Root.{KeepsRoot};
+ghost use Rattle.pt_tree.specs.Source.{tree_in};
 ghost use Rattle.pt_state.specs.States.{job_of};
-ghost use Rattle.pt_plan.specs.DeviceStates.{source_tree};
 ghost use Rattle.pt_plan.specs.declared.phase.Phase.TheVariants as phase;
 ghost use Rattle.pt_audit.specs.Growing.{KeepsLog, KeepsSides};
 ghost use Rattle.pt_audit.specs.Surveying.{GoesOn as SurveyGoesOn, IsHand, IsSurvey, Steps, Surveys, sight_at};
@@ -64,9 +64,9 @@ pub fn audit<S: Source, R: Root, L: Log, O: Observer<Counts>>(
     ensures blames { BlamesRightly
         (failures (S.failed source.old) (R.failed root.old) (L.failed log.old))
         (failures (S.failed source.new) (R.failed root.new) (L.failed log.new)) result }
-    ensures says { IfErr result (AuditSays job (source_tree (S.told source.old))
+    ensures says { IfErr result (AuditSays job (tree_in (S.told source.old))
         (tree_in (R.told root.old))) }
-    ensures made { IsMade job (source_tree (S.told source.old)) result }
+    ensures made { IsMade job (tree_in (S.told source.old)) result }
 {
     let audited = audit_objects(alloc, source, root, log, job, observer)?;
     tell_audit_end(alloc, audited.counts, log)
@@ -103,9 +103,9 @@ pub fn audit_objects<S: Source, R: Root, L: Log, O: Observer<Counts>>(
     ensures blames { BlamesRightly
         (failures (S.failed source.old) (R.failed root.old) (L.failed log.old))
         (failures (S.failed source.new) (R.failed root.new) (L.failed log.new)) result }
-    ensures says { IfErr result (AuditSays job (source_tree (S.told source.old))
+    ensures says { IfErr result (AuditSays job (tree_in (S.told source.old))
         (tree_in (R.told root.old))) }
-    ensures made { IsMade job (source_tree (S.told source.old)) (counts_in result) }
+    ensures made { IsMade job (tree_in (S.told source.old)) (counts_in result) }
 {
     let mut auditor = Auditor {
         alloc,
@@ -163,7 +163,7 @@ impl Auditor {
         ensures ends { IfOk result (λ counts. HasSeenAll (start_over (tree_in (S.told source.old))
             (tree_in (R.told root.old)) (L.told log.old)) (L.told log.new) counts self.new.survey
             × (self.new.survey.state.job ≡ self.old.survey.state.job)) }
-        ensures made { IsMadeFrom (source_tree (S.told source.old)) self.old.survey result }
+        ensures made { IsMadeFrom (tree_in (S.told source.old)) self.old.survey result }
         ensures sides { KeepsSides S.told S.keeps R.told R.keeps (source.old, root.old)
             (source.new, root.new) }
         ensures log { KeepsLog L.told L.keeps log.old log.new }
@@ -171,7 +171,7 @@ impl Auditor {
             (failures (S.failed source.old) (R.failed root.old) (L.failed log.old))
             (failures (S.failed source.new) (R.failed root.new) (L.failed log.new)) result }
         ensures says { IfErr result (AuditSays self.old.survey.state.job
-            (source_tree (S.told source.old)) (tree_in (R.told root.old))) }
+            (tree_in (S.told source.old)) (tree_in (R.told root.old))) }
         ensures stops { OnErr result (FrontToldAs (job_of self.old.survey.state.job)
             (start_over (tree_in (S.told source.old)) (tree_in (R.told root.old)) (L.told log.old))
             (L.told log.new)) }
@@ -208,7 +208,7 @@ impl Auditor {
             → IfOk result (λ more. GoesOn more (S.told source.new)
             (start_over (tree_in (S.told source.old)) (tree_in (R.told root.old)) first)
             (L.told log.new) self.new.counts self.new.survey) }
-        ensures still { IfOk result (λ more. Steps (source_tree (S.told source.old))
+        ensures still { IfOk result (λ more. Steps (tree_in (S.told source.old))
             self.old.survey self.new.survey
             × Follows (S.told source.new) (R.told root.new) self.new.beside self.new.survey
             × OnFalse more (self.new.survey.phase ≡ phase.End)
@@ -220,7 +220,7 @@ impl Auditor {
             (failures (S.failed source.old) (R.failed root.old) (L.failed log.old))
             (failures (S.failed source.new) (R.failed root.new) (L.failed log.new)) result }
         ensures says { IfErr result (AuditSays self.old.survey.state.job
-            (source_tree (S.told source.old)) (tree_in (R.told root.old))) }
+            (tree_in (S.told source.old)) (tree_in (R.told root.old))) }
         ensures stops { OnErr result (StopsUnderWay (S.told source.old) (tree_in (R.told root.old))
             (L.told log.old) self.old.counts self.old.survey (L.told log.new)) }
     {
@@ -255,7 +255,7 @@ impl Auditor {
             (failures (S.failed source.old) (R.failed root.old) (L.failed log.old))
             (failures (S.failed source.new) (R.failed root.new) (L.failed log.new)) }
         ensures says { IfErr result (λ why. AuditSays self.now.survey.state.job
-            (source_tree (S.told source.old)) (tree_in (R.told root.old)) why) }
+            (tree_in (S.told source.old)) (tree_in (R.told root.old)) why) }
         ensures stops { OnErr result (StopsSeen (S.told source.old) (tree_in (R.told root.old))
             (L.told log.old) self.now.counts self.now.survey (L.told log.new)) }
     {
@@ -393,7 +393,7 @@ fn see<S: Source, R: Root, L: Log>(
     ensures on { (count : ℕ) → IsSurvey (S.told source.old) count survey.old
         → OnOk result (SurveyGoesOn (S.told source.old, L.told log.old)
         (S.told source.new, L.told log.new) count survey.old survey.new) }
-    ensures saw { IfOk result (λ what. Steps (source_tree (S.told source.old)) survey.old survey.new
+    ensures saw { IfOk result (λ what. Steps (tree_in (S.told source.old)) survey.old survey.new
         × Saw (S.told source.new) (R.told root.new) beside.new what survey.new) }
     ensures sides { KeepsSides S.told S.keeps R.told R.keeps (source.old, root.old)
         (source.new, root.new) }
@@ -402,7 +402,7 @@ fn see<S: Source, R: Root, L: Log>(
         (failures (S.failed source.old) (R.failed root.old) (L.failed log.old))
         (failures (S.failed source.new) (R.failed root.new) (L.failed log.new)) result }
     ensures says { IfErr result (AuditSays survey.old.state.job
-        (source_tree (S.told source.old)) (tree_in (R.told root.old))) }
+        (tree_in (S.told source.old)) (tree_in (R.told root.old))) }
     ensures stops { OnErr result ((counts : Counts) → StopsUnderWay (S.told source.old)
         (tree_in (R.told root.old)) (L.told log.old) counts survey.old (L.told log.new)) }
 {

@@ -9,7 +9,6 @@ ghost use Rattle.pt_move.specs.Bounds.{most_calls};
 ghost use Rattle.pt_move.specs.Running.{IsNew, TypeInvariant};
 ghost use Rattle.pt_plan.specs.Answer.{phase_after};
 ghost use Rattle.pt_audit.specs.Growing.{BlamesRightly, KeepsDevices, KeepsLog, KeepsTree, Leaves};
-ghost use Rattle.pt_plan.specs.DeviceStates.{source_tree};
 ghost use Rattle.pt_state.specs.Counting.{AtMostCalls};
 ghost use Rattle.pt_state.specs.States.{job_of};
 ghost use Rattle.pt_move.specs.Turning.{CountedTurn};
@@ -20,7 +19,7 @@ ghost use Rattle.pt_audit.specs.Surveying.{GoesOn, IsHand, IsReady, IsSurvey, St
 ghost use Rattle.pt_audit.specs.Surveying.{Surveys, bare_states, is_at_hand as is_at_hand_there};
 ghost use Rattle.pt_audit.specs.Surveying.{is_looking, passed as passed_phase, sight_at, unlogged_states};
 ghost use Rattle.pt_tree.specs.Forest.{is_proper};
-ghost use Rattle.pt_tree.specs.Source.{Reading};
+ghost use Rattle.pt_tree.specs.Source.{Reading, tree_in};
 ghost use Rattle.pt_walk.specs.Trail.{trail_path};
 
 use crate::empty_dest::{EmptyDest, NullLog};
@@ -143,9 +142,9 @@ impl Survey {
         ensures blames { BlamesRightly (S.failed source.old) (S.failed source.new)
             (L.failed log.old) (L.failed log.new) result }
         ensures says { IfErr result (SurveySays self.old.state.job self.old.phase
-            (source_tree (S.told source.old))) }
+            (tree_in (S.told source.old))) }
         ensures stops { (count : ℕ) → IsSurvey (S.told source.old) count self.old
-            → OnErr result (ForSome (source_tree (S.told source.old))
+            → OnErr result (ForSome (tree_in (S.told source.old))
             (λ s. StopsAt (job_of self.old.state.job) s count self.old.phase
             (L.told log.old) (L.told log.new))) }
     {
@@ -264,7 +263,7 @@ fn step_phase<S: Source, L: Log>(
         (source.old, log.old) (source.new, log.new) }
     ensures stops { (count : ℕ)
         → IsSurvey (S.told source.old) count (record { phase = here; state = state.old })
-        → OnErr result (ForSome (source_tree (S.told source.old))
+        → OnErr result (ForSome (tree_in (S.told source.old))
         (λ s. StopsAt (job_of state.old.job) s count here (L.told log.old) (L.told log.new))) }
 {
     if is_at_hand(&here) {

@@ -5,21 +5,16 @@ use Rattle.std.proofs.lemmas.List.{length-append, take-append-drop}
 use Rattle.std.specs.Option.{ForSome, option_map}
 use Rattle.std.specs.Prelude.{IsSome, Option, None, Some, unwrap_or}
 use Rattle.pt_check.specs.Counting.{plus, with_bytes}
-use Rattle.pt_check.specs.Visits.{Opens, Seen, TellsIf, counting, size_trouble, tree_in}
+use Rattle.pt_check.specs.Visits.{Opens, Seen, TellsIf, counting, size_trouble}
 use Rattle.pt_check.specs.declared.trouble.Trouble.{Trouble}
 use Rattle.pt_check.specs.declared.trouble.Trouble.TheVariants as trouble
 use Rattle.pt_tree.specs.Failures.{greatest_count}
-use Rattle.pt_tree.specs.Forest.{Forest, file_at, dir_at}
+use Rattle.pt_tree.specs.Forest.{Forest, file_at}
 use Rattle.pt_tree.specs.Path.{Path}
 use Rattle.pt_walk.specs.Left.{bytes_at}
-use Rattle.pt_tree.specs.Source.{Reading, CanList, CanOpen, CanRead, IsRead, after_next, after_open}
+use Rattle.pt_tree.specs.Source.{Reading, CanOpen, CanRead, IsRead, after_next, after_open, tree_in}
 
--- a folder may be listed where it stands in the tree that is told
-pub may_list : (told : Option Reading) (path : Path) → ForSome (tree_in told) (λ tree. IsSome (dir_at tree path)) → CanList told path
-unfolding CanList
-may_list told path there s is = there s.tree (ap tree_in is)
-
--- and a file may be opened
+-- a file may be opened where it stands in the tree that is told
 pub may_open : (told : Option Reading) (path : Path) → ForSome (tree_in told) (λ tree. IsSome (file_at tree path)) → CanOpen told path
 unfolding CanOpen
 may_open told path there s is = there s.tree (ap tree_in is)

@@ -1,23 +1,12 @@
 -- What a check keeps of its source and its log.
-use Rattle.std.proofs.Common.{◌≡◌, ℕ, List, [], ◌++◌, refl, sym, ap, ◌∙◌, subst, append-nil, append_assoc}
-use Rattle.std.specs.Prelude.{Option, None, Some}
-use Rattle.pt_check.specs.Visits.{Keeps, Grows, seen_by, tree_in}
+use Rattle.std.proofs.Common.{◌≡◌, ℕ, List, refl, sym, ap, ◌∙◌, subst}
+use Rattle.std.specs.Prelude.{Option}
+use Rattle.pt_check.specs.Visits.{Keeps, seen_by}
+use Rattle.pt_tree.specs.Log.{Grows}
 use Rattle.pt_check.specs.declared.checking.Check.{Check}
 use Rattle.pt_check.specs.declared.numbers.Numbers.{Numbers}
-use Rattle.pt_tree.specs.Source.{Reading}
-
-grows_none : (told : Option (List ℕ)) → Grows told told
-grows_none None = ([], tt)
-grows_none (Some xs) = ([], sym (append-nil xs))
-
-grows_on : (a b c : Option (List ℕ)) → Grows a b → Grows b c → Grows a c
-grows_on None b c p q = ([], tt)
-grows_on (Some xs) None c p q = absurd (p.1)
-grows_on (Some xs) (Some ys) None p q = absurd (q.1)
-grows_on (Some xs) (Some ys) (Some zs) p q = (
-  p.0 ++ q.0,
-  q.1 ∙ ap (λ l. l ++ q.0) p.1 ∙ append_assoc xs p.0 q.0,
-)
+use Rattle.pt_tree.proofs.Growing.{grows_none, grows_on}
+use Rattle.pt_tree.specs.Source.{Reading, tree_in}
 
 -- and what is kept twice is kept
 pub keeps_on : {S L E : Type 0} (told : S → Option Reading) (keeps : S → S → Type 0) (held : L → Option (List ℕ))

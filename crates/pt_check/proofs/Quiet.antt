@@ -5,7 +5,7 @@ use Rattle.std.proofs.lemmas.List.{length-take, take_all}
 use Rattle.std.specs.Option.{option_and_then, option_map}
 use Rattle.std.specs.Prelude.{◌⊎◌, ⊤, nat_lt, take, unwrap_or}
 use Rattle.std.specs.Str.{is_utf8}
-use Rattle.pt_check.proofs.Visiting.{kind_found}
+use Rattle.pt_plan.proofs.FoundKinds.{kind_listed}
 use Rattle.pt_check.specs.Clean.{AreCleanBytes, IsClean, IsCleanEntry, IsCleanFolder, IsCleanPrefix, IsCleanStore, QuietCheckMeansCleanStore, below_root, file_count}
 use Rattle.pt_check.specs.Counting.{with_bytes, with_entry, with_object, with_object_begun}
 use Rattle.pt_check.specs.Lines.{Told}
@@ -361,7 +361,7 @@ clean_store says wants tree numbers a b checks nothing = by checks.whole checks.
         let root = visited prefix m (is_dir_kind (kind_in (listing_of tree) pairtree_root)) rest in
         let marked = tells_if (version_file ∷ []) (missing (is_file_kind (kind_in (listing_of tree) version_file))) n m version root.2.0 in
         let before : told_by n ≡ 0 = ap told_by (sym marked.1) ∙ root.2.0 in
-        let read = prefix_read (find tree prefix_file) (kind_in (listing_of tree) prefix_file) (bytes_at tree prefix_path) prefix first n (kind_found tree prefix_file) (bytes_found (find tree prefix_file)) reads before in
+        let read = prefix_read (find tree prefix_file) (kind_in (listing_of tree) prefix_file) (bytes_at tree prefix_path) prefix first n (kind_listed tree prefix_file) (bytes_found (find tree prefix_file)) reads before in
         let clean : AreClean (prefix_of tree) = subst AreClean read.2 root.1 in (
           record {
             prefix = read.0;

@@ -1,24 +1,26 @@
 -- The steps of a check through a folder.
-use Rattle.std.proofs.Common.{◌≡◌, ◌≤◌, ◌+◌, ◌-◌, ◌==◌, ℕ, Bool, true, false, suc, zero, List, [], ◌∷◌, ◌++◌, refl, sym, ap, ◌∙◌, subst, arith, length, cond, inl, inr}
+use Rattle.std.proofs.Common.{◌≡◌, ◌≤◌, ◌+◌, ◌-◌, ◌==◌, ℕ, Bool, true, false, List, [], ◌∷◌, ◌++◌, refl, sym, ap, ◌∙◌, subst, length, cond, inl, inr}
 use Rattle.std.proofs.lemmas.Bool.{ne_eqb}
+use Rattle.std.proofs.lemmas.Option.{slice_get_past}
 use Rattle.std.specs.Option.{ForSome, option_and_then, option_map}
-use Rattle.std.specs.Str.{bytes_eq}
-use Rattle.std.specs.Prelude.{◌⊎◌, IsSome, is_some, Option, None, Some, slice_get, unwrap_or}
+use Rattle.std.specs.Prelude.{◌⊎◌, IsSome, is_some, Option, None, Some, slice_get}
 use Rattle.pt_check.specs.Lines.{Told}
-use Rattle.pt_check.specs.Visits.{Begins, Enters, Finds, Folder, Judges, Meets, Opens, OpensIf, Says, Seen, Tells, TellsUnlisted, Visits, VisitsFolder, begun, counting, ended, finding_of, folder_in, has_object, tree_in}
+use Rattle.pt_check.specs.Visits.{Begins, Enters, Finds, Folder, Judges, Meets, Opens, OpensIf, Says, Seen, Tells, TellsUnlisted, Visits, VisitsFolder, begun, counting, ended, finding_of, folder_in, has_object}
 use Rattle.pt_check.specs.Within.{below}
 use Rattle.pt_check.specs.declared.trouble.Trouble.TheVariants as trouble
 use Rattle.pt_check.specs.declared.wants.Wants.{Wants}
 use Rattle.pt_check.specs.declared.within.Within.{Within}
-use Rattle.pt_tree.specs.Forest.{Forest, none, file, other, dir, Node, File, Dir, Other, as_dir, as_file, dir_at, file_at, find, is_proper, kind_of, listing_at, listing_of, node_at}
+use Rattle.pt_tree.specs.Forest.{Forest, Node, File, Dir, Other, as_dir, as_file, dir_at, file_at, find, is_proper, kind_of, listing_at, listing_of, node_at}
 use Rattle.pt_tree.specs.Listing.{Item}
 use Rattle.pt_tree.specs.Path.{Path, joined}
-use Rattle.pt_tree.specs.Source.{Reading, IsListed}
+use Rattle.pt_tree.specs.Source.{Reading, tree_in}
 use Rattle.pt_plan.specs.TurnStart.{is_dir_kind, kind_in}
 use Rattle.pt_tree.specs.declared.kind.Kind.{Kind}
 use Rattle.pt_tree.specs.declared.kind.Kind.TheVariants as kind
 use Rattle.pt_walk.specs.Left.{bytes_at, entries_from, inside_at}
-use Rattle.pt_walk.proofs.Ahead.{dir_ahead, file_ahead, nothing_ahead, other_ahead}
+use Rattle.pt_tree.proofs.Told.{proper_in}
+use Rattle.pt_plan.proofs.FoundKinds.{kind_listed}
+use Rattle.pt_walk.proofs.Ahead.{dir_ahead, dir_stands, file_ahead, inside_lists, nothing_ahead, other_ahead}
 
 -- the tree that is told is proper
 abbrev pub IsProperTold : Option Reading → Type 0
@@ -29,25 +31,7 @@ abbrev pub VisitedTo : Says → Wants → Folder → Bool → Forest → ℕ →
 VisitedTo says wants folder holds top place first now = (last : Seen) → Visits says wants folder holds (entries_from place (inside_at top folder.path)) now last
     → Visits says wants folder holds (inside_at top folder.path) first last
 
--- its listing is that of the tree
-pub listed_in : (told : Option Reading) (path : Path) (items : List Item) → IsListed told path items → ForSome (tree_in told) (λ tree. listing_at tree path ≡ Some items)
-unfolding IsListed
-listed_in None path items listed tree is = absurd (cc)
-listed_in (Some s) path items listed tree is = let same : s.tree ≡ tree = cc in subst (λ (t : Forest). listing_at t path ≡ Some items) same (listed s refl)
-
--- and it is proper
-pub proper_in : (told : Option Reading) → IsProperTold told → ForSome (tree_in told) (λ tree. is_proper tree ≡ true)
-proper_in None proper tree is = absurd (cc)
-proper_in (Some s) proper tree is = let same : s.tree ≡ tree = cc in subst (λ (t : Forest). is_proper t ≡ true) same (proper s refl)
-
--- a folder that is listed stands there
-pub dir_stands : (top : Forest) (path : Path) (items : List Item) (place : ℕ) (name : List ℕ) → is_proper top ≡ true → listing_at top path ≡ Some items
-    → slice_get items place ≡ Some (name, kind.Dir) → IsSome (dir_at top (path ++ name ∷ []))
-dir_stands top path items place name proper listed at =
-    let ahead = dir_ahead top path items place name proper listed at in
-    subst (λ (o : Option Forest). IsSome o) (sym ahead.dir_is) refl
-
--- and a file
+-- a file that is listed stands there
 pub file_stands : (top : Forest) (path : Path) (items : List Item) (place : ℕ) (name : List ℕ) → is_proper top ≡ true → listing_at top path ≡ Some items
     → slice_get items place ≡ Some (name, kind.File) → IsSome (file_at top (path ++ name ∷ []))
 file_stands top path items place name proper listed at =
@@ -114,25 +98,7 @@ pub leaf_stands : (top : Forest) (path : Path) (items : List Item) (place : ℕ)
 leaf_stands top path items place name here proper listed at is =
     file_stands top path items place name proper listed (at ∙ ap (λ (k : Kind). Some (name, k)) is)
 
--- behind the last entry there is none
-pub past_end : (items : List Item) (place : ℕ) → length items ≤ place → slice_get items place ≡ None
-past_end [] place past = refl
-past_end (x ∷ items) zero past = absurd (omega (arith, past))
-past_end (x ∷ items) (suc place) past = past_end items place (omega (arith, past))
-
 -- ---- the top of a store
-
-kind_one : (b : Bool) (node : Node) (k : Kind) (rest : Option Kind) (later : Option Node) → k ≡ kind_of node → rest ≡ option_map kind_of later
-    → cond b (Some k) rest ≡ option_map kind_of (cond b (Some node) later)
-kind_one true node k rest later is same = ap (λ (x : Kind). Some x) is
-kind_one false node k rest later is same = same
-
--- the kind that is listed of a name is that of what stands there
-pub kind_found : (f : Forest) (name : List ℕ) → kind_in (listing_of f) name ≡ option_map kind_of (find f name)
-kind_found none name = refl
-kind_found (file n bytes after) name = kind_one (bytes_eq n name) (File bytes) kind.File (kind_in (listing_of after) name) (find after name) refl (kind_found after name)
-kind_found (other n after) name = kind_one (bytes_eq n name) Other kind.Other (kind_in (listing_of after) name) (find after name) refl (kind_found after name)
-kind_found (dir n inside after) name = kind_one (bytes_eq n name) (Dir inside) kind.Dir (kind_in (listing_of after) name) (find after name) refl (kind_found after name)
 
 -- a folder that is listed at the top stands there
 pub root_stands : (here there : Option Forest) (items : List Item) (name : List ℕ) → ForSome here (λ tree. listing_at tree [] ≡ Some items) → is_dir_kind (kind_in items name) ≡ true
@@ -140,7 +106,7 @@ pub root_stands : (here there : Option Forest) (items : List Item) (name : List 
 root_stands here there items name listed is same tree at =
     let lists : Some (listing_of tree) ≡ Some items = listed tree (sym same ∙ at) in
     let items_are : items ≡ listing_of tree = cc in
-    by (find tree name) (ap is_dir_kind (sym (kind_found tree name)) ∙ ap (λ (l : List Item). is_dir_kind (kind_in l name)) (sym items_are) ∙ is)
+    by (find tree name) (ap is_dir_kind (sym (kind_listed tree name)) ∙ ap (λ (l : List Item). is_dir_kind (kind_in l name)) (sym items_are) ∙ is)
   where
     by : (node : Option Node) → is_dir_kind (option_map kind_of node) ≡ true → is_some (option_and_then as_dir (option_and_then (λ n. node_at n []) node)) ≡ true
     by None is = absurd (cc)
@@ -154,7 +120,7 @@ pub file_at_top : (here : Option Forest) (items : List Item) (name : List ℕ) �
 file_at_top here items name listed is tree at =
     let lists : Some (listing_of tree) ≡ Some items = listed tree at in
     let items_are : items ≡ listing_of tree = cc in
-    by (find tree name) (sym (kind_found tree name) ∙ ap (λ (l : List Item). kind_in l name) (sym items_are) ∙ is)
+    by (find tree name) (sym (kind_listed tree name) ∙ ap (λ (l : List Item). kind_in l name) (sym items_are) ∙ is)
   where
     by : (node : Option Node) → option_map kind_of node ≡ Some kind.File → is_some (option_and_then as_file (option_and_then (λ n. node_at n []) node)) ≡ true
     by None is = absurd (cc)
@@ -250,13 +216,6 @@ leaf_there told proper path entry items place name what there listed at entry_is
     let here = sym there_is ∙ is in
     subst (λ (q : Path). IsSome (file_at tree q)) (sym entry_is) (leaf_stands tree path items place name what (proper_in told proper tree here) (listed tree here) at is_file)
 
-inside_lists : (top : Forest) (path : Path) (items : List Item) → listing_at top path ≡ Some items → listing_of (inside_at top path) ≡ items
-inside_lists top path items listed = by (dir_at top path) listed
-  where
-    by : (found : Option Forest) → option_map listing_of found ≡ Some items → listing_of (unwrap_or found none) ≡ items
-    by None is = absurd (cc)
-    by (Some inside) is = cc
-
 -- at the end of its listing a folder was visited
 pub all_step : (says : Says) (told : Option Reading) (wants : Wants) (folder : Folder) (holds : Bool) (items : List Item) (place : ℕ) (a first now : Seen)
     → ForSome (tree_in told) (λ t. listing_at t folder.path ≡ Some items) → length items ≤ place → (folder.left ≡ 0 → ⊥) → Begins says wants folder items holds a first
@@ -266,5 +225,5 @@ all_step says told wants folder holds items place a first now listed past some s
     let inside = inside_at tree folder.path in
     let lists : items ≡ listing_of inside = sym (inside_lists tree folder.path items (listed tree is)) in
     let starts : Begins says wants folder (listing_of inside) holds a first = subst (λ (l : List Item). Begins says wants folder l holds a first) lists started in
-    let all : Visits says wants folder holds inside first now = visited_all says wants folder holds tree items place first now (listed tree is) (past_end items place past) (to tree is) in
+    let all : Visits says wants folder holds inside first now = visited_all says wants folder holds tree items place first now (listed tree is) (slice_get_past items place past) (to tree is) in
     enters says wants folder (listing_of inside) (λ h. Visits says wants folder h inside) a now some (inr (holds, first, starts, all))

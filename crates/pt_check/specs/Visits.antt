@@ -2,7 +2,6 @@
 use Rattle.std.specs.Prelude.{◌≡◌, ◌≤◌, ◌+◌, ◌-◌, ◌==◌, ◌||◌, ◌⊎◌, ℕ, Bool, true, false, cond, codes, drop, length, nat_lt, take, List, [], ◌∷◌, ◌++◌, Option, None, Some}
 use Rattle.std.specs.Io.KnownBytes.{Appends}
 use Rattle.std.specs.List.{concat}
-use Rattle.std.specs.Option.{option_map}
 use Rattle.std.specs.Str.{bytes_eq, is_utf8}
 use Rattle.pt_check.specs.Counting.{plus, with_bytes, with_entry, with_line, with_object, with_object_begun, with_site}
 use Rattle.pt_check.specs.Lines.{Line, End, Told, Unreadable, line_text}
@@ -28,8 +27,9 @@ use Rattle.pt_plan.specs.TurnStart.{is_dir_kind, is_file_kind, kind_in}
 use Rattle.pt_tree.specs.Failures.{HasRisen}
 use Rattle.pt_tree.specs.Forest.{Forest, File, none, file, other, dir, listing_of}
 use Rattle.pt_tree.specs.Listing.{Item}
+use Rattle.pt_tree.specs.Log.{Grows}
 use Rattle.pt_tree.specs.Path.{Path, joined}
-use Rattle.pt_tree.specs.Source.{Reading}
+use Rattle.pt_tree.specs.Source.{Reading, tree_in}
 use Rattle.pt_tree.specs.declared.kind.Kind.{Kind}
 use Rattle.pt_tree.specs.declared.kind.Kind.TheVariants as kind
 use Rattle.pt_walk.specs.Left.{bytes_at, inside_at}
@@ -52,17 +52,9 @@ abbrev pub seen_by : {S L E : Type 0} → (S → ℕ) → (L → Option (List �
 seen_by failed held check =
     record { failed = failed check.source; held = held check.log; numbers = check.numbers }
 
--- the tree that is told
-abbrev pub tree_in : Option Reading → Option Forest
-tree_in told = option_map (λ s. s.tree) told
-
 -- the tree of its source, if that tells
 abbrev pub tree_by : {S L E : Type 0} → (S → Option Reading) → Check S L E → Option Forest
 tree_by told check = tree_in (told check.source)
-
--- what stood in a log stands, and bytes may stand behind it
-abbrev pub Grows : Option (List ℕ) → Option (List ℕ) → Type 0
-Grows old new = (more : List ℕ) × Appends old new more
 
 -- its source is the same one still, with its tree; as much is wanted of it as before; and its log has only grown
 pub record Keeps {S L E : Type 0} (told : S → Option Reading) (keeps : S → S → Type 0)

@@ -348,7 +348,7 @@ impl<S: Source, L: Log, E: Explains<S> + Drop> Check<S, L, E> {
     }
 
     // What of a folder can be listed, and None where nothing can. That not all of it can is told.
-    #[tactic(auto, using(crate::proofs::Visiting::listed_in))]
+    #[tactic(auto, using(pt_tree::proofs::Told::listed_in))]
     fn list(&mut self, path: &NamePath) -> Result<Option<Found>, Fault>
         requires { ForSome (tree_by S.told self.old) (λ tree. IsSome (dir_at tree path.now)) }
         ensures listed { IfOk result (λ found. MatchOption found
@@ -373,7 +373,7 @@ impl<S: Source, L: Log, E: Explains<S> + Drop> Check<S, L, E> {
     }
 
     // Tells that the source failed to list a folder, by a line for each reason. Gives what of it can be listed all the same.
-    #[tactic(auto, using(crate::proofs::Visiting::listed_in))]
+    #[tactic(auto, using(pt_tree::proofs::Told::listed_in))]
     fn list_part(&mut self, path: &NamePath) -> Result<Option<Found>, Fault>
         requires { ForSome (tree_by S.told self.old) (λ tree. IsSome (dir_at tree path.now)) }
         ensures listed { IfOk result (λ found. IfSome found

@@ -4,7 +4,7 @@
 ghost use Rattle.std.specs.Prelude.{◌≡◌, IfOk, IsSome, None, Some, string_bytes, take};
 ghost use Rattle.std.specs.Option.{ForSome};
 ghost use Rattle.pt_check.specs.Prefix.{prefix_trouble as prefix_trouble_of, trouble_of_prefix};
-ghost use Rattle.pt_check.specs.Visits.{tree_in};
+ghost use Rattle.pt_tree.specs.Source.{tree_in};
 ghost use Rattle.pt_plan.specs.Store.{prefix_in};
 ghost use Rattle.pt_tree.specs.Failures.{IsCounted};
 ghost use Rattle.pt_tree.specs.Forest.{File, file_at};

@@ -1,10 +1,9 @@
 //! Opening a file of a source, and reading it to its end.
 ghost use Rattle.std.specs.Prelude.{◌≡◌, cond, length, min, IfOk, IsSome};
 ghost use Rattle.std.specs.Option.{option_map, ForSome};
-ghost use Rattle.pt_check.specs.Visits.{tree_in};
 ghost use Rattle.pt_tree.specs.Failures.{IsCounted, greatest_count};
 ghost use Rattle.pt_tree.specs.Forest.{file_at};
-ghost use Rattle.pt_tree.specs.Source.{CanRead};
+ghost use Rattle.pt_tree.specs.Source.{CanRead, tree_in};
 ghost use Rattle.pt_walk.specs.Left.{bytes_at};
 
 use pt_tree::{Block, NamePath, Source, TreeFault};

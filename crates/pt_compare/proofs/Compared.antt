@@ -26,7 +26,8 @@ use Rattle.pt_folder.specs.Calls.{change_of}
 use Rattle.pt_object.proofs.ObjectScripts.{in_order_apart}
 use Rattle.pt_object.proofs.Ways.{is_same}
 use Rattle.pt_object.specs.Distinct.{content_of_row, distinct, distinct_after, row_has_digest}
-use Rattle.pt_object.specs.FilePaths.{File, are_apart, part_in_order, parts_before, paths_of, row_paths}
+use Rattle.pt_object.specs.FilePaths.{File, are_apart, paths_of, row_paths}
+use Rattle.pt_tree.specs.PathOrder.{part_in_order, parts_before}
 use Rattle.pt_object.specs.MetaParts.{MetaParts}
 use Rattle.pt_object.specs.Object.{stored_files}
 use Rattle.pt_object.specs.Script.{Item, MakeFile}

@@ -9,7 +9,8 @@ use Rattle.std.proofs.lemmas.List.Elements.{All-cons, All-head, All-map, All-nil
 use Rattle.pt_compare.specs.Parts.{content_items, early_items, first_items, fronts, last_items, leads_to_last, way_items}
 use Rattle.pt_object.proofs.Moved.{last_file_tells_folders}
 use Rattle.pt_object.proofs.Ways.{leads-below, name_itself}
-use Rattle.pt_object.specs.FilePaths.{File, part_in_order, parts_before, paths_of}
+use Rattle.pt_object.specs.FilePaths.{File, paths_of}
+use Rattle.pt_tree.specs.PathOrder.{part_in_order, parts_before}
 use Rattle.pt_object.specs.Holding.{leads_to}
 use Rattle.pt_object.specs.Object.{content_file, in_content, inventory_name, version_folder}
 use Rattle.pt_object.specs.Script.{Item, MakeFolder, MakeFile, file_items, files_items, folders_above, item_in}

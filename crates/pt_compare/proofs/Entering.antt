@@ -7,7 +7,7 @@ use Rattle.std.specs.Str.{bytes_eq}
 use Rattle.std.proofs.lemmas.List.Elements.{All-cons, All-head, All-nil, All-tail}
 use Rattle.pt_compare.specs.Marks.{Marks, inside, is_entry_of, kind_in, with_entries, with_listed, with_mark}
 use Rattle.pt_compare.specs.Meeting.{NotedStand}
-use Rattle.pt_compare.specs.Root.{Lists, Stands, same_kind, tree_in}
+use Rattle.pt_compare.specs.Root.{Lists, Stands, same_kind}
 use Rattle.pt_compare.proofs.Listed.{found, itself, node_in}
 use Rattle.pt_compare.proofs.Made.{entry_is, entry_of_folder, last-push}
 use Rattle.pt_object.proofs.Ways.{is_same, name_itself, path_itself, same_name}
@@ -16,7 +16,7 @@ use Rattle.pt_tree.specs.Forest as forest
 use Rattle.pt_tree.specs.Forest.{Forest, Node, File, Dir, Other, dir_at, find, is_proper, kind_of, listing_at, listing_of, node_at}
 use Rattle.pt_tree.specs.Listing.{Item}
 use Rattle.pt_tree.specs.Path.{Path, last_name, same_path, split_path}
-use Rattle.pt_tree.specs.Source.{IsListed, Reading}
+use Rattle.pt_tree.specs.Source.{IsListed, Reading, tree_in}
 use Rattle.pt_tree.specs.Tree.{Tree, entry_of, kind_of_entry}
 use Rattle.pt_tree.specs.declared.kind.Kind.{Kind}
 

@@ -12,7 +12,8 @@ use Rattle.pt_compare.specs.declared.difference.Why.{Why}
 use Rattle.pt_compare.specs.declared.difference.Why.TheVariants as why
 use Rattle.pt_compare.proofs.Findings.{are_items, at_top, kinds, locate}
 use Rattle.pt_compare.proofs.Made.{kind_none}
-use Rattle.pt_object.specs.FilePaths.{are_apart, part_in_order, paths_of}
+use Rattle.pt_object.specs.FilePaths.{are_apart, paths_of}
+use Rattle.pt_tree.specs.PathOrder.{part_in_order}
 use Rattle.pt_object.specs.Script.{MakeFile}
 use Rattle.pt_tree.specs.Path.{Path}
 use Rattle.pt_tree.specs.Tree.{Bytes, Folder, Tree, kind_of_entry}

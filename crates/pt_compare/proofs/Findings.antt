@@ -13,7 +13,8 @@ use Rattle.pt_compare.proofs.Contents.{items_are}
 use Rattle.pt_compare.proofs.Made.{Noting, all_same, entries_some, is_some_of, kind_none, kind_some, made_either, met_all, next_noted, put_there, stays_made}
 use Rattle.pt_object.proofs.Making.{CanCarryOut, Carries, on_way}
 use Rattle.pt_object.proofs.MakingObjects.{object_carries}
-use Rattle.pt_object.specs.FilePaths.{are_apart, part_in_order, paths_of}
+use Rattle.pt_object.specs.FilePaths.{are_apart, paths_of}
+use Rattle.pt_tree.specs.PathOrder.{part_in_order}
 use Rattle.pt_object.specs.Script.{Item, MakeFolder, MakeFile, done, item_entry, item_path, made}
 use Rattle.pt_object.specs.Scripts.{object_items}
 use Rattle.pt_tree.specs.Forest.{Forest, Node, File as file_node, Dir, Other, find, node_at}

@@ -7,7 +7,8 @@ use Rattle.pt_tree.specs.Forest.{Dir, Forest, dir_at, kind_of, node_at}
 use Rattle.pt_tree.specs.Path.{Path, parent}
 use Rattle.pt_tree.specs.declared.faults.TreeFault.{TreeFault}
 use Rattle.pt_tree.specs.declared.kind.Kind.{Kind}
-use Rattle.pt_compare.specs.Root.{CanLook, IsSeen, tree_in}
+use Rattle.pt_compare.specs.Root.{CanLook, IsSeen}
+use Rattle.pt_tree.specs.Source.{tree_in}
 
 pub look_there : (kept : Option Forest) (unread : Option (List ℕ)) (p : Path) → CanLook (tree_in (told_of kept unread)) p → ForSome kept (λ f. IsSome (dir_at f (parent p)))
 unfolding CanLook

@@ -8,7 +8,6 @@ use Rattle.pt_compare.specs.Meeting.{MeetsFrom, MeetsIn}
 use Rattle.pt_folder.specs.Calls.{change_of}
 use Rattle.pt_object.specs.Object.{in_content}
 use Rattle.pt_compare.specs.Parts.{content_items, files_of, fronts, leads_to_last, way_items}
-use Rattle.pt_compare.specs.Root.{tree_in}
 use Rattle.pt_compare.specs.declared.stop.Stop.{Stop}
 use Rattle.pt_compare.proofs.Going.{Answer, GoesFrom, GoesOn, from_end, from_met, from_stop, goes_end, met_anyhow}
 use Rattle.pt_compare.proofs.Steps.{goes_items, stop_items}
@@ -16,7 +15,7 @@ use Rattle.pt_object.specs.Script.{Item, MakeFolder, MakeFile}
 use Rattle.pt_object.specs.declared.table.contents.Content.{Content}
 use Rattle.pt_tree.specs.Forest.{Forest, file_at}
 use Rattle.pt_tree.specs.Path.{Path}
-use Rattle.pt_tree.specs.Source.{CanOpen, Reading}
+use Rattle.pt_tree.specs.Source.{CanOpen, Reading, tree_in}
 use Rattle.pt_walk.specs.Left.{bytes_at}
 
 drop_map : {A B : Type 0} (f : A → B) (k : ℕ) (xs : List A) → drop k (map f xs) ≡ map f (drop k xs)

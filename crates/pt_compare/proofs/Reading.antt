@@ -4,10 +4,10 @@ use Rattle.std.specs.Prelude.{Option, None, Some, IsSome, is_some, Result, Ok, E
 use Rattle.std.specs.Option.{option_map}
 use Rattle.pt_tree.specs.Forest.{file_at}
 use Rattle.pt_tree.specs.Path.{Path}
-use Rattle.pt_tree.specs.Source.{CanList, CanOpen, CanRead, Reading, after_next, after_open}
+use Rattle.pt_tree.specs.Source.{CanList, CanOpen, CanRead, Reading, after_next, after_open, tree_in}
 use Rattle.pt_tree.specs.declared.faults.TreeFault.{TreeFault}
 use Rattle.pt_tree.specs.declared.kind.Kind.TheVariants as kind
-use Rattle.pt_compare.specs.Root.{Reads, Stands, is_reading, tree_in}
+use Rattle.pt_compare.specs.Root.{Reads, Stands, is_reading}
 use Rattle.pt_compare.proofs.Roots.{seen_kind, stands_dir, stands_file, top_stands}
 
 -- what is open may be read

@@ -11,7 +11,7 @@ use Rattle.pt_compare.specs.Bytes.{IsAllLeft, TellsRest, left_in}
 use Rattle.pt_compare.specs.Described.{IsMade}
 use Rattle.pt_compare.specs.Marks.{Marks, inside, is_kind_of, kind_in, with_entries, with_listed, without_mark}
 use Rattle.pt_compare.specs.Meeting.{IsHalt, IsWrongFile, IsWrongInventory, IsWrongItem, Meets, MeetsFrom, MeetsIn, MeetsText, MeetsTextIn, NotedStand, OpensIn, StandsSo, StopsAt, TellsAlike, why_for}
-use Rattle.pt_compare.specs.Root.{Lists, Reads, is_reading, same_kind, tree_in}
+use Rattle.pt_compare.specs.Root.{Lists, Reads, is_reading, same_kind}
 use Rattle.pt_compare.specs.declared.difference.Why.{Why}
 use Rattle.pt_compare.specs.declared.difference.Why.TheVariants as why
 use Rattle.pt_compare.specs.declared.stop.Stop.{Stop}
@@ -27,7 +27,7 @@ use Rattle.pt_object.specs.Script.{Item, MakeFolder, MakeFile, item_entry, item_
 use Rattle.pt_tree.specs.Forest.{Forest, Node, File, Dir, Other, as_file, file_at, kind_of, node_at}
 use Rattle.pt_tree.specs.Listing as listing
 use Rattle.pt_tree.specs.Path.{Path}
-use Rattle.pt_tree.specs.Source.{CanOpen, Reading, after_open}
+use Rattle.pt_tree.specs.Source.{CanOpen, Reading, after_open, tree_in}
 use Rattle.pt_tree.specs.Tree.{Bytes, Entry, Folder, Special, Tree, entry_of, kind_of_entry}
 use Rattle.pt_tree.specs.declared.kind.Kind.{Kind}
 use Rattle.pt_tree.specs.declared.kind.Kind.TheVariants as kind

@@ -4,14 +4,14 @@ use Rattle.std.specs.Option.{ForSome, option_map}
 use Rattle.pt_compare.specs.Marks.{Marks, inside, without_mark}
 use Rattle.pt_compare.specs.Meeting.{IsWrongFile}
 use Rattle.pt_object.specs.Object.{in_content}
-use Rattle.pt_compare.specs.Root.{Stands, tree_in}
+use Rattle.pt_compare.specs.Root.{Stands}
 use Rattle.pt_compare.specs.declared.scanned.ScannedObject.{ScannedObject}
 use Rattle.pt_compare.specs.declared.stop.Stop.{Stop}
 use Rattle.pt_compare.specs.declared.stop.Stop.TheVariants as stop
 use Rattle.pt_plan.specs.declared.fault.Fault.TheVariants as fault
 use Rattle.pt_tree.specs.Forest.{Forest}
 use Rattle.pt_tree.specs.Path.{Path}
-use Rattle.pt_tree.specs.Source.{Reading, after_open}
+use Rattle.pt_tree.specs.Source.{Reading, after_open, tree_in}
 use Rattle.pt_tree.specs.Tree.{Bytes}
 use Rattle.pt_tree.specs.declared.kind.Kind.TheVariants as kind
 use Rattle.pt_walk.specs.Left.{bytes_at}

@@ -7,7 +7,7 @@ use Rattle.std.specs.String.{string_bytes}
 use Rattle.pt_compare.specs.Described.{IsMade}
 use Rattle.pt_compare.specs.Bytes.{left_in}
 use Rattle.pt_compare.specs.Marks.{Marks, all_met, inside, kind_in, met, without_mark}
-use Rattle.pt_compare.specs.Root.{Reads, tree_in}
+use Rattle.pt_compare.specs.Root.{Reads}
 use Rattle.pt_compare.specs.declared.difference.Why.{Why}
 use Rattle.pt_compare.specs.declared.difference.Why.TheVariants as why
 use Rattle.pt_compare.specs.declared.stop.Stop.{Stop}
@@ -22,7 +22,7 @@ use Rattle.pt_plan.specs.declared.fault.Fault.TheVariants as fault
 use Rattle.pt_tree.specs.Failures.{HasRisen}
 use Rattle.pt_tree.specs.Forest.{Forest}
 use Rattle.pt_tree.specs.Path.{Path}
-use Rattle.pt_tree.specs.Source.{Reading}
+use Rattle.pt_tree.specs.Source.{Reading, tree_in}
 use Rattle.pt_tree.specs.Tree.{Bytes, Tree, kind_of_entry}
 use Rattle.pt_tree.specs.declared.kind.Kind.{Kind}
 use Rattle.pt_tree.specs.declared.kind.Kind.TheVariants as kind

@@ -4,17 +4,13 @@ use Rattle.std.specs.Option.{option_map, option_map_or, ForSome}
 use Rattle.pt_tree.specs.Forest.{Dir, Forest, dir_at, is_proper, kind_of, listing_at, node_at}
 use Rattle.pt_tree.specs.Listing.{Item}
 use Rattle.pt_tree.specs.Path.{Path, parent}
-use Rattle.pt_tree.specs.Source.{Reading}
+use Rattle.pt_tree.specs.Source.{Reading, tree_in}
 use Rattle.pt_tree.specs.declared.kind.Kind.{Kind}
 use Rattle.pt_tree.specs.declared.kind.Kind.TheVariants as kind
 
 -- the kind of what stands at a path, if anything does
 abbrev pub kind_at : Forest → Path → Option Kind
 kind_at tree p = option_map kind_of (node_at (Dir tree) p)
-
--- the tree that is told
-abbrev pub tree_in : Option Reading → Option Forest
-tree_in told = option_map (λ s. s.tree) told
 
 -- it is the same root, whose tree is as it was
 abbrev pub KeepsRoot : {R : Type 0} → (R → Option Reading) → (R → R → Type 0) → R → R → Type 0

@@ -2,7 +2,8 @@
 ghost use Rattle.std.specs.Prelude.{◌≡◌, true, false, IfOk};
 ghost use Rattle.pt_tree.specs.Failures.{IsCounted};
 ghost use Rattle.pt_compare.specs.Bytes.{CameNext, IsAllLeft, IsNotNext, TellsEnd, TellsRest};
-ghost use Rattle.pt_compare.specs.Root.{Reads, tree_in};
+ghost use Rattle.pt_compare.specs.Root.{Reads};
+ghost use Rattle.pt_tree.specs.Source.{tree_in};
 
 use crate::Root;
 use pt_tree::{BLOCK, Block, TreeFault};

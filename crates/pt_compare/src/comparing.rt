@@ -7,12 +7,13 @@ ghost use Rattle.pt_compare.specs.Marks.{inside, marks_of, marks_over};
 ghost use Rattle.pt_compare.specs.Meeting.{FailsAs, FailsInRoot, MeetsFrom, MeetsIn, NotedStand, both};
 ghost use Rattle.pt_compare.specs.Parts.{content_items, files_of, first_items, fronts, last_items, way_items};
 ghost use Rattle.pt_compare.specs.Ways.{AreMet};
-ghost use Rattle.pt_compare.specs.Root.{IsSeen, KeepsRoot, tree_in};
+ghost use Rattle.pt_compare.specs.Root.{IsSeen, KeepsRoot};
 ghost use Rattle.pt_tree.specs.Failures.{IsCounted};
 ghost use Rattle.pt_plan.specs.declared.fault.Fault.TheVariants as fault;
 ghost use Rattle.pt_object.specs.Distinct.{content_of_row, distinct};
-ghost use Rattle.pt_object.specs.FilePaths.{part_in_order, row_paths};
-ghost use Rattle.pt_tree.specs.Source.{CanOpen};
+ghost use Rattle.pt_object.specs.FilePaths.{row_paths};
+ghost use Rattle.pt_tree.specs.PathOrder.{part_in_order};
+ghost use Rattle.pt_tree.specs.Source.{CanOpen, tree_in};
 
 use crate::entries::Entries;
 use crate::meeting::{Stored, meet_bytes, meet_folder, meet_inventory, meet_stored};

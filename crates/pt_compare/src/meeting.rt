@@ -6,10 +6,10 @@ ghost use Rattle.pt_compare.specs.Marks.{is_kind_of, marks_of, marks_over, witho
 ghost use Rattle.pt_compare.specs.Meeting.{FailsAs, FailsInRoot, MeetsFrom, MeetsIn, MeetsTextIn, NotedStand, OpensIn, both, why_for};
 ghost use Rattle.pt_compare.specs.declared.difference.Why.TheVariants as why;
 ghost use Rattle.pt_compare.specs.declared.stop.Stop.TheVariants as stop;
-ghost use Rattle.pt_compare.specs.Root.{KeepsRoot, tree_in};
+ghost use Rattle.pt_compare.specs.Root.{KeepsRoot};
 ghost use Rattle.pt_object.specs.Distinct.{content_of_row, distinct};
 ghost use Rattle.pt_object.specs.Script.{MakeFile, MakeFolder};
-ghost use Rattle.pt_tree.specs.Source.{CanOpen};
+ghost use Rattle.pt_tree.specs.Source.{CanOpen, tree_in};
 ghost use Rattle.pt_walk.specs.Left.{bytes_at};
 
 use crate::both_sides::are_alike;

@@ -3,7 +3,8 @@ ghost use Rattle.std.specs.Prelude.{◌≡◌, IfOk, IsTrue};
 ghost use Rattle.pt_compare.specs.Beside.{OpensStanding};
 ghost use Rattle.pt_tree.specs.declared.kind.Kind.TheVariants as kind;
 ghost use Rattle.pt_tree.specs.Failures.{IsCounted};
-ghost use Rattle.pt_compare.specs.Root.{CanLook, IsSeen, Stands, tree_in};
+ghost use Rattle.pt_compare.specs.Root.{CanLook, IsSeen, Stands};
+ghost use Rattle.pt_tree.specs.Source.{tree_in};
 
 use pt_plan::kinds::{is_dir, is_file};
 use pt_plan::names::alike_names;

@@ -11,7 +11,7 @@ use Rattle.pt_audit.specs.Bounds.{IsMade, counts_in}
 use Rattle.pt_audit.specs.Failing.{AuditSays, BlamesRightly}
 use Rattle.pt_audit.specs.declared.auditing.Audited.{Audited}
 use Rattle.pt_audit.specs.declared.counts.Counts.{Counts}
-use Rattle.pt_compare.specs.Root.{tree_in}
+use Rattle.pt_tree.specs.Source.{tree_in}
 use Rattle.pt_extra.proofs.Telling.{appends_on, front_more, front_on}
 use Rattle.pt_extra.specs.Audits.{AuditLogs, ExtraLogs, IsExtraLog, OfItems, PutsRest, TellsRest, WithRest, against_given, against_store, counts_of, found_extra, in_both, rest_text, with_found}
 use Rattle.pt_extra.specs.Counting.{no_numbers, with_findings}

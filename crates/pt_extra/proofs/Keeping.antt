@@ -4,8 +4,8 @@ use Rattle.std.specs.Option.{ForSome}
 use Rattle.std.specs.Prelude.{Ok, Err, OnErr, Option, Result}
 use Rattle.std.specs.String.{string_bytes}
 use Rattle.pt_audit.specs.Failing.{FailsAs}
-use Rattle.pt_audit.specs.Growing.{grows_none, grows_on}
-use Rattle.pt_compare.specs.Root.{tree_in}
+use Rattle.pt_tree.proofs.Growing.{grows_none, grows_on}
+use Rattle.pt_tree.specs.Source.{tree_in}
 use Rattle.pt_extra.proofs.Telling.{front_none}
 use Rattle.pt_extra.specs.Findings.{Against}
 use Rattle.pt_extra.specs.Lines.{ExtraFinding, texts}

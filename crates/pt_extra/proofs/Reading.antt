@@ -3,9 +3,9 @@ use Rattle.std.proofs.Common.{◌≡◌, ◌≤◌, ◌<◌, ◌+◌, ℕ, Bool,
 use Rattle.std.specs.Global.{Vec}
 use Rattle.std.specs.Option.{ForSome, option_and_then, option_map}
 use Rattle.std.specs.Prelude.{IsSome, is_some, nat_le, Option, None, Some, unwrap_or}
-use Rattle.pt_audit.proofs.Twins.{kind_listed}
+use Rattle.pt_plan.proofs.FoundKinds.{kind_listed}
 use Rattle.pt_compare.specs.Bytes.{CameNext, IsAllLeft, left_in}
-use Rattle.pt_compare.specs.Root.{Reads, is_reading, tree_in}
+use Rattle.pt_compare.specs.Root.{Reads, is_reading}
 use Rattle.pt_extra.specs.Inventories.{id_in, id_of, inventory_in, most_bytes, unless_long}
 use Rattle.pt_object.specs.WellKnown.{known_text}
 use Rattle.pt_object.specs.declared.well_known.WellKnownName.TheVariants as known
@@ -13,11 +13,11 @@ use Rattle.pt_plan.specs.TurnStart.{is_file_kind, kind_in}
 use Rattle.pt_tree.specs.Forest.{Dir, File, Forest, Node, Other, as_file, file_at, find, kind_of, listing_at, none}
 use Rattle.pt_tree.specs.Listing.{Item}
 use Rattle.pt_tree.specs.Path.{Path}
-use Rattle.pt_tree.specs.Source.{CanOpen, Reading, after_open}
+use Rattle.pt_tree.specs.Source.{CanOpen, Reading, after_open, tree_in}
 use Rattle.pt_walk.proofs.Paths.{dir_listed, node_below}
 use Rattle.pt_walk.specs.Left.{inside_at}
 use Rattle.std.proofs.lemmas.List.{length-append}
-use Rattle.pt_extra.proofs.Visiting.{inside_lists}
+use Rattle.pt_walk.proofs.Ahead.{inside_lists}
 use Rattle.pt_extra.specs.Inventories.{id_by}
 use Rattle.serde_json.specs.Data.{null}
 use Rattle.serde_json.specs.Read.{read}

@@ -2,7 +2,7 @@
 use Rattle.std.proofs.Common.{◌≡◌, ℕ, true, false, List, [], ◌∷◌, refl, sym, ap, ◌∙◌}
 use Rattle.std.specs.Option.{ForSome, option_and_then, option_map, option_map_or}
 use Rattle.std.specs.Prelude.{IsSome, is_some, Option, None, Some}
-use Rattle.pt_audit.proofs.Twins.{kind_listed}
+use Rattle.pt_plan.proofs.FoundKinds.{kind_listed}
 use Rattle.pt_compare.specs.Root.{Stands, kind_at, same_kind}
 use Rattle.pt_plan.specs.TurnStart.{is_dir_kind, kind_in}
 use Rattle.pt_tree.specs.Forest.{Dir, File, Forest, Node, Other, as_dir, dir_at, find, kind_of, listing_of, node_at}

@@ -1,8 +1,8 @@
 -- The steps of a walk through a folder.
 use Rattle.std.proofs.Common.{◌≡◌, ◌≤◌, ◌<◌, ◌+◌, ◌-◌, ◌==◌, ℕ, Bool, true, false, suc, zero, List, [], ◌∷◌, ◌++◌, refl, sym, ap, ◌∙◌, subst, arith, length, cond, append-nil, append_assoc}
-use Rattle.std.specs.Option.{ForSome, option_map}
-use Rattle.std.specs.Prelude.{IsSome, Option, None, Some, ◌||◌, slice_get, unwrap_or}
-use Rattle.pt_compare.specs.Root.{tree_in}
+use Rattle.std.proofs.lemmas.Option.{slice_get_past}
+use Rattle.std.specs.Option.{ForSome}
+use Rattle.std.specs.Prelude.{IsSome, Option, None, Some, ◌||◌, slice_get}
 use Rattle.pt_extra.proofs.Telling.{front_more, front_none, front_on, puts_none, puts_on, texts_on}
 use Rattle.pt_extra.specs.Findings.{Against, found_at, is_object, is_part, of_entries, of_leaf, of_object, of_unnamed}
 use Rattle.pt_extra.specs.Inventories.{id_of}
@@ -13,42 +13,12 @@ use Rattle.pt_tree.specs.Forest.{Forest, none, dir_at, is_proper, listing_at, li
 use Rattle.pt_tree.specs.Listing.{Item}
 use Rattle.pt_tree.specs.Log.{AppendsFront}
 use Rattle.pt_tree.specs.Path.{Path}
-use Rattle.pt_tree.specs.Source.{CanList, IsListed, Reading}
+use Rattle.pt_tree.specs.Source.{Reading, tree_in}
 use Rattle.pt_tree.specs.declared.kind.Kind.{Kind}
 use Rattle.pt_tree.specs.declared.kind.Kind.TheVariants as kind
-use Rattle.pt_walk.proofs.Ahead.{dir_ahead, file_ahead, nothing_ahead, other_ahead}
+use Rattle.pt_tree.proofs.Told.{proper_in}
+use Rattle.pt_walk.proofs.Ahead.{dir_ahead, dir_stands, file_ahead, inside_lists, nothing_ahead, other_ahead}
 use Rattle.pt_walk.specs.Left.{entries_from, inside_at}
-
--- a folder may be listed where it stands in the tree that is told
-pub may_list : (told : Option Reading) (path : Path) → ForSome (tree_in told) (λ tree. IsSome (dir_at tree path)) → CanList told path
-unfolding CanList
-may_list told path there s is = there s.tree (ap tree_in is)
-
--- its listing is that of the tree
-pub listed_in : (told : Option Reading) (path : Path) (items : List Item) → IsListed told path items → ForSome (tree_in told) (λ tree. listing_at tree path ≡ Some items)
-unfolding IsListed
-listed_in None path items listed tree is = absurd (cc)
-listed_in (Some s) path items listed tree is = let same : s.tree ≡ tree = cc in subst (λ (t : Forest). listing_at t path ≡ Some items) same (listed s refl)
-
--- which is proper
-pub proper_in : (told : Option Reading) → ForSome told (λ s. is_proper s.tree ≡ true) → ForSome (tree_in told) (λ tree. is_proper tree ≡ true)
-proper_in None proper tree is = absurd (cc)
-proper_in (Some s) proper tree is = let same : s.tree ≡ tree = cc in subst (λ (t : Forest). is_proper t ≡ true) same (proper s refl)
-
--- what the folder lists is what it holds
-pub inside_lists : (top : Forest) (path : Path) (items : List Item) → listing_at top path ≡ Some items → listing_of (inside_at top path) ≡ items
-inside_lists top path items listed = by (dir_at top path) listed
-  where
-    by : (found : Option Forest) → option_map listing_of found ≡ Some items → listing_of (unwrap_or found none) ≡ items
-    by None is = absurd (cc)
-    by (Some inside) is = cc
-
--- a folder that is listed stands there
-pub dir_stands : (top : Forest) (path : Path) (items : List Item) (place : ℕ) (name : List ℕ) → is_proper top ≡ true → listing_at top path ≡ Some items
-    → slice_get items place ≡ Some (name, kind.Dir) → IsSome (dir_at top (path ++ name ∷ []))
-dir_stands top path items place name proper listed at =
-    let ahead = dir_ahead top path items place name proper listed at in
-    subst (λ (o : Option Forest). IsSome o) (sym ahead.dir_is) refl
 
 -- the next folder stands there
 pub next_stands : (told : Option Reading) (path entry : Path) (items : List Item) (place : ℕ) (name : List ℕ) (what : Kind) (there : Option Forest) → ForSome told (λ s. is_proper s.tree ≡ true)
@@ -171,17 +141,11 @@ stops_here c path left inside place a b to =
     subst (AppendsFront a.held b.held) (sym (texts_on to.findings rest) ∙ ap texts to.rest)
     (front_on a.held b.held b.held (texts to.findings) (texts rest) to.puts.held (front_none b.held (texts rest)))
 
--- behind the last entry there is none
-past_end : (items : List Item) (place : ℕ) → length items ≤ place → slice_get items place ≡ None
-past_end [] place past = refl
-past_end (x ∷ items) zero past = absurd (omega (arith, past))
-past_end (x ∷ items) (suc place) past = past_end items place (omega (arith, past))
-
 -- at the end all is told
 found_all : (c : Against) (top : Forest) (path : Path) (left : ℕ) (items : List Item) (place : ℕ) (a b : Seen) → listing_at top (in_root path) ≡ Some items → length items ≤ place
     → FoundTo c path left (inside_at top (in_root path)) place a b → Puts (of_entries c path left (inside_at top (in_root path))) a b
 found_all c top path left items place a b listed past to =
-    let nothing = nothing_ahead top (in_root path) items place listed (past_end items place past) in
+    let nothing = nothing_ahead top (in_root path) items place listed (slice_get_past items place past) in
     let whole : to.findings ≡ of_entries c path left (inside_at top (in_root path)) =
     sym (append-nil to.findings) ∙ ap (λ (f : Forest). to.findings ++ of_entries c path left f) (sym nothing) ∙ to.rest in
     subst (λ (l : List ExtraFinding). Puts l a b) whole to.puts

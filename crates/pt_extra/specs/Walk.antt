@@ -5,7 +5,8 @@ use Rattle.std.specs.Option.{ForSome}
 use Rattle.std.specs.String.{string_bytes}
 use Rattle.pt_audit.specs.Failing.{FailsAs, failures}
 use Rattle.pt_audit.specs.Growing.{KeepsLog}
-use Rattle.pt_compare.specs.Root.{KeepsRoot, tree_in}
+use Rattle.pt_compare.specs.Root.{KeepsRoot}
+use Rattle.pt_tree.specs.Source.{tree_in}
 use Rattle.pt_extra.specs.Counting.{with_findings}
 use Rattle.pt_extra.specs.Findings.{Against, found_at, of_object, of_unnamed}
 use Rattle.pt_extra.specs.Inventories.{id_of}

@@ -7,10 +7,9 @@ ghost use Rattle.pt_audit.specs.Bounds.{IsMade};
 ghost use Rattle.pt_audit.specs.Failing.{AuditSays, BlamesRightly, FailsAs, failures};
 ghost use Rattle.pt_audit.specs.Growing.{KeepsLog, KeepsSides};
 ghost use Rattle.pt_audit.specs.Layout.{IsOfLayout};
-ghost use Rattle.pt_compare.specs.Root.{tree_in};
+ghost use Rattle.pt_tree.specs.Source.{tree_in};
 ghost use Rattle.pt_extra.specs.Audits.{AuditLogs, ExtraLogs, TellsRest, counts_of, in_both};
 ghost use Rattle.pt_extra.specs.Lines.{last_text};
-ghost use Rattle.pt_plan.specs.DeviceStates.{source_tree};
 ghost use Rattle.pt_state.specs.States.{job_of};
 ghost use Rattle.pt_tree.specs.Log.{AppendsFront};
 
@@ -63,9 +62,9 @@ pub fn audit<S: Source, R: Root, L: Log, O: Observer<Counts>>(
         (failures (S.failed devices.store) (R.failed devices.root) (L.failed devices.log))
         (failures (S.failed result.devices.store) (R.failed result.devices.root)
         (L.failed result.devices.log)) result.ran }
-    ensures says { IfErr result.ran (AuditSays job (source_tree (S.told devices.store))
+    ensures says { IfErr result.ran (AuditSays job (tree_in (S.told devices.store))
         (tree_in (R.told devices.root))) }
-    ensures made { IsMade job (source_tree (S.told devices.store)) (in_both result.ran) }
+    ensures made { IsMade job (tree_in (S.told devices.store)) (in_both result.ran) }
 {
     if with_extras {
         return audit_with_extras(alloc, devices, job, observer);
@@ -114,9 +113,9 @@ fn audit_with_extras<S: Source, R: Root, L: Log, O: Observer<Counts>>(
         (failures (S.failed devices.store) (R.failed devices.root) (L.failed devices.log))
         (failures (S.failed result.devices.store) (R.failed result.devices.root)
         (L.failed result.devices.log)) result.ran }
-    ensures says { IfErr result.ran (AuditSays job (source_tree (S.told devices.store))
+    ensures says { IfErr result.ran (AuditSays job (tree_in (S.told devices.store))
         (tree_in (R.told devices.root))) }
-    ensures made { IsMade job (source_tree (S.told devices.store)) (in_both result.ran) }
+    ensures made { IsMade job (tree_in (S.told devices.store)) (in_both result.ran) }
 {
     let ExtraDevices {
         mut store,

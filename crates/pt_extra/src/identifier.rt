@@ -3,7 +3,8 @@ ghost use Rattle.std.specs.Prelude.{◌≡◌, ◌<◌, IfOk, IfSome, Some, leng
 ghost use Rattle.std.specs.Option.{ForSome, option_map, unwrap_or};
 ghost use Rattle.std.specs.String.{string_bytes};
 ghost use Rattle.pt_compare.specs.Bytes.{left_in};
-ghost use Rattle.pt_compare.specs.Root.{Reads, tree_in};
+ghost use Rattle.pt_compare.specs.Root.{Reads};
+ghost use Rattle.pt_tree.specs.Source.{tree_in};
 ghost use Rattle.pt_extra.specs.Inventories.{id_by, id_in, id_of as id_of_folder, text_in, unless_long};
 ghost use Rattle.pt_tree.specs.Failures.{IsCounted};
 ghost use Rattle.pt_tree.specs.Forest.{listing_at};

@@ -1,7 +1,7 @@
 //! Whether the store has an object where an identifier belongs.
 ghost use Rattle.std.specs.Prelude.{◌≡◌, IfOk};
 ghost use Rattle.std.specs.Option.{ForSome};
-ghost use Rattle.pt_compare.specs.Root.{tree_in};
+ghost use Rattle.pt_tree.specs.Source.{tree_in};
 ghost use Rattle.pt_extra.specs.Findings.{is_held};
 ghost use Rattle.pt_object.specs.WellKnown.{known_text};
 ghost use Rattle.pt_plan.specs.TurnStart.{is_dir_kind, kind_in as kind_listed};

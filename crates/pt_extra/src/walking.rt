@@ -1,7 +1,7 @@
 //! The walk over a root.
 ghost use Rattle.std.specs.Prelude.{◌≡◌, ◌<◌, ◌∷◌, [], IfOk, IsSome, OnErr, OnOk, length};
 ghost use Rattle.std.specs.Option.{ForSome};
-ghost use Rattle.pt_compare.specs.Root.{tree_in};
+ghost use Rattle.pt_tree.specs.Source.{tree_in};
 ghost use Rattle.pt_extra.specs.Counting.{no_numbers, with_finding};
 ghost use Rattle.pt_extra.specs.Findings.{is_held};
 ghost use Rattle.pt_extra.specs.Lines.{Extra, ExtraFinding, Stray, line_text, texts};
@@ -148,7 +148,7 @@ impl<S: Source, R: Source, L: Log> Extras<S, R, L> {
     }
 
     // The listing of a folder of the destination.
-    #[tactic(auto, using(crate::proofs::Visiting::listed_in))]
+    #[tactic(auto, using(pt_tree::proofs::Told::listed_in))]
     fn list(&mut self, folder: &NamePath) -> Result<Listing, Fault>
         requires { ForSome (tree_in (R.told self.old.root))
             (λ tree. IsSome (dir_at tree folder.now)) }

@@ -12,6 +12,7 @@ use Rattle.pt_tree.specs.Listing.{Item, is_before, names_rise}
 use Rattle.pt_tree.specs.Path.{Path}
 use Rattle.pt_tree.proofs.Finding.{proper_file, proper_other, proper_dir}
 use Rattle.pt_tree.proofs.Names.{name_itself, before-trans, before_differs}
+use Rattle.pt_tree.proofs.Renamed.{node-append}
 use Rattle.pt_tree.proofs.Rising.{names_rise-proper}
 use Rattle.pt_folder.specs.SourceLaws.{names_of}
 use Rattle.pt_folder.specs.Seeing.{IsItem}
@@ -143,17 +144,6 @@ same_items g (x ∷ xs) (y ∷ ys) names kx ky =
     let second : x.1 ≡ y.1 = cc in
     let rest = same_items g xs ys later kx.1 ky.1 in
     λ i. (first i, second i) ∷ rest i
-
--- what stands at a path from a node that stands at another
-node-append : (x : Node) (p q : Path) (y : Node) → node_at x p ≡ Some y → node_at x (p ++ q) ≡ node_at y q
-node-append x [] q y is = let same : x ≡ y = cc in ap (λ (z : Node). node_at z q) same
-node-append (File b) (n ∷ p) q y is = absurd (cc)
-node-append Other (n ∷ p) q y is = absurd (cc)
-node-append (Dir f) (n ∷ p) q y is = by (λ z h. node-append z p q y h) (find f n) is
-  where
-    by : ((z : Node) → node_at z p ≡ Some y → node_at z (p ++ q) ≡ node_at y q) → (o : Option Node) → option_and_then (λ node. node_at node p) o ≡ Some y → option_and_then (λ node. node_at node (p ++ q)) o ≡ node_at y q
-    by below None h = absurd (cc)
-    by below (Some z) h = below z h
 
 found : (f d : Forest) (p : Path) (n : List ℕ) → dir_at f p ≡ Some d → node_at (Dir f) (p ++ n ∷ []) ≡ find d n
 found f d p n is = node-append (Dir f) p (n ∷ []) (Dir d) (as_node (node_at (Dir f) p) is) ∙ only (find d n)

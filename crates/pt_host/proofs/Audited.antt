@@ -3,7 +3,7 @@ use Rattle.std.proofs.Common.{◌≡◌, ◌∙◌, ℕ, List, refl, subst}
 use Rattle.std.specs.Prelude.{Bool, IfErr, None, Option, Some, Result}
 use Rattle.pt_audit.specs.Auditing.{start_over}
 use Rattle.pt_audit.specs.Failing.{AuditSays}
-use Rattle.pt_compare.specs.Root.{tree_in}
+use Rattle.pt_tree.specs.Source.{tree_in}
 use Rattle.pt_extra.specs.Audits.{AuditLogs}
 use Rattle.pt_extra.specs.declared.auditing.AuditCounts.{AuditCounts}
 use Rattle.pt_folder.specs.SourceHeld.{told_of as source_told}

@@ -5,7 +5,8 @@ use Rattle.pt_move.specs.Migrates.{Migrates}
 use Rattle.pt_move.specs.Outcome.{EndsWhole, IsWhole}
 use Rattle.pt_plan.specs.Lines.{End, Line, all_lines, end_line}
 use Rattle.pt_plan.specs.Roots.{root_in}
-use Rattle.pt_plan.specs.DeviceStates.{DeviceStates, dest_tree, source_tree}
+use Rattle.pt_plan.specs.DeviceStates.{DeviceStates, dest_tree}
+use Rattle.pt_tree.specs.Source.{tree_in}
 use Rattle.pt_state.specs.States.{counts_of, job_of}
 use Rattle.pt_state.specs.declared.job.Job.{Job}
 use Rattle.pt_state.specs.declared.job.Report.{Report}
@@ -17,7 +18,7 @@ use Rattle.pt_host.specs.RehearsalLaw.{RehearsalTellsTheRun}
 
 -- what a run that ended well told
 whole : (job : Job) (s : Forest) (t : Tree) (now : Writing) (old new : DeviceStates) (report : Report) (first last : List ℕ) → Migrates job old new (Ok report)
-    → source_tree old.source ≡ Some s → dest_tree old.dest ≡ Some t → new.dest ≡ Some now → old.log ≡ Some first → new.log ≡ Some last
+    → tree_in old.source ≡ Some s → dest_tree old.dest ≡ Some t → new.dest ≡ Some now → old.log ≡ Some first → new.log ≡ Some last
     → IsWhole (job_of job) s t now first last (counts_of report)
 unfolding EndsWhole
 whole job s t now old new report first last m source dest plays began ended = m.ends s t now first last source dest plays began ended

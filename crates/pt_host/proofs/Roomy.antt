@@ -5,7 +5,7 @@ use Rattle.std.specs.List.{list_all}
 use Rattle.std.proofs.lemmas.Bool.{and_parts, le-ltb, lt-ltb, ltb-false, ltb-true}
 use Rattle.std.proofs.lemmas.List.{length-append}
 use Rattle.pt_host.specs.Room.{RoomIsThatOfStaging, longest_in, made_at}
-use Rattle.pt_object.specs.FilePaths.{is_logical}
+use Rattle.pt_tree.specs.PathOrder.{is_logical}
 use Rattle.pt_tree.specs.Name.{is_name}
 use Rattle.pt_tree.specs.Path.{Path, joined}
 

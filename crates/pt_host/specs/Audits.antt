@@ -4,7 +4,7 @@ use Rattle.std.specs.Option.{ForSome}
 use Rattle.pt_audit.specs.Auditing.{start_over}
 use Rattle.pt_audit.specs.Failing.{AuditSays}
 use Rattle.pt_audit.specs.Layout.{IsOfLayout}
-use Rattle.pt_compare.specs.Root.{tree_in}
+use Rattle.pt_tree.specs.Source.{tree_in}
 use Rattle.pt_extra.specs.Audits.{AuditLogs}
 use Rattle.pt_extra.specs.declared.auditing.AuditCounts.{AuditCounts}
 use Rattle.pt_folder.specs.SourceHeld.{told_of as source_told}
@@ -18,7 +18,7 @@ use Rattle.pt_host.specs.Made.{GuardsRecord}
 use Rattle.pt_host.specs.declared.host.HostIo.{HostIo}
 use Rattle.pt_host.specs.declared.options.AuditOptions.{AuditOptions}
 use Rattle.pt_state.specs.States.{job_of}
-use Rattle.pt_audit.specs.Growing.{Grows}
+use Rattle.pt_tree.specs.Log.{Grows}
 use Rattle.pt_tree.specs.Forest.{Forest}
 
 -- how many lines of an audit's log tell of what isn't the same: those of objects, of what the store lacks, and skip lines unless these are well

@@ -2,7 +2,8 @@
 use Rattle.std.specs.Prelude.{◌≡◌, ◌==◌, ⊤, ℕ, true, if◌then◌else◌, IfErr, IfOk, List, Option, Result, Ok, Err}
 use Rattle.std.specs.Option.{ForSome, option_map}
 use Rattle.pt_check.specs.Counting.{no_numbers}
-use Rattle.pt_check.specs.Visits.{Checks, Grows, Says, Seen}
+use Rattle.pt_check.specs.Visits.{Checks, Says, Seen}
+use Rattle.pt_tree.specs.Log.{Grows}
 use Rattle.pt_check.specs.declared.numbers.Numbers.{Numbers}
 use Rattle.pt_check.specs.declared.wants.Wants.{Wants}
 use Rattle.pt_plan.specs.declared.fault.Fault.{Fault}

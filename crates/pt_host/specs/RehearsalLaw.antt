@@ -1,6 +1,7 @@
 -- What a rehearsal tells of the run that it rehearses.
 use Rattle.std.specs.Prelude.{◌≡◌, ◌++◌, ℕ, Bool, true, false, List, Option, None, Some, Ok}
-use Rattle.pt_plan.specs.DeviceStates.{DeviceStates, dest_tree, source_tree}
+use Rattle.pt_plan.specs.DeviceStates.{DeviceStates, dest_tree}
+use Rattle.pt_tree.specs.Source.{tree_in}
 use Rattle.pt_state.specs.declared.job.Job.{Job}
 use Rattle.pt_state.specs.declared.job.Report.{Report}
 use Rattle.pt_tree.specs.Dest.{Writing}
@@ -17,7 +18,7 @@ RehearsalTellsTheRun =
     (report report' : Report) (now : Writing) (first last first' last' : List ℕ)
     → IsRun job true (Some (record { tree = t; writing = None })) old new (Ok report)
     → IsRun job false was old' new' (Ok report')
-    → source_tree old.source ≡ Some s → source_tree old'.source ≡ Some s
+    → tree_in old.source ≡ Some s → tree_in old'.source ≡ Some s
     → dest_tree old'.dest ≡ Some t → new'.dest ≡ Some now
     → old.log ≡ Some first → new.log ≡ Some last
     → old'.log ≡ Some first' → new'.log ≡ Some last'

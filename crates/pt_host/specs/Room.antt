@@ -2,7 +2,7 @@
 use Rattle.std.specs.Prelude.{◌≡◌, ℕ, ◌+◌, ◌-◌, ◌*◌, true, nat_lt, List, ◌++◌, length}
 use Rattle.pt_folder.specs.Folder.{entry_text}
 use Rattle.pt_name.specs.Tuples.{Tuples}
-use Rattle.pt_object.specs.FilePaths.{is_logical}
+use Rattle.pt_tree.specs.PathOrder.{is_logical}
 use Rattle.pt_plan.specs.Fixity.{content_folder}
 use Rattle.pt_tree.specs.Path.{Path, joined}
 

@@ -4,7 +4,8 @@ use Rattle.std.specs.List.{list_all}
 use Rattle.pt_name.specs.Place.{place_of}
 use Rattle.pt_object.specs.Algorithm.{digest_of}
 use Rattle.pt_object.specs.Distinct.{content_of_row, distinct}
-use Rattle.pt_object.specs.FilePaths.{part_in_order, parts_before, row_paths}
+use Rattle.pt_object.specs.FilePaths.{row_paths}
+use Rattle.pt_tree.specs.PathOrder.{part_in_order, parts_before}
 use Rattle.pt_tree.specs.Listing.{Item}
 use Rattle.pt_tree.specs.Path.{Path}
 use Rattle.pt_walk.specs.Trail.{current_entry, is_dir_entry, is_trail, names_to}
@@ -70,18 +71,18 @@ pub record AreRows (job : Job) (bytes : Path → List ℕ) (held : Held) : Type 
   pub digests : All (λ row. digest_of job.algorithm (bytes row.path) ≡ row.digest) held.rows
   pub contents : held.contents ≡ map content_of_row (distinct held.rows)
 
--- none is held
-pub record HoldsNoRows (held : Held) : Type 0 where
+-- nothing is held of an object
+pub record HoldsNoObject (held : Held) : Type 0 where
   pub rows : held.rows ≡ []
   pub contents : held.contents ≡ []
 
 -- while an object is under way they are those of its files, before it is entered and between objects there are none, and of a run that has ended
 -- nothing is said
 abbrev pub RowsAt : Job → (Path → List ℕ) → Phase → Held → Type 0
-RowsAt job bytes (phase.Carrying object stage.Open) held = HoldsNoRows held
+RowsAt job bytes (phase.Carrying object stage.Open) held = HoldsNoObject held
 RowsAt job bytes (phase.Carrying object _) held = AreRows job bytes held
 RowsAt job bytes phase.Ended held = ⊤
-RowsAt job bytes _ held = HoldsNoRows held
+RowsAt job bytes _ held = HoldsNoObject held
 
 -- ---- what is behind the rows
 

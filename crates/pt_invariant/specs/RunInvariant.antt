@@ -51,10 +51,10 @@ TellsStill (Some start) (Some now) P = P start now
 
 -- ---- what the items that are done came to
 
--- how many items the objects placed so far are of: one more where the next item's object has just been placed
-abbrev pub items_placed : Phase → ℕ → ℕ
-items_placed (phase.Carrying object stage.Line) count = suc count
-items_placed _ count = count
+-- how many items are through, where so many are done: one more at an object's line, which is all that is left of it
+abbrev pub items_through : Phase → ℕ → ℕ
+items_through (phase.Carrying object stage.Line) count = suc count
+items_through _ count = count
 
 -- the place of the next item isn't taken
 abbrev pub IsNextFree : Job → Forest → Tree → ℕ → Type 0
@@ -70,7 +70,7 @@ IsFreeAt _ job source root count = ⊤
 abbrev pub ArePlaced : Job → Forest → Tree → History → Phase → Type 0
 ArePlaced job source root past phase.Ended = ⊤
 ArePlaced job source root past here =
-    past.placed ≡ carried_among job source root (items_placed here past.count)
+    past.placed ≡ carried_among job source root (items_through here past.count)
 
 -- the objects that were placed are those that are carried of the items done, and the place of the one under way is free
 pub record PlacesItems (job : Job) (source : Forest) (root : Tree) (past : History) (here : Phase) : Type 0 where

@@ -26,6 +26,7 @@ use Rattle.pt_plan.specs.declared.phase.Opening.TheVariants as opening
 use Rattle.pt_plan.specs.declared.phase.Phase.TheVariants as phase
 use Rattle.pt_plan.specs.declared.phase.Stage.TheVariants as stage
 use Rattle.pt_plan.specs.declared.phase.Position.{Position}
+use Rattle.pt_invariant.specs.HeldInvariant.{HoldsNoObject}
 use Rattle.pt_invariant.specs.History.{History}
 
 -- ---- the start
@@ -33,11 +34,6 @@ use Rattle.pt_invariant.specs.History.{History}
 -- nothing is held
 pub record HoldsNothing (held : Held) : Type 0 where
   pub trail : held.trail ≡ []
-  pub rows : held.rows ≡ []
-  pub contents : held.contents ≡ []
-
--- nothing is held of an object
-pub record HoldsNoObject (held : Held) : Type 0 where
   pub rows : held.rows ≡ []
   pub contents : held.contents ≡ []
 

@@ -5,7 +5,7 @@ use Rattle.std.specs.Option.{option_map, option_map_or}
 use Rattle.std.specs.Str.{bytes_eq}
 use Rattle.std.proofs.lemmas.Bool.{le-ltb, lt-ltb}
 use Rattle.std.proofs.lemmas.List.{take_all}
-use Rattle.pt_state.proofs.Words.{Content, HasBeenFed, MakeFolder, Row, Writing, MayMake, Path, Reading, CanOpen, after_open, Answer, Did, FailsPartway, Make, FailsUnchanged, content_at, in_pairtree, Answers, Calls, Changes, Creates, Makes, NewFile, Opens, Puts, DeviceStates, asks, dest_tree, does, source_tree, Fault, Object, Part, Position, KeepsAll, held_of, Turned}
+use Rattle.pt_state.proofs.Words.{Content, HasBeenFed, MakeFolder, Row, Writing, MayMake, Path, Reading, CanOpen, after_open, Answer, Did, FailsPartway, Make, FailsUnchanged, content_at, in_pairtree, Answers, Calls, Changes, Creates, Makes, NewFile, Opens, Puts, DeviceStates, asks, dest_tree, does, tree_in, Fault, Object, Part, Position, KeepsAll, held_of, Turned}
 use Rattle.pt_state.proofs.Words.part
 use Rattle.pt_state.proofs.Words.phase
 use Rattle.pt_state.proofs.Words.stage
@@ -114,7 +114,7 @@ left_new to from f a b c created stays = (
   record {
     read = tt;
     found = tt;
-    source = stays.0 ∙ ap source_tree created.0.source;
+    source = stays.0 ∙ ap tree_in created.0.source;
     dest = NewFile to (ap dest_tree (stays.1 ∙ created.0.dest) ∙ none_of_file a.dest to);
     log = stays.2 ∙ created.0.log;
   },

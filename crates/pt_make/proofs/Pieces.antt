@@ -8,7 +8,7 @@ use Rattle.pt_object.proofs.Ways.{path_itself}
 use Rattle.pt_object.specs.InPieces.{InPieces, TakesPiece}
 use Rattle.pt_object.specs.Script.{done}
 use Rattle.pt_plan.specs.DeviceStates.{LeavesPart, OfFile, after_make}
-use Rattle.pt_state.proofs.Words.{Adds, Answers, Bytes, Change, Changes, Creates, Did, Fault, Finishes, HasBeenFed, Hasher, Algorithm, FailsPartway, MakeFile, Makes, OfPiece, Path, Puts, FailsUnchanged, Tree, Untouched, DeviceStates, Writing, dest_tree, does, same_path, source_tree}
+use Rattle.pt_state.proofs.Words.{Adds, Answers, Bytes, Change, Changes, Creates, Did, Fault, Finishes, HasBeenFed, Hasher, Algorithm, FailsPartway, MakeFile, Makes, OfPiece, Path, Puts, FailsUnchanged, Tree, Untouched, DeviceStates, Writing, dest_tree, does, same_path, tree_in}
 use Rattle.pt_state.proofs.Words.fault
 use Rattle.pt_tree.specs.Dest.{CanWrite, added_to, after_append, after_finish}
 use Rattle.pt_tree.specs.Tree.{edited_by, put}
@@ -170,7 +170,7 @@ stopped p text rest h h' a b c f put stays = (
   record {
     read = tt;
     found = tt;
-    source = stays.0 ∙ ap source_tree put.source;
+    source = stays.0 ∙ ap tree_in put.source;
     dest = front_left a.dest c.dest p text put.given rest put.whole (ap dest_tree (stays.1 ∙ put.dest) ∙ tree_at a.dest p put.given);
     log = stays.2 ∙ put.log;
   },
@@ -199,7 +199,7 @@ stopped_within p text rest piece rest' h h' a b c f put next left = (
   record {
     read = tt;
     found = tt;
-    source = left.0.source ∙ ap source_tree put.source;
+    source = left.0.source ∙ ap tree_in put.source;
     dest = part_left a.dest b.dest c.dest p text put.given rest piece rest' (Adds piece) refl put.whole next put.dest left.0.dest;
     log = left.0.log ∙ put.log;
   },

@@ -2,7 +2,7 @@
 use Rattle.std.proofs.Common.{◌≡◌, ◌≢◌, ◌<◌, ◌≤◌, ◌+◌, ◌==◌, Bool, cond, false, true, ℕ, List, [], refl, sym, ap, ◌∙◌, arith, inl, inr}
 use Rattle.std.proofs.lemmas.Bool.{OnFalse_at, OnFalse_from}
 use Rattle.std.specs.Prelude.{Option, None, Some, Ok, Err}
-use Rattle.pt_state.proofs.Words.{HasBeenFed, Algorithm, Hasher, Writing, Reading, Answer, phase_after, Job, Held, Run, new_run, Failures, DeviceStates, source_tree, Fault, Phase, held_of, job_of, kept_of, IsLayout, Tree}
+use Rattle.pt_state.proofs.Words.{HasBeenFed, Algorithm, Hasher, Writing, Reading, Answer, phase_after, Job, Held, Run, new_run, Failures, DeviceStates, tree_in, Fault, Phase, held_of, job_of, kept_of, IsLayout, Tree}
 use Rattle.pt_state.proofs.Words.fault
 use Rattle.pt_state.proofs.Words.part
 use Rattle.pt_state.proofs.Words.opening
@@ -289,7 +289,7 @@ begins_begun r states begins = inl begins
 
 -- ---- what a step leaves
 
-module _ (before after : Running) (old new : DeviceStates) (job : after.state.job ≡ before.state.job) (tree : source_tree new.source ≡ source_tree old.source) where
+module _ (before after : Running) (old new : DeviceStates) (job : after.state.job ≡ before.state.job) (tree : tree_in new.source ≡ tree_in old.source) where
   pub leaves_more : (next : Phase) → TurnLeaves before.state after.state old.log new.log old.failures new.failures (Ok next) → StepLeaves old new before after (Ok turn.More)
   unfolding StepLeaves
   leaves_more next left = record { tree = tree; job = job; turns = (left.turns, left.lines); told = left.told; finished = tt; trail = left.trail; rows = left.rows; contents = left.contents }

@@ -1,7 +1,7 @@
 -- That a run keeps its promises in a step, by what the step answers.
 use Rattle.std.proofs.Common.{◌≡◌, ◌≢◌, ◌<◌, ◌≤◌, ℕ, List, arith}
 use Rattle.std.specs.Prelude.{Option, Some, Ok, Err}
-use Rattle.pt_state.proofs.Words.{Forest, Reading, Tree, Answer, phase_after, Job, Run, turning, DeviceStates, source_tree, Fault, Phase, job_of, kept_of}
+use Rattle.pt_state.proofs.Words.{Forest, Reading, Tree, Answer, phase_after, Job, Run, turning, DeviceStates, tree_in, Fault, Phase, job_of, kept_of}
 use Rattle.pt_state.proofs.Words.fault
 use Rattle.pt_state.proofs.Words.phase
 use Rattle.pt_state.specs.declared.state.State.{State}
@@ -30,7 +30,7 @@ use Rattle.pt_move.proofs.Outcomes.{reading_of, turn_keeps, within_after}
 -- ---- the source's tree stays
 
 pub tree_stays : (here : Phase) (s s' : State) (old new : DeviceStates) (answer : Answer) → here ≢ phase.Ended → BeganSomewhere old (record { phase = here; state = s })
-    → CountedTurn here s s' old new answer → source_tree new.source ≡ source_tree old.source
+    → CountedTurn here s s' old new answer → tree_in new.source ≡ tree_in old.source
 unfolding CountedTurn
 tree_stays here s s' old new answer going begun turned =
     let made = turned.1 _ (was_fed here s old going begun) in
@@ -101,15 +101,15 @@ module _ (start : Start) (old new : DeviceStates) (before : Running) (s' : State
     leaves = kept.leaves;
     stands = kept.stands;
     work = kept.work;
-    bound = unless_ended (HoldsWithinBound before.state.job (source_tree old.source) s') why kept.bound;
+    bound = unless_ended (HoldsWithinBound before.state.job (tree_in old.source) s') why kept.bound;
     holds = holds_nothing_else s';
     left = kept.left;
     ends = tt;
     states = tt;
     early = halted (λ f. IfEarly f (LeavesAll start new.dest new.log)) why kept.says.early;
     unstaged = halted (λ f. IfLog f (LeavesNoStaging new.dest)) why kept.says.unstaged;
-    says = halted (SaysRightly before.state.job (source_tree old.source) start.dest) why kept.says.says;
-    good = halted (WantsMemory before.state.job (source_tree old.source) start.dest old.failures new.failures) why kept.says.good;
+    says = halted (SaysRightly before.state.job (tree_in old.source) start.dest) why kept.says.says;
+    good = halted (WantsMemory before.state.job (tree_in old.source) start.dest old.failures new.failures) why kept.says.good;
   }
 
 -- ---- no turn was made
@@ -137,19 +137,19 @@ module _ (start : Start) (now : DeviceStates) (r : Running) (is : IsBegun start 
   unfolding StandsStillIn
   stands_there = λ t w start_is dest_is. invariant_stands_still job start (as_told now) run t w begun start_is dest_is
 
-  made_there : MadeWithinWork r.state.job (source_tree now.source) start.dest r.state.counts
+  made_there : MadeWithinWork r.state.job (tree_in now.source) start.dest r.state.counts
   unfolding MadeWithinWork
   made_there = λ f t source_is start_is.
       let reading = reading_of now.source source_is in
       rw reading.2 at (so_far job start (as_told now) run {s = reading.0} {t = t} there.begun reading.1 start_is)
 
-  bound_there : r.phase ≢ phase.Ended → HoldsWithinBound r.state.job (source_tree now.source) r.state
+  bound_there : r.phase ≢ phase.Ended → HoldsWithinBound r.state.job (tree_in now.source) r.state
   unfolding HoldsWithinBound
   bound_there going = λ f source_is.
       let reading = reading_of now.source source_is in
       rw reading.2 at (invariant_is_within_bound job start (as_told now) run reading.0 begun (is_going r.phase going) reading.1)
 
-  left_there : FaultStateTold r.state.job (source_tree now.source) start now.dest now.log
+  left_there : FaultStateTold r.state.job (tree_in now.source) start now.dest now.log
   unfolding FaultStateTold
   left_there = λ f t w first last source_is start_is dest_is first_is last_is.
       let reading = reading_of now.source source_is in
@@ -157,7 +157,7 @@ module _ (start : Start) (now : DeviceStates) (r : Running) (is : IsBegun start 
       (stops_leave job start (as_told now) run reading.0 t w first last begun reading.1 start_is dest_is first_is last_is)
 
   -- a limit that was made is less than the work
-  limit_there : r.phase ≢ phase.Ended → r.state.job.limits.turns ≤ r.state.counts.turns → (s : Forest) (t : Tree) → source_tree now.source ≡ Some s → start.dest ≡ Some t → r.state.job.limits.turns < work job s (root_in t)
+  limit_there : r.phase ≢ phase.Ended → r.state.job.limits.turns ≤ r.state.counts.turns → (s : Forest) (t : Tree) → tree_in now.source ≡ Some s → start.dest ≡ Some t → r.state.job.limits.turns < work job s (root_in t)
   limit_there going made = λ f t source_is start_is.
       let reading = reading_of now.source source_is in
       let less : r.state.counts.turns < work job f (root_in t) =
@@ -165,7 +165,7 @@ module _ (start : Start) (now : DeviceStates) (r : Running) (is : IsBegun start 
       omega (arith, less, made)
 
   -- so one of at least the work isn't made
-  good_there : r.phase ≢ phase.Ended → r.state.job.limits.turns ≤ r.state.counts.turns → WantsMemory r.state.job (source_tree now.source) start.dest now.failures now.failures fault.Turns
+  good_there : r.phase ≢ phase.Ended → r.state.job.limits.turns ≤ r.state.counts.turns → WantsMemory r.state.job (tree_in now.source) start.dest now.failures now.failures fault.Turns
   unfolding WantsMemory
   good_there going made = λ f t source_is start_is good free enough none.
       let less = limit_there going made f t source_is start_is in
@@ -182,7 +182,7 @@ keeps_at_limit start now before after going made ended same is = record {
   begun = begun_ends start now before ended same is;
   leaves = leaves_behind start now before is;
   stands = stands_there start now before is;
-  work = same_counts before.state.job (source_tree now.source) start.dest after.state same (made_there start now before is);
+  work = same_counts before.state.job (tree_in now.source) start.dest after.state same (made_there start now before is);
   bound = rw same (bound_there start now before is going);
   holds = holds_nothing_else after.state;
   left = left_there start now before is;

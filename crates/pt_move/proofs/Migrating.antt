@@ -2,7 +2,7 @@
 use Rattle.std.proofs.Common.{◌≡◌, ◌≢◌, refl, ◌∙◌}
 use Rattle.std.specs.Prelude.{IsErrAnd, Ok, Err, Result}
 use Rattle.pt_invariant.specs.RunInvariant.{start_of}
-use Rattle.pt_state.proofs.Words.{DeviceStates, source_tree}
+use Rattle.pt_state.proofs.Words.{DeviceStates, tree_in}
 use Rattle.pt_state.proofs.Words.phase
 use Rattle.pt_state.specs.declared.job.Report.{Report}
 use Rattle.pt_state.specs.declared.job.Job.{Job}
@@ -25,7 +25,7 @@ use Rattle.pt_move.proofs.WholeLog.{told_finished, told_front, told_more, told_n
 -- what holds of a run that goes on
 pub record SoFar (job : Job) (first now : DeviceStates) (r : Running) : Type 0 where
   pub begun : IsBegun (start_of first) now r
-  pub tree : source_tree now.source ≡ source_tree first.source
+  pub tree : tree_in now.source ≡ tree_in first.source
   pub failures : now.failures ≡ first.failures
   pub same : r.state.job ≡ job
   pub going : r.phase ≢ phase.Ended
@@ -99,8 +99,8 @@ module _ (job : Job) (first old new : DeviceStates) (a b : Running) (so_far : So
   halted {f} step =
       let blames : Blamed {T = Report} first new (Err f) = blames_err first old new f so_far.failures step.steps.blames in
       let kept : Keeps (start_of first) old new a b (Err f) = step.keeps (start_of first) so_far.begun in
-      let says = if_halted (SaysRightly a.state.job (source_tree old.source) (start_of first).dest) f going kept.says in
-      let good = if_halted (WantsMemory a.state.job (source_tree old.source) (start_of first).dest old.failures new.failures) f going kept.good in
+      let says = if_halted (SaysRightly a.state.job (tree_in old.source) (start_of first).dest) f going kept.says in
+      let good = if_halted (WantsMemory a.state.job (tree_in old.source) (start_of first).dest old.failures new.failures) f going kept.good in
       record {
         ends = tt;
         states = tt;

@@ -1,7 +1,7 @@
 -- What a turn of a run leaves and says, from what it is of the definitions.
 use Rattle.std.proofs.Common.{◌≡◌, ℕ, List, false, true, refl, ◌∙◌}
 use Rattle.std.specs.Prelude.{Option, None, Some, Ok, Err}
-use Rattle.pt_state.proofs.Words.{Forest, Reading, Tree, Answer, phase_after, Job, Kept, Run, turning, Turn, DeviceStates, source_tree, Fault, Phase, job_of, kept_of}
+use Rattle.pt_state.proofs.Words.{Forest, Reading, Tree, Answer, phase_after, Job, Kept, Run, turning, Turn, DeviceStates, tree_in, Fault, Phase, job_of, kept_of}
 use Rattle.pt_state.proofs.Words.fault
 use Rattle.pt_state.proofs.Words.phase
 use Rattle.pt_state.specs.declared.state.State.{State}
@@ -33,7 +33,7 @@ use Rattle.pt_move.specs.Running.{IsBegun}
 
 -- ---- what is told
 
-pub reading_of : (r : Option Reading) {f : Forest} → source_tree r ≡ Some f → (s : Reading) × (r ≡ Some s) × (s.tree ≡ f)
+pub reading_of : (r : Option Reading) {f : Forest} → tree_in r ≡ Some f → (s : Reading) × (r ≡ Some s) × (s.tree ≡ f)
 reading_of None is = absurd (cc)
 reading_of (Some s) {f} is = (s, refl, some_same s.tree f is)
 
@@ -84,20 +84,20 @@ module _ (s s' : State) (here : Phase) (fed fed' : List ℕ) (old new : DeviceSt
       let later : Run = record { phase = phase_after answer; kept = after } in
       invariant_stands_still job start new later t w (within_work_holds_invariant job start new later (within_after answer turn)) start_is dest_is
 
-  work_after : {answer : Answer} → MadeTurn answer → MadeWithinWork s.job (source_tree old.source) start.dest s'.counts
+  work_after : {answer : Answer} → MadeTurn answer → MadeWithinWork s.job (tree_in old.source) start.dest s'.counts
   unfolding MadeWithinWork
   work_after {answer} turn = λ f t source_is start_is.
       let reading = reading_of old.source source_is in
       let few = turns_are_within_work job start old new run after answer reading.0 t within going turn reading.1 start_is in
       rw reading.2 at few
 
-  bound_after : {answer : Answer} → MadeTurn answer → HoldsWithinBound s.job (source_tree old.source) s'
+  bound_after : {answer : Answer} → MadeTurn answer → HoldsWithinBound s.job (tree_in old.source) s'
   unfolding HoldsWithinBound
   bound_after {answer} turn = λ f source_is.
       let reading = reading_of old.source source_is in
       rw reading.2 at (turn_is_within_bound job start old new run after answer reading.0 begun going turn reading.1)
 
-  left_after : {answer : Answer} → MadeTurn answer → FaultStateTold s.job (source_tree old.source) start new.dest new.log
+  left_after : {answer : Answer} → MadeTurn answer → FaultStateTold s.job (tree_in old.source) start new.dest new.log
   unfolding FaultStateTold
   left_after {answer} turn = λ f t now first last source_is start_is dest_is first_is last_is.
       let reading = reading_of new.source (turn_tree job here (turning (kept_of s fed)) after old new answer turn ∙ source_is) in
@@ -106,14 +106,14 @@ module _ (s s' : State) (here : Phase) (fed fed' : List ℕ) (old new : DeviceSt
       (stops_leave job start new later reading.0 t now first last (within_work_holds_invariant job start new later (within_after answer turn)) reading.1 start_is dest_is first_is last_is)
 
   -- the turn that ends the run
-  end_whole : MadeTurn (Ok phase.Ended) → EndsWhole s.job (source_tree old.source) start new.dest new.log s'.counts
+  end_whole : MadeTurn (Ok phase.Ended) → EndsWhole s.job (tree_in old.source) start new.dest new.log s'.counts
   unfolding EndsWhole
   end_whole turn = λ f t now first last source_is start_is dest_is first_is last_is.
       let reading = reading_of old.source source_is in
       rw reading.2 at
       (ends_well job start old new run after reading.0 t now first last begun turn reading.1 start_is dest_is first_is last_is)
 
-  end_states : MadeTurn (Ok phase.Ended) → StatesAreFiles s.job (source_tree old.source) start new.dest new.log
+  end_states : MadeTurn (Ok phase.Ended) → StatesAreFiles s.job (tree_in old.source) start new.dest new.log
   unfolding StatesAreFiles
   end_states turn = λ f t now first last source_is start_is dest_is first_is last_is.
       let reading = reading_of old.source source_is in
@@ -128,7 +128,7 @@ module _ (s s' : State) (here : Phase) (fed fed' : List ℕ) (old new : DeviceSt
     λ first last first_is last_is. early_leaves_log job start old new run after why first last begun turn early first_is last_is,
   )
 
-  halt_says : {why : Fault} → MadeTurn (Err why) → SaysRightly s.job (source_tree old.source) start.dest why
+  halt_says : {why : Fault} → MadeTurn (Err why) → SaysRightly s.job (tree_in old.source) start.dest why
   unfolding SaysRightly
   halt_says {why} turn = (
     λ f source_is.
@@ -145,7 +145,7 @@ module _ (s s' : State) (here : Phase) (fed fed' : List ℕ) (old new : DeviceSt
         (finds_target_of job start old new run after reading.0 t begun (rw same at turn) reading.1 start_is).1),
   )
 
-  halt_good : {why : Fault} → MadeTurn (Err why) → WantsMemory s.job (source_tree old.source) start.dest old.failures new.failures why
+  halt_good : {why : Fault} → MadeTurn (Err why) → WantsMemory s.job (tree_in old.source) start.dest old.failures new.failures why
   unfolding WantsMemory
   halt_good {why} turn = λ f t source_is start_is good free enough none.
       let reading = reading_of old.source source_is in

@@ -10,7 +10,8 @@ use Rattle.pt_plan.proofs.LaterTrees.{rerun_leaves_the_same}
 use Rattle.pt_plan.specs.Carried.{after_all}
 use Rattle.pt_plan.specs.Job.{Job as Plan}
 use Rattle.pt_plan.specs.Roots.{root_in, with_root}
-use Rattle.pt_plan.specs.DeviceStates.{DeviceStates, dest_tree, source_tree}
+use Rattle.pt_plan.specs.DeviceStates.{DeviceStates, dest_tree}
+use Rattle.pt_tree.specs.Source.{tree_in}
 use Rattle.pt_state.specs.States.{job_of}
 use Rattle.pt_state.specs.declared.job.Job.{Job}
 use Rattle.pt_state.specs.declared.job.Report.{Report}
@@ -83,7 +84,7 @@ module _ (job : Job) (s : Forest) (start : Tree) (old new : DeviceStates) (is : 
       let rerun = rerun_leaves_the_same (job_of job) s is.now dest.0.tree left.told is.tree is.begins left.left in
       let now = without dest.0.tree staging in
       let stands : dest_tree later.dest ≡ Some now = takes ∙ ap (λ w. option_map (λ (t : Tree). without t staging) (dest_tree w)) dest.1 in record {
-        tells = ap source_tree source-is ∙ made.tree ∙ is.tells;
+        tells = ap tree_in source-is ∙ made.tree ∙ is.tells;
         now = now;
         stands = stands;
         tree = is_tree now stands;

@@ -5,7 +5,8 @@ use Rattle.pt_move.specs.Running.{IsBegun, Running}
 use Rattle.pt_plan.specs.Bound.{bound}
 use Rattle.pt_plan.specs.Roots.{root_in}
 use Rattle.pt_plan.specs.Work.{work}
-use Rattle.pt_plan.specs.DeviceStates.{DeviceStates, source_tree}
+use Rattle.pt_plan.specs.DeviceStates.{DeviceStates}
+use Rattle.pt_tree.specs.Source.{tree_in}
 use Rattle.pt_state.specs.States.{job_of}
 use Rattle.pt_state.specs.declared.job.Job.{Job}
 use Rattle.pt_tree.specs.Forest.{Forest}
@@ -14,7 +15,7 @@ use Rattle.pt_tree.specs.Tree.{Tree}
 -- it began at this start, over this source, with this job
 pub record GoesOn (start : Start) (source : Forest) (job : Job) (states : DeviceStates) (r : Running) : Type 0 where
   pub begun : IsBegun start states r
-  pub tree : source_tree states.source ≡ Some source
+  pub tree : tree_in states.source ≡ Some source
   pub job_is : r.state.job ≡ job
 
 -- so many records are within the source's bound, and so many turns within the work, where the destination told at the start

@@ -5,7 +5,8 @@ use Rattle.pt_object.specs.Scripts.{staging}
 use Rattle.pt_plan.specs.Carried.{IsStart, after_all}
 use Rattle.pt_plan.specs.Job.{Job}
 use Rattle.pt_plan.specs.Roots.{root_in, with_root}
-use Rattle.pt_plan.specs.DeviceStates.{DeviceStates, dest_tree, source_tree}
+use Rattle.pt_plan.specs.DeviceStates.{DeviceStates, dest_tree}
+use Rattle.pt_tree.specs.Source.{tree_in}
 use Rattle.pt_tree.specs.Dest.{Writing}
 use Rattle.pt_tree.specs.Forest.{Forest}
 use Rattle.pt_tree.specs.Tree.{IsTree, Tree, without}
@@ -20,7 +21,7 @@ TakesStaging old new = dest_tree new ≡ option_map (λ t. without t staging) (d
 
 -- all three tell, a run may end well, and then it leaves what one undisturbed run leaves of this start
 pub record MayEndAs (job : Job) (source : Forest) (start : Tree) (states : DeviceStates) : Type 0 where
-  pub tells : source_tree states.source ≡ Some source
+  pub tells : tree_in states.source ≡ Some source
   pub now : Tree
   pub stands : dest_tree states.dest ≡ Some now
   pub tree : IsTree now

@@ -1,7 +1,8 @@
 -- What `migrate` promises, over the states of its devices before and after. Each promise says itself which devices have to tell.
 use Rattle.std.specs.Prelude.{◌≡◌, ◌≢◌, ◌≤◌, IfErr, IfOk, OnErr, Result}
 use Rattle.pt_invariant.specs.RunInvariant.{start_of}
-use Rattle.pt_plan.specs.DeviceStates.{DeviceStates, dest_tree, source_tree}
+use Rattle.pt_plan.specs.DeviceStates.{DeviceStates, dest_tree}
+use Rattle.pt_tree.specs.Source.{tree_in}
 use Rattle.pt_state.specs.States.{counts_of}
 use Rattle.pt_state.specs.declared.job.Job.{Job}
 use Rattle.pt_state.specs.declared.job.Report.{Report}
@@ -34,12 +35,12 @@ use Rattle.pt_plan.specs.declared.fault.Fault.TheVariants as fault
 -- what a run promises, by what its devices told before and after
 pub record Migrates (job : Job) (old new : DeviceStates) (result : Result Report Fault) : Type 0 where
   -- at its end the root holds all objects that are carried, each whole, nothing else is changed, and the log has all lines
-  pub ends : IfOk result (EndsWhole job (source_tree old.source) (start_of old) new.dest new.log)
+  pub ends : IfOk result (EndsWhole job (tree_in old.source) (start_of old) new.dest new.log)
   -- and the state of the version of each is its files
   pub states : IfOk result
-      (λ report. StatesAreFiles job (source_tree old.source) (start_of old) new.dest new.log)
+      (λ report. StatesAreFiles job (tree_in old.source) (start_of old) new.dest new.log)
   -- however it ends, destination and log are such as a fault may leave
-  pub left : FaultStateTold job (source_tree old.source) (start_of old) new.dest new.log
+  pub left : FaultStateTold job (tree_in old.source) (start_of old) new.dest new.log
   -- and as they were after an early fault
   pub early : IfErr result (λ f. IfEarly f (LeavesAll (start_of old) new.dest new.log))
   -- and with nothing at `staging` where the log failed
@@ -49,12 +50,12 @@ pub record Migrates (job : Job) (old new : DeviceStates) (result : Result Report
   -- and what stood in it stands
   pub stands : StandsStillIn (dest_tree old.dest) new.dest
   -- the source's tree is as it was
-  pub tree : source_tree new.source ≡ source_tree old.source
+  pub tree : tree_in new.source ≡ tree_in old.source
   -- a source or a destination is refused only for what it is
-  pub says : IfErr result (SaysRightly job (source_tree old.source) (dest_tree old.dest))
+  pub says : IfErr result (SaysRightly job (tree_in old.source) (dest_tree old.dest))
   -- and over a good start none is
   pub good : IfErr result
-      (WantsMemory job (source_tree old.source) (dest_tree old.dest) old.failures new.failures)
+      (WantsMemory job (tree_in old.source) (dest_tree old.dest) old.failures new.failures)
   -- a device is blamed exactly where it failed
   pub source : Counts 1 old.failures.source new.failures.source result
   pub dest : Counts 2 old.failures.dest new.failures.dest result
@@ -68,6 +69,6 @@ pub record Migrates (job : Job) (old new : DeviceStates) (result : Result Report
   -- it is so many turns of the definitions, one after another
   pub run : IsRun job old new result
   -- of which there are no more than the work, and than the limit; and no more lines than turns
-  pub work : IfOk result (MadeWithinWork job (source_tree old.source) (dest_tree old.dest))
+  pub work : IfOk result (MadeWithinWork job (tree_in old.source) (dest_tree old.dest))
   pub turns : IfOk result (λ report. report.turns ≤ job.limits.turns)
   pub lines : IfOk result (λ report. lines_put (counts_of report) ≤ report.turns)

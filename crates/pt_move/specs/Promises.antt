@@ -1,7 +1,8 @@
 -- What holds of a run after each of its steps, against the start at which it began. Each fact says itself which devices have to tell.
 use Rattle.std.specs.Prelude.{◌≡◌, Result, Ok, Err, ⊤}
 use Rattle.pt_plan.specs.Answer.{Answer, phase_after}
-use Rattle.pt_plan.specs.DeviceStates.{DeviceStates, source_tree}
+use Rattle.pt_plan.specs.DeviceStates.{DeviceStates}
+use Rattle.pt_tree.specs.Source.{tree_in}
 use Rattle.pt_plan.specs.declared.phase.Phase.TheVariants as phase
 use Rattle.pt_invariant.specs.RunInvariant.{Start}
 use Rattle.pt_state.specs.Fields.{HoldsNothingElse}
@@ -46,29 +47,29 @@ pub record StepPromises (start : Start) (old new : DeviceStates) (before after :
   -- and what stood in it stands
   pub stands : StandsStillIn start.dest new.dest
   -- no more turns were made than the work
-  pub work : MadeWithinWork before.state.job (source_tree old.source) start.dest after.state.counts
+  pub work : MadeWithinWork before.state.job (tree_in old.source) start.dest after.state.counts
   -- no more is held than the source's bound
-  pub bound : UnlessEnded answer (HoldsWithinBound before.state.job (source_tree old.source) after.state)
+  pub bound : UnlessEnded answer (HoldsWithinBound before.state.job (tree_in old.source) after.state)
   -- and beside the phase the fields of a state are held, and nothing else
   pub holds : HoldsNothingElse after.state
   -- at the end the root holds all objects that are carried, nothing else is changed, and the log has all lines with their numbers
   pub ends : IfFinished answer
       (EndsWhole before.state.job
-      (source_tree old.source) start new.dest new.log after.state.counts)
+      (tree_in old.source) start new.dest new.log after.state.counts)
   -- and the state of the version of each object that is carried is its files
   pub states : IfFinished answer
-      (StatesAreFiles before.state.job (source_tree old.source) start new.dest new.log)
+      (StatesAreFiles before.state.job (tree_in old.source) start new.dest new.log)
   -- destination and log are such as a fault may leave
-  pub left : FaultStateTold before.state.job (source_tree old.source) start new.dest new.log
+  pub left : FaultStateTold before.state.job (tree_in old.source) start new.dest new.log
   -- and as they were at the start after an early fault
   pub early : IfHalted answer (λ f. IfEarly f (LeavesAll start new.dest new.log))
   -- and with nothing at `staging` where the log failed
   pub unstaged : IfHalted answer (λ f. IfLog f (LeavesNoStaging new.dest))
   -- a source or destination is refused only for what it is
-  pub says : IfHalted answer (SaysRightly before.state.job (source_tree old.source) start.dest)
+  pub says : IfHalted answer (SaysRightly before.state.job (tree_in old.source) start.dest)
   -- and over a good start none is
   pub good : IfHalted answer
-      (WantsMemory before.state.job (source_tree old.source) start.dest old.failures new.failures)
+      (WantsMemory before.state.job (tree_in old.source) start.dest old.failures new.failures)
 
 -- the run keeps its promises in this step
 unfoldable pub Keeps : Start → DeviceStates → DeviceStates → Running → Running → Result Turn Fault → Type 0
@@ -87,15 +88,15 @@ pub record TakesStep (old new : DeviceStates) (before after : Running) (answer :
 
 -- what a turn leaves that was the last one
 pub record EndPromises (start : Start) (old new : DeviceStates) (s s' : State) : Type 0 where
-  pub ends : EndsWhole s.job (source_tree old.source) start new.dest new.log s'.counts
-  pub states : StatesAreFiles s.job (source_tree old.source) start new.dest new.log
+  pub ends : EndsWhole s.job (tree_in old.source) start new.dest new.log s'.counts
+  pub states : StatesAreFiles s.job (tree_in old.source) start new.dest new.log
 
 -- what one leaves and says that halted the run
 pub record HaltPromises (start : Start) (old new : DeviceStates) (s : State) (f : Fault) : Type 0 where
   pub early : IfEarly f (LeavesAll start new.dest new.log)
   pub unstaged : IfLog f (LeavesNoStaging new.dest)
-  pub says : SaysRightly s.job (source_tree old.source) start.dest f
-  pub good : WantsMemory s.job (source_tree old.source) start.dest old.failures new.failures f
+  pub says : SaysRightly s.job (tree_in old.source) start.dest f
+  pub good : WantsMemory s.job (tree_in old.source) start.dest old.failures new.failures f
 
 -- what holds besides, by the answer: where the run ended, or where it was halted
 abbrev pub AnswerSays : DeviceStates → Start → DeviceStates → State → State → Answer → Type 0
@@ -107,9 +108,9 @@ pub record TurnPromises (start : Start) (old new : DeviceStates) (s s' : State) 
   pub begun : IsBegun start new (record { phase = phase_after answer; state = s' })
   pub leaves : DestFaultStateTold s.job start.dest new.dest
   pub stands : StandsStillIn start.dest new.dest
-  pub work : MadeWithinWork s.job (source_tree old.source) start.dest s'.counts
-  pub bound : HoldsWithinBound s.job (source_tree old.source) s'
-  pub left : FaultStateTold s.job (source_tree old.source) start new.dest new.log
+  pub work : MadeWithinWork s.job (tree_in old.source) start.dest s'.counts
+  pub bound : HoldsWithinBound s.job (tree_in old.source) s'
+  pub left : FaultStateTold s.job (tree_in old.source) start new.dest new.log
   pub says : AnswerSays old start new s s' answer
 
 -- the run keeps its promises in this turn

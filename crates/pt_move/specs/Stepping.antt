@@ -2,7 +2,8 @@
 use Rattle.std.specs.Prelude.{◌≡◌, ◌≢◌, ◌+◌, ◌<◌, ◌==◌, ◌≤◌, ℕ, IfErr, IfOk, Result, Ok, Err, cond, ⊤}
 use Rattle.pt_plan.specs.Answer.{Answer, phase_after}
 use Rattle.pt_plan.specs.RunFaults.{IsOfTurn}
-use Rattle.pt_plan.specs.DeviceStates.{DeviceStates, source_tree}
+use Rattle.pt_plan.specs.DeviceStates.{DeviceStates}
+use Rattle.pt_tree.specs.Source.{tree_in}
 use Rattle.pt_plan.specs.declared.fault.Fault.{Fault}
 use Rattle.pt_plan.specs.declared.phase.Phase.{Phase}
 use Rattle.pt_plan.specs.declared.phase.Phase.TheVariants as phase
@@ -92,7 +93,7 @@ BlamesRightly old new result = Blamed old new result
 -- what a step leaves, over any devices
 pub record Left (old new : DeviceStates) (before after : Running) (result : Result Turn Fault) : Type 0 where
   -- the source's tree stays, and so does the job
-  pub tree : source_tree new.source ≡ source_tree old.source
+  pub tree : tree_in new.source ≡ tree_in old.source
   pub job : after.state.job ≡ before.state.job
   -- the turn is counted, and its line told
   pub turns : IsCounted before after result
@@ -112,7 +113,7 @@ StepLeaves old new before after result = Left old new before after result
 -- a turn at this phase, over all devices as one: it was counted, and this is what it leaves
 pub record Made {O : Type 0} (of : OfOutside O) (most : ℕ × ℕ) (here : Phase) (old new : State × O)
     (answer : Answer) : Type 0 where
-  pub tree : source_tree (of.states new.1).source ≡ source_tree (of.states old.1).source
+  pub tree : tree_in (of.states new.1).source ≡ tree_in (of.states old.1).source
   pub turn : CountedTurn here old.0 new.0 (of.states old.1) (of.states new.1) answer
   pub own : IfErr answer IsOfTurn
   pub well : TypeInvariant (record { phase = phase_after answer; state = new.0 })

@@ -12,7 +12,8 @@ use Rattle.std.proofs.lemmas.Cmp.{tied_itself}
 use Rattle.pt_tree.specs.Listing.{is_before}
 use Rattle.pt_tree.specs.Path.{Path}
 use Rattle.pt_tree.proofs.Names.{before_Less, same_name}
-use Rattle.pt_object.specs.FilePaths.{File, part_in_order, parts_before, paths_of}
+use Rattle.pt_object.specs.FilePaths.{File, paths_of}
+use Rattle.pt_tree.specs.PathOrder.{part_in_order, parts_before}
 use Rattle.pt_object.specs.VersionState.{in_order, inserted, path_before}
 
 abbrev path_cmp : Path → Path → Ordering

@@ -11,7 +11,8 @@ use Rattle.pt_tree.specs.Path.{Path, rest_below, same_path}
 use Rattle.pt_tree.specs.Tree.{Bytes, Tree, added, edited_by, moved, moved_at}
 use Rattle.pt_tree.proofs.Below.{rest_of, whole_of}
 use Rattle.pt_tree.proofs.Names.{before_Less}
-use Rattle.pt_object.specs.FilePaths.{File, part_in_order, parts_before, paths_of}
+use Rattle.pt_object.specs.FilePaths.{File, paths_of}
+use Rattle.pt_tree.specs.PathOrder.{part_in_order, parts_before}
 use Rattle.pt_object.specs.Holding.{IsFree, leads_to, placed, placed_at}
 use Rattle.pt_object.specs.ObjectLaws.{LastFileTellsFolders, MovedStandsThere, PieceMakesMore}
 use Rattle.pt_object.specs.Script.{MakeFile, done}

@@ -8,7 +8,8 @@ use Rattle.pt_tree.specs.Listing.{is_before}
 use Rattle.pt_tree.specs.Path.{Path, rest_below}
 use Rattle.pt_tree.specs.Tree.{Tree}
 use Rattle.pt_object.specs.Distinct.{distinct_after, row_has_digest}
-use Rattle.pt_object.specs.FilePaths.{File, are_apart, is_apart, part_in_order, parts_before, paths_of, row_paths}
+use Rattle.pt_object.specs.FilePaths.{File, are_apart, is_apart, paths_of, row_paths}
+use Rattle.pt_tree.specs.PathOrder.{part_in_order, parts_before}
 use Rattle.pt_object.specs.Holding.{placed}
 use Rattle.pt_object.specs.Inventory.{inventory_text}
 use Rattle.pt_object.specs.MetaParts.{MetaParts}

@@ -10,7 +10,8 @@ use Rattle.pt_tree.specs.Name.{is_forbidden_name, is_name}
 use Rattle.pt_tree.specs.declared.name.NameFault.TheVariants as fault
 use Rattle.pt_tree.specs.Path.{Path, joined, same_path}
 use Rattle.pt_object.specs.Algorithm.{digest_of}
-use Rattle.pt_object.specs.FilePaths.{File, are_apart, is_apart, is_logical, paths_of}
+use Rattle.pt_object.specs.FilePaths.{File, are_apart, is_apart, paths_of}
+use Rattle.pt_tree.specs.PathOrder.{is_logical}
 use Rattle.pt_object.specs.Holding.{held_at}
 use Rattle.pt_object.specs.Inventory.{content_path}
 use Rattle.pt_object.specs.VersionState.{names_in}

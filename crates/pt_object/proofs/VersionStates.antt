@@ -13,7 +13,8 @@ use Rattle.pt_tree.specs.Path.{Path, joined, same_path}
 use Rattle.pt_tree.specs.Tree.{Tree, bytes_of}
 use Rattle.pt_object.specs.Algorithm.{digest_of}
 use Rattle.pt_object.specs.Distinct.{content_of_row, distinct, row_has_digest}
-use Rattle.pt_object.specs.FilePaths.{File, is_logical, part_in_order, paths_of}
+use Rattle.pt_object.specs.FilePaths.{File, paths_of}
+use Rattle.pt_tree.specs.PathOrder.{is_logical, part_in_order}
 use Rattle.pt_object.specs.Holding.{held_at, leads_to, file_or_folder}
 use Rattle.pt_object.specs.Inventory.{inventory_text, inventory_tree, manifest_members, paths_with, state_members, texts}
 use Rattle.pt_object.specs.MetaParts.{MetaParts}

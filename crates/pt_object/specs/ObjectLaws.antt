@@ -4,7 +4,8 @@ use Rattle.pt_name.specs.Tuples.{Tuples}
 use Rattle.pt_tree.specs.Path.{Path, rest_below}
 use Rattle.pt_tree.specs.Tree.{Tree, added, moved}
 use Rattle.pt_object.specs.Algorithm.{digest_of}
-use Rattle.pt_object.specs.FilePaths.{File, are_apart, part_in_order, paths_of, row_paths}
+use Rattle.pt_object.specs.FilePaths.{File, are_apart, paths_of, row_paths}
+use Rattle.pt_tree.specs.PathOrder.{part_in_order}
 use Rattle.pt_object.specs.Holding.{IsFree, leads_to, placed}
 use Rattle.pt_object.specs.MetaParts.{MetaParts}
 use Rattle.pt_object.specs.Object.{files_of_rows, object_of, object_of_rows, stored_path}

@@ -4,7 +4,8 @@ use Rattle.std.specs.List.{list_all}
 use Rattle.pt_tree.specs.Path.{Path}
 use Rattle.pt_tree.specs.Tree.{Tree}
 use Rattle.pt_object.specs.Algorithm.{digest_of}
-use Rattle.pt_object.specs.FilePaths.{File, is_logical, part_in_order, paths_of}
+use Rattle.pt_object.specs.FilePaths.{File, paths_of}
+use Rattle.pt_tree.specs.PathOrder.{is_logical, part_in_order}
 use Rattle.pt_object.specs.MetaParts.{MetaParts}
 use Rattle.pt_object.specs.Object.{object_of}
 use Rattle.pt_object.specs.VersionState.{v1_state}

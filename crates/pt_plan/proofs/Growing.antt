@@ -1,14 +1,14 @@
 -- How what a run carries and tells grows, item by item.
-use Rattle.std.proofs.Common.{◌≡◌, ℕ, zero, suc, List, [], ◌∷◌, ◌++◌, length, refl, ◌∙◌, ap, sym, append_assoc, take}
-use Rattle.std.specs.Prelude.{None, Some, Option, Some, flat_map, slice_get}
+use Rattle.std.proofs.Common.{◌≡◌, ℕ, zero, suc, List, [], ◌∷◌, ◌++◌, length, refl, ◌∙◌, ap, sym, append_assoc, take, Bool, true, false, inl, inr}
+use Rattle.std.specs.Prelude.{◌⊎◌, None, Some, Option, Some, flat_map, slice_get}
 use Rattle.std.specs.Option.{option_map, option_or}
 use Rattle.std.proofs.lemmas.List.{take_all}
 use Rattle.std.proofs.lemmas.Grind.{flat_map-append}
 use Rattle.pt_object.specs.Root.{base}
 use Rattle.pt_tree.specs.Tree.{Entry, Tree}
-use Rattle.pt_plan.specs.Carried.{entry_of_objects, folder_where, is_on_the_way, Carried, Marked, all_carried, carried, carried_among, carried_by, is_taken, marked, marked_after, with_objects}
+use Rattle.pt_plan.specs.Carried.{entry_of_objects, folder_where, is_on_the_way, Carried, Marked, all_carried, carried, carried_among, carried_by, carried_by_outcome, is_taken, marked, marked_after, with_objects}
 use Rattle.pt_plan.specs.ItemLaws.{BeginsWithTheBase, WhatStandsStays, AllItemsAreAll, CarriedGrows, IsTakenAgainstEarlier, TextGrows}
-use Rattle.pt_plan.specs.Items.{Item, items}
+use Rattle.pt_plan.specs.Items.{Fails, Holds, Interior, Item, Named, Outcome, Skip, Verdict, items, outcome}
 use Rattle.pt_plan.specs.Job.{Job}
 use Rattle.pt_plan.specs.Lines.{Line, all_lines, end_line, line_of, line_text, lines}
 
@@ -38,6 +38,24 @@ one_more f zero (y ∷ xs) {x} h = append_nil (f y) ∙ ap f (some_is y x h)
     some_is : {A : Type 0} → (a b : A) → Some a ≡ Some b → a ≡ b
     some_is a b e = cc
 one_more f (suc k) (y ∷ xs) {x} h = ap (λ l. f y ++ l) (one_more f k xs h) ∙ sym (append_assoc (f y) (flat_map f (take k xs)) (f x))
+
+-- an item's object is carried, or none is
+pub one_or_none : (job : Job) (taken : Bool) (verdict : Verdict) → (carried_by job taken verdict ≡ []) ⊎ ((object : Carried) × (carried_by job taken verdict ≡ object ∷ []))
+one_or_none _ _ Interior = inl refl
+one_or_none _ _ (Skip _) = inl refl
+one_or_none _ true (Named _ _) = inl refl
+one_or_none job false (Named id object) = by (outcome job.limits object)
+  where
+    by : (o : Outcome) → (carried_by_outcome id o ≡ []) ⊎ ((object : Carried) × (carried_by_outcome id o ≡ object ∷ []))
+    by (Fails why) = inl refl
+    by (Holds files) = inr (record { id = id; files = files }, refl)
+
+-- behind the last element there is none more
+pub none_more : {X : Type 0} → (xs : List X) (k : ℕ) → slice_get xs k ≡ None → take (suc k) xs ≡ take k xs
+none_more [] zero _ = refl
+none_more [] (suc _) _ = refl
+none_more (x ∷ xs) zero none = absurd (cc)
+none_more {X = X} (x ∷ xs) (suc k) none = ap (λ (l : List X). x ∷ l) (none_more xs k none)
 
 pub carried_grows : CarriedGrows
 carried_grows job source root k m h = one_more (λ (m : Marked). carried_by job m.1 m.0.verdict) k (marked job source root) h

@@ -1,29 +1,29 @@
 -- The objects that are carried come to free places, each whole.
-use Rattle.std.proofs.Common.{◌≡◌, ℕ, zero, suc, List, [], ◌∷◌, ◌++◌, Bool, true, false, refl, sym, ◌∙◌, ap, subst, map, take, inl, inr}
+use Rattle.std.proofs.Common.{◌≡◌, ℕ, zero, suc, List, [], ◌∷◌, ◌++◌, true, refl, sym, ◌∙◌, ap, subst, map, inl, inr}
 use Rattle.std.specs.Prelude.{◌⊎◌, Option, None, Some, is_none, slice_get}
 use Rattle.std.specs.List.{list_all}
 use Rattle.std.proofs.lemmas.Bool.{and_from, and_parts}
 use Rattle.std.proofs.lemmas.List.Folds.{list_all-append}
 use Rattle.pt_object.proofs.ObjectScripts.{in_order_apart}
-use Rattle.pt_object.specs.FilePaths.{are_apart, is_logical, part_in_order, paths_of, row_paths}
+use Rattle.pt_object.specs.FilePaths.{are_apart, paths_of, row_paths}
+use Rattle.pt_tree.specs.PathOrder.{is_logical, part_in_order}
 use Rattle.pt_object.specs.Object.{stored_path}
 use Rattle.pt_object.specs.Root.{base}
 use Rattle.pt_object.specs.declared.rows.Row.{Row}
 use Rattle.pt_tree.specs.Forest.{Forest, is_proper}
 use Rattle.pt_tree.specs.Path.{Path}
 use Rattle.pt_tree.specs.Tree.{Tree}
-use Rattle.pt_plan.specs.Carried.{Carried, Marked, carried, carried_among, carried_by, carried_by_outcome, marked, with_objects}
+use Rattle.pt_plan.specs.Carried.{Carried, Marked, carried, carried_among, carried_by, marked, with_objects}
 use Rattle.pt_plan.specs.Faults.{AsItWas, Between, Carrying, IsCarriedAs, FaultStateOfFree, MakingRoot}
 use Rattle.pt_plan.specs.FileLaws.{comes_in_order}
 use Rattle.pt_plan.specs.Fixity.{Holding, DestFaultState, Making, come_to_free_places, is_place_free, is_whole}
 use Rattle.pt_plan.specs.Fixity as kept
 use Rattle.pt_plan.specs.FixityLaws.{FaultsLeaveWhatIsKept, RowsMakeWholeObjects}
 use Rattle.pt_plan.specs.GrowthLaws.{HasNoGaps}
-use Rattle.pt_plan.specs.Items.{Fails, Holds, Interior, Named, Outcome, Skip, Verdict, outcome}
 use Rattle.pt_plan.specs.Job.{Job}
 use Rattle.pt_plan.specs.Roots.{root_in}
 use Rattle.pt_plan.proofs.CarriedFiles.{carried_files_come_in_order}
-use Rattle.pt_plan.proofs.Growing.{append_nil, carried_grows}
+use Rattle.pt_plan.proofs.Growing.{append_nil, carried_grows, none_more, one_or_none}
 use Rattle.pt_plan.proofs.LaterRoots.{no_folders, without_folders}
 use Rattle.pt_plan.proofs.NextObject.{place_is_free}
 use Rattle.pt_plan.proofs.WithObjects.{in_two_lots}
@@ -46,23 +46,6 @@ one_comes job (first ∷ objects) object t come whole free =
   where
     both : with_objects job objects (with_objects job (first ∷ []) t) ≡ with_objects job (first ∷ objects) t
     both = ap (with_objects job objects) (sym (without_folders (with_objects job (first ∷ []) t))) ∙ in_two_lots job (first ∷ []) objects [] t (no_folders job objects)
-
--- of an item one object is carried, or none
-one_or_none : (job : Job) (taken : Bool) (verdict : Verdict) → (carried_by job taken verdict ≡ []) ⊎ ((object : Carried) × (carried_by job taken verdict ≡ object ∷ []))
-one_or_none _ _ Interior = inl refl
-one_or_none _ _ (Skip _) = inl refl
-one_or_none _ true (Named _ _) = inl refl
-one_or_none job false (Named id object) = by (outcome job.limits object)
-  where
-    by : (o : Outcome) → (carried_by_outcome id o ≡ []) ⊎ ((object : Carried) × (carried_by_outcome id o ≡ object ∷ []))
-    by (Fails why) = inl refl
-    by (Holds files) = inr (record { id = id; files = files }, refl)
-
-past : {X : Type 0} → (xs : List X) (k : ℕ) → slice_get xs k ≡ None → take (suc k) xs ≡ take k xs
-past [] zero _ = refl
-past [] (suc _) _ = refl
-past (x ∷ xs) zero h = absurd (cc)
-past (x ∷ xs) (suc k) h = ap (λ l. x ∷ l) (past xs k h)
 
 -- the object that is carried next is whole
 next_whole : (job : Job) (source : Forest) (root : Tree) (k : ℕ) (object : Carried) → is_proper source ≡ true → carried_among job source root (suc k) ≡ carried_among job source root k ++ object ∷ [] → is_whole object ≡ true
@@ -89,7 +72,7 @@ all_come job source {root} (suc k) proper gaps = by (slice_get (marked job sourc
   where
     by : (o : Option Marked) → slice_get (marked job source root) k ≡ o → come_to_free_places job (base job.tuples root) (carried_among job source root k) ≡ true
         → come_to_free_places job (base job.tuples root) (carried_among job source root (suc k)) ≡ true
-    by None at come = ap (λ (l : List Marked). come_to_free_places job (base job.tuples root) (carried job l)) (past _ k at) ∙ come
+    by None at come = ap (λ (l : List Marked). come_to_free_places job (base job.tuples root) (carried job l)) (none_more _ k at) ∙ come
     by (Some m) at come = either (one_or_none job m.1 m.0.verdict)
       where
         grown : (l : List Carried) → carried_by job m.1 m.0.verdict ≡ l → carried_among job source root (suc k) ≡ carried_among job source root k ++ l

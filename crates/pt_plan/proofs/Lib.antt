@@ -2,6 +2,7 @@ pub mod CarriedFiles
 pub mod Counts
 pub mod FilesInOrder
 pub mod Folders
+pub mod FoundKinds
 pub mod FreeWays
 pub mod Growing
 pub mod Kept

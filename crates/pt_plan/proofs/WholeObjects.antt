@@ -1,6 +1,6 @@
 -- Each object that is carried stands whole at its place, and stays so.
-use Rattle.std.proofs.Common.{◌≡◌, ℕ, zero, suc, ◌+◌, List, [], ◌∷◌, ◌++◌, Bool, true, false, length, refl, sym, ◌∙◌, ap, subst, arith, inl, inr, take, length-append}
-use Rattle.std.specs.Prelude.{◌⊎◌, All, Option, None, Some, slice_get, slice_index_or}
+use Rattle.std.proofs.Common.{◌≡◌, ℕ, zero, suc, ◌+◌, List, [], ◌∷◌, ◌++◌, Bool, true, length, refl, sym, ◌∙◌, ap, subst, arith, inl, inr, length-append}
+use Rattle.std.specs.Prelude.{All, Option, None, Some, slice_get, slice_index_or}
 use Rattle.std.specs.List.{list_all}
 use Rattle.std.proofs.lemmas.Bool.{and_parts, false_from_ne_true}
 use Rattle.std.proofs.lemmas.List.Elements.{All-append, All-cons, All-nil, All-weaker}
@@ -13,17 +13,17 @@ use Rattle.pt_tree.specs.Forest.{Forest}
 use Rattle.pt_tree.specs.Path.{Path}
 use Rattle.pt_tree.specs.Tree.{Folder, Tree}
 use Rattle.pt_tree.proofs.Below.{rest_of}
-use Rattle.pt_plan.specs.Carried.{Carried, Marked, after, after_all, all_carried, carried, carried_among, carried_by, carried_by_outcome, marked, place_of_carried, with_objects}
+use Rattle.pt_plan.specs.Carried.{Carried, Marked, after, after_all, all_carried, carried, carried_among, marked, place_of_carried, with_objects}
 use Rattle.pt_plan.specs.Faults.{IsCarriedAs}
 use Rattle.pt_plan.specs.FileLaws.{comes_in_order}
 use Rattle.pt_plan.specs.GrowthLaws.{HasNoGaps}
-use Rattle.pt_plan.specs.Items.{Fails, Holds, Interior, Named, Outcome, Skip, Verdict, items, outcome}
+use Rattle.pt_plan.specs.Items.{items}
 use Rattle.pt_plan.specs.Job.{Job}
 use Rattle.pt_plan.specs.Roots.{root_in, storage_root, tuple_folders, with_folders, with_root}
 use Rattle.pt_plan.specs.WholeLaws.{CarriedHaveTheirFiles, CarriedStandWhole, HasItsFiles, StandsWhole}
 use Rattle.pt_plan.proofs.CarriedFiles.{carried_files_come_in_order}
 use Rattle.pt_plan.proofs.Folders.{is_above, is_one}
-use Rattle.pt_plan.proofs.Growing.{all_items_are_all, append_nil, carried_grows}
+use Rattle.pt_plan.proofs.Growing.{all_items_are_all, append_nil, carried_grows, none_more, one_or_none}
 use Rattle.pt_plan.proofs.Levels.{one_way}
 use Rattle.pt_plan.proofs.MovedIn.{roots_have_no_gaps}
 use Rattle.pt_plan.proofs.NextObject.{after_grows, after_stays, below_itself, place_is_free}
@@ -83,24 +83,6 @@ module _ (job : Job) (source : Forest) (root : Tree) (k : ℕ) (next : Carried) 
           omega (arith, short, more, same_long)
 
 -- ---- item by item
-
--- an item's object is carried, or none is
-one_or_none : (job : Job) (taken : Bool) (verdict : Verdict) → (carried_by job taken verdict ≡ []) ⊎ ((object : Carried) × (carried_by job taken verdict ≡ object ∷ []))
-one_or_none _ _ Interior = inl refl
-one_or_none _ _ (Skip _) = inl refl
-one_or_none _ true (Named _ _) = inl refl
-one_or_none job false (Named id object) = by (outcome job.limits object)
-  where
-    by : (o : Outcome) → (carried_by_outcome id o ≡ []) ⊎ ((object : Carried) × (carried_by_outcome id o ≡ object ∷ []))
-    by (Fails why) = inl refl
-    by (Holds files) = inr (record { id = id; files = files }, refl)
-
--- behind the last element there is none more
-none_more : {X : Type 0} → (xs : List X) (k : ℕ) → slice_get xs k ≡ None → take (suc k) xs ≡ take k xs
-none_more [] zero _ = refl
-none_more [] (suc _) _ = refl
-none_more (x ∷ xs) zero none = absurd (cc)
-none_more {X = X} (x ∷ xs) (suc k) none = ap (λ (l : List X). x ∷ l) (none_more xs k none)
 
 abbrev AllWhole : Job → Forest → Tree → ℕ → Type 0
 AllWhole job source root k = All (StandsWhole job (after job source root k)) (carried_among job source root k)

@@ -4,7 +4,6 @@ use Rattle.std.specs.Io.KnownBytes.{Appends}
 use Rattle.std.specs.Option.{option_map}
 use Rattle.pt_object.specs.Script.{Item, MakeFolder, MakeFile, done}
 use Rattle.pt_tree.specs.Dest.{Writing, IsKindAt, IsPeeked, after_append, after_create, after_finish, after_mkdir, after_rename}
-use Rattle.pt_tree.specs.Forest.{Forest}
 use Rattle.pt_tree.specs.Listing.{Item as Entry, names_rise}
 use Rattle.pt_tree.specs.Log.{AppendsFront}
 use Rattle.pt_tree.specs.Path.{Path}
@@ -112,10 +111,6 @@ Puts None old new = new ≡ old
 Puts (Some line) old new = Appends old new (line_text line)
 
 -- ---- what a turn leaves that breaks off
-
--- the source's tree, if it tells
-abbrev pub source_tree : Option Reading → Option Forest
-source_tree told = option_map (λ s. s.tree) told
 
 -- the destination's tree, if it tells
 abbrev pub dest_tree : Option Writing → Option Tree

@@ -14,7 +14,8 @@ use Rattle.pt_plan.specs.TurnPlace.{PlaceStep}
 use Rattle.pt_plan.specs.TurnScan.{ScanStep}
 use Rattle.pt_plan.specs.TurnStart.{StartStep}
 use Rattle.pt_plan.specs.TurnWalk.{WalkStep}
-use Rattle.pt_plan.specs.DeviceStates.{Answers, Calls, Changes, Failures, LeavesFront, LeavesPart, Puts, WasFound, WasRead, DeviceStates, source_tree}
+use Rattle.pt_plan.specs.DeviceStates.{Answers, Calls, Changes, Failures, LeavesFront, LeavesPart, Puts, WasFound, WasRead, DeviceStates}
+use Rattle.pt_tree.specs.Source.{tree_in}
 use Rattle.pt_plan.specs.declared.phase.Phase.{Phase}
 
 -- ---- what a turn does with what is held
@@ -60,7 +61,7 @@ pub record Happens (calls : Calls) (old new : DeviceStates) : Type 0 where
 pub record IsPartway (calls : Calls) (old new : DeviceStates) : Type 0 where
   pub read : WasRead calls.asked old.source
   pub found : WasFound calls.line calls.change old.dest
-  pub source : source_tree new.source ≡ source_tree old.source
+  pub source : tree_in new.source ≡ tree_in old.source
   pub dest : LeavesPart old.dest new.dest calls.change
   pub log : LeavesFront calls.line old.log new.log
 
@@ -94,7 +95,7 @@ Did calls old new = Happens calls old new × NoneFailed old.failures new.failure
 
 -- nothing was changed, no line was begun, and the run halts for this
 unfoldable pub FailsUnchanged : Fault → DeviceStates → DeviceStates → Type 0
-FailsUnchanged why old new = (source_tree new.source ≡ source_tree old.source) × (new.dest ≡ old.dest)
+FailsUnchanged why old new = (tree_in new.source ≡ tree_in old.source) × (new.dest ≡ old.dest)
     × (new.log ≡ old.log) × HasFailed why old.failures new.failures × MayBlame None why
 
 -- a part of what the calls change is left, and the run halts for this

@@ -2,7 +2,7 @@
 use Rattle.std.proofs.Common.{◌≡◌, ℕ, List, refl, ap, ◌∙◌}
 use Rattle.std.specs.Prelude.{Option, Some, Ok}
 use Rattle.std.specs.String.{string_bytes}
-use Rattle.pt_state.proofs.Words.{Writing, Path, Kind, Frame, Line, with_trail, Did, FailsPartway, counted, Answers, Calls, Change, Changes, Finds, Puts, Reads, Untouched, DeviceStates, asks, dest_tree, does, source_tree, tells, Fault, Phase, Turned, counts_of, held_of}
+use Rattle.pt_state.proofs.Words.{Writing, Path, Kind, Frame, Line, with_trail, Did, FailsPartway, counted, Answers, Calls, Change, Changes, Finds, Puts, Reads, Untouched, DeviceStates, asks, dest_tree, does, tree_in, tells, Fault, Phase, Turned, counts_of, held_of}
 use Rattle.pt_state.specs.declared.job.Report.{Report}
 use Rattle.pt_state.specs.declared.state.State.{State}
 use Rattle.pt_plan.specs.DeviceStates.{AsksNothing, ChangesNothing, LeavesPart}
@@ -64,7 +64,7 @@ looked_left path here line f a b c first next = (
   record {
     read = tt;
     found = first.0.dest.0;
-    source = next.0.source ∙ ap source_tree first.0.source;
+    source = next.0.source ∙ ap tree_in first.0.source;
     dest = Untouched _ (untouched refl next.0.dest ∙ ap dest_tree first.0.dest.1);
     log = rw first.0.log at next.0.log;
   },

@@ -3,7 +3,7 @@ use Rattle.std.proofs.Common.{◌≡◌, ℕ, List, refl, sym, subst, ap, add-ze
 use Rattle.std.specs.Prelude.{Option, Some, Err, IsTrue, IsSome}
 use Rattle.std.specs.Io.KnownBytes.{Appends}
 use Rattle.std.specs.Option.{option_map}
-use Rattle.pt_state.proofs.Words.{MakeFolder, Line, line_text, Did, HasFailed, FailsPartway, FailsUnchanged, Adds, Answers, Asked, Change, Changes, Creates, Failures, Finds, Finishes, Lists, Makes, OfPiece, Opens, Puts, Reads, Renames, Untouched, asks, does, source_tree, tells, Fault, Writing, IsKindAt, after_create, AppendsFront, Path, Reading, after_open, Bytes, kind_of_entry, Kind}
+use Rattle.pt_state.proofs.Words.{MakeFolder, Line, line_text, Did, HasFailed, FailsPartway, FailsUnchanged, Adds, Answers, Asked, Change, Changes, Creates, Failures, Finds, Finishes, Lists, Makes, OfPiece, Opens, Puts, Reads, Renames, Untouched, asks, does, tree_in, tells, Fault, Writing, IsKindAt, after_create, AppendsFront, Path, Reading, after_open, Bytes, kind_of_entry, Kind}
 use Rattle.pt_plan.specs.RunFaults.{dest_fault, log_fault, source_fault}
 use Rattle.pt_plan.specs.Turn.{IsNotOfLog}
 use Rattle.pt_plan.specs.DeviceStates.{Peeks}
@@ -62,7 +62,7 @@ module _ (r r' : Option Reading) (w : Option Writing) (g : Option (List ℕ)) (n
 
   pub stays_source : (f : TreeFault) (h : Fault) → h ≡ source_fault f → r' ≡ r → IsCounted {T = Unit {0}} n n' (Err f) → FailsUnchanged h (states r w g n d l) (states r' w g n' d l)
   unfolding FailsUnchanged
-  stays_source f h is same count = (ap source_tree same, refl, refl, rw is (source_counted f count), subst IsNotOfLog (sym is) (source_not_log f))
+  stays_source f h is same count = (ap tree_in same, refl, refl, rw is (source_counted f count), subst IsNotOfLog (sym is) (source_not_log f))
 
 -- ---- the destination
 

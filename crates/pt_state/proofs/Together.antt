@@ -3,7 +3,7 @@ use Rattle.std.proofs.Common.{◌≡◌, ℕ, List, [], ◌++◌, Bool, true, fa
 use Rattle.std.proofs.lemmas.List.{take_all}
 use Rattle.std.specs.Prelude.{Option, None, Some}
 use Rattle.std.specs.Option.{option_map}
-use Rattle.pt_state.proofs.Words.{MakeFile, Did, FailsPartway, FailsUnchanged, Adds, Answers, Asked, Calls, Change, Changes, Creates, Finds, Finishes, Lists, Makes, OfPiece, Opens, Puts, Reads, Untouched, DeviceStates, asks, dest_tree, does, no_calls, source_tree, Fault, Writing, after_create, Path, same_path, Reading, CanOpen, after_open, Bytes, Tree, Kind}
+use Rattle.pt_state.proofs.Words.{MakeFile, Did, FailsPartway, FailsUnchanged, Adds, Answers, Asked, Calls, Change, Changes, Creates, Finds, Finishes, Lists, Makes, OfPiece, Opens, Puts, Reads, Untouched, DeviceStates, asks, dest_tree, does, no_calls, tree_in, Fault, Writing, after_create, Path, same_path, Reading, CanOpen, after_open, Bytes, Tree, Kind}
 use Rattle.pt_object.specs.Script.{done}
 use Rattle.pt_object.proofs.Ways.{path_itself}
 use Rattle.pt_plan.specs.DeviceStates.{AsksNothing, LeavesPart, OfFile, OpensAndReads, WasRead, after_make}
@@ -14,22 +14,22 @@ use Rattle.pt_tree.specs.Tree.{edited_by, put}
 
 -- ---- a question leaves all as it was
 
-opened : (p : Path) (o : Option Reading) → source_tree (option_map (after_open p) o) ≡ source_tree o
+opened : (p : Path) (o : Option Reading) → tree_in (option_map (after_open p) o) ≡ tree_in o
 opened p None = refl
 opened p (Some s) = refl
 
-read_on : (o : Option Reading) → source_tree (option_map after_next o) ≡ source_tree o
+read_on : (o : Option Reading) → tree_in (option_map after_next o) ≡ tree_in o
 read_on None = refl
 read_on (Some s) = refl
 
 -- no answer of the source changes its tree
-pub asked_tree : (asked : Asked) (r r' : Option Reading) → Answers asked r r' → source_tree r' ≡ source_tree r
+pub asked_tree : (asked : Asked) (r r' : Option Reading) → Answers asked r r' → tree_in r' ≡ tree_in r
 unfolding Answers
-asked_tree AsksNothing r r' is = ap source_tree is
-asked_tree (Lists path entries) r r' is = ap source_tree is.2
-asked_tree (Opens path) r r' is = ap source_tree is ∙ opened path r
-asked_tree (Reads block) r r' is = ap source_tree is.1 ∙ read_on r
-asked_tree (OpensAndReads path block) r r' is = ap source_tree is.1 ∙ read_on (option_map (after_open path) r) ∙ opened path r
+asked_tree AsksNothing r r' is = ap tree_in is
+asked_tree (Lists path entries) r r' is = ap tree_in is.2
+asked_tree (Opens path) r r' is = ap tree_in is ∙ opened path r
+asked_tree (Reads block) r r' is = ap tree_in is.1 ∙ read_on r
+asked_tree (OpensAndReads path block) r r' is = ap tree_in is.1 ∙ read_on (option_map (after_open path) r) ∙ opened path r
 
 -- then memory was short
 pub asked_stays : (asked : Asked) (a b : DeviceStates) → Did (asks asked) a b → FailsUnchanged fault.Memory a b
@@ -38,7 +38,7 @@ asked_stays asked a b did = (asked_tree asked _ _ did.0.source, did.0.dest, did.
 
 pub looked_stays : (p : Path) (here : Option Kind) (a b : DeviceStates) → Did (does (Finds p here)) a b → FailsUnchanged fault.Memory a b
 unfolding Did FailsUnchanged Answers Changes Puts
-looked_stays p here a b did = (ap source_tree did.0.source, did.0.dest.1, did.0.log, did.1, tt)
+looked_stays p here a b did = (ap tree_in did.0.source, did.0.dest.1, did.0.log, did.1, tt)
 
 -- then a further call failed, and nothing was changed
 stays_then : (f : Fault) (a b c : DeviceStates) → FailsUnchanged fault.Memory a b → FailsUnchanged f b c → FailsUnchanged f a c
@@ -192,7 +192,7 @@ leaves_of_append a b c p bytes f first next = (
   record {
     read = tt;
     found = tt;
-    source = next.0.source ∙ ap source_tree first.0.source;
+    source = next.0.source ∙ ap tree_in first.0.source;
     dest = keeps_file a.dest b.dest c.dest p bytes (Adds bytes) refl first.0.dest next.0.dest;
     log = next.0.log ∙ first.0.log;
   },
@@ -207,7 +207,7 @@ leaves_unfinished a b c d p bytes f first next last =
       record {
         read = tt;
         found = tt;
-        source = last.0 ∙ ap source_tree (next.0.source ∙ first.0.source);
+        source = last.0 ∙ ap tree_in (next.0.source ∙ first.0.source);
         dest = OfFile p bytes (length bytes) (ap dest_tree (last.1 ∙ next.0.dest ∙ ap (option_map (after_append bytes)) first.0.dest) ∙ part_file a.dest p bytes ∙ ap (λ (l : List ℕ). option_map (done (MakeFile p l)) (dest_tree a.dest)) (sym whole));
         log = last.2 ∙ next.0.log ∙ first.0.log;
       },

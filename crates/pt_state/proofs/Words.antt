@@ -19,7 +19,7 @@ pub use Rattle.pt_plan.specs.TurnMake.{content_at}
 pub use Rattle.pt_plan.specs.TurnPlace.{bytes_in_rows}
 pub use Rattle.pt_plan.specs.TurnScan.{logical_path, to_site}
 pub use Rattle.pt_plan.specs.TurnWalk.{in_pairtree}
-pub use Rattle.pt_plan.specs.DeviceStates.{Adds, Asked, Calls, Change, Creates, Failures, Finds, Finishes, Lists, Makes, NewFile, OfPiece, Opens, Reads, Renames, Untouched, DeviceStates, asks, dest_tree, does, no_calls, source_tree, tells}
+pub use Rattle.pt_plan.specs.DeviceStates.{Adds, Asked, Calls, Change, Creates, Failures, Finds, Finishes, Lists, Makes, NewFile, OfPiece, Opens, Reads, Renames, Untouched, DeviceStates, asks, dest_tree, does, no_calls, tells}
 unfoldable pub use Rattle.pt_plan.specs.DeviceStates.{Answers, Changes, Puts}
 pub use Rattle.pt_plan.specs.declared.fault.Fault.{Fault}
 pub use Rattle.pt_plan.specs.declared.fault.Fault.TheVariants as fault
@@ -40,7 +40,7 @@ pub use Rattle.pt_tree.specs.Forest.{Forest}
 pub use Rattle.pt_tree.specs.Listing.{Item}
 pub use Rattle.pt_tree.specs.Log.{AppendsFront}
 pub use Rattle.pt_tree.specs.Path.{Path, joined, same_path}
-pub use Rattle.pt_tree.specs.Source.{Reading, after_open}
+pub use Rattle.pt_tree.specs.Source.{Reading, after_open, tree_in}
 unfoldable pub use Rattle.pt_tree.specs.Source.{CanOpen}
 pub use Rattle.pt_tree.specs.Tree.{Bytes, Tree, kind_of_entry}
 pub use Rattle.pt_tree.specs.declared.kind.Kind.{Kind}

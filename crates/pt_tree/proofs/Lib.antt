@@ -4,6 +4,7 @@ pub mod AtPaths
 pub mod Below
 pub mod Canonical
 pub mod Finding
+pub mod Growing
 pub mod Held
 pub mod Leaving
 pub mod Names
@@ -16,4 +17,5 @@ pub mod Rising
 pub mod Trees
 pub mod Written
 mod TreesWithout
+pub mod Told
 mod ToldWithout

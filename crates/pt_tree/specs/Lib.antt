@@ -10,6 +10,7 @@ pub mod Name
 pub mod NameList
 pub mod NameText
 pub mod Path
+pub mod PathOrder
 pub mod Pieces
 pub mod ProperLeft
 pub mod ProperParts

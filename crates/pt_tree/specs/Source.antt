@@ -10,6 +10,10 @@ pub record Reading : Type 0 where
   pub tree : Forest
   pub unread : Option (List ℕ)
 
+-- the tree that is told
+abbrev pub tree_in : Option Reading → Option Forest
+tree_in told = option_map (λ s. s.tree) told
+
 -- where the source tells, a directory is there
 unfoldable pub CanList : Option Reading → Path → Type 0
 CanList told p = ForSome told (λ s. IsSome (dir_at s.tree p))

@@ -1,6 +1,6 @@
 -- The entry at the innermost place of a trail through a tree.
 use Rattle.std.proofs.Common.{◌≡◌, ℕ, List, [], ◌∷◌, ◌++◌, ◌+◌, true, refl, ◌∙◌, ap, sym, subst, add-one, suc, zero}
-use Rattle.std.specs.Prelude.{None, Some, slice_get, option_to_list, unwrap_or}
+use Rattle.std.specs.Prelude.{IsSome, None, Option, Some, slice_get, option_to_list, unwrap_or}
 use Rattle.std.specs.Option.{option_and_then, option_map}
 use Rattle.pt_tree.specs.declared.kind.Kind.TheVariants as kind
 use Rattle.pt_tree.specs.Listing.{Item}
@@ -111,3 +111,18 @@ pub other_ahead : (top : Forest) (path : Path) (items : List Item) (place : ℕ)
 other_ahead top path items place name proper listed e =
     let it = ahead top path items place (name, kind.Other) proper listed e in
     other_from top path place name it.node it.kind_is it.rest_is
+
+-- what a folder lists is what it holds
+pub inside_lists : (top : Forest) (path : Path) (items : List Item) → listing_at top path ≡ Some items → listing_of (inside_at top path) ≡ items
+inside_lists top path items listed = by (dir_at top path) listed
+  where
+    by : (found : Option Forest) → option_map listing_of found ≡ Some items → listing_of (unwrap_or found none) ≡ items
+    by None is = absurd (cc)
+    by (Some inside) is = cc
+
+-- a folder that is listed stands there
+pub dir_stands : (top : Forest) (path : Path) (items : List Item) (place : ℕ) (name : List ℕ) → is_proper top ≡ true → listing_at top path ≡ Some items
+    → slice_get items place ≡ Some (name, kind.Dir) → IsSome (dir_at top (path ++ name ∷ []))
+dir_stands top path items place name proper listed at =
+    let it = dir_ahead top path items place name proper listed at in
+    subst (λ (o : Option Forest). IsSome o) (sym it.dir_is) refl

@@ -10,7 +10,8 @@ use Rattle.pt_tree.specs.Path.{Path}
 use Rattle.pt_tree.proofs.Finding.{comes_before-trans, proper_dir, proper_file, proper_other}
 use Rattle.pt_tree.proofs.Names.{before_differs, name_itself}
 use Rattle.pt_walk.specs.Object.{entries_in, files, without_shorties}
-use Rattle.pt_walk.specs.ObjectPaths.{FilesPartInOrder, GatheredIsProper, is_logical, part_in_order, parts_before, paths_of}
+use Rattle.pt_walk.specs.ObjectPaths.{FilesPartInOrder, GatheredIsProper, paths_of}
+use Rattle.pt_tree.specs.PathOrder.{is_logical, part_in_order, parts_before}
 use Rattle.pt_walk.specs.Site.{is_short}
 use Rattle.pt_walk.proofs.BadEntries.{counts}
 

@@ -7,7 +7,8 @@ use Rattle.std.proofs.lemmas.List.{length-map, map-append, take_all}
 use Rattle.std.proofs.lemmas.List.Folds.{list_any-append}
 use Rattle.pt_object.proofs.Ways.{leads}
 use Rattle.pt_object.specs.Distinct.{content_of_row, distinct}
-use Rattle.pt_object.specs.FilePaths.{File, part_in_order, parts_before, row_paths}
+use Rattle.pt_object.specs.FilePaths.{File, row_paths}
+use Rattle.pt_tree.specs.PathOrder.{part_in_order, parts_before}
 use Rattle.pt_object.specs.Holding.{leads_to}
 use Rattle.pt_object.specs.Object.{content_file, stored_files, version_folder}
 use Rattle.pt_object.specs.Script.{Item, MakeFile, MakeFolder, files_items, folders_above, item_in}

@@ -5,7 +5,8 @@ use Rattle.std.specs.Option.{option_or}
 use Rattle.std.proofs.lemmas.Bool.{eqb-true, ltb-false, ltb-true}
 use Rattle.pt_object.proofs.Moved.{piece_makes_more}
 use Rattle.pt_object.proofs.ObjectScripts.{in_order_apart, script_of_rows_can_be_made}
-use Rattle.pt_object.specs.FilePaths.{part_in_order, row_paths}
+use Rattle.pt_object.specs.FilePaths.{row_paths}
+use Rattle.pt_tree.specs.PathOrder.{part_in_order}
 use Rattle.pt_object.specs.Holding.{IsFree}
 use Rattle.pt_object.specs.Root.{base, base_where}
 use Rattle.pt_object.specs.Script.{CanBeMadeInTurn, Item, MakeFile, done, item_entry, item_path, made}

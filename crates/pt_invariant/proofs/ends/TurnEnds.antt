@@ -3,7 +3,7 @@ use Rattle.std.proofs.Common.{◌≡◌, ℕ, Bool, true, false, List, refl, ap,
 use Rattle.std.specs.Prelude.{Option, None, Some, Err}
 use Rattle.pt_tree.specs.Dest.{Writing}
 use Rattle.pt_tree.specs.Forest.{is_proper}
-use Rattle.pt_tree.specs.Source.{Reading}
+use Rattle.pt_tree.specs.Source.{Reading, tree_in}
 use Rattle.pt_tree.specs.Tree.{Tree}
 use Rattle.pt_walk.specs.Trail.{is_trail}
 use Rattle.pt_plan.specs.Job.{Job}
@@ -14,7 +14,7 @@ use Rattle.pt_plan.specs.Turn.{Did, FailsAtFirst, FailsLater, Next, IsRefused, F
 use Rattle.pt_plan.specs.TurnMake.{ReadsMore, ReadsOther}
 use Rattle.pt_plan.specs.TurnPlace.{IsInTheWay}
 use Rattle.pt_plan.specs.TurnStart.{HasStaging, IsNoRoot, IsNoFile, Differs}
-use Rattle.pt_plan.specs.DeviceStates.{Answers, Asked, AsksNothing, Calls, Change, Changes, LeavesFront, LeavesPart, Lists, NewFile, OfFile, OfPiece, Opens, OpensAndReads, Reads, Untouched, DeviceStates, source_tree}
+use Rattle.pt_plan.specs.DeviceStates.{Answers, Asked, AsksNothing, Calls, Change, Changes, LeavesFront, LeavesPart, Lists, NewFile, OfFile, OfPiece, Opens, OpensAndReads, Reads, Untouched, DeviceStates}
 use Rattle.pt_plan.specs.declared.fault.Fault.{Fault}
 use Rattle.pt_plan.specs.declared.phase.Phase.{Phase}
 use Rattle.pt_plan.specs.declared.phase.Phase.TheVariants as phase
@@ -49,21 +49,21 @@ refused_same (Place (IsInTheWay _ _ _ _ _)) change = change.1
 
 -- ---- which devices tell
 
-pub answers_tree : (asked : Asked) (old new : Option Reading) → Answers asked old new → source_tree new ≡ source_tree old
+pub answers_tree : (asked : Asked) (old new : Option Reading) → Answers asked old new → tree_in new ≡ tree_in old
 unfolding Answers
-answers_tree AsksNothing _ _ answers = ap source_tree answers
-answers_tree (Lists _ _) _ _ answers = ap source_tree answers.2
-answers_tree (Opens _) None _ answers = ap source_tree answers
-answers_tree (Opens _) (Some _) _ answers = ap source_tree answers
-answers_tree (Reads _) None _ answers = ap source_tree answers.1
-answers_tree (Reads _) (Some _) _ answers = ap source_tree answers.1
-answers_tree (OpensAndReads _ _) None _ answers = ap source_tree answers.1
-answers_tree (OpensAndReads _ _) (Some _) _ answers = ap source_tree answers.1
+answers_tree AsksNothing _ _ answers = ap tree_in answers
+answers_tree (Lists _ _) _ _ answers = ap tree_in answers.2
+answers_tree (Opens _) None _ answers = ap tree_in answers
+answers_tree (Opens _) (Some _) _ answers = ap tree_in answers
+answers_tree (Reads _) None _ answers = ap tree_in answers.1
+answers_tree (Reads _) (Some _) _ answers = ap tree_in answers.1
+answers_tree (OpensAndReads _ _) None _ answers = ap tree_in answers.1
+answers_tree (OpensAndReads _ _) (Some _) _ answers = ap tree_in answers.1
 
 -- the source that told tells the same tree
-pub same_tree : (old : Option Reading) {new : Option Reading} {v : Reading} → source_tree new ≡ source_tree old → new ≡ Some v → (s : Reading) × (old ≡ Some s) × (v.tree ≡ s.tree)
-same_tree None {v} same is = absurd (let no : Some v.tree ≡ None = sym (ap source_tree is) ∙ same in cc)
-same_tree (Some s) {v} same is = (s, refl, some_same v.tree s.tree (sym (ap source_tree is) ∙ same))
+pub same_tree : (old : Option Reading) {new : Option Reading} {v : Reading} → tree_in new ≡ tree_in old → new ≡ Some v → (s : Reading) × (old ≡ Some s) × (v.tree ≡ s.tree)
+same_tree None {v} same is = absurd (let no : Some v.tree ≡ None = sym (ap tree_in is) ∙ same in cc)
+same_tree (Some s) {v} same is = (s, refl, some_same v.tree s.tree (sym (ap tree_in is) ∙ same))
 
 -- a destination of which a part of a change is left tells where it told
 part_told : {change : Change} {w : Writing} (new : Option Writing) → LeavesPart (Some w) new change → (v : Writing) × (new ≡ Some v)
@@ -116,7 +116,7 @@ module _ (job : Job) (past : History) (start : Start) (old new : DeviceStates) (
           rw a
           (rw it.1 (record { started = known.started; tree = it.2.tree; at = it.2.left }))
 
-  ends : a_past job start old run past → after.held.trail ≡ run.kept.held.trail → after.counts ≡ (turning run.kept).counts → source_tree new.source ≡ source_tree old.source → Ended → ((l : List ℕ) → old.log ≡ Some l → (now : List ℕ) × (new.log ≡ Some now)) → Leaves
+  ends : a_past job start old run past → after.held.trail ≡ run.kept.held.trail → after.counts ≡ (turning run.kept).counts → tree_in new.source ≡ tree_in old.source → Ended → ((l : List ℕ) → old.log ≡ Some l → (now : List ℕ) × (new.log ≡ Some now)) → Leaves
       → a_past job start new (record { phase = phase.Ended; kept = after }) past
   ends is trail counts source dest log leaves = record {
     layout = is.layout;

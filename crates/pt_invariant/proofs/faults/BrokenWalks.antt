@@ -20,7 +20,7 @@ use Rattle.pt_plan.specs.DeviceStates.{Answers, Calls, Changes, LeavesFront, Lea
 use Rattle.pt_plan.specs.declared.object.Object.{Object}
 use Rattle.pt_plan.specs.declared.phase.Phase.{Phase}
 use Rattle.pt_plan.specs.declared.phase.Phase.TheVariants as phase
-use Rattle.pt_invariant.specs.RunInvariant.{items_placed}
+use Rattle.pt_invariant.specs.RunInvariant.{items_through}
 use Rattle.pt_invariant.specs.DestInvariant.{IsMakingObject}
 use Rattle.pt_invariant.specs.FaultState.{FaultStateAndLog}
 use Rattle.pt_invariant.specs.History.{History}
@@ -40,7 +40,7 @@ module _ (job : Job) (past : History) (s : Reading) (start : Tree) (prefix : Lis
   -- ---- the walk
 
   -- it tells the line of an item of which nothing is carried
-  walk_told : {held later : Held} {here : Phase} {calls : Calls} {line : Line} → WalkStep job prefix here held later calls (Ok phase.Walk) → Before held here → calls.line ≡ Some line → past.placed ≡ carried_among job s.tree (root_in start) (items_placed here past.count)
+  walk_told : {held later : Held} {here : Phase} {calls : Calls} {line : Line} → WalkStep job prefix here held later calls (Ok phase.Walk) → Before held here → calls.line ≡ Some line → past.placed ≡ carried_among job s.tree (root_in start) (items_through here past.count)
       → Changes calls.change (Some old) (Some old) → IsFree start staging → old.tree ≡ with_root start (after job s.tree (root_in start) past.count) → new.tree ≡ old.tree → LeavesFront (Some line) (Some log) (Some last) → Left
   walk_told {held} {here} turn before is placed found free tree same put =
       let known = before.known in
@@ -49,7 +49,7 @@ module _ (job : Job) (past : History) (s : Reading) (start : Tree) (prefix : Lis
       is free tree same put
 
   -- or none
-  walk_passed : (told : Bool) {held later : Held} {here : Phase} {calls : Calls} (line : Line) → WalkStep job prefix here held later calls (Ok phase.Walk) → Before held here → calls.line ≡ cond told (Some line) None → past.placed ≡ carried_among job s.tree (root_in start) (items_placed here past.count)
+  walk_passed : (told : Bool) {held later : Held} {here : Phase} {calls : Calls} (line : Line) → WalkStep job prefix here held later calls (Ok phase.Walk) → Before held here → calls.line ≡ cond told (Some line) None → past.placed ≡ carried_among job s.tree (root_in start) (items_through here past.count)
       → Changes calls.change (Some old) (Some old) → IsFree start staging → old.tree ≡ with_root start (after job s.tree (root_in start) past.count) → new.tree ≡ old.tree → LeavesFront calls.line (Some log) (Some last) → (LeavesFront None (Some log) (Some last) → Left) → Left
   walk_passed true _ turn before is placed found free tree same put _ =
       walk_told turn before is placed found free tree same (rw is at put)

@@ -4,7 +4,7 @@ use Rattle.std.specs.List.{list_all}
 use Rattle.std.specs.Prelude.{Option, None, Some, slice_get}
 use Rattle.std.proofs.lemmas.Bool.{and_from, and_parts}
 use Rattle.std.proofs.lemmas.List.Folds.{list_all-append}
-use Rattle.pt_object.specs.FilePaths.{parts_before}
+use Rattle.pt_tree.specs.PathOrder.{parts_before}
 use Rattle.pt_tree.proofs.Names.{before-trans}
 use Rattle.pt_tree.specs.Listing.{Item, is_before, names_rise}
 use Rattle.pt_tree.specs.Path.{Path}

@@ -9,7 +9,8 @@ use Rattle.std.proofs.lemmas.List.Folds.{list_any-append}
 use Rattle.pt_object.proofs.Ways.{bytes_eq-sym, name_itself}
 use Rattle.pt_object.specs.Contents.{has_digest}
 use Rattle.pt_object.specs.Distinct.{content_of_row, distinct, distinct_after, row_has_digest}
-use Rattle.pt_object.specs.FilePaths.{part_in_order, row_paths}
+use Rattle.pt_object.specs.FilePaths.{row_paths}
+use Rattle.pt_tree.specs.PathOrder.{part_in_order}
 use Rattle.pt_object.specs.declared.table.contents.Content.{Content}
 use Rattle.pt_object.specs.declared.rows.Row.{Row}
 use Rattle.pt_plan.specs.TurnMake.{is_stored}

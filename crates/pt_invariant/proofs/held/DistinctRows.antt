@@ -6,7 +6,8 @@ use Rattle.std.proofs.lemmas.Bool.{and_from, and_parts}
 use Rattle.std.proofs.lemmas.List.{map-append}
 use Rattle.pt_object.proofs.Ways.{path_itself}
 use Rattle.pt_object.specs.Distinct.{content_of_row, distinct, distinct_after, row_has_digest}
-use Rattle.pt_object.specs.FilePaths.{part_in_order, parts_before, row_paths}
+use Rattle.pt_object.specs.FilePaths.{row_paths}
+use Rattle.pt_tree.specs.PathOrder.{part_in_order, parts_before}
 use Rattle.pt_object.specs.declared.table.contents.Content.{Content}
 use Rattle.pt_object.specs.declared.rows.Row.{Row}
 use Rattle.pt_tree.specs.Path.{Path, same_path}

@@ -8,7 +8,8 @@ use Rattle.std.proofs.lemmas.List.{append-nil, length-append, map-append, take-a
 use Rattle.pt_object.proofs.Moved.{last_file_tells_folders}
 use Rattle.pt_object.proofs.Ways.{bytes_eq-sym, leads, name_itself}
 use Rattle.pt_object.specs.Distinct.{content_of_row, distinct, distinct_after}
-use Rattle.pt_object.specs.FilePaths.{File, part_in_order, parts_before, paths_of, row_paths}
+use Rattle.pt_object.specs.FilePaths.{File, paths_of, row_paths}
+use Rattle.pt_tree.specs.PathOrder.{part_in_order, parts_before}
 use Rattle.pt_object.specs.Holding.{leads_to}
 use Rattle.pt_object.specs.Script.{folders_above}
 use Rattle.pt_object.specs.declared.table.contents.Content.{Content}

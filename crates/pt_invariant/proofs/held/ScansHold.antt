@@ -9,7 +9,8 @@ use Rattle.pt_object.proofs.Noting.{noting_gives_distinct}
 use Rattle.pt_object.specs.Algorithm.{digest_of}
 use Rattle.pt_object.specs.Contents.{noted}
 use Rattle.pt_object.specs.Distinct.{content_of_row, distinct}
-use Rattle.pt_object.specs.FilePaths.{part_in_order, parts_before, row_paths}
+use Rattle.pt_object.specs.FilePaths.{row_paths}
+use Rattle.pt_tree.specs.PathOrder.{part_in_order, parts_before}
 use Rattle.pt_object.specs.Rows.{row_of}
 use Rattle.pt_object.specs.declared.table.contents.Content.{Content}
 use Rattle.pt_object.specs.declared.rows.Row.{Row}
@@ -24,7 +25,7 @@ use Rattle.pt_plan.specs.DeviceStates.{Calls}
 use Rattle.pt_plan.specs.declared.phase.Phase.{Phase}
 use Rattle.pt_plan.specs.declared.phase.Phase.TheVariants as phase
 use Rattle.pt_plan.specs.declared.object.Object.{Object}
-use Rattle.pt_invariant.specs.HeldInvariant.{AreRows, HeldAt, EndsInObject, HoldsNoRows, IsBehindRows, IsObject, all_behind}
+use Rattle.pt_invariant.specs.HeldInvariant.{AreRows, HeldAt, EndsInObject, HoldsNoObject, IsBehindRows, IsObject, all_behind}
 use Rattle.pt_invariant.specs.HeldLaws.{ScanningKeepsHeld}
 use Rattle.pt_invariant.specs.History.{History, bytes_after, with_bytes}
 use Rattle.pt_invariant.proofs.held.BehindRows.{behind_advanced, behind_entered, behind_here, behind_left, behind_none, behind_noted}
@@ -38,7 +39,7 @@ use Rattle.pt_invariant.proofs.held.WithBytes.{rows_push}
 
 -- ---- no row yet
 
-no_rows : (job : Job) {bytes : Path → List ℕ} {held : Held} → HoldsNoRows held → AreRows job bytes held
+no_rows : (job : Job) {bytes : Path → List ℕ} {held : Held} → HoldsNoObject held → AreRows job bytes held
 no_rows job {bytes} none = record {
   order = ap (λ (l : List Row). part_in_order (row_paths l)) none.rows;
   digests = rw none.rows (λ k d h. absurd (omega (arith, h)));

@@ -5,7 +5,8 @@ use Rattle.std.specs.Prelude.{All, Some, slice_get}
 use Rattle.std.proofs.lemmas.Bool.{and_parts}
 use Rattle.std.proofs.lemmas.List.Elements.{All-cons, All-push}
 use Rattle.pt_object.proofs.Ways.{path_itself}
-use Rattle.pt_object.specs.FilePaths.{part_in_order, parts_before, row_paths}
+use Rattle.pt_object.specs.FilePaths.{row_paths}
+use Rattle.pt_tree.specs.PathOrder.{part_in_order, parts_before}
 use Rattle.pt_object.specs.declared.rows.Row.{Row}
 use Rattle.pt_tree.specs.Path.{Path}
 use Rattle.pt_plan.proofs.Levels.{same_path-sym}

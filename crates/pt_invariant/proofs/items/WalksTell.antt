@@ -29,7 +29,7 @@ use Rattle.pt_plan.specs.TurnWalk.{WalkStep, LeadsOn, IsSkipped, IsPresent, IsPa
 use Rattle.pt_plan.specs.DeviceStates.{Calls, Changes}
 use Rattle.pt_plan.specs.declared.phase.Phase.{Phase}
 use Rattle.pt_plan.specs.declared.phase.Phase.TheVariants as phase
-use Rattle.pt_invariant.specs.RunInvariant.{IsNextFree, items_placed}
+use Rattle.pt_invariant.specs.RunInvariant.{IsNextFree, items_through}
 use Rattle.pt_invariant.specs.DestInvariant.{DestAt, IsBetweenObjects, root_now}
 use Rattle.pt_invariant.specs.SourceInvariant.{HasStarted, IsToJudge, SourcePart, object_at}
 use Rattle.pt_invariant.specs.History.{History, done_after}
@@ -88,7 +88,7 @@ at_shorty : {job : Job} {source : Forest} {root : Tree} {count : ℕ} (trail : L
 at_shorty {job} {source} {root} {count} trail {name} {line} e short tells = rw (done_at_shorty trail name count e short) tells
 
 pub walks_tell : {job : Job} {past : History} {s : Reading} {prefix : List ℕ} (start : Tree) (w new : Writing) {here next : Phase} {held after : Held} {calls : Calls} → WalkStep job prefix here held after calls (Ok next) → is_trail held.trail ≡ true → SourcePart job past here prefix held s
-    → IsRooted (root_in start) → past.placed ≡ carried_among job s.tree (root_in start) (items_placed here past.count) → DestAt job start past here held w → Changes calls.change (Some w) (Some new)
+    → IsRooted (root_in start) → past.placed ≡ carried_among job s.tree (root_in start) (items_through here past.count) → DestAt job start past here held w → Changes calls.change (Some w) (Some new)
     → Tells job s.tree (root_in start) past.count next calls.line (done_after here held.trail next past.count) []
 unfolding Changes IsKindAt
 walks_tell {job} {past} {s} {prefix} start _ _ (LeadsOn was is) _ part _ _ _ _ = OneItem (interior_item (root_in start) (judged_next part.at.2) (with_prefix job was.trail part.at.1 (judged_verdict job s.tree prefix was.trail (pairtree_proper s.tree part.at.1.store part.proper) part.at.2.way.entered part.at.2.way.fits is)))

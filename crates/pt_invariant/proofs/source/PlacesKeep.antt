@@ -3,7 +3,8 @@ use Rattle.std.proofs.Common.{◌≡◌, ℕ, suc, List, refl}
 use Rattle.std.specs.Prelude.{Some, Ok}
 use Rattle.pt_tree.specs.Source.{Reading}
 use Rattle.pt_walk.specs.Trail.{sought}
-use Rattle.pt_invariant.specs.SourceInvariant.{HasStarted, HoldsNoObject, IsOnWay, IsScanned, SourceAt}
+use Rattle.pt_invariant.specs.SourceInvariant.{HasStarted, IsOnWay, IsScanned, SourceAt}
+use Rattle.pt_invariant.specs.HeldInvariant.{HoldsNoObject}
 use Rattle.pt_invariant.specs.History.{done_after}
 use Rattle.pt_plan.specs.Job.{Job}
 use Rattle.pt_plan.specs.Run.{Counts, Held}

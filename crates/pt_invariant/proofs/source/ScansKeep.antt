@@ -19,7 +19,8 @@ use Rattle.pt_walk.specs.Object.{Entry, emptiness, entries, entry_cause, without
 use Rattle.pt_walk.specs.Trail.{advanced, current_entry, entered, is_dir_entry, is_trail, names_to, parent, sought}
 use Rattle.pt_walk.specs.declared.cause.Cause.TheVariants as cause
 use Rattle.pt_walk.specs.declared.frame.Frame.{Frame}
-use Rattle.pt_invariant.specs.SourceInvariant.{HasScanned, HasStarted, HoldsNoObject, IsInObject, IsOnWay, IsReadingFile, IsScanned, IsScanning, SourceAt, inside_object, left_of, object_at}
+use Rattle.pt_invariant.specs.SourceInvariant.{HasScanned, HasStarted, IsInObject, IsOnWay, IsReadingFile, IsScanned, IsScanning, SourceAt, inside_object, left_of, object_at}
+use Rattle.pt_invariant.specs.HeldInvariant.{HoldsNoObject}
 use Rattle.pt_invariant.specs.History.{done_after}
 use Rattle.pt_plan.specs.Items.{PairtreeObject}
 use Rattle.pt_plan.specs.Job.{Job}

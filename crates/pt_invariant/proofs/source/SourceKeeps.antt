@@ -2,7 +2,8 @@
 use Rattle.std.proofs.Common.{◌≡◌, ◌≤◌, ℕ, true, List, [], ◌++◌, refl, ap, sym, ◌∙◌, arith, length}
 use Rattle.std.specs.Prelude.{Option, None, Some, Ok, slice_get, take}
 use Rattle.std.specs.Option.{ForSome, option_map}
-use Rattle.pt_object.specs.FilePaths.{part_in_order, row_paths}
+use Rattle.pt_object.specs.FilePaths.{row_paths}
+use Rattle.pt_tree.specs.PathOrder.{part_in_order}
 use Rattle.pt_object.specs.declared.rows.Row.{Row}
 use Rattle.pt_tree.specs.Forest.{Forest, is_proper}
 use Rattle.pt_tree.specs.Path.{Path}

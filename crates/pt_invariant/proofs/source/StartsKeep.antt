@@ -1,13 +1,13 @@
 -- The turns of the start keep what holds where the source tells.
-use Rattle.std.proofs.Common.{inl, inr, ◌≡◌, ◌≤◌, ℕ, ◌&&◌, Bool, true, false, List, [], ◌∷◌, refl, ap, sym, ◌∙◌, cond, length, arith, take}
+use Rattle.std.proofs.Common.{inl, inr, ◌≡◌, ◌≤◌, ℕ, ◌&&◌, Bool, true, List, [], ◌∷◌, refl, ap, sym, ◌∙◌, cond, length, arith, take}
 use Rattle.std.specs.Prelude.{Option, None, Some, Ok, is_none, is_some, nat_lt, min}
 use Rattle.std.specs.Option.{option_and_then, option_map}
-use Rattle.std.specs.Str.{bytes_eq, is_utf8}
+use Rattle.std.specs.Str.{is_utf8}
 use Rattle.std.proofs.lemmas.Bool.{cases_Bool, ltb-false}
 use Rattle.std.proofs.lemmas.List.{length-take, take_all}
 use Rattle.pt_name.specs.Prefix.{prefix_refusal, without_line_ends}
 use Rattle.pt_name.specs.declared.prefix.PrefixFault.TheVariants as fault
-use Rattle.pt_tree.specs.Forest.{Forest, Node, File, Dir, Other, none, file, other, dir, as_dir, as_file, find, kind_of, listing_of, node_at}
+use Rattle.pt_tree.specs.Forest.{Forest, Node, File, Dir, Other, as_dir, as_file, find, kind_of, listing_of, node_at}
 use Rattle.pt_tree.specs.Source.{Reading, IsListed, IsRead, after_open}
 use Rattle.pt_tree.specs.declared.kind.Kind.{Kind}
 use Rattle.pt_tree.specs.declared.kind.Kind.TheVariants as kind
@@ -21,21 +21,11 @@ use Rattle.pt_plan.specs.DeviceStates.{Answers, Calls}
 use Rattle.pt_plan.specs.declared.phase.Phase.{Phase}
 use Rattle.pt_plan.specs.declared.phase.Opening.TheVariants as opening
 use Rattle.pt_plan.specs.declared.phase.Phase.TheVariants as phase
+use Rattle.pt_plan.proofs.FoundKinds.{kind_listed}
 use Rattle.pt_invariant.proofs.held.EitherPhase.{after_root_file, after_root_item}
 use Rattle.pt_invariant.proofs.source.InPairtree.{some_same, stays}
 
 -- ---- the top
-
-either_kind : (b : Bool) (node : Node) {l : Option Kind} (o : Option Node) → l ≡ option_map kind_of o → cond b (Some (kind_of node)) l ≡ option_map kind_of (cond b (Some node) o)
-either_kind true node o e = refl
-either_kind false node o e = e
-
--- the kind that is listed is that of what stands there
-kind_listed : (f : Forest) (name : List ℕ) → kind_in (listing_of f) name ≡ option_map kind_of (find f name)
-kind_listed none name = refl
-kind_listed (file n bytes after) name = either_kind (bytes_eq n name) (File bytes) (find after name) (kind_listed after name)
-kind_listed (other n after) name = either_kind (bytes_eq n name) Other (find after name) (kind_listed after name)
-kind_listed (dir n inside after) name = either_kind (bytes_eq n name) (Dir inside) (find after name) (kind_listed after name)
 
 file_kind : (o : Option Node) → is_file_kind (option_map kind_of o) ≡ is_some (option_and_then as_file (option_and_then (λ node. node_at node []) o))
 file_kind None = refl

@@ -14,7 +14,8 @@ use Rattle.pt_walk.specs.Site.{is_short, is_shorty}
 use Rattle.pt_walk.specs.Sites.{Site, Visit, Listed, Past, Deep, at_of, is_last, is_listed, visit_of}
 use Rattle.pt_walk.specs.Trail.{advanced, current_entry, entered, entry_at, is_trail, names_to, parent, trail_path}
 use Rattle.pt_walk.specs.declared.frame.Frame.{Frame}
-use Rattle.pt_invariant.specs.SourceInvariant.{HasStarted, HoldsNoObject, IsInObject, IsOnWay, IsToJudge, SourceAt}
+use Rattle.pt_invariant.specs.SourceInvariant.{HasStarted, IsInObject, IsOnWay, IsToJudge, SourceAt}
+use Rattle.pt_invariant.specs.HeldInvariant.{HoldsNoObject}
 use Rattle.pt_invariant.specs.History.{done_after, is_shorty_there}
 use Rattle.pt_plan.specs.Job.{Job}
 use Rattle.pt_plan.specs.Store.{is_store, pairtree_of, sites_of}

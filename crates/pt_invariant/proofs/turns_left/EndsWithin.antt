@@ -8,7 +8,8 @@ use Rattle.pt_plan.specs.Job.{Job}
 use Rattle.pt_plan.specs.Run.{Kept, Run, turning}
 use Rattle.pt_plan.specs.Turn.{Did, FailsAtFirst, FailsLater, GoesOn, IsRefused, FailsPartway, FailsUnchanged, Turn}
 use Rattle.pt_plan.specs.Work.{work}
-use Rattle.pt_plan.specs.DeviceStates.{DeviceStates, source_tree}
+use Rattle.pt_plan.specs.DeviceStates.{DeviceStates}
+use Rattle.pt_tree.specs.Source.{tree_in}
 use Rattle.pt_plan.specs.declared.fault.Fault.TheVariants as fault
 use Rattle.pt_plan.specs.declared.phase.Phase.{Phase}
 use Rattle.pt_plan.specs.declared.phase.Phase.TheVariants as phase
@@ -18,7 +19,7 @@ use Rattle.pt_invariant.specs.WorkLaws.{InvariantWithinWork, IsWithinWork, Stops
 use Rattle.pt_invariant.proofs.turns_left.Within.{turns_are_within_work}
 
 -- a turn leaves the source's tree
-pub turn_tree : (job : Job) (here : Phase) (before after : Kept) (old new : DeviceStates) (answer : Answer) → Turn job here before after old new answer → source_tree new.source ≡ source_tree old.source
+pub turn_tree : (job : Job) (here : Phase) (before after : Kept) (old new : DeviceStates) (answer : Answer) → Turn job here before after old new answer → tree_in new.source ≡ tree_in old.source
 unfolding Did FailsPartway FailsUnchanged
 turn_tree _ _ _ _ old new _ (GoesOn calls _ _ did _) = answers_tree calls.asked old.source new.source did.0.source
 turn_tree _ _ _ _ old new _ (IsRefused _ _ calls _ _ did _) = answers_tree calls.asked old.source new.source did.0.source

@@ -2,7 +2,7 @@
 ghost use Rattle.std.specs.Prelude.{◌≡◌, ◌≤◌, true, IfOk};
 ghost use Rattle.pt_invariant.specs.RunInvariant.{start_of};
 ghost use Rattle.pt_move.specs.Outcome.{EndsWhole};
-ghost use Rattle.pt_plan.specs.DeviceStates.{source_tree};
+ghost use Rattle.pt_tree.specs.Source.{tree_in};
 ghost use Rattle.pt_state.specs.Outside.{states_of};
 ghost use Rattle.pt_state.specs.declared.job.Report.{Report};
 
@@ -19,7 +19,7 @@ pub fn carries_all<S: Source, D: Dest, L: Log>(
     log: &mut L,
     job: Job,
 ) -> bool
-    ensures { result ≡ true → (report : Report) × EndsWhole job (source_tree (S.told source.old))
+    ensures { result ≡ true → (report : Report) × EndsWhole job (tree_in (S.told source.old))
         (start_of (states_of S.Source D.Dest L.Log source.old dest.old log.old))
         (D.told dest.new) (L.told log.new) report }
 {

@@ -1,10 +1,10 @@
 use Rattle.std.proofs.Common.{rules}
 use Rattle.pt_audit.specs.Auditing.{start_over}
-use Rattle.pt_compare.specs.Root.{tree_in}
+use Rattle.pt_tree.specs.Source.{tree_in}
 use Rattle.pt_audit.proofs.Bounding.{made_end}
 use Rattle.pt_audit.proofs.Saying.{says_by}
 use Rattle.pt_audit.proofs.ToldFront.{logs_before, logs_end}
-use Rattle.pt_audit.specs.Growing.{grows_on}
+use Rattle.pt_tree.proofs.Growing.{grows_on}
 use Rattle.pt_audit.proofs.auditing.audit.Goals as goal
 
 pub returns-in_err-audited-clause-ends : goal.returns-in_err-audited-clause-ends

@@ -2,7 +2,7 @@ use Rattle.std.proofs.Common.{◌∙◌, rules, subst}
 use Rattle.std.specs.Option.{ForSome}
 use Rattle.pt_audit.specs.Auditing.{AllToldAs, FrontToldAs, start_over}
 use Rattle.pt_audit.specs.Layout.{IsOfLayout}
-use Rattle.pt_compare.specs.Root.{tree_in}
+use Rattle.pt_tree.specs.Source.{tree_in}
 use Rattle.pt_state.specs.States.{job_of}
 use Rattle.pt_state.specs.declared.job.Job.{Job}
 use Rattle.pt_audit.proofs.Bounding.{made_stopped, made_within}

@@ -2,7 +2,8 @@ use Rattle.std.proofs.Common.{◌≡◌, ap, drop, length, rules, subst, sym}
 use Rattle.std.specs.Option.{ForSome}
 use Rattle.pt_audit.proofs.Twins.{at_site, told_as_twin, twin_at_hand}
 use Rattle.pt_audit.specs.Twin.{is_differing, is_second}
-use Rattle.pt_compare.specs.Root.{Stands, tree_in}
+use Rattle.pt_compare.specs.Root.{Stands}
+use Rattle.pt_tree.specs.Source.{tree_in}
 use Rattle.pt_plan.specs.TurnWalk.{in_pairtree}
 use Rattle.pt_state.specs.States.{job_of}
 use Rattle.pt_tree.specs.Path.{Path}

@@ -2,7 +2,8 @@ use Rattle.std.proofs.Common.{◌≡◌}
 use Rattle.std.specs.Option.{ForSome}
 use Rattle.pt_audit.specs.Layout.{root_of}
 use Rattle.pt_invariant.specs.DestInvariant.{HasRootFiles}
-use Rattle.pt_compare.specs.Root.{KeepsRoot, tree_in}
+use Rattle.pt_compare.specs.Root.{KeepsRoot}
+use Rattle.pt_tree.specs.Source.{tree_in}
 use Rattle.pt_state.specs.States.{job_of}
 use Rattle.pt_audit.proofs.layout.has_files.Given as goal
 

@@ -1,7 +1,7 @@
 use Rattle.std.proofs.Common.{◌≡◌, false, rules}
 use Rattle.std.proofs.lemmas.Result.{IfOk-weaker}
 use Rattle.pt_audit.proofs.Twins.{second_of}
-use Rattle.pt_compare.specs.Root.{tree_in}
+use Rattle.pt_tree.specs.Source.{tree_in}
 use Rattle.pt_state.specs.States.{job_of}
 use Rattle.pt_tree.specs.Path.{same_path}
 use Rattle.pt_audit.proofs.twin.is_second.Goals as goal

@@ -2,13 +2,13 @@ use Rattle.std.proofs.Common.{◌≡◌, ◌++◌, ◌∷◌, [], List, ℕ, ap,
 use Rattle.std.proofs.lemmas.List.{take-append-drop}
 use Rattle.pt_audit.proofs.Twins.{front_stands, listed_lacks, listed_stands}
 use Rattle.pt_compare.proofs.Opening.{way_on}
-use Rattle.pt_compare.specs.Root.{Stands, tree_in}
+use Rattle.pt_compare.specs.Root.{Stands}
 use Rattle.pt_plan.specs.TurnMake.{common_names}
 use Rattle.pt_plan.specs.Store.{pairtree_root}
 use Rattle.pt_plan.specs.TurnStart.{is_dir_kind, kind_in}
 use Rattle.pt_plan.specs.TurnWalk.{in_pairtree}
 use Rattle.pt_tree.specs.Path.{Path}
-use Rattle.pt_tree.specs.Source.{IsListed}
+use Rattle.pt_tree.specs.Source.{IsListed, tree_in}
 use Rattle.pt_tree.specs.declared.kind.Kind.TheVariants as kind
 use Rattle.pt_audit.proofs.twin.leads_to.Goals as goal
 

@@ -1,5 +1,6 @@
 use Rattle.std.proofs.Common.{◌≡◌, ◌++◌, drop}
-use Rattle.pt_compare.specs.Root.{Stands, tree_in}
+use Rattle.pt_compare.specs.Root.{Stands}
+use Rattle.pt_tree.specs.Source.{tree_in}
 use Rattle.pt_plan.specs.TurnWalk.{in_pairtree}
 use Rattle.pt_tree.specs.declared.kind.Kind.TheVariants as kind
 use Rattle.pt_audit.proofs.twin.leads_to.Given as goal

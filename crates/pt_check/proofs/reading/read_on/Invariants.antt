@@ -1,7 +1,7 @@
 use Rattle.std.proofs.Common.{◌≡◌, ◌-◌}
 use Rattle.pt_tree.specs.Failures.{greatest_count}
 use Rattle.pt_check.proofs.Blocks.{ReadTo}
-use Rattle.pt_check.specs.Visits.{tree_in}
+use Rattle.pt_tree.specs.Source.{tree_in}
 use Rattle.pt_check.proofs.reading.read_on.Given as goal
 
 abbrev pub invariant-loop-total : goal.invariant-loop-total

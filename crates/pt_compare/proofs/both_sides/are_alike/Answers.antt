@@ -1,7 +1,7 @@
 use Rattle.std.proofs.Common.{rules, ap, sym, ◌≡◌, ◌∙◌, refl}
 use Rattle.std.specs.Option.{option_map}
-use Rattle.pt_compare.specs.Root.{is_reading, tree_in}
-use Rattle.pt_tree.specs.Source.{IsRead, after_next}
+use Rattle.pt_compare.specs.Root.{is_reading}
+use Rattle.pt_tree.specs.Source.{IsRead, after_next, tree_in}
 use Rattle.pt_compare.proofs.Alike.{so_far_differ, so_far_end, so_far_next, so_far_start}
 use Rattle.pt_compare.proofs.Passed.{told_other, told_same}
 use Rattle.pt_compare.proofs.Reading.{next_reads, next_tree, can_read, still_tree}

@@ -1,5 +1,6 @@
 use Rattle.std.proofs.Common.{◌≡◌}
-use Rattle.pt_compare.specs.Root.{Reads, tree_in}
+use Rattle.pt_compare.specs.Root.{Reads}
+use Rattle.pt_tree.specs.Source.{tree_in}
 use Rattle.pt_compare.proofs.Alike.{SoFar}
 use Rattle.pt_compare.proofs.both_sides.are_alike.Given as goal
 

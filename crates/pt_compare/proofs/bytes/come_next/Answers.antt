@@ -1,6 +1,7 @@
 use Rattle.std.proofs.Common.{ap, ◌∙◌, length, refl, sym}
 use Rattle.std.proofs.lemmas.Bool.Decides.{Decides-eqb}
-use Rattle.pt_compare.specs.Root.{is_reading, tree_in}
+use Rattle.pt_compare.specs.Root.{is_reading}
+use Rattle.pt_tree.specs.Source.{tree_in}
 use Rattle.pt_compare.proofs.Passed.{one_passed, other_next, some_left, told_other, told_same, all_passed, none_passed}
 use Rattle.pt_compare.proofs.Reading.{next_reads, next_tree, can_read}
 use Rattle.pt_compare.proofs.bytes.come_next.Goals as goal

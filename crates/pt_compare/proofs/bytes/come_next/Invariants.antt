@@ -1,5 +1,6 @@
 use Rattle.std.proofs.Common.{◌≡◌, length}
-use Rattle.pt_compare.specs.Root.{Reads, tree_in}
+use Rattle.pt_compare.specs.Root.{Reads}
+use Rattle.pt_tree.specs.Source.{tree_in}
 use Rattle.pt_compare.proofs.Passed.{HasPassed}
 use Rattle.pt_compare.proofs.bytes.come_next.Given as goal
 

@@ -1,5 +1,6 @@
 use Rattle.std.proofs.Common.{◌≡◌, ℕ, List, subst, sym, ap, ◌∙◌, ◌++◌, refl}
-use Rattle.pt_compare.specs.Root.{is_reading, tree_in}
+use Rattle.pt_compare.specs.Root.{is_reading}
+use Rattle.pt_tree.specs.Source.{tree_in}
 use Rattle.pt_compare.specs.Bytes.{CameNext}
 use Rattle.pt_compare.proofs.Passed.{all_came, more_came, none_came}
 use Rattle.pt_compare.proofs.Reading.{next_reads, next_tree, can_read, still_reads, still_tree}

@@ -5,7 +5,8 @@ use Rattle.std.proofs.lemmas.Result.{IfOk-weaker}
 use Rattle.pt_compare.specs.Entries.{Noted}
 use Rattle.pt_compare.specs.Found.{MeetsObject, sought_of}
 use Rattle.pt_compare.specs.Marks.{inside, marks_of, with_mark}
-use Rattle.pt_compare.specs.Root.{IsSeen, tree_in}
+use Rattle.pt_compare.specs.Root.{IsSeen}
+use Rattle.pt_tree.specs.Source.{tree_in}
 use Rattle.pt_compare.specs.declared.stop.Stop.{Stop}
 use Rattle.pt_walk.specs.Left.{bytes_at}
 use Rattle.pt_compare.proofs.Compared.{first_stands, found_differs, found_left, stored_order}

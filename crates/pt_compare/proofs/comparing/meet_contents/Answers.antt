@@ -3,12 +3,11 @@ use Rattle.std.specs.Prelude.{None, slice_get}
 use Rattle.pt_compare.specs.Marks.{marks_of}
 use Rattle.pt_object.specs.Object.{in_content}
 use Rattle.pt_compare.specs.Parts.{fronts, way_items}
-use Rattle.pt_compare.specs.Root.{tree_in}
 use Rattle.pt_object.specs.declared.table.contents.Content.{Content}
 use Rattle.pt_plan.specs.DeviceStates.{Failures}
 use Rattle.pt_plan.specs.declared.fault.Fault.TheVariants as fault
 use Rattle.pt_tree.specs.Path.{Path}
-use Rattle.pt_tree.specs.Source.{CanOpen}
+use Rattle.pt_tree.specs.Source.{CanOpen, tree_in}
 use Rattle.std.proofs.lemmas.Bool.{ltb-true}
 use Rattle.pt_compare.proofs.Beside.{alike_at, alike_still}
 use Rattle.pt_compare.proofs.Going.{from_start, halts_from}

@@ -2,7 +2,7 @@ use Rattle.std.proofs.Common.{◌≡◌, drop}
 use Rattle.std.specs.Prelude.{None}
 use Rattle.pt_compare.specs.Marks.{marks_of}
 use Rattle.pt_compare.specs.Meeting.{NotedStand}
-use Rattle.pt_compare.specs.Root.{tree_in}
+use Rattle.pt_tree.specs.Source.{tree_in}
 use Rattle.pt_compare.proofs.Going.{GoesFrom}
 use Rattle.pt_compare.proofs.OnWay.{items_from}
 use Rattle.pt_compare.proofs.comparing.meet_contents.Given as goal

@@ -2,7 +2,7 @@ use Rattle.std.proofs.Common.{ℕ, List, [], ◌∷◌, ◌++◌, ap, refl, ◌�
 use Rattle.std.specs.Prelude.{codes}
 use Rattle.pt_compare.specs.Marks.{marks_of}
 use Rattle.pt_compare.specs.Parts.{last_items}
-use Rattle.pt_compare.specs.Root.{tree_in}
+use Rattle.pt_tree.specs.Source.{tree_in}
 use Rattle.pt_object.specs.Files.{sidecar_text}
 use Rattle.pt_object.specs.Object.{inventory_name, sidecar_name, version_folder}
 use Rattle.pt_object.specs.Script.{MakeFile}

@@ -1,7 +1,7 @@
 use Rattle.std.proofs.Common.{[], ◌∷◌, refl, ◌∙◌}
 use Rattle.pt_compare.specs.Marks.{marks_of}
 use Rattle.pt_compare.specs.Parts.{first_items}
-use Rattle.pt_compare.specs.Root.{tree_in}
+use Rattle.pt_tree.specs.Source.{tree_in}
 use Rattle.pt_object.specs.Files.{object_declaration_bytes}
 use Rattle.pt_object.specs.Object.{object_declaration_name, version_folder}
 use Rattle.pt_object.specs.Script.{MakeFile, MakeFolder}

@@ -1,7 +1,7 @@
 use Rattle.std.proofs.Common.{◌∙◌}
 use Rattle.pt_compare.specs.Found.{texts_of_object}
 use Rattle.pt_compare.specs.Marks.{marks_of}
-use Rattle.pt_compare.specs.Root.{tree_in}
+use Rattle.pt_tree.specs.Source.{tree_in}
 use Rattle.pt_compare.proofs.Compared.{inventory_noted, inventory_stops, inventory_then}
 use Rattle.pt_compare.proofs.comparing.meet_inventories.Goals as goal
 

@@ -2,9 +2,8 @@ use Rattle.std.proofs.Common.{◌++◌, ◌∙◌}
 use Rattle.pt_compare.specs.Found.{sought_of}
 use Rattle.pt_compare.specs.Marks.{marks_of}
 use Rattle.pt_compare.specs.Parts.{files_of, first_items}
-use Rattle.pt_compare.specs.Root.{tree_in}
 use Rattle.pt_tree.specs.Path.{Path}
-use Rattle.pt_tree.specs.Source.{CanOpen}
+use Rattle.pt_tree.specs.Source.{CanOpen, tree_in}
 use Rattle.pt_compare.proofs.Compared.{all_contents, contents_stop, files_are, first_stops, inventories_last}
 use Rattle.pt_compare.proofs.Steps.{noted_items}
 use Rattle.pt_compare.proofs.comparing.meet_object.Goals as goal

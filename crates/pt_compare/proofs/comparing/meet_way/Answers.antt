@@ -2,7 +2,7 @@ use Rattle.std.proofs.Common.{◌≡◌, arith, refl, rules, ap, sym, take, ◌�
 use Rattle.std.proofs.lemmas.Bool.{le-ltb, lt-ltb}
 use Rattle.pt_compare.specs.Marks.{marks_of}
 use Rattle.pt_compare.specs.Parts.{fronts, leads_to_last, way_items}
-use Rattle.pt_compare.specs.Root.{tree_in}
+use Rattle.pt_tree.specs.Source.{tree_in}
 use Rattle.pt_object.specs.Object.{in_content}
 use Rattle.pt_object.specs.Script.{MakeFolder}
 use Rattle.pt_plan.specs.declared.fault.Fault.TheVariants as fault

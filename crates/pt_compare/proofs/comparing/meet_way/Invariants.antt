@@ -2,7 +2,7 @@ use Rattle.std.proofs.Common.{◌≡◌, drop}
 use Rattle.pt_compare.specs.Marks.{marks_of}
 use Rattle.pt_compare.specs.Meeting.{NotedStand}
 use Rattle.pt_compare.specs.Parts.{fronts, way_items}
-use Rattle.pt_compare.specs.Root.{tree_in}
+use Rattle.pt_tree.specs.Source.{tree_in}
 use Rattle.pt_compare.proofs.Going.{GoesOn}
 use Rattle.pt_compare.proofs.comparing.meet_way.Given as goal
 

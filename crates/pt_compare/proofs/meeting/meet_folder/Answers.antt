@@ -1,9 +1,9 @@
 use Rattle.std.proofs.Common.{arith, rules, refl, sym, subst, ◌++◌, ◌∙◌}
 use Rattle.pt_compare.specs.Marks.{marks_of}
-use Rattle.pt_compare.specs.Root.{Lists, tree_in}
+use Rattle.pt_compare.specs.Root.{Lists}
 use Rattle.pt_plan.specs.declared.fault.Fault.TheVariants as fault
 use Rattle.pt_tree.specs.Path.{Path}
-use Rattle.pt_tree.specs.Source.{CanList}
+use Rattle.pt_tree.specs.Source.{CanList, tree_in}
 use Rattle.pt_tree.specs.declared.kind.Kind.TheVariants as kind
 use Rattle.pt_compare.proofs.Entering.{listed_now, noted_kind}
 use Rattle.pt_compare.proofs.Going.{halt_is, halted, halts_in}

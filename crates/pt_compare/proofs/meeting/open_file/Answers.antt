@@ -1,8 +1,7 @@
 use Rattle.std.proofs.Common.{arith, rules, sym, subst, ◌++◌, ◌∙◌}
 use Rattle.pt_compare.specs.Marks.{marks_of}
-use Rattle.pt_compare.specs.Root.{tree_in}
 use Rattle.pt_tree.specs.Path.{Path}
-use Rattle.pt_tree.specs.Source.{CanOpen}
+use Rattle.pt_tree.specs.Source.{CanOpen, tree_in}
 use Rattle.pt_tree.specs.declared.kind.Kind.TheVariants as kind
 use Rattle.pt_compare.proofs.Entering.{noted_kind}
 use Rattle.pt_compare.proofs.Reading.{can_open}

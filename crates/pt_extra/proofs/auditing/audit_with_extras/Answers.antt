@@ -4,9 +4,9 @@ use Rattle.pt_audit.proofs.Bounding.{made_by}
 use Rattle.pt_audit.proofs.Saying.{says_by}
 use Rattle.pt_audit.specs.Auditing.{start_over}
 use Rattle.pt_audit.specs.Bounds.{IsMade}
-use Rattle.pt_audit.specs.Growing.{grows_on}
+use Rattle.pt_tree.proofs.Growing.{grows_on}
 use Rattle.pt_audit.specs.declared.counts.Counts.{Counts}
-use Rattle.pt_compare.specs.Root.{tree_in}
+use Rattle.pt_tree.specs.Source.{tree_in}
 use Rattle.pt_extra.proofs.BothWays.{extra_logs, extra_stops}
 use Rattle.pt_extra.specs.Audits.{in_both}
 use Rattle.pt_extra.specs.declared.auditing.AuditCounts.{AuditCounts}

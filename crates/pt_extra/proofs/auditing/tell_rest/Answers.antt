@@ -1,4 +1,4 @@
-use Rattle.pt_audit.specs.Growing.{grows_on}
+use Rattle.pt_tree.proofs.Growing.{grows_on}
 use Rattle.pt_extra.proofs.BothWays.{begun, stops_rest, tells_rest}
 use Rattle.pt_extra.proofs.auditing.tell_rest.Goals as goal
 

@@ -1,5 +1,6 @@
 use Rattle.std.proofs.Common.{◌≡◌, ◌-◌, ◌+◌, length}
-use Rattle.pt_compare.specs.Root.{Reads, tree_in}
+use Rattle.pt_compare.specs.Root.{Reads}
+use Rattle.pt_tree.specs.Source.{tree_in}
 use Rattle.pt_compare.specs.Bytes.{CameNext}
 use Rattle.pt_extra.specs.Inventories.{most_bytes}
 use Rattle.pt_extra.proofs.identifier.read_whole.Given as goal

@@ -1,5 +1,5 @@
 use Rattle.std.proofs.Common.{ap, subst, List, ℕ, [], Some, ◌≡◌, ◌∙◌}
-use Rattle.pt_extra.proofs.Visiting.{listed_in}
+use Rattle.pt_tree.proofs.Told.{listed_in}
 use Rattle.pt_plan.specs.TurnStart.{is_dir_kind, kind_in}
 use Rattle.pt_object.specs.WellKnown.{known_text}
 use Rattle.pt_tree.specs.Forest.{listing_of}

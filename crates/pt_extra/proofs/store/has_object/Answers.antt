@@ -2,14 +2,14 @@ use Rattle.std.proofs.Common.{ap, drop, length, subst, sym, Bool, [], ◌∷◌,
 use Rattle.std.specs.Prelude.{◌&&◌, Option}
 use Rattle.pt_audit.proofs.Twins.{none_of, none_there}
 use Rattle.pt_audit.specs.Twin.{proper_site}
-use Rattle.pt_compare.specs.Root.{Stands, tree_in}
+use Rattle.pt_compare.specs.Root.{Stands}
 use Rattle.pt_extra.proofs.Tops.{lacks_top, stands_top}
 use Rattle.pt_name.specs.Share.{begins_with}
 use Rattle.pt_plan.specs.Store.{pairtree_root}
 use Rattle.pt_plan.specs.TurnWalk.{in_pairtree}
 use Rattle.pt_state.specs.States.{job_of}
 use Rattle.pt_tree.specs.Path.{Path}
-use Rattle.pt_tree.specs.Source.{Reading}
+use Rattle.pt_tree.specs.Source.{Reading, tree_in}
 use Rattle.pt_tree.specs.declared.kind.Kind.TheVariants as kind
 use Rattle.pt_extra.proofs.store.has_object.Goals as goal
 

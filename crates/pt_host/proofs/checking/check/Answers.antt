@@ -1,5 +1,5 @@
 use Rattle.std.proofs.Common.{ap, sym, subst, refl, ◌∙◌}
-use Rattle.pt_check.specs.Visits.{Grows}
+use Rattle.pt_tree.specs.Log.{Grows}
 use Rattle.pt_host.proofs.Audited.{store_is}
 use Rattle.pt_host.proofs.Checked.{answers, checks_as}
 use Rattle.pt_host.specs.Checking.{check_call}

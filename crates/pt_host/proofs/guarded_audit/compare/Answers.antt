@@ -3,7 +3,7 @@ use Rattle.std.specs.Prelude.{OnOk}
 use Rattle.std.specs.Option.{ForSome}
 use Rattle.pt_audit.specs.Layout.{IsOfLayout}
 use Rattle.pt_state.specs.States.{job_of}
-use Rattle.pt_audit.specs.Growing.{Grows}
+use Rattle.pt_tree.specs.Log.{Grows}
 use Rattle.pt_host.proofs.Audited.{ends_as, root_is, says_as, store_is}
 use Rattle.pt_host.proofs.guarded_audit.compare.Goals as goal
 

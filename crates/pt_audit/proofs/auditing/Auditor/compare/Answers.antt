@@ -3,12 +3,11 @@ use Rattle.std.specs.Prelude.{All, IfOk}
 use Rattle.pt_audit.proofs.Pacing.{alike_at_hand, alike_there, folder_stands}
 use Rattle.pt_audit.proofs.Telling.{can_compare, found_at_hand}
 use Rattle.pt_audit.specs.Auditing.{IsFoundAtHand}
-use Rattle.pt_compare.specs.Root.{tree_in}
 use Rattle.pt_object.specs.declared.rows.Row.{Row}
 use Rattle.pt_plan.specs.TurnWalk.{in_pairtree}
 use Rattle.pt_state.specs.declared.job.Job as own
 use Rattle.pt_tree.specs.Path.{Path}
-use Rattle.pt_tree.specs.Source.{CanOpen}
+use Rattle.pt_tree.specs.Source.{CanOpen, tree_in}
 use Rattle.pt_audit.proofs.auditing.Auditor.compare.Goals as goal
 
 pub returns-clause-found : goal.returns-clause-found

@@ -7,7 +7,8 @@ use Rattle.pt_audit.proofs.Telling.{same_end, same_trees}
 use Rattle.pt_audit.proofs.Saying.{same_failures}
 use Rattle.pt_audit.proofs.ToldFront.{same_stops}
 use Rattle.std.proofs.lemmas.Bool.{OnTrue_at}
-use Rattle.pt_audit.specs.Growing.{grows_none, grows_on, sides_on}
+use Rattle.pt_audit.specs.Growing.{sides_on}
+use Rattle.pt_tree.proofs.Growing.{grows_none, grows_on}
 use Rattle.pt_audit.proofs.auditing.Auditor.go_through.Goals as goal
 
 pub loop-more-init : goal.loop-more-init

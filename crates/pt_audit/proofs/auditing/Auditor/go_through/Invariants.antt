@@ -3,8 +3,7 @@ use Rattle.pt_audit.specs.Auditing.{IsUnderWay, start_over}
 use Rattle.pt_audit.specs.RootReader.{FollowsOn}
 use Rattle.pt_audit.specs.Bounds.{Surveyed}
 use Rattle.pt_audit.specs.Failing.{failures}
-use Rattle.pt_compare.specs.Root.{tree_in}
-use Rattle.pt_plan.specs.DeviceStates.{source_tree}
+use Rattle.pt_tree.specs.Source.{tree_in}
 use Rattle.pt_audit.specs.Growing.{KeepsLog, KeepsSides}
 use Rattle.pt_audit.proofs.auditing.Auditor.go_through.Given as goal
 
@@ -16,7 +15,7 @@ invariant-loop-more g l =
     × KeepsSides g.S.Source.told g.S.Source.keeps g.R.Source.told g.R.Source.keeps (l.fn.source, l.fn.root) (l.source, l.root)
     × KeepsLog g.L.Log.told g.L.Log.keeps l.fn.log l.log
     × (failures (g.S.Source.failed l.source) (g.R.Source.failed l.root) (g.L.Log.failed l.log) ≡ failures (g.S.Source.failed l.fn.source) (g.R.Source.failed l.fn.root) (g.L.Log.failed l.fn.log))
-    × ((n : ℕ) × Surveyed (source_tree (g.S.Source.told l.fn.source)) l.fn.self.survey n l.self.survey)
+    × ((n : ℕ) × Surveyed (tree_in (g.S.Source.told l.fn.source)) l.fn.self.survey n l.self.survey)
 
 abbrev pub decreases-loop-more : goal.decreases-loop-more
 decreases-loop-more g l = l.self.survey.state.job.limits.turns - l.self.survey.state.counts.turns

@@ -1,7 +1,7 @@
 use Rattle.std.proofs.Common.{List, ℕ, subst, ◌∙◌}
 use Rattle.std.specs.Prelude.{Option}
 use Rattle.pt_audit.specs.Auditing.{IsTwinAtHand}
-use Rattle.pt_compare.specs.Root.{tree_in}
+use Rattle.pt_tree.specs.Source.{tree_in}
 use Rattle.pt_tree.specs.Forest.{Forest}
 use Rattle.pt_audit.proofs.auditing.Auditor.judge.Goals as goal
 

@@ -4,9 +4,8 @@ use Rattle.pt_audit.proofs.Pacing.{at_sight, follows_told}
 use Rattle.pt_audit.proofs.Telling.{end_at, not_told, on_end, on_more, on_store}
 use Rattle.pt_audit.proofs.ToldFront.{at_err, seen_stops_any}
 use Rattle.pt_audit.specs.Auditing.{IsAt, is_told}
-use Rattle.pt_audit.specs.Growing.{grows_none}
-use Rattle.pt_compare.specs.Root.{tree_in}
-use Rattle.pt_plan.specs.DeviceStates.{source_tree}
+use Rattle.pt_tree.proofs.Growing.{grows_none}
+use Rattle.pt_tree.specs.Source.{tree_in}
 use Rattle.pt_audit.proofs.auditing.Auditor.tell.Goals as goal
 
 pub check_layout-requires : goal.check_layout-requires
@@ -15,7 +14,7 @@ check_layout-requires g c = has_layout _ c.args.sight c.args.self.now.survey c.j
 pub returns-in_err-check_layout-in-Store-clause-says : goal.returns-in_err-check_layout-in-Store-clause-says
 returns-in_err-check_layout-in-Store-clause-says g c =
     let why = c.in_err-check_layout-in-Store.field-0.0 in
-    says_err c.from_residual.result why c.args.self.now.survey.state.job (source_tree (g.S.Source.told c.args.source.now)) (tree_in (g.R.Source.told c.args.root.now)) (search rules)
+    says_err c.from_residual.result why c.args.self.now.survey.state.job (tree_in (g.S.Source.told c.args.source.now)) (tree_in (g.R.Source.told c.args.root.now)) (search rules)
     (says_layout (g.S.Source.told c.args.source.now) _ c.args.self.now.survey why _ _ c.job.result.now c.job.ensures
     (subst (λ w. IsAt (g.S.Source.told c.args.source.now) w c.args.self.now.survey) c.in-Store.is (at_sight c.requires))
     c.in_err-check_layout-in-Store.ensures.layout c.in_err-check_layout-in-Store.ensures.failures)
@@ -23,7 +22,7 @@ returns-in_err-check_layout-in-Store-clause-says g c =
 pub returns-in_err-counts-in-Object-clause-says : goal.returns-in_err-counts-in-Object-clause-says
 returns-in_err-counts-in-Object-clause-says g c =
     let why = c.in_err-counts-in-Object.field-0.0 in
-    says_err c.from_residual-in_err-counts-in-Object.result why c.args.self.now.survey.state.job (source_tree (g.S.Source.told c.args.source.now)) (tree_in (g.R.Source.told c.args.root.now)) (search rules)
+    says_err c.from_residual-in_err-counts-in-Object.result why c.args.self.now.survey.state.job (tree_in (g.S.Source.told c.args.source.now)) (tree_in (g.R.Source.told c.args.root.now)) (search rules)
     (says_failed c.args.self.now.survey.state.job _ _ why _ _ c.in_err-counts-in-Object.ensures.fails)
 
 pub returns-in_ok-check_layout-in-Store-clause-on : goal.returns-in_ok-check_layout-in-Store-clause-on

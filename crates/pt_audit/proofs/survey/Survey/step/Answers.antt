@@ -1,7 +1,7 @@
 use Rattle.std.proofs.Common.{ap, arith, refl, rules, subst, ◌∙◌}
 use Rattle.std.specs.Prelude.{IfErr}
 use Rattle.pt_move.specs.Running.{Running}
-use Rattle.pt_plan.specs.DeviceStates.{source_tree}
+use Rattle.pt_tree.specs.Source.{tree_in}
 use Rattle.pt_state.specs.Counting.{calls_most, calls_none}
 use Rattle.pt_audit.specs.Surveying.{SurveySays, Untold}
 use Rattle.pt_audit.proofs.Stepping.{says_ended, says_step}
@@ -27,7 +27,7 @@ returns-then-self-turns-clause-source g c = ((g.met.S.Source.is_kept _, refl), c
 
 pub returns-in_err-self-inside : goal.returns-in_err-self-inside
 returns-in_err-self-inside g c =
-    let source = source_tree (g.S.Source.told c.args.source.now) in
+    let source = tree_in (g.S.Source.told c.args.source.now) in
     record {
       on = search rules;
       came = search rules;

@@ -1,6 +1,7 @@
 use Rattle.std.proofs.Common.{arith, ap, sym, subst, cond, ℕ, ◌≡◌, ◌∙◌, Some}
 use Rattle.std.specs.Option.{ForSome}
-use Rattle.pt_check.specs.Visits.{Finds, Folder, Judges, Meets, Seen, ended, seen_by, tree_by, tree_in}
+use Rattle.pt_check.specs.Visits.{Finds, Folder, Judges, Meets, Seen, ended, seen_by, tree_by}
+use Rattle.pt_tree.specs.Source.{tree_in}
 use Rattle.pt_check.specs.Within.{below}
 use Rattle.pt_check.specs.declared.wants.Wants.{Wants}
 use Rattle.pt_tree.specs.Forest.{listing_at}

@@ -1,4 +1,4 @@
-use Rattle.pt_check.proofs.Blocks.{may_list}
+use Rattle.pt_tree.proofs.Told.{may_list}
 use Rattle.pt_check.proofs.checking.Check.list.Goals as goal
 
 pub list-requires : goal.list-requires

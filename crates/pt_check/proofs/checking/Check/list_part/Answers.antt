@@ -1,4 +1,4 @@
-use Rattle.pt_check.proofs.Blocks.{may_list}
+use Rattle.pt_tree.proofs.Told.{may_list}
 use Rattle.pt_check.proofs.Keeping.{keeps_on, sources_on}
 use Rattle.pt_check.proofs.checking.Check.list_part.Goals as goal
 

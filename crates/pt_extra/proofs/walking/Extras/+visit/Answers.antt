@@ -3,9 +3,10 @@ use Rattle.std.proofs.lemmas.Bool.{ne_eqb}
 use Rattle.std.proofs.lemmas.Result.{on_err_weaker, on_ok_weaker}
 use Rattle.std.specs.Option.{ForSome}
 use Rattle.std.specs.Prelude.{IsSome, Option}
-use Rattle.pt_compare.specs.Root.{tree_in}
+use Rattle.pt_tree.specs.Source.{tree_in}
 use Rattle.pt_extra.proofs.Keeping.{at_err, front_from, keeps_on, stops_still, told_from}
-use Rattle.pt_extra.proofs.Visiting.{FoundTo, found_bare, found_dir, found_folder, found_leaf, found_none, found_object, found_part, next_stands, proper_in, bare_deep, bare_empty, is_walked, some_entry, stops_before, stops_dir, stops_leaf}
+use Rattle.pt_extra.proofs.Visiting.{FoundTo, found_bare, found_dir, found_folder, found_leaf, found_none, found_object, found_part, next_stands, bare_deep, bare_empty, is_walked, some_entry, stops_before, stops_dir, stops_leaf}
+use Rattle.pt_tree.proofs.Told.{proper_in}
 use Rattle.pt_extra.specs.Findings.{found_at, of_object, of_unnamed}
 use Rattle.pt_extra.specs.Inventories.{id_of}
 use Rattle.pt_extra.specs.Lines.{ExtraFinding, texts}

@@ -1,7 +1,7 @@
 use Rattle.std.proofs.Common.{◌≡◌}
 use Rattle.std.specs.Option.{ForSome}
 use Rattle.pt_audit.specs.Failing.{failures}
-use Rattle.pt_compare.specs.Root.{tree_in}
+use Rattle.pt_tree.specs.Source.{tree_in}
 use Rattle.pt_extra.proofs.Visiting.{FoundTo}
 use Rattle.pt_extra.specs.Walk.{Keeps, against, seen_by}
 use Rattle.pt_plan.specs.TurnWalk.{in_root}

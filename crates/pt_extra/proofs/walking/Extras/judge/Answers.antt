@@ -1,7 +1,7 @@
 use Rattle.std.proofs.Common.{ap, refl, rules, sym, subst, List, ℕ, None, Some, ◌≡◌, ◌∙◌}
 use Rattle.std.proofs.lemmas.Result.{on_err_weaker, on_ok_weaker}
 use Rattle.std.specs.Option.{ForSome, option_map}
-use Rattle.pt_compare.specs.Root.{tree_in}
+use Rattle.pt_tree.specs.Source.{tree_in}
 use Rattle.std.specs.Prelude.{Option}
 use Rattle.std.specs.String.{string_bytes}
 use Rattle.pt_extra.proofs.Keeping.{front_from, keeps_root, stops_still, told_from}

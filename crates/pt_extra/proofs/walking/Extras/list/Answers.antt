@@ -1,4 +1,4 @@
-use Rattle.pt_extra.proofs.Visiting.{may_list}
+use Rattle.pt_tree.proofs.Told.{may_list}
 use Rattle.pt_extra.proofs.walking.Extras.list.Goals as goal
 
 pub list-requires : goal.list-requires
