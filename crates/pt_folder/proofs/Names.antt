@@ -13,7 +13,7 @@ use Rattle.std.proofs.lemmas.List.Sums.{fails_before_first}
 use Rattle.pt_tree.specs.declared.faults.TreeFault.{TreeFault}
 use Rattle.pt_tree.specs.declared.faults.TreeFault.TheVariants.{Device, Memory}
 use Rattle.pt_folder.specs.Calls.{IsDueTo}
-use Rattle.pt_folder.specs.Names.{is_entry, LacksNul, ended, GivesNames, AddsNames, IsRefusedName, RefusesBytes}
+use Rattle.pt_folder.specs.Names.{is_entry, LacksNul, ended, GivesNames, AddsNames, RefusesBytes}
 
 -- one piece behind another
 pub gives_both : (a b : List ℕ) (xs ys : List (List ℕ)) → GivesNames a xs → GivesNames b ys → GivesNames (a ++ b) (xs ++ ys)
@@ -86,32 +86,32 @@ reads_one old mid new now after piece part (read, taken, gives) next same adds =
   subst (λ names. GivesNames (read ++ part) names) (sym adds.added) (gives_both read part now adds.more gives (subst (λ bytes. GivesNames bytes adds.more) same adds.given)),
 )
 
--- what was read of a piece so far, and the names of it
-abbrev pub Done : List ℕ → List ℕ → List (List ℕ) → List (List ℕ) → Type 0
-Done piece rest old now = (front : List ℕ) × (piece ≡ front ++ rest) × AddsNames front old now
+-- what was read of a piece so far, and what it gave
+abbrev pub Done : {A : Type 0} → (List ℕ → A → A → Type 0) → List ℕ → List ℕ → A → A → Type 0
+Done adds piece rest old now = (front : List ℕ) × (piece ≡ front ++ rest) × adds front old now
 
 -- the next name isn't added
-pub refuses_one : (most : ℕ) (piece rest name : List ℕ) (old now : List (List ℕ)) (end : ℕ) (fault : TreeFault) → Done piece rest old now
-    → position (λ b. b == 0) rest ≡ Some end → name ≡ take end rest → IsDueTo fault (IsRefusedName most now name) → IsDueTo fault (RefusesBytes most old piece)
-refuses_one most piece rest name old now end Memory done found name_is cause = tt
-refuses_one most piece rest name old now end Device (front, is, adds) found name_is cause = record {
+pub refuses_one : {A : Type 0} (adds : List ℕ → A → A → Type 0) (refuses : A → List ℕ → Type 0) (piece rest name : List ℕ) (old now : A) (end : ℕ) (fault : TreeFault) → Done adds piece rest old now
+    → position (λ b. b == 0) rest ≡ Some end → name ≡ take end rest → IsDueTo fault (refuses now name) → IsDueTo fault (RefusesBytes adds refuses old piece)
+refuses_one adds refuses piece rest name old now end Memory done found name_is cause = tt
+refuses_one adds refuses piece rest name old now end Device (front, is, added) found name_is cause = record {
   front = front;
   rest = rest;
-  names = now;
+  mid = now;
   cut = is;
-  added = adds;
-  refused = inr (take end rest, drop (end + 1) rest, splits rest end found, lacks_nul rest end found, subst (IsRefusedName most now) name_is cause);
+  added = added;
+  refused = inr (take end rest, drop (end + 1) rest, splits rest end found, lacks_nul rest end found, subst (refuses now) name_is cause);
 }
 
 -- bytes are left, and no NUL behind them
-pub refuses_rest : (most : ℕ) (piece rest : List ℕ) (old now : List (List ℕ)) → Done piece rest old now → position (λ b. b == 0) rest ≡ None → (length rest == 0) ≡ false
-    → RefusesBytes most old piece
-refuses_rest most piece rest old now (front, is, adds) none some = record {
+pub refuses_rest : {A : Type 0} (adds : List ℕ → A → A → Type 0) (refuses : A → List ℕ → Type 0) (piece rest : List ℕ) (old now : A) → Done adds piece rest old now
+    → position (λ b. b == 0) rest ≡ None → (length rest == 0) ≡ false → RefusesBytes adds refuses old piece
+refuses_rest adds refuses piece rest old now (front, is, added) none some = record {
   front = front;
   rest = rest;
-  names = now;
+  mid = now;
   cut = is;
-  added = adds;
+  added = added;
   refused = inl (positive (length rest) some, no_nul rest none);
 }
   where

@@ -1,6 +1,6 @@
 -- What a source tells of a directory that is listed past what is no name, by the laws of its system.
-use Rattle.std.proofs.Common.{◌≡◌, ℕ, List, [], ◌∷◌, map, true, false, refl, sym, ap, ◌∙◌, subst, cond}
-use Rattle.std.specs.Prelude.{Bool, Option, None, Some, IsSome, IsPermutation, Result, Ok, Err, IfOk, MatchResult, Vec}
+use Rattle.std.proofs.Common.{◌≡◌, ℕ, List, [], ◌∷◌, map, true, false, refl, sym, ap, ◌∙◌, subst, cond, inl, inr, ◌≤◌}
+use Rattle.std.specs.Prelude.{Bool, Option, Some, IsSome, IsPermutation, Result, Ok, Err, IfErr, IfOk, MatchResult, Vec}
 use Rattle.std.specs.Global.{Global}
 use Rattle.std.specs.Option.{ForSome}
 use Rattle.std.specs.List.{All, FoldsTo, filter}
@@ -10,23 +10,25 @@ use Rattle.std.specs.Ordering.{nat_cmp}
 use Rattle.std.specs.declared.io.Error.{Error}
 use Rattle.std.proofs.lemmas.Bool.{and_parts}
 use Rattle.std.proofs.lemmas.List.Elements.{All-cons, All-head, All-nil, All-tail}
-use Rattle.std.proofs.lemmas.List.Sorted.{All-permutation, IsPermutation-sym}
+use Rattle.std.proofs.lemmas.List.Sorted.{All-permutation, IsPermutation-sym, length_permutation}
 use Rattle.pt_tree.specs.declared.faults.TreeFault.{TreeFault}
+use Rattle.pt_tree.specs.declared.faults.TreeFault.TheVariants.{Device, Memory}
 use Rattle.pt_tree.specs.Forest.{Forest, none, file, other, dir, comes_before, dir_at, is_proper}
 use Rattle.pt_tree.specs.Listing.{Item}
 use Rattle.pt_tree.specs.Name.{is_name}
 use Rattle.pt_tree.specs.Path.{Path}
 use Rattle.pt_tree.proofs.AtPaths.{proper_dir_at}
-use Rattle.pt_tree.proofs.Finding.{proper_dir, proper_file, proper_other}
-use Rattle.pt_folder.specs.Calls.{change_of, fault_of}
+use Rattle.pt_tree.proofs.Finding.{proper_file, proper_other}
+use Rattle.pt_folder.specs.Calls.{IsDueTo, change_of, fault_of}
 use Rattle.pt_folder.specs.Folder.{entry_in, entry_text}
 use Rattle.pt_folder.specs.Laws.{IsPath}
-use Rattle.pt_folder.specs.Listing.{GetsNames, LooksAt, dir_front}
-use Rattle.pt_folder.specs.Parting.{GetsParted, IsListedPast}
+use Rattle.pt_folder.specs.Listing.{FailsToLook, GetsNames, LooksAt, dir_front, most_entries}
+use Rattle.pt_folder.specs.Parting.{FailsToListPast, GetsParted, GivesApart, IsFew, IsListedPast, IsBeyondAll}
 use Rattle.pt_folder.specs.SourceLaws.{NamesLaw, names_of}
 use Rattle.pt_folder.specs.declared.parting.Parted.{Parted}
 use Rattle.pt_folder.specs.declared.system.Input.{Ghosts as OfInput}
 use Rattle.pt_folder.specs.declared.system.System.{Ghosts as OfSystem}
+use Rattle.pt_folder.proofs.Listed.{Asks, read_fails}
 use Rattle.pt_folder.proofs.Listings.{names_given}
 
 abbrev AreNames : List (List ℕ) → Type 0
@@ -70,23 +72,56 @@ module _ {S D : Type 0} (kept : S → List ℕ → Option Forest) (input : OfInp
       subst (λ l. IsPermutation l (names_of d)) (sym (gives.1.parts.named ∙ same)) these
 
 module _ {S F D : Type 0} (sys : OfSystem S F D) (input : OfInput D) (folder : List ℕ) (p : Path) (old mid new : S) (text : List ℕ) (is : text ≡ entry_text folder p) where
-  -- it is listed past what is no name
-  pub listed_past : (parted : Parted) (order : List (List ℕ)) (refused : List (Vec ℕ Global)) (front : List ℕ) → front ≡ dir_front folder p → IsPermutation parted.names.items order
-      → IsPermutation parted.refused.items refused → IsSorted (λ x y. slice_cmp nat_cmp x.items y.items) refused
-      → ((reply : Result D Error) × sys.opens_dir old text reply mid × MatchResult reply (λ d. (after : D) × GetsParted input d parted after) (λ e. let r : Result Parted TreeFault = Ok parted in r ≡ Err (fault_of e)))
-      → (result : Result (List Item) TreeFault) → IfOk result (λ listing. map (λ (item : Item). item.0) listing ≡ order) → IfOk result (λ listing. FoldsTo (LooksAt sys.looks front) mid listing new)
-      → IfOk result (IsListedPast sys input (entry_in folder p) (change_of old new) refused)
-  listed_past parted order refused front begins ordered others order_is asked (Err f) named looked = tt
-  listed_past parted order refused front begins ordered others order_is (Err e, asked, gives) (Ok listing) named looked = absurd (cc)
-  listed_past parted order refused front begins ordered others order_is (Ok it, asked, gives) (Ok listing) named looked = record {
-    dir = it;
-    after = gives.0;
-    mid = mid;
-    parted = parted;
-    opened = subst (λ t. sys.opens_dir old t (Ok it) mid) is asked;
-    read = gives.1;
-    named = subst (IsPermutation parted.names.items) (sym named) ordered;
-    others = others;
-    order = order_is;
-    looked = subst (λ front. FoldsTo (LooksAt sys.looks front) mid listing new) begins looked;
-  }
+  -- it was read so
+  abbrev AsksParted : Result Parted TreeFault → Type 0
+  AsksParted result = Asks sys input folder p old mid text is (GetsParted input) IsBeyondAll result
+
+  -- it isn't read to its end
+  pub parted_fails : (refused : List (Vec ℕ Global)) (fault : TreeFault) → AsksParted (Err fault) → FailsToListPast sys input (entry_in folder p) (change_of old mid) (change_of refused refused) fault
+  parted_fails refused Memory asked = inl refl
+  parted_fails refused Device asked = inl (refl, read_fails sys input folder p old mid text is (GetsParted input) IsBeyondAll asked)
+
+  module _ (parted : Parted) (asked : AsksParted (Ok parted)) (few : IsFew parted) (refused : List (Vec ℕ Global)) (others : IsPermutation parted.refused.items refused) (order_is : IsSorted (λ x y. slice_cmp nat_cmp x.items y.items) refused) where
+    -- what is given apart
+    pub gives_apart : GivesApart sys input (entry_in folder p) (change_of old mid) parted refused
+    gives_apart = by asked
+      where
+        by : AsksParted (Ok parted) → GivesApart sys input (entry_in folder p) (change_of old mid) parted refused
+        by (Err e, asked, gives) = absurd (cc)
+        by (Ok it, asked, gives) = record {
+          dir = it;
+          after = gives.0;
+          opened = subst (λ t. sys.opens_dir old t (Ok it) mid) is asked;
+          read = gives.1;
+          others = others;
+          order = order_is;
+          few = subst (λ n. n ≤ most_entries) (sym (length_permutation parted.refused.items refused others)) few.refused;
+        }
+
+    module _ (order : List (List ℕ)) (front : List ℕ) (begins : front ≡ dir_front folder p) (ordered : IsPermutation parted.names.items order) where
+      -- it is listed past what is no name
+      pub listed_past : (result : Result (List Item) TreeFault) → IfOk result (λ listing. map (λ (item : Item). item.0) listing ≡ order) → IfOk result (λ listing. FoldsTo (LooksAt sys.looks front) mid listing new)
+          → IfOk result (IsListedPast sys input (entry_in folder p) (change_of old new) refused)
+      listed_past (Err f) named looked = tt
+      listed_past (Ok listing) named looked = record {
+        mid = mid;
+        parted = parted;
+        apart = gives_apart;
+        named = subst (IsPermutation parted.names.items) (sym named) ordered;
+        looked = subst (λ front. FoldsTo (LooksAt sys.looks front) mid listing new) begins looked;
+      }
+
+      -- one of its entries isn't had
+      pub fails_past : {U : Type 0} (before : List (Vec ℕ Global)) (result : Result U TreeFault) → IsSorted (slice_cmp nat_cmp) order → IfErr result (λ fault. IsDueTo fault (FailsToLook sys.looks front order mid new))
+          → IfErr result (FailsToListPast sys input (entry_in folder p) (change_of old new) (change_of before refused))
+      fails_past before (Ok x) sorted failed = tt
+      fails_past before (Err Memory) sorted failed = inr (mid, parted, gives_apart)
+      fails_past before (Err Device) sorted failed = inr (record {
+        mid = mid;
+        parted = parted;
+        order = order;
+        apart = gives_apart;
+        named = ordered;
+        sorted = sorted;
+        looked = subst (λ front. FailsToLook sys.looks front order mid new) begins failed;
+      })

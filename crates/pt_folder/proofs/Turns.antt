@@ -95,7 +95,7 @@ module _ {F : Type 0} (reads : F → List ℕ → Result ℕ Error → F → Typ
 abbrev pub Got : {D : Type 0} → (D → List ℕ → Result ℕ Error → D → Type 0) → D → D → List (List ℕ) → ℕ → Type 0
 Got reads old mid names count = (pieces : List (List ℕ)) × (length pieces ≡ count) × FoldsTo (ReadsNames reads) (old, []) pieces (mid, names)
 
-module _ {D : Type 0} (reads : D → List ℕ → Result ℕ Error → D → Type 0) (most : ℕ) (old mid new : D) (names : List (List ℕ)) (part : List ℕ) (turns : ℕ)
+module _ {D : Type 0} (reads : D → List ℕ → Result ℕ Error → D → Type 0) (refuses : List (List ℕ) → List ℕ → Type 0) (old mid new : D) (names : List (List ℕ)) (part : List ℕ) (turns : ℕ)
     (before : Got reads old mid names turns) (whole : length part ≡ 8192) where
   -- one more piece
   pub names_more : (count : ℕ) (after : List (List ℕ)) (piece : List ℕ) → count ≤ length part → (count ≡ 0 → ⊥) → reads mid part (Ok count) new → piece ≡ take count part
@@ -112,26 +112,26 @@ module _ {D : Type 0} (reads : D → List ℕ → Result ℕ Error → D → Typ
   names_end read = record { pieces = before.0; last = mid; read = before.2; ends = (part, whole, read) }
 
   -- a read fails
-  pub names_fail : (e : Error) (fault : TreeFault) → reads mid part (Err e) new → fault ≡ fault_of e → IsDueTo fault (FailsToGet reads most old new)
+  pub names_fail : (e : Error) (fault : TreeFault) → reads mid part (Err e) new → fault ≡ fault_of e → IsDueTo fault (FailsToGet reads refuses old new)
   names_fail e Memory read is = tt
   names_fail e Device read is = record { pieces = before.0; names = names; last = mid; read = before.2; failed = inl (e, (part, whole, read), sym is) }
 
   -- a piece has what isn't added
   pub names_refused : (count : ℕ) (fault : TreeFault) (piece : List ℕ) → count ≤ length part → (count ≡ 0 → ⊥) → reads mid part (Ok count) new → piece ≡ take count part
-      → IsDueTo fault (RefusesBytes most names piece) → IsDueTo fault (FailsToGet reads most old new)
+      → IsDueTo fault (RefusesBytes AddsNames refuses names piece) → IsDueTo fault (FailsToGet reads refuses old new)
   names_refused count Memory piece fits some read is refused = tt
   names_refused count Device piece fits some read is refused = record {
     pieces = before.0;
     names = names;
     last = mid;
     read = before.2;
-    failed = inr (inl (take count part, gives_piece reads 8192 mid new part count whole fits some read, subst (RefusesBytes most names) is refused));
+    failed = inr (inl (take count part, gives_piece reads 8192 mid new part count whole fits some read, subst (RefusesBytes AddsNames refuses names) is refused));
   }
 
 -- as many reads as a count has room for
-pub names_spent : {D : Type 0} (reads : D → List ℕ → Result ℕ Error → D → Type 0) (most : ℕ) (old mid : D) (names : List (List ℕ)) (turns : ℕ) → Got reads old mid names turns
-    → turns ≡ 2 ^ 64 - 1 → FailsToGet reads most old mid
-names_spent reads most old mid names turns before spent = record {
+pub names_spent : {D : Type 0} (reads : D → List ℕ → Result ℕ Error → D → Type 0) (refuses : List (List ℕ) → List ℕ → Type 0) (old mid : D) (names : List (List ℕ)) (turns : ℕ) → Got reads old mid names turns
+    → turns ≡ 2 ^ 64 - 1 → FailsToGet reads refuses old mid
+names_spent reads refuses old mid names turns before spent = record {
   pieces = before.0;
   names = names;
   last = mid;

@@ -20,7 +20,7 @@ use Rattle.pt_folder.specs.Devices.{was_called}
 use Rattle.pt_folder.specs.Failure.{KeepsCall, KeepsListing}
 use Rattle.pt_folder.specs.Folder.{FolderEntry, entry_in, entry_text}
 use Rattle.pt_folder.specs.Listing.{FailsToList, IsListedBy, most_entries}
-use Rattle.pt_folder.specs.Parting.{IsListedPast}
+use Rattle.pt_folder.specs.Parting.{FailsToListPast, IsListedPast}
 use Rattle.pt_folder.specs.Opening.{KeepsOpening, OpensOnce}
 use Rattle.pt_folder.specs.Reading.{IsOfReading, ReadsBy, unread_open}
 use Rattle.pt_folder.specs.SourceHeld.{told_of}
@@ -83,13 +83,20 @@ module _ {S F D : Type 0} {sys : OfSystem S F D} {handle : OfHandle F} {file : O
   -- the same past bytes that are no name, which are these
   abbrev pub ListsPast : (old new : HostSource S F D sys handle file dir) → Path → List (Vec ℕ Global) → List Item → Type 0
   ListsPast old new p refused listing =
-      IsListedPast sys dir (entry_of old p) (systems_of old new) refused listing
+      (length listing ≤ most_entries)
+      × IsListedPast sys dir (entry_of old p) (systems_of old new) refused listing
 
   -- why it wasn't
   abbrev pub CannotList : (old new : HostSource S F D sys handle file dir) → Path → TreeFault → Type 0
   CannotList old new p fault =
       IsDueTo fault
       (FailsToList sys dir (entry_of old p) (systems_of old new))
+
+  -- why it wasn't past such bytes, and what is given apart then
+  abbrev pub CannotListPast : (old new : HostSource S F D sys handle file dir) → Path → Change (List (Vec ℕ Global))
+      → TreeFault → Type 0
+  CannotListPast old new p refused fault =
+      FailsToListPast sys dir (entry_of old p) (systems_of old new) refused fault
 
   -- what is kept, where memory allowed it, of a failed listing
   abbrev pub KeepsList : (old new : HostSource S F D sys handle file dir) → Path → Type 0

@@ -14,7 +14,7 @@ use Rattle.pt_folder.specs.Folder.{FolderEntry, entry_text}
 use Rattle.pt_folder.specs.Calls.{Change, fault_of}
 use Rattle.pt_folder.specs.declared.system.Input.{Ghosts as OfInput}
 use Rattle.pt_folder.specs.declared.system.System.{Ghosts as OfSystem}
-use Rattle.pt_folder.specs.Names.{AddsNames, GivesNames, RefusesBytes}
+use Rattle.pt_folder.specs.Names.{AddsNames, GivesNames, IsRefusedName, RefusesBytes}
 use Rattle.pt_folder.specs.Runs.{GivesPiece, Reads}
 
 -- the greatest number of a directory's entries
@@ -59,21 +59,22 @@ pub record GetsNames {D : Type 0} (reads : D → List ℕ → Result ℕ Error �
 
 -- why reading ends before that, after so many pieces: a read failed; a piece has what isn't added; it was the last read
 -- that a count of 64 bits has room for
-abbrev pub IsGivenUp : {D : Type 0} → (D → List ℕ → Result ℕ Error → D → Type 0) → ℕ → List (List ℕ)
-    → ℕ → D → D → Type 0
-IsGivenUp reads most names count last new = ((e : Error) × Reads reads 8192 last (Err e) new
+abbrev pub IsGivenUp : {D : Type 0} → (D → List ℕ → Result ℕ Error → D → Type 0)
+    → (List (List ℕ) → List ℕ → Type 0) → List (List ℕ) → ℕ → D → D → Type 0
+IsGivenUp reads refuses names count last new = ((e : Error) × Reads reads 8192 last (Err e) new
     × (fault_of e ≡ Device))
-    ⊎ (((piece : List ℕ) × GivesPiece reads 8192 last piece new × RefusesBytes most names piece)
+    ⊎ (((piece : List ℕ) × GivesPiece reads 8192 last piece new
+    × RefusesBytes AddsNames refuses names piece)
     ⊎ ((count ≡ 2 ^ 64 - 1) × (new ≡ last)))
 
 -- a directory was read piece by piece, and was given up
-pub record FailsToGet {D : Type 0} (reads : D → List ℕ → Result ℕ Error → D → Type 0) (most : ℕ)
-    (old new : D) : Type 0 where
+pub record FailsToGet {D : Type 0} (reads : D → List ℕ → Result ℕ Error → D → Type 0)
+    (refuses : List (List ℕ) → List ℕ → Type 0) (old new : D) : Type 0 where
   pub pieces : List (List ℕ)
   pub names : List (List ℕ)
   pub last : D
   pub read : FoldsTo (ReadsNames reads) (old, []) pieces (last, names)
-  pub failed : IsGivenUp reads most names (length pieces) last new
+  pub failed : IsGivenUp reads refuses names (length pieces) last new
 
 -- entries were looked at one after another; then looking at the next failed, or its name doesn't come after the last
 pub record FailsToLook {S : Type 0} (looks : S → List ℕ → Result Kind Error → S → Type 0)
@@ -107,9 +108,17 @@ FailsToOpen opens text old new = (e : Error) × opens old text (Err e) new × (f
 
 -- the directory was opened, and was given up as its names were read
 abbrev pub FailsAtNames : {S D : Type 0} → (S → List ℕ → Result D Error → S → Type 0)
-    → (D → List ℕ → Result ℕ Error → D → Type 0) → List ℕ → S → S → Type 0
-FailsAtNames {S} {D} opens reads text old new = (dir : D) × (after : D)
-    × opens old text (Ok dir) new × FailsToGet reads most_entries dir after
+    → (D → List ℕ → Result ℕ Error → D → Type 0) → (List (List ℕ) → List ℕ → Type 0) → List ℕ
+    → S → S → Type 0
+FailsAtNames {S} {D} opens reads refuses text old new = (dir : D) × (after : D)
+    × opens old text (Ok dir) new × FailsToGet reads refuses dir after
+
+-- why a directory isn't read to its end, where such a name isn't added to those before
+abbrev pub FailsToReadDir : {S F D : Type 0} → OfSystem S F D → OfInput D
+    → (List (List ℕ) → List ℕ → Type 0) → FolderEntry → Change S → Type 0
+FailsToReadDir sys input refuses at system = ((length at.folder ≡ 0) × (system.new ≡ system.old))
+    ⊎ (FailsToOpen sys.opens_dir (entry_text at.folder at.path) system.old system.new
+    ⊎ FailsAtNames sys.opens_dir input.reads refuses (entry_text at.folder at.path) system.old system.new)
 
 -- the directory gave names; looking at them in their order failed, or one comes twice
 pub record FailsAtEntry {S F D : Type 0} (sys : OfSystem S F D) (input : OfInput D)
@@ -127,7 +136,5 @@ pub record FailsAtEntry {S F D : Type 0} (sys : OfSystem S F D) (input : OfInput
 
 -- why a directory isn't listed
 abbrev pub FailsToList : {S F D : Type 0} → OfSystem S F D → OfInput D → FolderEntry → Change S → Type 0
-FailsToList sys input at system = ((length at.folder ≡ 0) × (system.new ≡ system.old))
-    ⊎ (FailsToOpen sys.opens_dir (entry_text at.folder at.path) system.old system.new
-    ⊎ (FailsAtNames sys.opens_dir input.reads (entry_text at.folder at.path) system.old system.new
-    ⊎ FailsAtEntry sys input at system))
+FailsToList sys input at system = FailsToReadDir sys input (IsRefusedName most_entries) at system
+    ⊎ FailsAtEntry sys input at system

@@ -34,16 +34,17 @@ abbrev pub IsRefusedName : ℕ → List (List ℕ) → List ℕ → Type 0
 IsRefusedName most names name = (is_entry name ≡ true) × ((most ≤ length names) ⊎ (is_name name ≡ false))
 
 -- bytes without a NUL behind them, or a name that isn't added
-abbrev pub EndsNames : ℕ → List (List ℕ) → List ℕ → Type 0
-EndsNames most names rest = ((0 < length rest) × LacksNul rest)
+abbrev pub EndsNames : (List ℕ → Type 0) → List ℕ → Type 0
+EndsNames refuses rest = ((0 < length rest) × LacksNul rest)
     ⊎ ((name : List ℕ) × (more : List ℕ) × (rest ≡ ended name ++ more) × LacksNul name
-    × IsRefusedName most names name)
+    × refuses name)
 
--- the bytes give names that are added, and behind them comes what isn't
-pub record RefusesBytes (most : ℕ) (old : List (List ℕ)) (bytes : List ℕ) : Type 0 where
+-- the bytes give names that are added so to what was before, and behind them comes what isn't
+pub record RefusesBytes {A : Type 0} (adds : List ℕ → A → A → Type 0) (refuses : A → List ℕ → Type 0)
+    (old : A) (bytes : List ℕ) : Type 0 where
   pub front : List ℕ
   pub rest : List ℕ
-  pub names : List (List ℕ)
+  pub mid : A
   pub cut : bytes ≡ front ++ rest
-  pub added : AddsNames front old names
-  pub refused : EndsNames most names rest
+  pub added : adds front old mid
+  pub refused : EndsNames (refuses mid) rest

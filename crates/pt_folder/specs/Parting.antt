@@ -1,19 +1,21 @@
 -- How a directory is listed past what has none of the names that an entry may have.
-use Rattle.std.specs.Prelude.{◌≡◌, ℕ, Bool, not, List, ◌++◌, map, IfSome, IsPermutation, Ok, Vec}
+use Rattle.std.specs.Prelude.{◌≡◌, ◌≤◌, ◌⊎◌, ℕ, Bool, true, not, List, ◌++◌, length, map, IfSome, IsPermutation, Ok, Vec}
 use Rattle.std.specs.Global.{Global}
 use Rattle.std.specs.List.{FoldsTo, filter}
 use Rattle.std.specs.List.Sorted.{IsSorted}
 use Rattle.std.specs.Cmp.Lexicographic.{slice_cmp}
 use Rattle.std.specs.Ordering.{nat_cmp}
+use Rattle.pt_tree.specs.declared.faults.TreeFault.{TreeFault}
+use Rattle.pt_tree.specs.declared.faults.TreeFault.TheVariants.{Device, Memory}
 use Rattle.pt_tree.specs.Listing.{Item}
 use Rattle.pt_tree.specs.Name.{is_name}
 use Rattle.pt_folder.specs.declared.parting.Parted.{Parted}
 use Rattle.pt_folder.specs.declared.system.Input.{Ghosts as OfInput}
 use Rattle.pt_folder.specs.declared.system.System.{Ghosts as OfSystem}
-use Rattle.pt_folder.specs.Calls.{Change}
+use Rattle.pt_folder.specs.Calls.{Change, change_of}
 use Rattle.pt_folder.specs.Folder.{FolderEntry, entry_text}
-use Rattle.pt_folder.specs.Listing.{GetsNames, LooksAt, dir_front}
-use Rattle.pt_folder.specs.Names.{GivesNames}
+use Rattle.pt_folder.specs.Listing.{FailsToLook, FailsToReadDir, GetsNames, LooksAt, dir_front, most_entries}
+use Rattle.pt_folder.specs.Names.{GivesNames, is_entry}
 
 -- these bytes are no name
 abbrev pub is_no_name : List ℕ → Bool
@@ -27,6 +29,24 @@ bytes_in refused = map (λ (name : Vec ℕ Global). name.items) refused
 pub record IsParted (all : List (List ℕ)) (parted : Parted) : Type 0 where
   pub named : parted.names.items ≡ filter is_name all
   pub refused : bytes_in parted.refused.items ≡ filter is_no_name all
+
+-- there are no more of either than a directory may give
+pub record IsFew (parted : Parted) : Type 0 where
+  pub named : length parted.names.items ≤ most_entries
+  pub refused : length parted.refused.items ≤ most_entries
+
+-- why bytes aren't added: behind so many names, or so many that are none, there may be no more
+abbrev pub IsOneTooMany : ℕ → ℕ → List ℕ → Type 0
+IsOneTooMany names refused name =
+    (is_entry name ≡ true) × ((most_entries ≤ names) ⊎ (most_entries ≤ refused))
+
+-- the same behind these
+abbrev pub IsBeyondParts : Parted → List ℕ → Type 0
+IsBeyondParts parted name = IsOneTooMany (length parted.names.items) (length parted.refused.items) name
+
+-- the same behind all that was given
+abbrev pub IsBeyondAll : List (List ℕ) → List ℕ → Type 0
+IsBeyondAll all name = IsOneTooMany (length (filter is_name all)) (length (filter is_no_name all)) name
 
 -- the bytes give more of both
 pub record AddsParted (bytes : List ℕ) (old new : Parted) : Type 0 where
@@ -42,17 +62,44 @@ pub record GetsParted {D : Type 0} (input : OfInput D) (old : D) (parted : Parte
   pub given : IfSome (input.left old) (λ bytes. GivesNames bytes all)
   pub parts : IsParted all parted
 
--- The directory is opened once, and gives names and bytes that are none by its reads; then each entry of a name is looked at, in the
--- listing's order. The bytes are put into their order.
-pub record IsListedPast {S F D : Type 0} (sys : OfSystem S F D) (input : OfInput D) (at : FolderEntry)
-    (system : Change S) (refused : List (Vec ℕ Global)) (listing : List Item) : Type 0 where
+-- the directory is opened once, and gives names and bytes that are none by its reads; the bytes are put into their order
+pub record GivesApart {S F D : Type 0} (sys : OfSystem S F D) (input : OfInput D) (at : FolderEntry)
+    (system : Change S) (parted : Parted) (refused : List (Vec ℕ Global)) : Type 0 where
   pub dir : D
   pub after : D
-  pub mid : S
-  pub parted : Parted
-  pub opened : sys.opens_dir system.old (entry_text at.folder at.path) (Ok dir) mid
+  pub opened : sys.opens_dir system.old (entry_text at.folder at.path) (Ok dir) system.new
   pub read : GetsParted input dir parted after
-  pub named : IsPermutation parted.names.items (map (λ item. item.0) listing)
   pub others : IsPermutation parted.refused.items refused
   pub order : IsSorted (λ x y. slice_cmp nat_cmp x.items y.items) refused
+  pub few : length refused ≤ most_entries
+
+-- it is read so; then each entry of a name is looked at, in the listing's order
+pub record IsListedPast {S F D : Type 0} (sys : OfSystem S F D) (input : OfInput D) (at : FolderEntry)
+    (system : Change S) (refused : List (Vec ℕ Global)) (listing : List Item) : Type 0 where
+  pub mid : S
+  pub parted : Parted
+  pub apart : GivesApart sys input at (change_of system.old mid) parted refused
+  pub named : IsPermutation parted.names.items (map (λ item. item.0) listing)
   pub looked : FoldsTo (LooksAt sys.looks (dir_front at.folder at.path)) mid listing system.new
+
+-- it is read so; looking at the names in their order failed, or one comes twice
+pub record FailsPast {S F D : Type 0} (sys : OfSystem S F D) (input : OfInput D) (at : FolderEntry)
+    (system : Change S) (refused : List (Vec ℕ Global)) : Type 0 where
+  pub mid : S
+  pub parted : Parted
+  pub order : List (List ℕ)
+  pub apart : GivesApart sys input at (change_of system.old mid) parted refused
+  pub named : IsPermutation parted.names.items order
+  pub sorted : IsSorted (slice_cmp nat_cmp) order
+  pub looked : FailsToLook sys.looks (dir_front at.folder at.path) order mid system.new
+
+-- Why a directory isn't listed past what is no name: it isn't read to its end, and what was given apart before stays; or that fails behind
+-- it, and what is no name is given apart. Memory may be wanting at any growth.
+abbrev pub FailsToListPast : {S F D : Type 0} → OfSystem S F D → OfInput D → FolderEntry → Change S
+    → Change (List (Vec ℕ Global)) → TreeFault → Type 0
+FailsToListPast sys input at system refused Device =
+    ((refused.new ≡ refused.old) × FailsToReadDir sys input IsBeyondAll at system)
+    ⊎ FailsPast sys input at system refused.new
+FailsToListPast {S} sys input at system refused Memory = (refused.new ≡ refused.old)
+    ⊎ ((mid : S) × (parted : Parted)
+    × GivesApart sys input at (change_of system.old mid) parted refused.new)

@@ -72,7 +72,8 @@ fn names_in<S: System>(
         × MatchResult reply (λ dir. (after : _) × MatchResult result
         (λ names. GetsNames S.Dir.Input.reads dir names.items after
         × IfSome (S.Dir.Input.left dir) (λ bytes. GivesNames bytes names.items))
-        (λ fault. IsDueTo fault (FailsToGet S.Dir.Input.reads most_entries dir after)))
+        (λ fault. IsDueTo fault
+        (FailsToGet S.Dir.Input.reads (IsRefusedName most_entries) dir after)))
         (λ e. result ≡ Err (fault_for e)) }
     ensures kept { OnDevice result (IfSome syscalls.new.last.failure (IsOfNames text.now)) }
 {
@@ -102,7 +103,7 @@ pub fn read_names<D: Input>(
     ensures most { IfOk result (λ names. vec_len names ≤ most) }
     ensures read { IfOk result (λ names. GetsNames D.reads dir.old names.items dir.new) }
     ensures fault { IfErr result
-        (λ fault. IsDueTo fault (FailsToGet D.reads most dir.old dir.new)) }
+        (λ fault. IsDueTo fault (FailsToGet D.reads (IsRefusedName most) dir.old dir.new)) }
     ensures names { IfOk result
         (λ names. IfSome (D.left dir.old) (λ bytes. GivesNames bytes names.items)) }
     ensures kept { OnDevice result (IfSome last.new.failure (IsOfNames text.now)) }
@@ -130,8 +131,8 @@ fn add_names(
     requires { vec_len names.old ≤ most }
     ensures most { vec_len names.new ≤ most }
     ensures names { OnOk result (AddsNames piece.now names.old.items names.new.items) }
-    ensures fault { IfErr result
-        (λ fault. IsDueTo fault (RefusesBytes most names.old.items piece.now)) }
+    ensures fault { IfErr result (λ fault. IsDueTo fault
+        (RefusesBytes AddsNames (IsRefusedName most) names.old.items piece.now)) }
     ensures kept { OnDevice result (IfSome last.new.failure (IsOfNames text.now)) }
 {
     let mut rest = piece;

@@ -1,13 +1,14 @@
 //! Listing a directory past what there has none of the names that an entry may have.
-ghost use Rattle.std.specs.Prelude.{◌≡◌, ◌≤◌, ◌++◌, ◌∷◌, ◌&&◌, [], if◌then◌else◌, IfOk, IfSome, IsSome, OnOk, Err, MatchResult, Some};
+ghost use Rattle.std.specs.Prelude.{◌≡◌, ◌≤◌, ◌++◌, ◌∷◌, ◌&&◌, [], if◌then◌else◌, length, vec_len, IfErr, IfOk, IfSome, IsSome, OnOk, Err, MatchResult, Some};
 ghost use Rattle.std.specs.Option.{ForSome};
 ghost use Rattle.pt_tree.specs.Forest.{dir_at, listing_at};
 ghost use Rattle.pt_tree.specs.Name.{is_name};
-ghost use Rattle.pt_folder.specs.Calls.{change_of, fault_of as fault_for};
+ghost use Rattle.pt_folder.specs.Calls.{IsDueTo, change_of, fault_of as fault_for};
 ghost use Rattle.pt_folder.specs.Failure.{IsOfNames, KeepsListing, OnDevice};
 ghost use Rattle.pt_folder.specs.Folder.{entry_in};
-ghost use Rattle.pt_folder.specs.Names.{is_entry};
-ghost use Rattle.pt_folder.specs.Parting.{AddsParted, GetsParted, IsListedPast, bytes_in, is_no_name};
+ghost use Rattle.pt_folder.specs.Listing.{FailsToGet, most_entries};
+ghost use Rattle.pt_folder.specs.Names.{RefusesBytes, is_entry};
+ghost use Rattle.pt_folder.specs.Parting.{AddsParted, FailsToListPast, GetsParted, IsFew, IsListedPast, IsBeyondParts, IsBeyondAll, bytes_in, is_no_name};
 
 use crate::bytes::ReadBuffer;
 use crate::failure::{FailureReason, Last};
@@ -25,7 +26,7 @@ pub struct Parted {
 }
 
 /// The names and kinds in a directory of a folder as `listing::list` gives them, but for bytes that are no name: these become `refused`, in
-/// their order, also where looking at an entry fails then.
+/// their order, also where looking at an entry fails then. Where the directory isn't read to its end, `refused` stays as it is.
 ///
 /// `Device` and `Memory` as there; `Device` too where more is given once there are 16,777,216 names, or as many that are none.
 pub fn list_named<S: System>(
@@ -42,9 +43,14 @@ pub fn list_named<S: System>(
     ensures told { IfOk result (λ listing. ForSome
         (S.forest syscalls.old.system folder.now.path.now)
         (λ f. listing_at f path.now ≡ Some listing)) }
+    ensures most { IfOk result (λ listing. length listing ≤ most_entries) }
     ensures listed { IfOk result (IsListedPast S.System S.Dir.Input
         (entry_in folder.now.path.now path.now)
         (change_of syscalls.old.system syscalls.new.system) refused.new.items) }
+    ensures fault { IfErr result (FailsToListPast S.System S.Dir.Input
+        (entry_in folder.now.path.now path.now)
+        (change_of syscalls.old.system syscalls.new.system)
+        (change_of refused.old.items refused.new.items)) }
     ensures kept { OnDevice result
         (KeepsListing S.looks folder.now.path.now path.now syscalls.new.last.failure) }
 {
@@ -67,9 +73,11 @@ fn parted_in<S: System>(
     text: &str,
     piece: &mut ReadBuffer,
 ) -> Result<Parted, TreeFault>
+    ensures most { IfOk result IsFew }
     ensures asked { (reply : _) × S.opens_dir syscalls.old.system text.now reply syscalls.new.system
-        × MatchResult reply (λ dir. IfOk result
-        (λ parted. (after : _) × GetsParted S.Dir.Input dir parted after))
+        × MatchResult reply (λ dir. (after : _) × MatchResult result
+        (λ parted. GetsParted S.Dir.Input dir parted after)
+        (λ fault. IsDueTo fault (FailsToGet S.Dir.Input.reads IsBeyondAll dir after)))
         (λ e. result ≡ Err (fault_for e)) }
     ensures kept { OnDevice result (IfSome syscalls.new.last.failure (IsOfNames text.now)) }
 {
@@ -87,7 +95,10 @@ pub fn read_parted<D: Input>(
     text: &str,
     last: &mut Last,
 ) -> Result<Parted, TreeFault>
+    ensures most { IfOk result IsFew }
     ensures read { IfOk result (λ parted. GetsParted D.Input dir.old parted dir.new) }
+    ensures fault { IfErr result
+        (λ fault. IsDueTo fault (FailsToGet D.reads IsBeyondAll dir.old dir.new)) }
     ensures kept { OnDevice result (IfSome last.new.failure (IsOfNames text.now)) }
 {
     let mut parted = Parted {
@@ -112,7 +123,11 @@ fn part_piece(
     text: &str,
     last: &mut Last,
 ) -> Result<(), TreeFault>
+    requires { IsFew parted.old }
+    ensures most { IsFew parted.new }
     ensures added { OnOk result (AddsParted piece.now parted.old parted.new) }
+    ensures fault { IfErr result (λ fault. IsDueTo fault
+        (RefusesBytes AddsParted IsBeyondParts parted.old piece.now)) }
     ensures kept { OnDevice result (IfSome last.new.failure (IsOfNames text.now)) }
 {
     let mut rest = piece;
@@ -135,6 +150,8 @@ fn part_name(
     text: &str,
     last: &mut Last,
 ) -> Result<(), TreeFault>
+    requires { IsFew parted.old }
+    ensures most { IsFew parted.new }
     ensures named { OnOk result (parted.new.names.items
         ≡ (if is_entry bytes.now && is_name bytes.now then parted.old.names.items ++ bytes.now ∷ []
         else parted.old.names.items)) }
@@ -142,6 +159,7 @@ fn part_name(
         ≡ (if is_entry bytes.now && is_no_name bytes.now
         then bytes_in parted.old.refused.items ++ bytes.now ∷ []
         else bytes_in parted.old.refused.items)) }
+    ensures fault { IfErr result (λ fault. IsDueTo fault (IsBeyondParts parted.old bytes.now)) }
     ensures kept { OnDevice result (IfSome last.new.failure (IsOfNames text.now)) }
 {
     if bytes == b".".as_slice() || bytes == b"..".as_slice() {

@@ -200,7 +200,7 @@ impl<'a, S: System> Source for HostSource<'a, S> {
 
 impl<'a, S: System> ListsNamed for HostSource<'a, S> {
     ghost use Rattle.pt_tree.specs.Source.{CanList, IsListed};
-    ghost use Rattle.pt_folder.specs.HostSource.{IsCall, KeepsList, ListsPast, open_file, told};
+    ghost use Rattle.pt_folder.specs.HostSource.{CannotListPast, IsCall, KeepsList, ListsPast, open_file, told};
 
     fn list_named(
         &mut self,
@@ -210,6 +210,8 @@ impl<'a, S: System> ListsNamed for HostSource<'a, S> {
         requires { CanList (told self.old) path.now }
         ensures listing { IfOk result (λ listing. IsListed (told self.old) path.now listing) }
         ensures listed { IfOk result (ListsPast self.old self.new path.now refused.new.items) }
+        ensures fault { IfErr result (CannotListPast self.old self.new path.now
+            (change_of refused.old.items refused.new.items)) }
         ensures same { told self.new ≡ told self.old }
         ensures kept { OnDevice result (KeepsList self.old self.new path.now) }
         ensures reading { open_file self.new ≡ open_file self.old }

@@ -5,7 +5,7 @@ use Rattle.pt_folder.specs.Listing.{dir_front}
 use Rattle.pt_folder.specs.Failure.{IsOfEntry, IsOfNames, IsUnasked}
 use Rattle.pt_folder.proofs.Kept.{kept_held, kept_on, kept_weaker}
 use Rattle.pt_folder.proofs.Listings.{front_is, list_same, list_told, names_same}
-use Rattle.pt_folder.proofs.PartsTold.{listed_past, parted_given}
+use Rattle.pt_folder.proofs.PartsTold.{fails_past, listed_past, parted_given}
 use Rattle.pt_folder.proofs.parting.list_named.Goals as goal
 use Rattle.pt_folder.proofs.parting.list_named.Given.{Over}
 use Rattle.pt_folder.proofs.parting.list_named.Goals.{After-with_kinds, then-not-is_empty+in_ok-push, else-not-is_empty}
@@ -47,14 +47,17 @@ pub returns-clause-listed : goal.returns-clause-listed
 returns-clause-listed g c =
     let folder = c.args.folder.now.path.now in
     let p = c.args.path.now in
-    let parted = c.in_ok-names.field-0 in
-    let order = c.sort_unstable-2.new.self.items in
-    let refused = c.sort_unstable.new.self.items in
     let text : c.as_str.result.now ≡ entry_text folder p = c.as_str.ensures.value ∙ c.in_ok-text.ensures.text in
-    let ordered : IsPermutation parted.names.items order = c.sort_unstable-2.ensures.permutation in
-    let others : IsPermutation parted.refused.items refused = c.sort_unstable.ensures.permutation in
-    listed_past g.S.System g.S.Dir.Input folder p c.args.syscalls.now.system c.parted_in.new.syscalls.system c.with_kinds.new.syscalls.system c.as_str.result.now text parted order refused (string_bytes c.if-not-is_empty.text) (begins g c) ordered others c.sort_unstable.ensures.sorted
-    c.in_ok-names.ensures.asked c.with_kinds.result c.with_kinds.ensures.names c.with_kinds.ensures.looked
+    listed_past g.S.System g.S.Dir.Input folder p c.args.syscalls.now.system c.parted_in.new.syscalls.system c.with_kinds.new.syscalls.system c.as_str.result.now text c.in_ok-names.field-0 c.in_ok-names.ensures.asked c.in_ok-names.ensures.most
+    c.sort_unstable.new.self.items c.sort_unstable.ensures.permutation c.sort_unstable.ensures.sorted c.sort_unstable-2.new.self.items (string_bytes c.if-not-is_empty.text) (begins g c) c.sort_unstable-2.ensures.permutation c.with_kinds.result c.with_kinds.ensures.names c.with_kinds.ensures.looked
+
+pub returns-clause-fault : goal.returns-clause-fault
+returns-clause-fault g c =
+    let folder = c.args.folder.now.path.now in
+    let p = c.args.path.now in
+    let text : c.as_str.result.now ≡ entry_text folder p = c.as_str.ensures.value ∙ c.in_ok-text.ensures.text in
+    fails_past g.S.System g.S.Dir.Input folder p c.args.syscalls.now.system c.parted_in.new.syscalls.system c.with_kinds.new.syscalls.system c.as_str.result.now text c.in_ok-names.field-0 c.in_ok-names.ensures.asked c.in_ok-names.ensures.most
+    c.sort_unstable.new.self.items c.sort_unstable.ensures.permutation c.sort_unstable.ensures.sorted c.sort_unstable-2.new.self.items (string_bytes c.if-not-is_empty.text) (begins g c) c.sort_unstable-2.ensures.permutation c.args.refused.now.items c.with_kinds.result c.sort_unstable-2.ensures.sorted c.with_kinds.ensures.fault
 
 pub returns-in_err-names-clause-same : goal.returns-in_err-names-clause-same
 returns-in_err-names-clause-same g c =
