@@ -8,7 +8,7 @@ use Rattle.pt_tree.specs.declared.faults.TreeFault.{TreeFault}
 use Rattle.pt_tree.specs.Path.{Path}
 use Rattle.pt_tree.specs.Tree.{Tree, Folder, kind_of_entry, put, CanMake, CanMove}
 use Rattle.pt_tree.specs.Dest.{Writing, IsKindAt, MayMake, MayMove, after_mkdir}
-use Rattle.pt_folder.specs.declared.writing.Writing.{Writing as Open}
+use Rattle.pt_folder.specs.declared.writing.FileInWriting.{FileInWriting as Open}
 use Rattle.pt_folder.specs.Calls.{AsksOnce, IsAnswer, LeadsToKind, MakesOnce, change_of}
 use Rattle.pt_folder.specs.Folder.{entry_in}
 use Rattle.pt_folder.specs.DestLaws.{Becomes, DirLaw, Kept, KindLaw, MakesDir}

@@ -8,7 +8,7 @@ use Rattle.pt_tree.specs.declared.faults.TreeFault.TheVariants.{Device}
 use Rattle.pt_tree.specs.Path.{Path, rest_below}
 use Rattle.pt_tree.specs.Tree.{Tree, moved, CanMove, IsTree}
 use Rattle.pt_tree.specs.Dest.{after_rename, open_unless_below}
-use Rattle.pt_folder.specs.declared.writing.Writing.{Writing as Open}
+use Rattle.pt_folder.specs.declared.writing.FileInWriting.{FileInWriting as Open}
 use Rattle.pt_folder.specs.Calls.{IsSyncAnswer, change_of, fault_of}
 use Rattle.pt_folder.specs.DestLaws.{Kept, Moves, StaysApart, MoveLaw, StillLaw}
 use Rattle.pt_folder.specs.DestHeld.{IsBack, IsPlaced, told_of, told_with}

@@ -7,7 +7,7 @@ use Rattle.pt_tree.specs.declared.faults.TreeFault.{TreeFault}
 use Rattle.pt_tree.specs.Path.{Path}
 use Rattle.pt_tree.specs.Tree.{Tree, bytes_of}
 use Rattle.pt_tree.specs.Dest.{Writing, CanPeek, IsPeeked}
-use Rattle.pt_folder.specs.declared.writing.Writing.{Writing as Open}
+use Rattle.pt_folder.specs.declared.writing.FileInWriting.{FileInWriting as Open}
 use Rattle.pt_folder.specs.Bytes.{TakesBlock}
 use Rattle.pt_folder.specs.Calls.{AsksOnce, change_of}
 use Rattle.pt_folder.specs.Folder.{entry_in}

@@ -20,7 +20,7 @@ use Rattle.pt_folder.specs.declared.unsynced_change.UnsyncedChange.{UnsyncedChan
 use Rattle.pt_folder.specs.declared.system.Handle.{Ghosts as OfHandle}
 use Rattle.pt_folder.specs.declared.system.Input.{Ghosts as OfInput}
 use Rattle.pt_folder.specs.declared.system.System.{Ghosts as OfSystem}
-use Rattle.pt_folder.specs.declared.writing.Writing.{Writing as Open}
+use Rattle.pt_folder.specs.declared.writing.FileInWriting.{FileInWriting as Open}
 use Rattle.pt_folder.proofs.DestTold.{may_make, may_move}
 use Rattle.pt_folder.proofs.PeekTold.{peek_tells}
 use Rattle.pt_tree.proofs.AtPaths.{added-nil}

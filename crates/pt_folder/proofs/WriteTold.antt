@@ -12,7 +12,7 @@ use Rattle.pt_tree.specs.declared.faults.TreeFault.{TreeFault}
 use Rattle.pt_tree.specs.Path.{Path}
 use Rattle.pt_tree.specs.Tree.{Tree, Bytes, put, added, CanMake}
 use Rattle.pt_tree.specs.Dest.{LeavesPart, after_create, after_append}
-use Rattle.pt_folder.specs.declared.writing.Writing.{Writing as Open}
+use Rattle.pt_folder.specs.declared.writing.FileInWriting.{FileInWriting as Open}
 use Rattle.pt_folder.specs.Calls.{MakesOnce, change_of}
 use Rattle.pt_folder.specs.Folder.{entry_in}
 use Rattle.pt_folder.specs.DestLaws.{Kept, MakesFile, AddsPart, FileLaw, WriteLaw}

@@ -8,7 +8,7 @@ use Rattle.pt_tree.specs.Dest.{CanPeek, CanWrite, MayMake, MayMove, Writing}
 use Rattle.pt_tree.specs.Path.{Path}
 use Rattle.pt_folder.specs.declared.unsynced_change.UnsyncedChange.{UnsyncedChange}
 use Rattle.pt_folder.specs.declared.unsynced_change.UnsyncedChange.TheVariants as unsynced
-use Rattle.pt_folder.specs.declared.writing.Writing.{Writing as Open}
+use Rattle.pt_folder.specs.declared.writing.FileInWriting.{FileInWriting as Open}
 use Rattle.pt_folder.specs.DestLaws.{Kept}
 use Rattle.pt_folder.specs.EntryCodes.{tree_once}
 use Rattle.pt_folder.specs.Untold.{no_kept}

@@ -24,7 +24,7 @@ use Rattle.pt_folder.specs.declared.unsynced_change.UnsyncedChange.{UnsyncedChan
 use Rattle.pt_folder.specs.declared.system.Handle.{Ghosts as OfHandle}
 use Rattle.pt_folder.specs.declared.system.Input.{Ghosts as OfInput}
 use Rattle.pt_folder.specs.declared.system.System.{Ghosts as OfSystem}
-use Rattle.pt_folder.specs.declared.writing.Writing.{Writing as Open}
+use Rattle.pt_folder.specs.declared.writing.FileInWriting.{FileInWriting as Open}
 use Rattle.pt_tree.specs.declared.kind.Kind.{Kind}
 
 module _ {S F D : Type 0} {sys : OfSystem S F D} {handle : OfHandle F} {file : OfInput F}

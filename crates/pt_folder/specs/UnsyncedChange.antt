@@ -5,7 +5,7 @@ use Rattle.pt_tree.specs.Path.{Path}
 use Rattle.pt_tree.specs.declared.faults.TreeFault.{TreeFault}
 use Rattle.pt_folder.specs.declared.unsynced_change.UnsyncedChange.{UnsyncedChange}
 use Rattle.pt_folder.specs.declared.unsynced_change.UnsyncedChange.TheVariants as unsynced
-use Rattle.pt_folder.specs.declared.writing.Writing.{Writing}
+use Rattle.pt_folder.specs.declared.writing.FileInWriting.{FileInWriting}
 
 -- what is unsynced where the last part of a call, to put it onto the disk, was answered so
 abbrev pub unless_done : UnsyncedChange → Result (Unit {0}) TreeFault → Option UnsyncedChange
@@ -18,20 +18,20 @@ unsynced_after (Ok x) s result = unless_done s result
 unsynced_after (Err e) s result = None
 
 -- what is unsynced after the open file was closed: that, where it couldn't be put onto the disk
-abbrev pub unsynced_by_close : {F : Type 0} → Option UnsyncedChange → Option (Writing F)
+abbrev pub unsynced_by_close : {F : Type 0} → Option UnsyncedChange → Option (FileInWriting F)
     → Result (Unit {0}) TreeFault → Option UnsyncedChange
 unsynced_by_close before None result = before
 unsynced_by_close before (Some w) (Ok x) = before
 unsynced_by_close before (Some w) (Err e) = Some (unsynced.Closed w.path)
 
 -- the same of a call that is refused where something is unsynced
-abbrev pub unsynced_by_finish : {F : Type 0} → Option UnsyncedChange → Option (Writing F)
+abbrev pub unsynced_by_finish : {F : Type 0} → Option UnsyncedChange → Option (FileInWriting F)
     → Result (Unit {0}) TreeFault → Option UnsyncedChange
 unsynced_by_finish (Some s) w result = Some s
 unsynced_by_finish None w result = unsynced_by_close None w result
 
 -- the open file after that call
-abbrev pub open_if_unsynced : {F : Type 0} → Option UnsyncedChange → Option (Writing F) → Option (Writing F)
+abbrev pub open_if_unsynced : {F : Type 0} → Option UnsyncedChange → Option (FileInWriting F) → Option (FileInWriting F)
 open_if_unsynced (Some s) w = w
 open_if_unsynced None w = None
 

@@ -4,7 +4,7 @@ use Rattle.std.specs.declared.io.Error.{Error}
 use Rattle.pt_tree.specs.Path.{Path, rest_below}
 use Rattle.pt_tree.specs.declared.faults.TreeFault.{TreeFault}
 use Rattle.pt_tree.specs.declared.faults.TreeFault.TheVariants.{Device}
-use Rattle.pt_folder.specs.declared.writing.Writing.{Writing}
+use Rattle.pt_folder.specs.declared.writing.FileInWriting.{FileInWriting}
 use Rattle.pt_folder.specs.Calls.{Change, IsSyncAnswer, fault_of}
 use Rattle.pt_folder.specs.Failure.{IsAt, IsOfCall}
 use Rattle.pt_folder.specs.Folder.{entry_text}
@@ -13,24 +13,24 @@ use Rattle.pt_folder.specs.declared.failure.FailureReason.TheVariants as cause
 use Rattle.pt_folder.specs.Runs.{FailsToWrite, WritesAll, on_pairs}
 
 -- the file at this path is the open one
-abbrev pub IsMadeAt : {F : Type 0} → Path → Option (Writing F) → Type 0
+abbrev pub IsMadeAt : {F : Type 0} → Path → Option (FileInWriting F) → Type 0
 IsMadeAt p None = ⊥
 IsMadeAt p (Some w) = w.path ≡ p
 
 -- the open file, by the system's reply: it is the new one, or after a fault the one that was
-abbrev pub MakesAt : {F : Type 0} → Path → Option (Writing F) → Option (Writing F) → Result F Error
+abbrev pub MakesAt : {F : Type 0} → Path → Option (FileInWriting F) → Option (FileInWriting F) → Result F Error
     → Result (Unit {0}) TreeFault → Type 0
 MakesAt p old new (Ok file) result = (result ≡ Ok tt) × (new ≡ Some (record { file = file; path = p }))
 MakesAt p old new (Err e) result = (result ≡ Err (fault_of e)) × (new ≡ old)
 
 -- the open file, unless it is at or below a path
-abbrev pub open_unless_within : {F : Type 0} → Path → Option (Writing F) → Option (Writing F)
+abbrev pub open_unless_within : {F : Type 0} → Path → Option (FileInWriting F) → Option (FileInWriting F)
 open_unless_within p None = None
 open_unless_within p (Some w) = cond (is_some (rest_below p w.path)) None (Some w)
 
 -- which writes the open file is asked for, and why adding to it fails: one of them did, or no file is open
 abbrev pub WritesTo : {S F : Type 0} → (S → F → List ℕ → Result ℕ Error → S → F → Type 0) → Change S
-    → Option (Writing F) → Option (Writing F) → List ℕ → Result (Unit {0}) TreeFault → Type 0
+    → Option (FileInWriting F) → Option (FileInWriting F) → List ℕ → Result (Unit {0}) TreeFault → Type 0
 WritesTo writes system None new piece result =
     (result ≡ Err Device) × (new ≡ None) × (system.new ≡ system.old)
 WritesTo writes system (Some old) None piece result = ⊥
@@ -56,11 +56,11 @@ FinishesBy {F} syncs true file result = (answer : Result (Unit {0}) Error) × (a
 
 -- the same of the open file, if there is one; closing none is a failure
 abbrev pub ClosesBy : {F : Type 0} → (F → Result (Unit {0}) Error → F → Type 0) → Bool
-    → Option (Writing F) → Result (Unit {0}) TreeFault → Type 0
+    → Option (FileInWriting F) → Result (Unit {0}) TreeFault → Type 0
 ClosesBy syncs synced None result = result ≡ Err Device
 ClosesBy syncs synced (Some w) result = FinishesBy syncs synced w.file result
 
 -- a failure of a call on the open file, at its path; or no file is open
-abbrev pub IsOfWriting : {F : Type 0} → List ℕ → (F → Error → Type 0) → Option (Writing F) → Failure → Type 0
+abbrev pub IsOfWriting : {F : Type 0} → List ℕ → (F → Error → Type 0) → Option (FileInWriting F) → Failure → Type 0
 IsOfWriting folder P None f = IsAt [] cause.Closed f
 IsOfWriting folder P (Some w) f = IsOfCall (entry_text folder w.path) (P w.file) f

@@ -16,7 +16,7 @@ use crate::moving::{Move, move_entry};
 use crate::syscalls::Syscalls;
 use crate::system::System;
 use crate::unsynced_change::UnsyncedChange;
-use crate::writing::{Writing, add, close, close_moved, create};
+use crate::writing::{FileInWriting, add, close, close_moved, create};
 use pt_tree::{Block, Dest, Kind, NamePath, TreeFault};
 use std::alloc::Global;
 
@@ -30,7 +30,7 @@ pub struct HostDest<'a, S: System> {
     folder: Folder<'a>,
     longest: usize,
     synced: bool,
-    writing: Option<Writing<S::File>>,
+    writing: Option<FileInWriting<S::File>>,
     unsynced: Option<UnsyncedChange>,
     at: String,
     failures: u64,

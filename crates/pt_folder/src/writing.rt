@@ -17,7 +17,7 @@ use pt_tree::{NamePath, TreeFault};
 
 /// The open file of a folder that is written, and its path.
 #[derive(Drop)]
-pub struct Writing<F> {
+pub struct FileInWriting<F> {
     pub file: F,
     pub path: NamePath,
 }
@@ -28,7 +28,7 @@ pub(crate) fn create<S: System>(
     folder: &Folder<'_>,
     path: &NamePath,
     longest: usize,
-    writing: &mut Option<Writing<S::File>>,
+    writing: &mut Option<FileInWriting<S::File>>,
 ) -> Result<(), TreeFault>
     ensures opened { OnOk result (IsMadeAt path.now writing.new) }
     ensures same { OnErr result (writing.new ≡ writing.old) }
@@ -44,7 +44,7 @@ pub(crate) fn create<S: System>(
     let path = path.copy()?;
     match syscalls.system.create_new(text.as_str()) {
         Ok(file) => {
-            *writing = Some(Writing { file, path });
+            *writing = Some(FileInWriting { file, path });
             Ok(())
         }
         Err(error) => Err(syscalls.last.record_error(text, error)),
@@ -55,7 +55,7 @@ pub(crate) fn create<S: System>(
 pub(crate) fn add<S: System>(
     syscalls: &mut Syscalls<S>,
     folder: &Folder<'_>,
-    writing: &mut Option<Writing<S::File>>,
+    writing: &mut Option<FileInWriting<S::File>>,
     piece: &[u8],
 ) -> Result<(), TreeFault>
     ensures closed { IfNone writing.old (result ≡ Err Device) }
@@ -85,7 +85,7 @@ pub(crate) fn add<S: System>(
 pub(crate) fn close<F: Handle + Drop>(
     last: &mut Last,
     folder: &Folder<'_>,
-    writing: &mut Option<Writing<F>>,
+    writing: &mut Option<FileInWriting<F>>,
     synced: bool,
     unsynced: &mut Option<UnsyncedChange>,
 ) -> Result<(), TreeFault>
@@ -113,7 +113,7 @@ pub(crate) fn close<F: Handle + Drop>(
 }
 
 // Closes the open file if it is at a path or below.
-fn close_within<F: Drop>(writing: &mut Option<Writing<F>>, path: &NamePath)
+fn close_within<F: Drop>(writing: &mut Option<FileInWriting<F>>, path: &NamePath)
     ensures { writing.new ≡ open_unless_within path.now writing.old }
 {
     if let Some(open) = writing {
@@ -125,7 +125,7 @@ fn close_within<F: Drop>(writing: &mut Option<Writing<F>>, path: &NamePath)
 
 // The same where what stood there was moved.
 pub(crate) fn close_moved<F: Drop>(
-    writing: &mut Option<Writing<F>>,
+    writing: &mut Option<FileInWriting<F>>,
     path: &NamePath,
     moved: &Result<(), TreeFault>,
 )

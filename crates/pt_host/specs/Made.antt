@@ -8,7 +8,7 @@ use Rattle.pt_folder.specs.DestHeld.{told_with as dest_told}
 use Rattle.pt_folder.specs.DestLaws.{Kept}
 use Rattle.pt_folder.specs.SourceHeld.{told_of as source_told}
 use Rattle.pt_folder.specs.declared.unsynced_change.UnsyncedChange.{UnsyncedChange}
-use Rattle.pt_folder.specs.declared.writing.Writing.{Writing as Open}
+use Rattle.pt_folder.specs.declared.writing.FileInWriting.{FileInWriting as Open}
 use Rattle.pt_tree.specs.Ignoring.{told_without}
 use Rattle.pt_guard.specs.Guard.{Begins}
 use Rattle.pt_guard.specs.PlaceCall.{PlaceCall, Release}

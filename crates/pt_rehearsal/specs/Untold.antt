@@ -7,7 +7,7 @@ use Rattle.pt_folder.specs.DestHeld.{told_with}
 use Rattle.pt_folder.specs.Untold.{no_kept}
 use Rattle.pt_folder.specs.declared.unsynced_change.UnsyncedChange.{UnsyncedChange}
 use Rattle.pt_folder.specs.declared.unsynced_change.UnsyncedChange.TheVariants as unsynced
-use Rattle.pt_folder.specs.declared.writing.Writing.{Writing as Open}
+use Rattle.pt_folder.specs.declared.writing.FileInWriting.{FileInWriting as Open}
 use Rattle.pt_rehearsal.specs.Fitting.{told_over}
 
 module _ {F : Type 0} (w : Option (Open F)) (steps : List Step) where
