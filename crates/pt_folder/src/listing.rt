@@ -1,5 +1,6 @@
 //! Listing a directory of a folder.
-ghost use Rattle.std.specs.Prelude.{◌≡◌, ◌≤◌, ◌++◌, ◌∷◌, [], true, false, if◌then◌else◌, map, IfErr, IfOk, IfSome, IsSome, IsTrue, OnErr, OnOk, Some, length, string_bytes};
+ghost use Rattle.std.specs.Prelude.{◌≡◌, ◌≤◌, ◌++◌, ◌∷◌, [], true, false, if◌then◌else◌, map, length, string_bytes};
+ghost use Rattle.std.specs.Prelude.{IfErr, IfOk, IfSome, IsSome, IsTrue, OnErr, OnOk, Some};
 ghost use Rattle.std.specs.Option.{ForSome};
 ghost use Rattle.pt_tree.specs.Forest.{dir_at, listing_at};
 ghost use Rattle.pt_tree.specs.Listing.{names_rise};
@@ -64,6 +65,7 @@ pub fn list<S: System>(
     with_kinds(syscalls, text, names)
 }
 
+// What is no name isn't taken.
 impl Takes for Vec<Name> {
     ghost has = { AreAll };
 

@@ -84,6 +84,7 @@ impl Parted {
     }
 }
 
+// What is no name is taken apart.
 impl Takes for Parted {
     ghost has = { HasParts };
 
