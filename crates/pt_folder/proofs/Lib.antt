@@ -16,6 +16,7 @@ mod PartsTold
 pub mod PeekTold
 mod Seen
 mod SourceTold
+mod Taken
 mod Texts
 mod Trees
 mod Turns

@@ -15,6 +15,8 @@ use Rattle.pt_folder.specs.SourceLaws.{GivesAll, Listed, NamesLaw, names_of}
 use Rattle.pt_folder.specs.Names.{GivesNames}
 use Rattle.pt_folder.specs.Listing.{dir_front}
 use Rattle.pt_folder.specs.Seeing.{SeesAt}
+use Rattle.pt_folder.specs.Taking.{GetsAll}
+use Rattle.pt_folder.specs.declared.system.Input.{Ghosts as OfInput}
 use Rattle.pt_folder.proofs.Orders.{listing_is}
 
 -- the text that an entry's path begins with
@@ -28,22 +30,23 @@ front_is folder (x ∷ p) text front empty at is (inr (top, same)) = absurd (som
     some : (n : ℕ) → (suc n == 0) ≡ true → ⊥
     some n h = grind (arith, h)
 
-module _ {S D : Type 0} (kept : S → List ℕ → Option Forest) (left : D → Option (List ℕ)) (opens : S → List ℕ → Result D Error → S → Type 0) (law : NamesLaw kept left opens)
+module _ {S D : Type 0} (kept : S → List ℕ → Option Forest) (input : OfInput D) (opens : S → List ℕ → Result D Error → S → Type 0) (law : NamesLaw kept input.left opens)
     (folder : List ℕ) (p : Path) (old mid : S) (text : List ℕ) (path : IsPath p) (is : text ≡ entry_text folder p) (can : ForSome (kept old folder) (λ f. IsSome (dir_at f p))) where
-  opened : (reply : Result D Error) → opens old text reply mid → Listed left (kept old folder) (kept mid folder) p reply
+  opened : (reply : Result D Error) → opens old text reply mid → Listed input.left (kept old folder) (kept mid folder) p reply
   opened reply asked = law old mid folder p reply path can (subst (λ t. opens old t reply mid) is asked)
 
   pub names_same : (Q : Result D Error → Type 0) → ((reply : Result D Error) × opens old text reply mid × Q reply) → kept mid folder ≡ kept old folder
   names_same Q asked = (opened asked.0 asked.1).same
 
-  pub names_given : {A : Type 0} (x : A) (names : List (List ℕ)) (G : D → D → Type 0) → ((reply : Result D Error) × opens old text reply mid × MatchResult reply (λ dir. (after : D) × (G dir after × IfSome (left dir) (λ bytes. GivesNames bytes names))) (λ e. let r : Result A TreeFault = Ok x in r ≡ Err (fault_of e)))
-      → ForSome (kept old folder) (λ f. (d : Forest) → dir_at f p ≡ Some d → IsPermutation names (names_of d))
-  names_given x names G (Err e, asked, gives) = absurd (cc)
-  names_given x names G (Ok dir, asked, gives) = λ f known d at. by d (left dir) gives.1.1 (subst (GivesAll (left dir)) at ((opened (Ok dir) asked).given f known))
+  -- what it gives are the names in it
+  pub names_given : {A : Type 0} (has : A → List (List ℕ) → Type 0) (taken : A) (done : Unit {0}) → ((reply : Result D Error) × opens old text reply mid × MatchResult reply (λ dir. (after : D) × GetsAll input has dir taken after) (λ e. let r : Result (Unit {0}) TreeFault = Ok done in r ≡ Err (fault_of e)))
+      → ForSome (kept old folder) (λ f. (d : Forest) → dir_at f p ≡ Some d → (all : List (List ℕ)) × has taken all × IsPermutation all (names_of d))
+  names_given has taken done (Err e, asked, gives) = absurd (cc)
+  names_given has taken done (Ok dir, asked, gives) = λ f known d at. (gives.1.all, gives.1.had, by d (input.left dir) gives.1.given (subst (GivesAll (input.left dir)) at ((opened (Ok dir) asked).given f known)))
     where
-      by : (d : Forest) (o : Option (List ℕ)) → IfSome o (λ bytes. GivesNames bytes names) → GivesAll o (Some d) → IsPermutation names (names_of d)
+      by : (d : Forest) (o : Option (List ℕ)) → IfSome o (λ bytes. GivesNames bytes gives.1.all) → GivesAll o (Some d) → IsPermutation gives.1.all (names_of d)
       by d None gives all = absurd all
-      by d (Some bytes) gives all = all names gives
+      by d (Some bytes) gives all = all _ gives
 
 module _ {S : Type 0} (kept : S → List ℕ → Option Forest) (folder : List ℕ) (p : Path) (old mid new : S) (front : List ℕ) (path : IsPath p) (begins : front ≡ dir_front folder p) (same : kept mid folder ≡ kept old folder) (can : ForSome (kept old folder) (λ f. IsSome (dir_at f p))) where
   can_mid : ForSome (kept mid folder) (λ f. IsSome (dir_at f p))

@@ -1,6 +1,6 @@
 -- Names that a directory gives, one after another.
 use Rattle.std.proofs.Common.{◌≡◌, ℕ, true, false, List, [], ◌∷◌, ◌++◌, ◌+◌, ◌<◌, ◌≤◌, ◌==◌, length, take, drop, get_or, refl, arith, sym, ap, ◌∙◌, append_assoc, append-nil, cond, subst, inl, inr}
-use Rattle.std.specs.Prelude.{Option, Some, None, nat_lt, Result, Ok, Err, IfErr, IfOk, MatchResult}
+use Rattle.std.specs.Prelude.{Option, Some, None, nat_lt, Result, Ok, Err, IfErr}
 use Rattle.std.specs.Result.{IsErrAnd}
 use Rattle.std.specs.List.{filter, position, position_or_len}
 use Rattle.std.specs.Io.KnownBytes.{Consumes}
@@ -87,29 +87,29 @@ reads_one old mid new now after piece part (read, taken, gives) next same adds =
 )
 
 -- what was read of a piece so far, and what it gave
-abbrev pub Done : {A : Type 0} → (List ℕ → A → A → Type 0) → List ℕ → List ℕ → A → A → Type 0
-Done adds piece rest old now = (front : List ℕ) × (piece ≡ front ++ rest) × adds front old now
+abbrev pub Done : List ℕ → List ℕ → List (List ℕ) → List (List ℕ) → Type 0
+Done piece rest old now = (front : List ℕ) × (piece ≡ front ++ rest) × AddsNames front old now
 
 -- the next name isn't added
-pub refuses_one : {A : Type 0} (adds : List ℕ → A → A → Type 0) (refuses : A → List ℕ → Type 0) (piece rest name : List ℕ) (old now : A) (end : ℕ) (fault : TreeFault) → Done adds piece rest old now
-    → position (λ b. b == 0) rest ≡ Some end → name ≡ take end rest → IsDueTo fault (refuses now name) → IsDueTo fault (RefusesBytes adds refuses old piece)
-refuses_one adds refuses piece rest name old now end Memory done found name_is cause = tt
-refuses_one adds refuses piece rest name old now end Device (front, is, added) found name_is cause = record {
+pub refuses_one : (refuses : List (List ℕ) → List ℕ → Type 0) (piece rest name : List ℕ) (old now : List (List ℕ)) (end : ℕ) (fault : TreeFault) → Done piece rest old now
+    → position (λ b. b == 0) rest ≡ Some end → name ≡ take end rest → IsDueTo fault (refuses now name) → IsDueTo fault (RefusesBytes refuses old piece)
+refuses_one refuses piece rest name old now end Memory done found name_is cause = tt
+refuses_one refuses piece rest name old now end Device (front, is, added) found name_is cause = record {
   front = front;
   rest = rest;
-  mid = now;
+  names = now;
   cut = is;
   added = added;
   refused = inr (take end rest, drop (end + 1) rest, splits rest end found, lacks_nul rest end found, subst (refuses now) name_is cause);
 }
 
 -- bytes are left, and no NUL behind them
-pub refuses_rest : {A : Type 0} (adds : List ℕ → A → A → Type 0) (refuses : A → List ℕ → Type 0) (piece rest : List ℕ) (old now : A) → Done adds piece rest old now
-    → position (λ b. b == 0) rest ≡ None → (length rest == 0) ≡ false → RefusesBytes adds refuses old piece
-refuses_rest adds refuses piece rest old now (front, is, added) none some = record {
+pub refuses_rest : (refuses : List (List ℕ) → List ℕ → Type 0) (piece rest : List ℕ) (old now : List (List ℕ)) → Done piece rest old now
+    → position (λ b. b == 0) rest ≡ None → (length rest == 0) ≡ false → RefusesBytes refuses old piece
+refuses_rest refuses piece rest old now (front, is, added) none some = record {
   front = front;
   rest = rest;
-  mid = now;
+  names = now;
   cut = is;
   added = added;
   refused = inl (positive (length rest) some, no_nul rest none);
@@ -134,8 +134,3 @@ refuses_rest adds refuses piece rest old now (front, is, added) none some = reco
 pub err_due : {T : Type 0} (r : Result T TreeFault) (fault : TreeFault) (cause : Type 0) → IsErrAnd r (λ y. y ≡ fault) → IsDueTo fault cause → IfErr r (λ f. IsDueTo f cause)
 err_due (Ok x) fault cause is due = absurd is
 err_due (Err y) fault cause is due = subst (λ f. IsDueTo f cause) (sym is) due
-
--- what holds of a value, and of an error
-pub each_way : {T E : Type 0} (r : Result T E) (P Q : T → Type 0) (R : E → Type 0) → IfOk r P → IfOk r Q → IfErr r R → MatchResult r (λ x. P x × Q x) R
-each_way (Ok x) P Q R p q e = (p, q)
-each_way (Err y) P Q R p q e = e

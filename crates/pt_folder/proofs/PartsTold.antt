@@ -1,5 +1,5 @@
 -- What a source tells of a directory that is listed past what is no name, by the laws of its system.
-use Rattle.std.proofs.Common.{◌≡◌, ℕ, List, [], ◌∷◌, map, true, false, refl, sym, ap, ◌∙◌, subst, cond, inl, inr, ◌≤◌}
+use Rattle.std.proofs.Common.{◌≡◌, ℕ, List, [], ◌∷◌, map, true, false, refl, sym, ap, ◌∙◌, subst, cond, length, inl, inr, ◌≤◌}
 use Rattle.std.specs.Prelude.{Bool, Option, Some, IsSome, IsPermutation, Result, Ok, Err, IfErr, IfOk, MatchResult, Vec}
 use Rattle.std.specs.Global.{Global}
 use Rattle.std.specs.Option.{ForSome}
@@ -22,13 +22,14 @@ use Rattle.pt_tree.proofs.Finding.{proper_file, proper_other}
 use Rattle.pt_folder.specs.Calls.{IsDueTo, change_of, fault_of}
 use Rattle.pt_folder.specs.Folder.{entry_in, entry_text}
 use Rattle.pt_folder.specs.Laws.{IsPath}
-use Rattle.pt_folder.specs.Listing.{FailsToLook, GetsNames, LooksAt, dir_front, most_entries}
-use Rattle.pt_folder.specs.Parting.{FailsToListPast, GetsParted, GivesApart, IsFew, IsListedPast, IsBeyondAll}
+use Rattle.pt_folder.specs.Listing.{FailsToLook, LooksAt, dir_front, most_entries}
+use Rattle.pt_folder.specs.Parting.{FailsToListPast, GivesApart, HasParts, IsListedPast, IsOneTooMany}
+use Rattle.pt_folder.specs.Taking.{GetsAll}
 use Rattle.pt_folder.specs.SourceLaws.{NamesLaw, names_of}
 use Rattle.pt_folder.specs.declared.parting.Parted.{Parted}
 use Rattle.pt_folder.specs.declared.system.Input.{Ghosts as OfInput}
 use Rattle.pt_folder.specs.declared.system.System.{Ghosts as OfSystem}
-use Rattle.pt_folder.proofs.Listed.{Asks, read_fails}
+use Rattle.pt_folder.proofs.Listed.{Asks, read_fails, read_whole}
 use Rattle.pt_folder.proofs.Listings.{names_given}
 
 abbrev AreNames : List (List ℕ) → Type 0
@@ -59,44 +60,45 @@ all_pass (x ∷ xs) are =
 module _ {S D : Type 0} (kept : S → List ℕ → Option Forest) (input : OfInput D) (opens : S → List ℕ → Result D Error → S → Type 0) (law : NamesLaw kept input.left opens)
     (folder : List ℕ) (p : Path) (old mid : S) (text : List ℕ) (path : IsPath p) (is : text ≡ entry_text folder p) (can : ForSome (kept old folder) (λ f. IsSome (dir_at f p))) where
   -- the names among what it gives are those of the directory
-  pub parted_given : (parted : Parted) → ((f : Forest) → kept old folder ≡ Some f → is_proper f ≡ true)
-      → ((reply : Result D Error) × opens old text reply mid × MatchResult reply (λ d. (after : D) × GetsParted input d parted after) (λ e. let r : Result Parted TreeFault = Ok parted in r ≡ Err (fault_of e)))
+  pub parted_given : (parted : Parted) (done : Unit {0}) → ((f : Forest) → kept old folder ≡ Some f → is_proper f ≡ true)
+      → ((reply : Result D Error) × opens old text reply mid × MatchResult reply (λ d. (after : D) × GetsAll input HasParts d parted after) (λ e. let r : Result (Unit {0}) TreeFault = Ok done in r ≡ Err (fault_of e)))
       → ForSome (kept old folder) (λ f. (d : Forest) → dir_at f p ≡ Some d → IsPermutation parted.names.items (names_of d))
-  parted_given parted proper (Err e, asked, gives) = absurd (cc)
-  parted_given parted proper (Ok it, asked, gives) = λ f known d at.
-      let all = gives.1.all in
-      let these : IsPermutation all (names_of d) =
-      names_given kept input.left opens law folder p old mid text path is can parted all (λ d after. GetsNames input.reads d all after) (Ok it, asked, (gives.0, (gives.1.read, gives.1.given))) f known d at in
+  parted_given parted done proper asked = λ f known d at.
+      let these = names_given kept input opens law folder p old mid text path is can HasParts parted done asked f known d at in
+      let all = these.0 in
       let whole = names_proper d (proper_dir_at f p d (proper f known) at) in
-      let same : filter is_name all ≡ all = all_pass all (All-permutation (λ n. is_name n ≡ true) (names_of d) all (IsPermutation-sym all (names_of d) these) whole) in
-      subst (λ l. IsPermutation l (names_of d)) (sym (gives.1.parts.named ∙ same)) these
+      let same : filter is_name all ≡ all = all_pass all (All-permutation (λ n. is_name n ≡ true) (names_of d) all (IsPermutation-sym all (names_of d) these.2) whole) in
+      subst (λ l. IsPermutation l (names_of d)) (sym (these.1.named ∙ same)) these.2
 
 module _ {S F D : Type 0} (sys : OfSystem S F D) (input : OfInput D) (folder : List ℕ) (p : Path) (old mid new : S) (text : List ℕ) (is : text ≡ entry_text folder p) where
   -- it was read so
-  abbrev AsksParted : Result Parted TreeFault → Type 0
-  AsksParted result = Asks sys input folder p old mid text is (GetsParted input) IsBeyondAll result
+  abbrev AsksParted : Parted → Result (Unit {0}) TreeFault → Type 0
+  AsksParted parted result = Asks sys input folder p old mid text is HasParts IsOneTooMany parted result
 
   -- it isn't read to its end
-  pub parted_fails : (refused : List (Vec ℕ Global)) (fault : TreeFault) → AsksParted (Err fault) → FailsToListPast sys input (entry_in folder p) (change_of old mid) (change_of refused refused) fault
-  parted_fails refused Memory asked = inl refl
-  parted_fails refused Device asked = inl (refl, read_fails sys input folder p old mid text is (GetsParted input) IsBeyondAll asked)
+  pub parted_fails : (parted : Parted) (refused : List (Vec ℕ Global)) (fault : TreeFault) → AsksParted parted (Err fault) → FailsToListPast sys input (entry_in folder p) (change_of old mid) (change_of refused refused) fault
+  parted_fails parted refused Memory asked = inl refl
+  parted_fails parted refused Device asked = inl (refl, read_fails sys input folder p old mid text is HasParts IsOneTooMany parted asked)
 
-  module _ (parted : Parted) (asked : AsksParted (Ok parted)) (few : IsFew parted) (refused : List (Vec ℕ Global)) (others : IsPermutation parted.refused.items refused) (order_is : IsSorted (λ x y. slice_cmp nat_cmp x.items y.items) refused) where
+  module _ (parted : Parted) (done : Unit {0}) (asked : AsksParted parted (Ok done)) (refused : List (Vec ℕ Global)) (others : IsPermutation parted.refused.items refused) (order_is : IsSorted (λ x y. slice_cmp nat_cmp x.items y.items) refused) where
+    whole : (dir : D) × (after : D) × sys.opens_dir old (entry_text folder p) (Ok dir) mid × GetsAll input HasParts dir parted after
+    whole = read_whole sys input folder p old mid text is HasParts IsOneTooMany parted done asked
+
     -- what is given apart
     pub gives_apart : GivesApart sys input (entry_in folder p) (change_of old mid) parted refused
-    gives_apart = by asked
-      where
-        by : AsksParted (Ok parted) → GivesApart sys input (entry_in folder p) (change_of old mid) parted refused
-        by (Err e, asked, gives) = absurd (cc)
-        by (Ok it, asked, gives) = record {
-          dir = it;
-          after = gives.0;
-          opened = subst (λ t. sys.opens_dir old t (Ok it) mid) is asked;
-          read = gives.1;
-          others = others;
-          order = order_is;
-          few = subst (λ n. n ≤ most_entries) (sym (length_permutation parted.refused.items refused others)) few.refused;
-        }
+    gives_apart = record {
+      dir = whole.0;
+      after = whole.1;
+      opened = whole.2;
+      read = whole.3;
+      others = others;
+      order = order_is;
+      few = subst (λ n. n ≤ most_entries) (sym (length_permutation parted.refused.items refused others)) whole.3.had.few.refused;
+    }
+
+    -- the names are as many as a directory may have
+    pub few_parts : length parted.names.items ≤ most_entries
+    few_parts = whole.3.had.few.named
 
     module _ (order : List (List ℕ)) (front : List ℕ) (begins : front ≡ dir_front folder p) (ordered : IsPermutation parted.names.items order) where
       -- it is listed past what is no name

@@ -118,14 +118,14 @@ module _ {D : Type 0} (reads : D → List ℕ → Result ℕ Error → D → Typ
 
   -- a piece has what isn't added
   pub names_refused : (count : ℕ) (fault : TreeFault) (piece : List ℕ) → count ≤ length part → (count ≡ 0 → ⊥) → reads mid part (Ok count) new → piece ≡ take count part
-      → IsDueTo fault (RefusesBytes AddsNames refuses names piece) → IsDueTo fault (FailsToGet reads refuses old new)
+      → IsDueTo fault (RefusesBytes refuses names piece) → IsDueTo fault (FailsToGet reads refuses old new)
   names_refused count Memory piece fits some read is refused = tt
   names_refused count Device piece fits some read is refused = record {
     pieces = before.0;
     names = names;
     last = mid;
     read = before.2;
-    failed = inr (inl (take count part, gives_piece reads 8192 mid new part count whole fits some read, subst (RefusesBytes AddsNames refuses names) is refused));
+    failed = inr (inl (take count part, gives_piece reads 8192 mid new part count whole fits some read, subst (RefusesBytes refuses names) is refused));
   }
 
 -- as many reads as a count has room for

@@ -22,6 +22,7 @@ pub mod SourceHeld
 pub mod SourceLaws
 pub mod Steps
 pub mod Syscalls
+pub mod Taking
 pub mod UnsyncedChange
 pub mod Untold
 pub mod Writing

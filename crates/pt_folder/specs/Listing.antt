@@ -1,5 +1,6 @@
 -- How a directory is listed.
-use Rattle.std.specs.Prelude.{◌≡◌, ◌⊎◌, ◌-◌, ◌^◌, ℕ, false, length, List, [], ◌∷◌, ◌++◌, map, IfSome, IsPermutation, Result, Ok, Err}
+use Rattle.std.specs.Prelude.{◌≡◌, ◌⊎◌, ◌-◌, ◌^◌, ℕ, false, length, List, [], ◌∷◌, ◌++◌, ◌≤◌, map, IfSome, IsPermutation, Result, Ok, Err, Vec}
+use Rattle.std.specs.Global.{Global}
 use Rattle.std.specs.List.{FoldsTo}
 use Rattle.std.specs.List.Sorted.{IsSorted}
 use Rattle.std.specs.Cmp.Lexicographic.{slice_cmp}
@@ -20,6 +21,11 @@ use Rattle.pt_folder.specs.Runs.{GivesPiece, Reads}
 -- the greatest number of a directory's entries
 abbrev pub most_entries : ℕ
 most_entries = 16777216
+
+-- these are all that was given, and no more than a directory may have
+pub record AreAll (names : Vec (List ℕ) Global) (all : List (List ℕ)) : Type 0 where
+  pub same : names.items ≡ all
+  pub few : length all ≤ most_entries
 
 -- what the path of each entry in a directory begins with
 abbrev pub dir_front : List ℕ → Path → List ℕ
@@ -63,8 +69,7 @@ abbrev pub IsGivenUp : {D : Type 0} → (D → List ℕ → Result ℕ Error →
     → (List (List ℕ) → List ℕ → Type 0) → List (List ℕ) → ℕ → D → D → Type 0
 IsGivenUp reads refuses names count last new = ((e : Error) × Reads reads 8192 last (Err e) new
     × (fault_of e ≡ Device))
-    ⊎ (((piece : List ℕ) × GivesPiece reads 8192 last piece new
-    × RefusesBytes AddsNames refuses names piece)
+    ⊎ (((piece : List ℕ) × GivesPiece reads 8192 last piece new × RefusesBytes refuses names piece)
     ⊎ ((count ≡ 2 ^ 64 - 1) × (new ≡ last)))
 
 -- a directory was read piece by piece, and was given up

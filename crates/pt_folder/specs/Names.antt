@@ -39,12 +39,12 @@ EndsNames refuses rest = ((0 < length rest) × LacksNul rest)
     ⊎ ((name : List ℕ) × (more : List ℕ) × (rest ≡ ended name ++ more) × LacksNul name
     × refuses name)
 
--- the bytes give names that are added so to what was before, and behind them comes what isn't
-pub record RefusesBytes {A : Type 0} (adds : List ℕ → A → A → Type 0) (refuses : A → List ℕ → Type 0)
-    (old : A) (bytes : List ℕ) : Type 0 where
+-- the bytes give names that are added, and behind them comes what isn't
+pub record RefusesBytes (refuses : List (List ℕ) → List ℕ → Type 0) (old : List (List ℕ))
+    (bytes : List ℕ) : Type 0 where
   pub front : List ℕ
   pub rest : List ℕ
-  pub mid : A
+  pub names : List (List ℕ)
   pub cut : bytes ≡ front ++ rest
-  pub added : adds front old mid
-  pub refused : EndsNames (refuses mid) rest
+  pub added : AddsNames front old names
+  pub refused : EndsNames (refuses names) rest

@@ -1,5 +1,5 @@
 -- How a directory is listed past what has none of the names that an entry may have.
-use Rattle.std.specs.Prelude.{◌≡◌, ◌≤◌, ◌⊎◌, ℕ, Bool, true, not, List, ◌++◌, length, map, IfSome, IsPermutation, Ok, Vec}
+use Rattle.std.specs.Prelude.{◌≡◌, ◌≤◌, ◌⊎◌, ℕ, Bool, true, not, List, length, map, IsPermutation, Ok, Vec}
 use Rattle.std.specs.Global.{Global}
 use Rattle.std.specs.List.{FoldsTo, filter}
 use Rattle.std.specs.List.Sorted.{IsSorted}
@@ -14,8 +14,9 @@ use Rattle.pt_folder.specs.declared.system.Input.{Ghosts as OfInput}
 use Rattle.pt_folder.specs.declared.system.System.{Ghosts as OfSystem}
 use Rattle.pt_folder.specs.Calls.{Change, change_of}
 use Rattle.pt_folder.specs.Folder.{FolderEntry, entry_text}
-use Rattle.pt_folder.specs.Listing.{FailsToLook, FailsToReadDir, GetsNames, LooksAt, dir_front, most_entries}
-use Rattle.pt_folder.specs.Names.{GivesNames, is_entry}
+use Rattle.pt_folder.specs.Listing.{FailsToLook, FailsToReadDir, LooksAt, dir_front, most_entries}
+use Rattle.pt_folder.specs.Names.{is_entry}
+use Rattle.pt_folder.specs.Taking.{GetsAll}
 
 -- these bytes are no name
 abbrev pub is_no_name : List ℕ → Bool
@@ -25,42 +26,29 @@ is_no_name name = not (is_name name)
 abbrev pub bytes_in : List (Vec ℕ Global) → List (List ℕ)
 bytes_in refused = map (λ (name : Vec ℕ Global). name.items) refused
 
--- these are the names among all that was given, in its order, and the bytes that are none
-pub record IsParted (all : List (List ℕ)) (parted : Parted) : Type 0 where
-  pub named : parted.names.items ≡ filter is_name all
-  pub refused : bytes_in parted.refused.items ≡ filter is_no_name all
-
--- there are no more of either than a directory may give
+-- there are no more of either than a directory may have
 pub record IsFew (parted : Parted) : Type 0 where
   pub named : length parted.names.items ≤ most_entries
   pub refused : length parted.refused.items ≤ most_entries
 
--- why bytes aren't added: behind so many names, or so many that are none, there may be no more
-abbrev pub IsOneTooMany : ℕ → ℕ → List ℕ → Type 0
-IsOneTooMany names refused name =
+-- these are the names among all that was given, in its order, and the bytes that are none
+pub record HasParts (parted : Parted) (all : List (List ℕ)) : Type 0 where
+  pub named : parted.names.items ≡ filter is_name all
+  pub refused : bytes_in parted.refused.items ≡ filter is_no_name all
+  pub few : IsFew parted
+
+-- why bytes aren't taken: behind so many names, or so many that are none, there may be no more
+abbrev pub HasNoRoom : ℕ → ℕ → List ℕ → Type 0
+HasNoRoom names refused name =
     (is_entry name ≡ true) × ((most_entries ≤ names) ⊎ (most_entries ≤ refused))
 
 -- the same behind these
-abbrev pub IsBeyondParts : Parted → List ℕ → Type 0
-IsBeyondParts parted name = IsOneTooMany (length parted.names.items) (length parted.refused.items) name
+abbrev pub IsBeyond : Parted → List ℕ → Type 0
+IsBeyond parted name = HasNoRoom (length parted.names.items) (length parted.refused.items) name
 
 -- the same behind all that was given
-abbrev pub IsBeyondAll : List (List ℕ) → List ℕ → Type 0
-IsBeyondAll all name = IsOneTooMany (length (filter is_name all)) (length (filter is_no_name all)) name
-
--- the bytes give more of both
-pub record AddsParted (bytes : List ℕ) (old new : Parted) : Type 0 where
-  pub more : List (List ℕ)
-  pub given : GivesNames bytes more
-  pub named : new.names.items ≡ old.names.items ++ filter is_name more
-  pub refused : bytes_in new.refused.items ≡ bytes_in old.refused.items ++ filter is_no_name more
-
--- a directory was read to its end, and gave these
-pub record GetsParted {D : Type 0} (input : OfInput D) (old : D) (parted : Parted) (new : D) : Type 0 where
-  pub all : List (List ℕ)
-  pub read : GetsNames input.reads old all new
-  pub given : IfSome (input.left old) (λ bytes. GivesNames bytes all)
-  pub parts : IsParted all parted
+abbrev pub IsOneTooMany : List (List ℕ) → List ℕ → Type 0
+IsOneTooMany all name = HasNoRoom (length (filter is_name all)) (length (filter is_no_name all)) name
 
 -- the directory is opened once, and gives names and bytes that are none by its reads; the bytes are put into their order
 pub record GivesApart {S F D : Type 0} (sys : OfSystem S F D) (input : OfInput D) (at : FolderEntry)
@@ -68,7 +56,7 @@ pub record GivesApart {S F D : Type 0} (sys : OfSystem S F D) (input : OfInput D
   pub dir : D
   pub after : D
   pub opened : sys.opens_dir system.old (entry_text at.folder at.path) (Ok dir) system.new
-  pub read : GetsParted input dir parted after
+  pub read : GetsAll input HasParts dir parted after
   pub others : IsPermutation parted.refused.items refused
   pub order : IsSorted (λ x y. slice_cmp nat_cmp x.items y.items) refused
   pub few : length refused ≤ most_entries
@@ -98,7 +86,7 @@ pub record FailsPast {S F D : Type 0} (sys : OfSystem S F D) (input : OfInput D)
 abbrev pub FailsToListPast : {S F D : Type 0} → OfSystem S F D → OfInput D → FolderEntry → Change S
     → Change (List (Vec ℕ Global)) → TreeFault → Type 0
 FailsToListPast sys input at system refused Device =
-    ((refused.new ≡ refused.old) × FailsToReadDir sys input IsBeyondAll at system)
+    ((refused.new ≡ refused.old) × FailsToReadDir sys input IsOneTooMany at system)
     ⊎ FailsPast sys input at system refused.new
 FailsToListPast {S} sys input at system refused Memory = (refused.new ≡ refused.old)
     ⊎ ((mid : S) × (parted : Parted)

@@ -50,6 +50,7 @@ mod runtime;
 mod source;
 mod syscalls;
 mod system;
+mod taking;
 mod unsynced_change;
 mod writing;
 

@@ -1,5 +1,6 @@
 //! Listing a directory of a folder.
-ghost use Rattle.std.specs.Prelude.{◌≡◌, ◌==◌, ◌≤◌, ◌++◌, ◌∷◌, [], true, false, if◌then◌else◌, map, position, IfErr, IfOk, IfSome, IsSome, IsTrue, OnErr, OnOk, Some, Err, MatchResult, length, string_bytes, vec_len};
+ghost use Rattle.std.specs.Prelude.{◌≡◌, ◌≤◌, ◌++◌, ◌∷◌, [], true, false, if◌then◌else◌, map, length, string_bytes};
+ghost use Rattle.std.specs.Prelude.{IfErr, IfOk, IfSome, IsSome, IsTrue, OnErr, OnOk, Some};
 ghost use Rattle.std.specs.Option.{ForSome};
 ghost use Rattle.pt_tree.specs.Forest.{dir_at, listing_at};
 ghost use Rattle.pt_tree.specs.Listing.{names_rise};
@@ -9,15 +10,16 @@ ghost use Rattle.std.specs.List.{FoldsTo};
 ghost use Rattle.pt_folder.specs.Failure.{IsAt, IsOfEntry, IsOfName, IsOfNames, KeepsListing, OnDevice};
 ghost use Rattle.pt_folder.specs.Folder.{entry_in};
 ghost use Rattle.pt_tree.specs.Listing.{can_follow};
-ghost use Rattle.pt_folder.specs.Calls.{IsDueTo, change_of, fault_of as fault_for};
-ghost use Rattle.pt_folder.specs.Listing.{FailsToGet, FailsToList, FailsToLook, GetsNames, IsListedBy, LooksAt, LooksIn, most_entries};
-ghost use Rattle.pt_folder.specs.Names.{AddsNames, GivesNames, IsRefusedName, RefusesBytes, is_entry};
+ghost use Rattle.pt_folder.specs.Calls.{IsDueTo, change_of};
+ghost use Rattle.pt_folder.specs.Listing.{AreAll, FailsToList, FailsToLook, IsListedBy, LooksAt, LooksIn, most_entries};
+ghost use Rattle.pt_folder.specs.Names.{IsRefusedName, is_entry};
 
 use crate::bytes::ReadBuffer;
 use crate::failure::{FailureReason, Last};
 use crate::folder::{Folder, name_text};
 use crate::syscalls::Syscalls;
-use crate::system::{Input, System};
+use crate::system::System;
+use crate::taking::{Takes, take_dir};
 use pt_tree::{Kind, Listing, ListingFault, Name, NameFault, NamePath, TreeFault};
 
 // The greatest number of a directory's entries.
@@ -54,7 +56,8 @@ pub fn list<S: System>(
         (KeepsListing S.looks folder.now.path.now path.now syscalls.new.last.failure) }
 {
     let mut text = folder.text_with_room(path, LONGEST_NAME + 1, &mut syscalls.last)?;
-    let mut names = names_in(syscalls, text.as_str(), piece)?;
+    let mut names = Vec::<Name>::new(syscalls.last.alloc);
+    take_dir(syscalls, text.as_str(), piece, &mut names)?;
     names.sort_unstable();
     if !path.is_empty() {
         text.push('/')?;
@@ -62,130 +65,37 @@ pub fn list<S: System>(
     with_kinds(syscalls, text, names)
 }
 
-fn names_in<S: System>(
-    syscalls: &mut Syscalls<S>,
-    text: &str,
-    piece: &mut ReadBuffer,
-) -> Result<Vec<Name>, TreeFault>
-    ensures most { IfOk result (λ names. vec_len names ≤ most_entries) }
-    ensures asked { (reply : _) × S.opens_dir syscalls.old.system text.now reply syscalls.new.system
-        × MatchResult reply (λ dir. (after : _) × MatchResult result
-        (λ names. GetsNames S.Dir.Input.reads dir names.items after
-        × IfSome (S.Dir.Input.left dir) (λ bytes. GivesNames bytes names.items))
-        (λ fault. IsDueTo fault
-        (FailsToGet S.Dir.Input.reads (IsRefusedName most_entries) dir after)))
-        (λ e. result ≡ Err (fault_for e)) }
-    ensures kept { OnDevice result (IfSome syscalls.new.last.failure (IsOfNames text.now)) }
-{
-    match syscalls.system.read_dir(text) {
-        Ok(mut dir) => read_names(&mut dir, piece, most(), text, &mut syscalls.last),
-        Err(error) => Err(syscalls.last.record_error_at_copy(text, error)),
-    }
-}
+// What is no name isn't taken.
+impl Takes for Vec<Name> {
+    ghost has = { AreAll };
 
-// The greatest number of a directory's entries.
-fn most() -> usize
-    ensures { result ≡ most_entries }
-{
-    MOST
-}
+    ghost refuses = { IsRefusedName most_entries };
 
-/// All names that a directory gives, in its order, but for `.` and `..`, read into `piece` one piece after another; `Device` where
-/// there are more than `most`.
-/// What fails is kept at the directory's path.
-pub fn read_names<D: Input>(
-    dir: &mut D,
-    piece: &mut ReadBuffer,
-    most: usize,
-    text: &str,
-    last: &mut Last,
-) -> Result<Vec<Name>, TreeFault>
-    ensures most { IfOk result (λ names. vec_len names ≤ most) }
-    ensures read { IfOk result (λ names. GetsNames D.reads dir.old names.items dir.new) }
-    ensures fault { IfErr result
-        (λ fault. IsDueTo fault (FailsToGet D.reads (IsRefusedName most) dir.old dir.new)) }
-    ensures names { IfOk result
-        (λ names. IfSome (D.left dir.old) (λ bytes. GivesNames bytes names.items)) }
-    ensures kept { OnDevice result (IfSome last.new.failure (IsOfNames text.now)) }
-{
-    let mut names = Vec::new(last.alloc);
-    for _ in 0..u64::MAX {
-        match dir.read_piece(piece) {
-            Ok(0) => return Ok(names),
-            Ok(count) => add_names(&mut names, &piece[..count], most, text, last)?,
-            Err(error) => return Err(last.record_error_at_copy(text, error)),
+    fn take(&mut self, bytes: &[u8], text: &str, last: &mut Last) -> Result<(), TreeFault>
+        ensures most { length self.old.items ≤ most_entries
+            → length self.new.items ≤ most_entries }
+        ensures added { OnOk result (self.new.items
+            ≡ (if is_entry bytes.now then self.old.items ++ bytes.now ∷ [] else self.old.items)) }
+        ensures fault { IfErr result (λ fault. IsDueTo fault
+            (IsRefusedName most_entries self.old.items bytes.now)) }
+        ensures cause { OnDevice result (IfSome last.new.failure
+            (λ f. IsOfName most_entries self.old.items bytes.now f.cause)) }
+        ensures kept { OnDevice result (IfSome last.new.failure (IsOfNames text.now)) }
+    {
+        if bytes == b".".as_slice() || bytes == b"..".as_slice() {
+            return Ok(());
         }
-    }
-    last.keep_copy(text, FailureReason::Endless);
-    Err(TreeFault::Device)
-}
-
-// Adds the names of a piece of a directory, each ended by a NUL.
-fn add_names(
-    names: &mut Vec<Name>,
-    piece: &[u8],
-    most: usize,
-    text: &str,
-    last: &mut Last,
-) -> Result<(), TreeFault>
-    requires { vec_len names.old ≤ most }
-    ensures most { vec_len names.new ≤ most }
-    ensures names { OnOk result (AddsNames piece.now names.old.items names.new.items) }
-    ensures fault { IfErr result (λ fault. IsDueTo fault
-        (RefusesBytes AddsNames (IsRefusedName most) names.old.items piece.now)) }
-    ensures kept { OnDevice result (IfSome last.new.failure (IsOfNames text.now)) }
-{
-    let mut rest = piece;
-    while let Some(end) = nul_at(rest) {
-        add_name(names, &rest[..end], most, text, last)?;
-        rest = &rest[end + 1..];
-    }
-    if rest.is_empty() {
-        Ok(())
-    } else {
-        last.keep_copy(text, FailureReason::Endless);
-        Err(TreeFault::Device)
-    }
-}
-
-// Where the first NUL stands.
-pub(crate) fn nul_at(bytes: &[u8]) -> Option<usize>
-    ensures { result ≡ position (λ byte. byte == 0) bytes.now }
-{
-    bytes.iter().position(|byte| *byte == 0)
-}
-
-// Adds a name, unless it is `.` or `..`.
-fn add_name(
-    names: &mut Vec<Name>,
-    bytes: &[u8],
-    most: usize,
-    text: &str,
-    last: &mut Last,
-) -> Result<(), TreeFault>
-    requires { vec_len names.old ≤ most }
-    ensures most { vec_len names.new ≤ most }
-    ensures added { OnOk result (names.new.items
-        ≡ (if is_entry bytes.now then names.old.items ++ bytes.now ∷ [] else names.old.items)) }
-    ensures fault { IfErr result
-        (λ fault. IsDueTo fault (IsRefusedName most names.old.items bytes.now)) }
-    ensures cause { OnDevice result
-        (IfSome last.new.failure (λ f. IsOfName most names.old.items bytes.now f.cause)) }
-    ensures kept { OnDevice result (IfSome last.new.failure (IsOfNames text.now)) }
-{
-    if bytes == b".".as_slice() || bytes == b"..".as_slice() {
-        return Ok(());
-    }
-    if names.len() >= most {
-        last.keep_copy(text, FailureReason::Entries);
-        return Err(TreeFault::Device);
-    }
-    match Name::of(last.alloc, bytes) {
-        Ok(name) => names.push(name).map_err(|_| TreeFault::Memory),
-        Err(NameFault::Memory) => Err(TreeFault::Memory),
-        Err(_) => {
-            last.keep_name(text, bytes);
-            Err(TreeFault::Device)
+        if self.len() >= MOST {
+            last.keep_copy(text, FailureReason::Entries);
+            return Err(TreeFault::Device);
+        }
+        match Name::of(last.alloc, bytes) {
+            Ok(name) => self.push(name).map_err(|_| TreeFault::Memory),
+            Err(NameFault::Memory) => Err(TreeFault::Memory),
+            Err(_) => {
+                last.keep_name(text, bytes);
+                Err(TreeFault::Device)
+            }
         }
     }
 }

@@ -115,7 +115,8 @@ impl<'a, S: System> Source for HostSource<'a, S> {
     ghost use Rattle.std.specs.Prelude.{Option};
     ghost use Rattle.pt_tree.specs.Source.{CanList, IsListed, CanOpen, CanRead, IsRead, after_open, after_next};
     ghost use Rattle.pt_folder.specs.Devices.{was_called};
-    ghost use Rattle.pt_folder.specs.HostSource.{CannotList, IsCall, IsReading, KeepsList, KeepsOpen, KeepsRead, Lists, Opens, Reads, folder_path, open_file, told};
+    ghost use Rattle.pt_folder.specs.HostSource.{CannotList, IsCall, IsReading, KeepsList, KeepsOpen, KeepsRead, Lists, Opens, Reads};
+    ghost use Rattle.pt_folder.specs.HostSource.{folder_path, open_file, told};
     ghost use Rattle.pt_folder.specs.SourceHeld.{proper_held};
 
     ghost told = { told };

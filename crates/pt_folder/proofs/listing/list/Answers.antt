@@ -1,10 +1,13 @@
-use Rattle.std.proofs.Common.{◌≡◌, ◌∙◌, ◌++◌, ap, inl, inr, lit<, string_bytes, subst}
-use Rattle.std.specs.Prelude.{IfSome, IsSomeAnd}
+use Rattle.std.proofs.Common.{◌≡◌, ◌∙◌, ◌++◌, ap, inl, inr, lit<, string_bytes, subst, sym}
+use Rattle.std.specs.Prelude.{IfSome, IsPermutation, IsSomeAnd, Some, List, ℕ}
 use Rattle.pt_folder.specs.Folder.{entry_text}
-use Rattle.pt_folder.specs.Listing.{GetsNames, dir_front}
+use Rattle.std.specs.Option.{ForSome}
+use Rattle.pt_tree.specs.Forest.{Forest, dir_at}
+use Rattle.pt_folder.specs.Listing.{AreAll, dir_front}
+use Rattle.pt_folder.specs.SourceLaws.{names_of}
 use Rattle.pt_folder.specs.Failure.{IsOfEntry, IsOfNames, IsUnasked}
 use Rattle.pt_folder.proofs.Kept.{kept_held, kept_on, kept_weaker}
-use Rattle.pt_folder.proofs.Listed.{entry_fails, listed_by, names_fail}
+use Rattle.pt_folder.proofs.Listed.{entry_fails, few_listed, few_names, listed_by, names_fail}
 use Rattle.pt_folder.proofs.Listings.{front_is, list_same, list_told, names_given, names_same}
 use Rattle.pt_folder.proofs.Names.{err_due}
 use Rattle.pt_folder.proofs.listing.list.Goals as goal
@@ -26,8 +29,8 @@ returns-clause-same g c =
     let p = c.args.path.now in
     let kept = g.S.System.forest in
     let text : c.as_str.result.now ≡ entry_text folder p = c.as_str.ensures.value ∙ c.in_ok-text.ensures.text in
-    let same = names_same kept g.S.Dir.Input.left g.S.System.opens_dir g.met.S.System.names_law folder p c.args.syscalls.now.system c.names_in.new.syscalls.system c.as_str.result.now c.in_ok-text.ensures.named text c.requires _ c.names_in.ensures.asked in
-    list_same kept folder p c.args.syscalls.now.system c.names_in.new.syscalls.system c.with_kinds.new.syscalls.system (string_bytes c.if-not-is_empty.text) c.in_ok-text.ensures.named (begins g c) same c.requires c.with_kinds.result c.with_kinds.ensures.seen c.with_kinds.ensures.same
+    let same = names_same kept g.S.Dir.Input g.S.System.opens_dir g.met.S.System.names_law folder p c.args.syscalls.now.system c.take_dir.new.syscalls.system c.as_str.result.now c.in_ok-text.ensures.named text c.requires _ c.take_dir.ensures.asked in
+    list_same kept folder p c.args.syscalls.now.system c.take_dir.new.syscalls.system c.with_kinds.new.syscalls.system (string_bytes c.if-not-is_empty.text) c.in_ok-text.ensures.named (begins g c) same c.requires c.with_kinds.result c.with_kinds.ensures.seen c.with_kinds.ensures.same
 
 pub returns-clause-told : goal.returns-clause-told
 returns-clause-told g c =
@@ -35,51 +38,61 @@ returns-clause-told g c =
     let p = c.args.path.now in
     let kept = g.S.System.forest in
     let text : c.as_str.result.now ≡ entry_text folder p = c.as_str.ensures.value ∙ c.in_ok-text.ensures.text in
-    let same = names_same kept g.S.Dir.Input.left g.S.System.opens_dir g.met.S.System.names_law folder p c.args.syscalls.now.system c.names_in.new.syscalls.system c.as_str.result.now c.in_ok-text.ensures.named text c.requires _ c.names_in.ensures.asked in
-    let given = names_given kept g.S.Dir.Input.left g.S.System.opens_dir g.met.S.System.names_law folder p c.args.syscalls.now.system c.names_in.new.syscalls.system c.as_str.result.now c.in_ok-text.ensures.named text c.requires c.in_ok-names.names c.in_ok-names.names.items (λ dir after. GetsNames g.S.Dir.Input.reads dir c.in_ok-names.names.items after) c.in_ok-names.ensures.asked in
-    list_told kept folder p c.args.syscalls.now.system c.names_in.new.syscalls.system c.with_kinds.new.syscalls.system (string_bytes c.if-not-is_empty.text) c.in_ok-text.ensures.named (begins g c) same c.requires c.in_ok-names.names.items c.sort_unstable.new.self.items c.with_kinds.result (g.met.S.System.proper_law c.args.syscalls.now.system folder) given c.sort_unstable.ensures.permutation
+    let same = names_same kept g.S.Dir.Input g.S.System.opens_dir g.met.S.System.names_law folder p c.args.syscalls.now.system c.take_dir.new.syscalls.system c.as_str.result.now c.in_ok-text.ensures.named text c.requires _ c.take_dir.ensures.asked in
+    let names = c.take_dir.new.taken in
+    let all = names_given kept g.S.Dir.Input g.S.System.opens_dir g.met.S.System.names_law folder p c.args.syscalls.now.system c.take_dir.new.syscalls.system c.as_str.result.now c.in_ok-text.ensures.named text c.requires AreAll names c.in_ok-take_dir.field-0 c.in_ok-take_dir.ensures.asked in
+    let given : ForSome (kept c.args.syscalls.now.system folder) (λ f. (d : Forest) → dir_at f p ≡ Some d → IsPermutation names.items (names_of d)) =
+    λ f known d at. let these = all f known d at in subst (λ (l : List (List ℕ)). IsPermutation l (names_of d)) (sym these.1.same) these.2 in
+    list_told kept folder p c.args.syscalls.now.system c.take_dir.new.syscalls.system c.with_kinds.new.syscalls.system (string_bytes c.if-not-is_empty.text) c.in_ok-text.ensures.named (begins g c) same c.requires names.items c.sort_unstable.new.self.items c.with_kinds.result (g.met.S.System.proper_law c.args.syscalls.now.system folder) given c.sort_unstable.ensures.permutation
     c.with_kinds.ensures.names c.with_kinds.ensures.seen c.with_kinds.ensures.rise
+
+pub returns-clause-most : goal.returns-clause-most
+returns-clause-most g c =
+    let text : c.as_str.result.now ≡ entry_text c.args.folder.now.path.now c.args.path.now = c.as_str.ensures.value ∙ c.in_ok-text.ensures.text in
+    let names = c.take_dir.new.taken in
+    let few = few_names g.S.System g.S.Dir.Input c.args.folder.now.path.now c.args.path.now c.args.syscalls.now.system c.take_dir.new.syscalls.system c.as_str.result.now text names c.in_ok-take_dir.field-0 c.in_ok-take_dir.ensures.asked in
+    few_listed names.items c.sort_unstable.new.self.items few c.sort_unstable.ensures.permutation c.with_kinds.result c.with_kinds.ensures.names
 
 pub returns-clause-listed : goal.returns-clause-listed
 returns-clause-listed g c =
     let folder = c.args.folder.now.path.now in
     let p = c.args.path.now in
     let text : c.as_str.result.now ≡ entry_text folder p = c.as_str.ensures.value ∙ c.in_ok-text.ensures.text in
-    listed_by g.S.System g.S.Dir.Input folder p c.args.syscalls.now.system c.names_in.new.syscalls.system c.as_str.result.now text (λ names. names.items) c.in_ok-names.names c.sort_unstable.new.self.items c.sort_unstable.ensures.permutation (string_bytes c.if-not-is_empty.text) (begins g c)
-    c.with_kinds.new.syscalls.system c.with_kinds.result c.in_ok-names.ensures.asked c.with_kinds.ensures.names c.with_kinds.ensures.looked
+    listed_by g.S.System g.S.Dir.Input folder p c.args.syscalls.now.system c.take_dir.new.syscalls.system c.as_str.result.now text c.take_dir.new.taken c.in_ok-take_dir.field-0 c.in_ok-take_dir.ensures.asked c.sort_unstable.new.self.items c.sort_unstable.ensures.permutation (string_bytes c.if-not-is_empty.text) (begins g c)
+    c.with_kinds.new.syscalls.system c.with_kinds.result c.with_kinds.ensures.names c.with_kinds.ensures.looked
 
 pub returns-clause-fault : goal.returns-clause-fault
 returns-clause-fault g c =
     let folder = c.args.folder.now.path.now in
     let p = c.args.path.now in
     let text : c.as_str.result.now ≡ entry_text folder p = c.as_str.ensures.value ∙ c.in_ok-text.ensures.text in
-    entry_fails g.S.System g.S.Dir.Input folder p c.args.syscalls.now.system c.names_in.new.syscalls.system c.as_str.result.now text (λ names. names.items) c.in_ok-names.names c.sort_unstable.new.self.items c.sort_unstable.ensures.permutation (string_bytes c.if-not-is_empty.text) (begins g c)
-    c.with_kinds.new.syscalls.system c.with_kinds.result c.in_ok-names.ensures.asked c.sort_unstable.ensures.sorted c.with_kinds.ensures.fault
+    entry_fails g.S.System g.S.Dir.Input folder p c.args.syscalls.now.system c.take_dir.new.syscalls.system c.as_str.result.now text c.take_dir.new.taken c.in_ok-take_dir.field-0 c.in_ok-take_dir.ensures.asked c.sort_unstable.new.self.items c.sort_unstable.ensures.permutation (string_bytes c.if-not-is_empty.text) (begins g c)
+    c.with_kinds.new.syscalls.system c.with_kinds.result c.sort_unstable.ensures.sorted c.with_kinds.ensures.fault
 
-pub returns-in_err-names-clause-fault : goal.returns-in_err-names-clause-fault
-returns-in_err-names-clause-fault g c =
+pub returns-in_err-take_dir-clause-fault : goal.returns-in_err-take_dir-clause-fault
+returns-in_err-take_dir-clause-fault g c =
     let folder = c.args.folder.now.path.now in
     let p = c.args.path.now in
     let text : c.as_str.result.now ≡ entry_text folder p = c.as_str.ensures.value ∙ c.in_ok-text.ensures.text in
-    err_due c.from_residual-in_err-names.result c.in_err-names.field-0.0 _ c.from_residual-in_err-names.ensures.1 (names_fail g.S.System g.S.Dir.Input folder p c.args.syscalls.now.system c.names_in.new.syscalls.system c.as_str.result.now text (λ names. names.items) c.in_err-names.field-0.0 c.in_err-names.ensures.asked)
+    err_due c.from_residual-in_err-take_dir.result c.in_err-take_dir.field-0.0 _ c.from_residual-in_err-take_dir.ensures.1 (names_fail g.S.System g.S.Dir.Input folder p c.args.syscalls.now.system c.take_dir.new.syscalls.system c.as_str.result.now text c.take_dir.new.taken c.in_err-take_dir.field-0.0 c.in_err-take_dir.ensures.asked)
 
-pub returns-in_err-names-clause-same : goal.returns-in_err-names-clause-same
-returns-in_err-names-clause-same g c =
-    names_same g.S.System.forest g.S.Dir.Input.left g.S.System.opens_dir g.met.S.System.names_law c.args.folder.now.path.now c.args.path.now c.args.syscalls.now.system c.names_in.new.syscalls.system c.as_str.result.now c.in_ok-text.ensures.named (c.as_str.ensures.value ∙ c.in_ok-text.ensures.text) c.requires _ c.names_in.ensures.asked
+pub returns-in_err-take_dir-clause-same : goal.returns-in_err-take_dir-clause-same
+returns-in_err-take_dir-clause-same g c =
+    names_same g.S.System.forest g.S.Dir.Input g.S.System.opens_dir g.met.S.System.names_law c.args.folder.now.path.now c.args.path.now c.args.syscalls.now.system c.take_dir.new.syscalls.system c.as_str.result.now c.in_ok-text.ensures.named (c.as_str.ensures.value ∙ c.in_ok-text.ensures.text) c.requires _ c.take_dir.ensures.asked
 
 pub returns-in_err-push-clause-same : goal.returns-in_err-push-clause-same
 returns-in_err-push-clause-same g c =
-    names_same g.S.System.forest g.S.Dir.Input.left g.S.System.opens_dir g.met.S.System.names_law c.args.folder.now.path.now c.args.path.now c.args.syscalls.now.system c.names_in.new.syscalls.system c.as_str.result.now c.in_ok-text.ensures.named (c.as_str.ensures.value ∙ c.in_ok-text.ensures.text) c.requires _ c.names_in.ensures.asked
+    names_same g.S.System.forest g.S.Dir.Input g.S.System.opens_dir g.met.S.System.names_law c.args.folder.now.path.now c.args.path.now c.args.syscalls.now.system c.take_dir.new.syscalls.system c.as_str.result.now c.in_ok-text.ensures.named (c.as_str.ensures.value ∙ c.in_ok-text.ensures.text) c.requires _ c.take_dir.ensures.asked
 
-pub returns-in_err-names-clause-kept : goal.returns-in_err-names-clause-kept
-returns-in_err-names-clause-kept g c =
+pub returns-in_err-take_dir-clause-kept : goal.returns-in_err-take_dir-clause-kept
+returns-in_err-take_dir-clause-kept g c =
     let folder = c.args.folder.now.path.now in
     let p = c.args.path.now in
     let text : c.as_str.result.now ≡ entry_text folder p = c.as_str.ensures.value ∙ c.in_ok-text.ensures.text in
-    let r = c.from_residual-in_err-names.result in
-    let last = c.names_in.new.syscalls.last.failure in
+    let r = c.from_residual-in_err-take_dir.result in
+    let last = c.take_dir.new.syscalls.last.failure in
     let named = IsOfNames c.as_str.result.now in
-    kept_weaker r last named _ (λ f is. inl (inr (subst (λ t. IsOfNames t f) text is))) (kept_on r c.in_err-names.field-0.0 (IfSome last named) c.from_residual-in_err-names.ensures.1 c.in_err-names.ensures.kept)
+    kept_weaker r last named _ (λ f is. inl (inr (subst (λ t. IsOfNames t f) text is))) (kept_on r c.in_err-take_dir.field-0.0 (IfSome last named) c.from_residual-in_err-take_dir.ensures.1 c.in_err-take_dir.ensures.kept)
 
 pub returns-clause-kept : goal.returns-clause-kept
 returns-clause-kept g c =

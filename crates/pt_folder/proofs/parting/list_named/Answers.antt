@@ -5,7 +5,8 @@ use Rattle.pt_folder.specs.Listing.{dir_front}
 use Rattle.pt_folder.specs.Failure.{IsOfEntry, IsOfNames, IsUnasked}
 use Rattle.pt_folder.proofs.Kept.{kept_held, kept_on, kept_weaker}
 use Rattle.pt_folder.proofs.Listings.{front_is, list_same, list_told, names_same}
-use Rattle.pt_folder.proofs.PartsTold.{fails_past, listed_past, parted_given}
+use Rattle.pt_folder.proofs.Listed.{few_listed}
+use Rattle.pt_folder.proofs.PartsTold.{fails_past, few_parts, listed_past, parted_given}
 use Rattle.pt_folder.proofs.parting.list_named.Goals as goal
 use Rattle.pt_folder.proofs.parting.list_named.Given.{Over}
 use Rattle.pt_folder.proofs.parting.list_named.Goals.{After-with_kinds, then-not-is_empty+in_ok-push, else-not-is_empty}
@@ -25,30 +26,38 @@ returns-clause-same g c =
     let p = c.args.path.now in
     let kept = g.S.System.forest in
     let text : c.as_str.result.now ≡ entry_text folder p = c.as_str.ensures.value ∙ c.in_ok-text.ensures.text in
-    let same = names_same kept g.S.Dir.Input.left g.S.System.opens_dir g.met.S.System.names_law folder p c.args.syscalls.now.system c.parted_in.new.syscalls.system c.as_str.result.now c.in_ok-text.ensures.named text c.requires _ c.parted_in.ensures.asked in
-    list_same kept folder p c.args.syscalls.now.system c.parted_in.new.syscalls.system c.with_kinds.new.syscalls.system (string_bytes c.if-not-is_empty.text) c.in_ok-text.ensures.named (begins g c) same c.requires c.with_kinds.result c.with_kinds.ensures.seen c.with_kinds.ensures.same
+    let same = names_same kept g.S.Dir.Input g.S.System.opens_dir g.met.S.System.names_law folder p c.args.syscalls.now.system c.take_dir.new.syscalls.system c.as_str.result.now c.in_ok-text.ensures.named text c.requires _ c.take_dir.ensures.asked in
+    list_same kept folder p c.args.syscalls.now.system c.take_dir.new.syscalls.system c.with_kinds.new.syscalls.system (string_bytes c.if-not-is_empty.text) c.in_ok-text.ensures.named (begins g c) same c.requires c.with_kinds.result c.with_kinds.ensures.seen c.with_kinds.ensures.same
 
 pub returns-clause-told : goal.returns-clause-told
 returns-clause-told g c =
     let folder = c.args.folder.now.path.now in
     let p = c.args.path.now in
     let kept = g.S.System.forest in
-    let parted = c.in_ok-names.field-0 in
+    let parted = c.take_dir.new.taken in
     let order = c.sort_unstable-2.new.self.items in
     let text : c.as_str.result.now ≡ entry_text folder p = c.as_str.ensures.value ∙ c.in_ok-text.ensures.text in
-    let same = names_same kept g.S.Dir.Input.left g.S.System.opens_dir g.met.S.System.names_law folder p c.args.syscalls.now.system c.parted_in.new.syscalls.system c.as_str.result.now c.in_ok-text.ensures.named text c.requires _ c.parted_in.ensures.asked in
+    let same = names_same kept g.S.Dir.Input g.S.System.opens_dir g.met.S.System.names_law folder p c.args.syscalls.now.system c.take_dir.new.syscalls.system c.as_str.result.now c.in_ok-text.ensures.named text c.requires _ c.take_dir.ensures.asked in
     let proper = g.met.S.System.proper_law c.args.syscalls.now.system folder in
-    let given = parted_given kept g.S.Dir.Input g.S.System.opens_dir g.met.S.System.names_law folder p c.args.syscalls.now.system c.parted_in.new.syscalls.system c.as_str.result.now c.in_ok-text.ensures.named text c.requires parted proper c.in_ok-names.ensures.asked in
+    let given = parted_given kept g.S.Dir.Input g.S.System.opens_dir g.met.S.System.names_law folder p c.args.syscalls.now.system c.take_dir.new.syscalls.system c.as_str.result.now c.in_ok-text.ensures.named text c.requires parted c.in_ok-take_dir.field-0 proper c.in_ok-take_dir.ensures.asked in
     let ordered : IsPermutation parted.names.items order = c.sort_unstable-2.ensures.permutation in
-    list_told kept folder p c.args.syscalls.now.system c.parted_in.new.syscalls.system c.with_kinds.new.syscalls.system (string_bytes c.if-not-is_empty.text) c.in_ok-text.ensures.named (begins g c) same c.requires parted.names.items order c.with_kinds.result proper given ordered
+    list_told kept folder p c.args.syscalls.now.system c.take_dir.new.syscalls.system c.with_kinds.new.syscalls.system (string_bytes c.if-not-is_empty.text) c.in_ok-text.ensures.named (begins g c) same c.requires parted.names.items order c.with_kinds.result proper given ordered
     c.with_kinds.ensures.names c.with_kinds.ensures.seen c.with_kinds.ensures.rise
+
+pub returns-clause-most : goal.returns-clause-most
+returns-clause-most g c =
+    let text : c.as_str.result.now ≡ entry_text c.args.folder.now.path.now c.args.path.now = c.as_str.ensures.value ∙ c.in_ok-text.ensures.text in
+    let parted = c.take_dir.new.taken in
+    let few = few_parts g.S.System g.S.Dir.Input c.args.folder.now.path.now c.args.path.now c.args.syscalls.now.system c.take_dir.new.syscalls.system c.with_kinds.new.syscalls.system c.as_str.result.now text parted c.in_ok-take_dir.field-0 c.in_ok-take_dir.ensures.asked
+    c.sort_unstable.new.self.items c.sort_unstable.ensures.permutation c.sort_unstable.ensures.sorted in
+    few_listed parted.names.items c.sort_unstable-2.new.self.items few c.sort_unstable-2.ensures.permutation c.with_kinds.result c.with_kinds.ensures.names
 
 pub returns-clause-listed : goal.returns-clause-listed
 returns-clause-listed g c =
     let folder = c.args.folder.now.path.now in
     let p = c.args.path.now in
     let text : c.as_str.result.now ≡ entry_text folder p = c.as_str.ensures.value ∙ c.in_ok-text.ensures.text in
-    listed_past g.S.System g.S.Dir.Input folder p c.args.syscalls.now.system c.parted_in.new.syscalls.system c.with_kinds.new.syscalls.system c.as_str.result.now text c.in_ok-names.field-0 c.in_ok-names.ensures.asked c.in_ok-names.ensures.most
+    listed_past g.S.System g.S.Dir.Input folder p c.args.syscalls.now.system c.take_dir.new.syscalls.system c.with_kinds.new.syscalls.system c.as_str.result.now text c.take_dir.new.taken c.in_ok-take_dir.field-0 c.in_ok-take_dir.ensures.asked
     c.sort_unstable.new.self.items c.sort_unstable.ensures.permutation c.sort_unstable.ensures.sorted c.sort_unstable-2.new.self.items (string_bytes c.if-not-is_empty.text) (begins g c) c.sort_unstable-2.ensures.permutation c.with_kinds.result c.with_kinds.ensures.names c.with_kinds.ensures.looked
 
 pub returns-clause-fault : goal.returns-clause-fault
@@ -56,26 +65,26 @@ returns-clause-fault g c =
     let folder = c.args.folder.now.path.now in
     let p = c.args.path.now in
     let text : c.as_str.result.now ≡ entry_text folder p = c.as_str.ensures.value ∙ c.in_ok-text.ensures.text in
-    fails_past g.S.System g.S.Dir.Input folder p c.args.syscalls.now.system c.parted_in.new.syscalls.system c.with_kinds.new.syscalls.system c.as_str.result.now text c.in_ok-names.field-0 c.in_ok-names.ensures.asked c.in_ok-names.ensures.most
+    fails_past g.S.System g.S.Dir.Input folder p c.args.syscalls.now.system c.take_dir.new.syscalls.system c.with_kinds.new.syscalls.system c.as_str.result.now text c.take_dir.new.taken c.in_ok-take_dir.field-0 c.in_ok-take_dir.ensures.asked
     c.sort_unstable.new.self.items c.sort_unstable.ensures.permutation c.sort_unstable.ensures.sorted c.sort_unstable-2.new.self.items (string_bytes c.if-not-is_empty.text) (begins g c) c.sort_unstable-2.ensures.permutation c.args.refused.now.items c.with_kinds.result c.sort_unstable-2.ensures.sorted c.with_kinds.ensures.fault
 
-pub returns-in_err-names-clause-same : goal.returns-in_err-names-clause-same
-returns-in_err-names-clause-same g c =
-    names_same g.S.System.forest g.S.Dir.Input.left g.S.System.opens_dir g.met.S.System.names_law c.args.folder.now.path.now c.args.path.now c.args.syscalls.now.system c.parted_in.new.syscalls.system c.as_str.result.now c.in_ok-text.ensures.named (c.as_str.ensures.value ∙ c.in_ok-text.ensures.text) c.requires _ c.parted_in.ensures.asked
+pub returns-in_err-take_dir-clause-same : goal.returns-in_err-take_dir-clause-same
+returns-in_err-take_dir-clause-same g c =
+    names_same g.S.System.forest g.S.Dir.Input g.S.System.opens_dir g.met.S.System.names_law c.args.folder.now.path.now c.args.path.now c.args.syscalls.now.system c.take_dir.new.syscalls.system c.as_str.result.now c.in_ok-text.ensures.named (c.as_str.ensures.value ∙ c.in_ok-text.ensures.text) c.requires _ c.take_dir.ensures.asked
 
 pub returns-in_err-push-clause-same : goal.returns-in_err-push-clause-same
 returns-in_err-push-clause-same g c =
-    names_same g.S.System.forest g.S.Dir.Input.left g.S.System.opens_dir g.met.S.System.names_law c.args.folder.now.path.now c.args.path.now c.args.syscalls.now.system c.parted_in.new.syscalls.system c.as_str.result.now c.in_ok-text.ensures.named (c.as_str.ensures.value ∙ c.in_ok-text.ensures.text) c.requires _ c.parted_in.ensures.asked
+    names_same g.S.System.forest g.S.Dir.Input g.S.System.opens_dir g.met.S.System.names_law c.args.folder.now.path.now c.args.path.now c.args.syscalls.now.system c.take_dir.new.syscalls.system c.as_str.result.now c.in_ok-text.ensures.named (c.as_str.ensures.value ∙ c.in_ok-text.ensures.text) c.requires _ c.take_dir.ensures.asked
 
-pub returns-in_err-names-clause-kept : goal.returns-in_err-names-clause-kept
-returns-in_err-names-clause-kept g c =
+pub returns-in_err-take_dir-clause-kept : goal.returns-in_err-take_dir-clause-kept
+returns-in_err-take_dir-clause-kept g c =
     let folder = c.args.folder.now.path.now in
     let p = c.args.path.now in
     let text : c.as_str.result.now ≡ entry_text folder p = c.as_str.ensures.value ∙ c.in_ok-text.ensures.text in
-    let r = c.from_residual-in_err-names.result in
-    let last = c.parted_in.new.syscalls.last.failure in
+    let r = c.from_residual-in_err-take_dir.result in
+    let last = c.take_dir.new.syscalls.last.failure in
     let named = IsOfNames c.as_str.result.now in
-    kept_weaker r last named _ (λ f is. inl (inr (subst (λ t. IsOfNames t f) text is))) (kept_on r c.in_err-names.field-0.0 (IfSome last named) c.from_residual-in_err-names.ensures.1 c.in_err-names.ensures.kept)
+    kept_weaker r last named _ (λ f is. inl (inr (subst (λ t. IsOfNames t f) text is))) (kept_on r c.in_err-take_dir.field-0.0 (IfSome last named) c.from_residual-in_err-take_dir.ensures.1 c.in_err-take_dir.ensures.kept)
 
 pub returns-clause-kept : goal.returns-clause-kept
 returns-clause-kept g c =
