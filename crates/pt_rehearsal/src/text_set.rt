@@ -41,7 +41,7 @@ struct Halves {
 }
 
 impl TextSet {
-    ghost use Rattle.pt_rehearsal.specs.Texts.{has, with_text};
+    ghost use Rattle.pt_rehearsal.specs.Texts.{has, size_with, with_text};
 
     /// No text. It takes no memory.
     pub fn new(alloc: Global) -> TextSet
@@ -70,6 +70,7 @@ impl TextSet {
         requires { HasNoNul text.now }
         ensures ok { OnOk result (has self.new ≡ with_text text.now (has self.old)) }
         ensures err { OnErr result (has self.new ≡ has self.old) }
+        ensures size { OnOk result (self.new.size ≡ size_with text.now self.old.size) }
     {
         if self.size / ROOM >= self.buckets.len() {
             self.grow()?;
@@ -83,6 +84,7 @@ impl TextSet {
         requires some { 0 < length self.old.buckets.items }
         ensures ok { OnOk result (has self.new ≡ with_text text.now (has self.old)) }
         ensures err { OnErr result (has self.new ≡ has self.old) }
+        ensures size { OnOk result (self.new.size ≡ size_with text.now self.old.size) }
     {
         let bucket = self.bucket(text);
         append(&mut self.buckets[bucket], text)?;
@@ -107,6 +109,7 @@ impl TextSet {
     fn grow(&mut self) -> Result<(), MemoryFault>
         ensures same { has self.new ≡ has self.old }
         ensures some { OnOk result (0 < length self.new.buckets.items) }
+        ensures size { self.new.size ≡ self.old.size }
     {
         let count = self.buckets.len();
         if count == 0 {
@@ -127,6 +130,7 @@ impl TextSet {
         requires { 0 < length self.old.buckets.items }
         ensures same { has self.new ≡ has self.old }
         ensures some { 0 < length self.new.buckets.items }
+        ensures size { self.new.size ≡ self.old.size }
     {
         let count = self.buckets.len();
         let next = count - self.base;
