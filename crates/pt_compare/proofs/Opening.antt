@@ -6,10 +6,12 @@ use Rattle.std.specs.Cmp.Lexicographic.{same_text}
 use Rattle.std.specs.Str.{bytes_eq}
 use Rattle.std.proofs.lemmas.Bool.{true≢false}
 use Rattle.std.proofs.lemmas.List.{drop_all, drop_more, take-append-drop}
-use Rattle.pt_compare.specs.Root.{CanLook, Stands, kind_at, same_kind}
+use Rattle.pt_compare.specs.Root.{CanLook, Lacks, Stands, is_standing, kind_at, same_kind}
 use Rattle.pt_plan.specs.TurnMake.{common_names}
 use Rattle.pt_plan.specs.TurnStart.{is_dir_kind}
-use Rattle.pt_compare.proofs.Roots.{below, one_dir, stands_dir}
+use Rattle.pt_compare.proofs.Roots.{below, one_dir, same_dir, stands_dir}
+use Rattle.pt_tree.proofs.AtPaths.{parent-last}
+use Rattle.pt_tree.proofs.Paths.{split_parts}
 use Rattle.pt_tree.specs.Forest.{Dir, Forest, kind_of}
 use Rattle.pt_tree.specs.Path.{Path, parent, split_path}
 use Rattle.pt_tree.specs.declared.kind.Kind.TheVariants as kind
@@ -23,6 +25,14 @@ dir_above (Some f) p (n ∷ q) stands = by (is_dir_kind (kind_at f p)) refl
     by : (b : Bool) → is_dir_kind (kind_at f p) ≡ b → Stands (Some f) (p, kind.Dir)
     by true is = one_dir (kind_at f p) is
     by false is = absurd (let none = below (Dir f) p n q is in true≢false (sym stands ∙ ap (λ o. option_map_or (same_kind kind.Dir) (option_map kind_of o) false) none))
+
+-- so below what is no directory is none
+pub no_dir_on : (tree : Option Forest) (p q : Path) → Lacks tree (p, kind.Dir) → Lacks tree (p ++ q, kind.Dir)
+no_dir_on tree p q lacks = λ f told. by f told (is_standing (Some f) (p ++ q, kind.Dir)) refl
+  where
+    by : (f : Forest) → tree ≡ Some f → (b : Bool) → is_standing (Some f) (p ++ q, kind.Dir) ≡ b → b ≡ false
+    by f told true is = absurd (true≢false (sym (dir_above (Some f) p q is) ∙ lacks f told))
+    by f told false is = refl
 
 -- the names that two paths begin with alike are the same
 pub take_alike : (p q : Path) → take (common_names p q) p ≡ take (common_names p q) q
@@ -70,3 +80,11 @@ look_in tree above [] name stands is = absurd (cc)
 look_in tree above (n ∷ p) name stands is = λ f told.
     let same : above ≡ parent (n ∷ p) = ap (λ o. option_map_or (λ (s : Path × List ℕ). s.0) o []) is in
     stands_dir tree (parent (n ∷ p)) (rw same at stands) f told
+
+-- and where it doesn't stand, no file stands at the path
+pub no_file_in : (tree : Option Forest) (above path : Path) (name : List ℕ) → Lacks tree (above, kind.Dir) → Some (above, name) ≡ split_path path → Lacks tree (path, kind.File)
+no_file_in tree above [] name lacks is = absurd (cc)
+no_file_in tree above (n ∷ p) name lacks is = λ f told.
+    let parts = split_parts (n ∷ p) above name is in
+    let whole : above ++ name ∷ [] ≡ n ∷ p = ap (λ (q : Path). q ++ name ∷ []) parts.0 ∙ ap (λ (x : List ℕ). parent (n ∷ p) ++ x ∷ []) parts.1 ∙ parent-last n p in
+    ap (λ o. option_map_or (same_kind kind.File) o false) (ap (kind_at f) (sym whole) ∙ ap (option_map kind_of) (below (Dir f) above name [] (sym (same_dir (kind_at f above)) ∙ lacks f told)))

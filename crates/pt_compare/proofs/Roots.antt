@@ -7,7 +7,7 @@ use Rattle.pt_tree.specs.Forest.{Forest, Node, File, Dir, Other, as_dir, as_file
 use Rattle.pt_tree.specs.Path.{Path, parent}
 use Rattle.pt_tree.specs.declared.kind.Kind.{Kind}
 use Rattle.pt_tree.specs.declared.kind.Kind.TheVariants as kind
-use Rattle.pt_compare.specs.Root.{CanLook, IsSeen, Stands, kind_at, same_kind}
+use Rattle.pt_compare.specs.Root.{CanLook, IsSeen, Lacks, Stands, kind_at, same_kind}
 use Rattle.pt_plan.specs.TurnStart.{is_dir_kind, is_file_kind}
 use Rattle.pt_compare.proofs.Listed.{itself}
 use Rattle.pt_tree.proofs.Paths.{parent-push}
@@ -44,12 +44,19 @@ none_below tree path way i n d here within is way_is seen other =
     let whole : way ++ n ∷ drop (i + 1) path ≡ path = ap (λ (p : Path). p ++ n ∷ drop (i + 1) path) way_is ∙ ap (λ (p : Path). take i path ++ p) (ap (λ (x : List ℕ). x ∷ drop (i + 1) path) is ∙ sym (drop_more path i d within)) ∙ take-append-drop i path in
     λ f told. ap (λ (p : Path). kind_at f p) (sym whole) ∙ ap (option_map kind_of) (below (Dir f) way n (drop (i + 1) path) (ap is_dir_kind (seen f told) ∙ other))
 
--- what is a directory is of that kind
+-- what is a directory is of that kind, and only that
+pub same_dir : (here : Option Kind) → option_map_or (same_kind kind.Dir) here false ≡ is_dir_kind here
+same_dir None = refl
+same_dir (Some kind.File) = refl
+same_dir (Some kind.Dir) = refl
+same_dir (Some kind.Other) = refl
+
 pub one_dir : (here : Option Kind) → is_dir_kind here ≡ true → option_map_or (same_kind kind.Dir) here false ≡ true
-one_dir None is = absurd (cc)
-one_dir (Some kind.File) is = absurd (cc)
-one_dir (Some kind.Dir) is = refl
-one_dir (Some kind.Other) is = absurd (cc)
+one_dir here is = same_dir here ∙ is
+
+-- so none stands where another kind is seen, or nothing
+pub no_dir_seen : (tree : Option Forest) (p : Path) (here : Option Kind) → IsSeen tree p here → is_dir_kind here ≡ false → Lacks tree (p, kind.Dir)
+no_dir_seen tree p here seen is = λ f told. same_dir (kind_at f p) ∙ ap is_dir_kind (seen f told) ∙ is
 
 -- below a directory that is seen one may look
 pub seen_dir : (tree : Option Forest) (p : Path) (here : Option Kind) → IsSeen tree p here → is_dir_kind here ≡ true → Stands tree (p, kind.Dir)

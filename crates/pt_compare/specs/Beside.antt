@@ -4,7 +4,7 @@ use Rattle.std.specs.Option.{ForSome, option_map}
 use Rattle.pt_compare.specs.Marks.{Marks, inside, without_mark}
 use Rattle.pt_compare.specs.Meeting.{IsWrongFile}
 use Rattle.pt_object.specs.Object.{in_content}
-use Rattle.pt_compare.specs.Root.{Stands}
+use Rattle.pt_compare.specs.Root.{Lacks, Stands}
 use Rattle.pt_compare.specs.declared.scanned.ScannedObject.{ScannedObject}
 use Rattle.pt_compare.specs.declared.stop.Stop.{Stop}
 use Rattle.pt_compare.specs.declared.stop.Stop.TheVariants as stop
@@ -42,8 +42,8 @@ TakesFile p old new (Ok x) = new ≡ without_mark p old
 TakesFile p old new (Err (stop.Differs d)) = (d.path ≡ p) × IsWrongFile old p d.why
 TakesFile p old new (Err (stop.Fault why)) = why ≡ fault.Memory
 
--- a file stands at a path and was opened, or nothing was
+-- a file stands at a path and was opened, or none stands there and nothing was
 abbrev pub OpensStanding : Path → Option Reading → Option Reading → Bool → Type 0
 OpensStanding p before after true =
     Stands (tree_in before) (p, kind.File) × (after ≡ option_map (after_open p) before)
-OpensStanding p before after false = after ≡ before
+OpensStanding p before after false = Lacks (tree_in before) (p, kind.File) × (after ≡ before)

@@ -32,6 +32,10 @@ is_standing (Some f) e = option_map_or (same_kind e.1) (kind_at f e.0) false
 abbrev pub Stands : Option Forest → Path × Kind → Type 0
 Stands tree e = is_standing tree e ≡ true
 
+-- where a tree is told, nothing of this kind stands there
+abbrev pub Lacks : Option Forest → Path × Kind → Type 0
+Lacks tree e = ForSome tree (λ f. is_standing (Some f) e ≡ false)
+
 -- where a tree is told, what stands at a path is of this kind, or nothing stands there
 abbrev pub IsSeen : Option Forest → Path → Option Kind → Type 0
 IsSeen tree p here = ForSome tree (λ f. kind_at f p ≡ here)

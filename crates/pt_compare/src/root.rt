@@ -1,9 +1,9 @@
 //! The storage root that stands, as an audit reads it.
-ghost use Rattle.std.specs.Prelude.{◌≡◌, IfOk, IsTrue};
+ghost use Rattle.std.specs.Prelude.{◌≡◌, IfOk, IsFalse, IsTrue};
 ghost use Rattle.pt_compare.specs.Beside.{OpensStanding};
 ghost use Rattle.pt_tree.specs.declared.kind.Kind.TheVariants as kind;
 ghost use Rattle.pt_tree.specs.Failures.{IsCounted};
-ghost use Rattle.pt_compare.specs.Root.{CanLook, IsSeen, Stands};
+ghost use Rattle.pt_compare.specs.Root.{CanLook, IsSeen, Lacks, Stands};
 ghost use Rattle.pt_tree.specs.Source.{tree_in};
 
 use pt_plan::kinds::{is_dir, is_file};
@@ -90,6 +90,8 @@ fn stand_above<R: Root>(
     requires { Stands (tree_in (R.told root.old)) (folder.old, kind.Dir) }
     ensures stands { IfOk result (λ stand. IsTrue stand
         → Stands (tree_in (R.told root.old)) (above.now, kind.Dir)) }
+    ensures lacks { IfOk result (λ stand. IsFalse stand
+        → Lacks (tree_in (R.told root.old)) (above.now, kind.Dir)) }
     ensures folder { Stands (tree_in (R.told root.old)) (folder.new, kind.Dir) }
     ensures same { R.told root.new ≡ R.told root.old }
     ensures failures { IsCounted (R.failed root.old) (R.failed root.new) result }

@@ -2,10 +2,16 @@ use Rattle.std.proofs.Common.{subst, sym, ◌∙◌}
 use Rattle.pt_compare.specs.Root.{Stands}
 use Rattle.pt_tree.specs.Source.{tree_in}
 use Rattle.pt_tree.specs.declared.kind.Kind.TheVariants as kind
-use Rattle.pt_compare.proofs.Opening.{look_in}
+use Rattle.pt_compare.proofs.Opening.{look_in, no_file_in}
 use Rattle.pt_compare.proofs.Reading.{can_open}
 use Rattle.pt_compare.proofs.Roots.{file_seen}
 use Rattle.pt_compare.proofs.root.open_standing.Goals as goal
+
+pub returns-then-not-branch-clause-opened : goal.returns-then-not-branch-clause-opened
+returns-then-not-branch-clause-opened g c = (
+  no_file_in (tree_in (g.R.Source.told c.args.root.now)) c.in-Some.above.now c.args.path.now c.in-Some.field-0-1.now (c.in_ok-stand_above.ensures.lacks c.if-not-branch.true) c.in-Some.ensures,
+  c.stand_above.ensures.same,
+)
 
 pub kind-requires : goal.kind-requires
 kind-requires g c =

@@ -1,10 +1,10 @@
 use Rattle.pt_tree.specs.declared.kind.Kind.TheVariants as kind
 use Rattle.std.proofs.Common.{rules, sym, subst, ◌∙◌, ◌++◌, ◌∷◌, [], refl, ap, arith}
 use Rattle.pt_tree.specs.Path.{Path}
-use Rattle.pt_compare.specs.Root.{CanLook, IsSeen, Stands}
+use Rattle.pt_compare.specs.Root.{CanLook, IsSeen, Lacks, Stands}
 use Rattle.pt_tree.specs.Source.{tree_in}
-use Rattle.pt_compare.proofs.Opening.{dir_alike, dir_whole, way_on, way_start, way_whole}
-use Rattle.pt_compare.proofs.Roots.{can_look, seen_dir}
+use Rattle.pt_compare.proofs.Opening.{dir_alike, dir_whole, no_dir_on, way_on, way_start, way_whole}
+use Rattle.pt_compare.proofs.Roots.{can_look, no_dir_seen, seen_dir}
 use Rattle.pt_compare.proofs.root.stand_above.Goals as goal
 
 pub returns-then-is_empty-clause-stands : goal.returns-then-is_empty-clause-stands
@@ -33,6 +33,14 @@ pub returns-clause-stands : goal.returns-clause-stands
 returns-clause-stands g c = λ is.
     let at = c.loop-name.invariant in
     subst (λ (p : Path). Stands (tree_in (g.R.Source.told c.args.root.now)) (p, kind.Dir)) (way_whole c.loop-name.way c.split_at.result.1.now c.args.above.now c.loop-name.name-index at.0 (omega (arith, c.loop-name-test.false))) at.3
+
+pub returns-then-not-is_dir-clause-lacks : goal.returns-then-not-is_dir-clause-lacks
+returns-then-not-is_dir-clause-lacks g c = λ is.
+    let tree = tree_in (g.R.Source.told c.args.root.now) in
+    let at = c.loop-name.invariant in
+    let seen = subst (λ t. IsSeen (tree_in t) c.push.new.self c.in_ok-kind.field-0) at.1 c.in_ok-kind.ensures.kind in
+    subst (λ (p : Path). Lacks tree (p, kind.Dir)) (way_on c.loop-name.way c.push.new.self c.split_at.result.1.now c.args.above.now c.in_ok-copy.field-0 _ c.loop-name.name-index at.0 c.loop-name-test.true (c.in_ok-copy.ensures.bytes ∙ c.name-item.is) c.in_ok-push.ensures.ok)
+    (no_dir_on tree c.push.new.self _ (no_dir_seen tree c.push.new.self c.in_ok-kind.field-0 seen (sym c.is_dir.ensures ∙ c.if-not-is_dir.true)))
 
 pub loop-name-init : goal.loop-name-init
 loop-name-init g c =
