@@ -114,7 +114,7 @@ impl RootReader {
     {
         if self.from.names() != from || self.place != *place {
             self.alike = 0;
-            self.from = NamePath::new(self.alloc).append(from)?;
+            self.from = NamePath::new(self.alloc).with_names(from)?;
             self.place = place.copy()?;
         }
         Ok(())
@@ -184,5 +184,5 @@ fn stored_path(alloc: Global, place: &NamePath, path: &[Name]) -> Result<NamePat
     ensures { IfOk result (λ whole. whole ≡ in_root place.now ++ in_content path.now) }
 {
     let content = content_path(alloc, path)?;
-    in_storage_root(alloc, place)?.append(content.names())
+    in_storage_root(alloc, place)?.with_names(content.names())
 }

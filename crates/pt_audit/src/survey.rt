@@ -123,7 +123,7 @@ impl Survey {
     /// no more of the log than a front of the line of what it passes over.
     ///
     /// It breaks off for `Source`, `Log`, `Memory`, `NotPairtree` and `Prefix` where a run halts for these. `Turns` is answered where the limit of
-    /// turns has been made, and `Ended` where all was seen before.
+    /// turns has been made, and `Ended` where all was seen before or an earlier step broke off.
     pub fn step<S: Source, L: Log>(
         &mut self,
         source: &mut S,

@@ -116,7 +116,7 @@ fn leads_to<S: Source>(
     let names = path.names();
     let alike = alike_names(names, standing.names());
     let (first, rest) = names.split_at(alike);
-    let front = NamePath::new(path.allocator()).append(first)?;
+    let front = NamePath::new(path.allocator()).with_names(first)?;
     let mut way = in_pairtree(front)?;
     for name in rest {
         let listing = source.list(&way)?;

@@ -67,7 +67,7 @@ fn identifier_trouble(alloc: Global, path: &NamePath) -> Result<Option<Trouble>,
 fn text_below(alloc: Global, path: &NamePath) -> Result<Vec<u8>, MemoryFault>
     ensures { IfOk result (λ text. text.items ≡ concat (drop 1 path.now)) }
 {
-    let below = NamePath::new(alloc).append(names_below(path))?;
+    let below = NamePath::new(alloc).with_names(names_below(path))?;
     concatenate(alloc, &below)
 }
 
@@ -124,7 +124,7 @@ fn reserved_at(
     if names.is_empty() {
         return Ok(None);
     }
-    let below = NamePath::new(path.allocator()).append(names)?;
+    let below = NamePath::new(path.allocator()).with_names(names)?;
     reserved_below(layout, prefix, &below)
 }
 

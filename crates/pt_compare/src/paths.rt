@@ -23,5 +23,5 @@ pub fn content_path(alloc: Global, path: &[Name]) -> Result<NamePath, MemoryFaul
         &[WellKnownName::Version, WellKnownName::Content],
         path.len(),
     )?
-    .append(path)
+    .with_names(path)
 }

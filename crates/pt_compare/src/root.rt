@@ -102,7 +102,7 @@ fn stand_above<R: Root>(
     if rest.is_empty() {
         return Ok(true);
     }
-    let mut way = NamePath::new(alloc).append(first)?;
+    let mut way = NamePath::new(alloc).with_names(first)?;
     for name in rest {
         way.push(name.copy()?)?;
         if !is_dir(root.kind(&way)?) {

@@ -4,7 +4,7 @@ use Rattle.std.specs.Prelude.{◌⊎◌, Bool, nat_lt, Option, None, Some, IfSom
 use Rattle.std.specs.Option.{option_map, ForSome}
 use Rattle.std.proofs.lemmas.List.{drop-drop, drop_all, take_all}
 use Rattle.std.proofs.lemmas.Bool.{cases_Bool}
-use Rattle.pt_folder.specs.declared.reading.OpenFile.{OpenFile}
+use Rattle.pt_folder.specs.declared.reading.FileInReading.{FileInReading}
 use Rattle.pt_folder.specs.Bytes.{TakesBlock}
 use Rattle.pt_folder.specs.Reading.{IsNext, Stands, unread_of}
 
@@ -39,7 +39,7 @@ last_block ys part = elim (full_or_all ys) [
     differs : (n : ℕ) → (n == 8192) ≡ false → n ≡ 8192 → ⊥
     differs n other same = grind (arith, other, same)
 
-module _ {F : Type 0} (bytes left : F → Option (List ℕ)) (r : OpenFile F) (file : F) (block : List ℕ) (stands : Stands bytes left r) (there : r.lost ≡ false)
+module _ {F : Type 0} (bytes left : F → Option (List ℕ)) (r : FileInReading F) (file : F) (block : List ℕ) (stands : Stands bytes left r) (there : r.lost ≡ false)
     (same : bytes file ≡ bytes r.file) (took : TakesBlock (left r.file) (left file) block) where
   took_at : (xs : List ℕ) → bytes r.file ≡ Some xs → (block ≡ take 8192 (drop r.place xs)) × (left file ≡ Some (drop 8192 (drop r.place xs)))
   took_at xs is = subst (λ (o : Option (List ℕ)). IfSome o (λ b. (block ≡ take 8192 b) × (left file ≡ Some (drop 8192 b)))) (stands.at_place there xs is) took
@@ -75,5 +75,5 @@ module _ {F : Type 0} (bytes left : F → Option (List ℕ)) (r : OpenFile F) (f
       by (Some xs) is = ap Some (place_at xs is)
 
 -- what isn't read stays where only the open file changes, and of it no bytes
-pub unread_same : {F : Type 0} (bytes : F → Option (List ℕ)) (old new : OpenFile F) → new ≡ record old { file = new.file; lost = new.lost } → bytes new.file ≡ bytes old.file → unread_of bytes new ≡ unread_of bytes old
+pub unread_same : {F : Type 0} (bytes : F → Option (List ℕ)) (old new : FileInReading F) → new ≡ record old { file = new.file; lost = new.lost } → bytes new.file ≡ bytes old.file → unread_of bytes new ≡ unread_of bytes old
 unread_same bytes old new still same = λ i. option_map (drop (still i).place) (same i)

@@ -14,7 +14,7 @@ use Rattle.pt_tree.specs.Source.{CanList, CanOpen, CanRead, IsListed, IsRead, af
 use Rattle.pt_tree.specs.Source.{Reading as Told}
 use Rattle.pt_tree.specs.Listing.{Item}
 use Rattle.pt_tree.specs.Forest.{listing_at}
-use Rattle.pt_folder.specs.declared.reading.OpenFile.{OpenFile}
+use Rattle.pt_folder.specs.declared.reading.FileInReading.{FileInReading}
 use Rattle.pt_folder.specs.declared.system.System.{Ghosts as OfSystem}
 use Rattle.pt_folder.specs.Opening.{OpensOnce}
 use Rattle.pt_folder.specs.SourceHeld.{told_of}
@@ -57,7 +57,7 @@ above f (n ∷ p) h = let d = stands_in f n p (stands (tree_of f (n ∷ p)) (sub
 
 module _ {S F D : Type 0} (kept : S → List ℕ → Option Forest) (bytes left : F → Option (List ℕ)) (sys : OfSystem S F D) (look_law : LookLaw kept sys.looks)
     (law : OpenLaw kept bytes left sys.opens)
-    (folder : List ℕ) (old new : S) (p : Path) (w v : Option (OpenFile F)) where
+    (folder : List ℕ) (old new : S) (p : Path) (w v : Option (FileInReading F)) where
   -- a file is open at its start, or nothing is changed
   abbrev HasOpened : Result (Unit {0}) TreeFault → Type 0
   HasOpened (Ok x) = (file : F) × (v ≡ Some (record { file = file; place = 0; ended = false; lost = false })) × (kept new folder ≡ kept old folder) × (left file ≡ bytes file) × ForSome (kept old folder) (λ f. bytes file ≡ file_at f p)
@@ -110,6 +110,6 @@ module _ {S F D : Type 0} (kept : S → List ℕ → Option Forest) (bytes left 
         by : (result : Result (Unit {0}) TreeFault) → HasOpened result → StandsOpen bytes left v
         by (Err e) is = subst (StandsOpen bytes left) (sym is.1) before
         by (Ok x) is = λ r at.
-            let start : OpenFile F = record { file = is.0; place = 0; ended = false; lost = false } in
+            let start : FileInReading F = record { file = is.0; place = 0; ended = false; lost = false } in
             let here : start ≡ r = cc in
             subst (Stands bytes left) here (record { at_place = λ h xs known. is.3 ∙ known; at_end = λ h. absurd (cc) })

@@ -10,7 +10,7 @@ use Rattle.pt_tree.specs.Path.{Path}
 use Rattle.pt_tree.specs.Source.{Reading}
 use Rattle.pt_folder.specs.declared.failure.Failure.{Failure}
 use Rattle.pt_folder.specs.declared.folder.Folder.{Folder}
-use Rattle.pt_folder.specs.declared.reading.OpenFile.{OpenFile as Open}
+use Rattle.pt_folder.specs.declared.reading.FileInReading.{FileInReading as Open}
 use Rattle.pt_folder.specs.declared.source.HostSource.{HostSource}
 use Rattle.pt_folder.specs.declared.system.Handle.{Ghosts as OfHandle}
 use Rattle.pt_folder.specs.declared.system.Input.{Ghosts as OfInput}

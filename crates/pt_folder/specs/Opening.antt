@@ -3,7 +3,7 @@ use Rattle.std.specs.Prelude.{◌≡◌, ◌≢◌, ◌⊎◌, ℕ, List, length
 use Rattle.std.specs.declared.io.Error.{Error}
 use Rattle.pt_tree.specs.declared.faults.TreeFault.{TreeFault}
 use Rattle.pt_tree.specs.declared.faults.TreeFault.TheVariants.{Device}
-use Rattle.pt_folder.specs.declared.reading.OpenFile.{OpenFile}
+use Rattle.pt_folder.specs.declared.reading.FileInReading.{FileInReading}
 use Rattle.pt_folder.specs.Calls.{Change, IsRefused, fault_of}
 use Rattle.pt_folder.specs.Failure.{IsAt, IsOfCall, IsUnasked}
 use Rattle.pt_folder.specs.Folder.{FolderEntry, entry_text}
@@ -24,7 +24,7 @@ LeadsToFile (Err e) result = result ≡ Err (fault_of e)
 -- What stands at the path was looked at, links not followed. Where it is a file, it was opened, and the reply leads to this
 -- open file and this result; else nothing more is asked, and the open file is the one that was.
 pub record IsOpenedBy {S F D : Type 0} (sys : OfSystem S F D) (at : FolderEntry)
-    (opened : Change (Option (OpenFile F))) (system : Change S) (result : Result (Unit {0}) TreeFault)
+    (opened : Change (Option (FileInReading F))) (system : Change S) (result : Result (Unit {0}) TreeFault)
     : Type 0 where
   pub reply : Result Kind Error
   pub found : Result (Unit {0}) TreeFault
@@ -39,7 +39,7 @@ pub record IsOpenedBy {S F D : Type 0} (sys : OfSystem S F D) (at : FolderEntry)
       (λ fault. (system.new ≡ mid) × (opened.new ≡ opened.old) × (result ≡ Err fault))
 
 -- nothing is asked of the system, and the path was refused; or it is looked at, and opened where it is a file
-abbrev pub OpensOnce : {S F D : Type 0} → OfSystem S F D → FolderEntry → Change (Option (OpenFile F))
+abbrev pub OpensOnce : {S F D : Type 0} → OfSystem S F D → FolderEntry → Change (Option (FileInReading F))
     → Change S → Result (Unit {0}) TreeFault → Type 0
 OpensOnce sys at opened system result = ((system.new ≡ system.old) × IsRefused at.folder result)
     ⊎ IsOpenedBy sys at opened system result

@@ -81,8 +81,8 @@ pub record FailsPast {S F D : Type 0} (sys : OfSystem S F D) (input : OfInput D)
   pub sorted : IsSorted (slice_cmp nat_cmp) order
   pub looked : FailsToLook sys.looks (dir_front at.folder at.path) order mid system.new
 
--- Why a directory isn't listed past what is no name: it isn't read to its end, and what was given apart before stays; or that fails behind
--- it, and what is no name is given apart. Memory may be wanting at any growth.
+-- Why a directory isn't listed past what is no name: it isn't read to its end, and what was given apart before stays; or it is, looking
+-- at its entries fails, and what is no name is given apart. Memory may be wanting at any growth.
 abbrev pub FailsToListPast : {S F D : Type 0} → OfSystem S F D → OfInput D → FolderEntry → Change S
     → Change (List (Vec ℕ Global)) → TreeFault → Type 0
 FailsToListPast sys input at system refused Device =

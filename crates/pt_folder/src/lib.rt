@@ -22,7 +22,7 @@
 //! - `list`: opens the directory once, reads it (`GetsNames`), and looks at each entry once, in the listing's order; it gives at most
 //!   16,777,216. It answers `Device` only with a cause (`FailsToList`). What is behind a `Memory` of `list` isn't said.
 //! - `list_named`: the same past bytes that are no name (`IsListedPast`): those are given apart, each once for each time that the directory gives
-//!   them, in their order, and at most as many (`GivesApart`). Where it isn't read to its end, what was given apart before stays; `Device` comes
+//!   them, in their order, and at most 16,777,216 (`GivesApart`). Where it isn't read to its end, what was given apart before stays; `Device` comes
 //!   only with a cause (`FailsToListPast`). What is behind a `Memory` isn't said.
 //! - `with_sync`: `finish` asks for the file to be put onto the disk before it is closed (`FinishesBy`), and `rename` for the directory that
 //!   holds what was moved (`IsMovedBy`). A failed sync is always the device's failure (`IsSyncAnswer`). What is closed or moved all the same is

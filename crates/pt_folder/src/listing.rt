@@ -65,7 +65,7 @@ pub fn list<S: System>(
     with_kinds(syscalls, text, names)
 }
 
-// What is no name isn't taken.
+// What is no name fails the listing, as `Device`.
 impl Takes for Vec<Name> {
     ghost has = { AreAll };
 

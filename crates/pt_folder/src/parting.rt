@@ -84,7 +84,7 @@ impl Parted {
     }
 }
 
-// What is no name is taken apart.
+// What is no name goes to `refused`.
 impl Takes for Parted {
     ghost has = { HasParts };
 

@@ -14,19 +14,19 @@ const LAST: u64 = u64::MAX - BLOCK as u64;
 
 /// A file, the place where its next block begins, whether its end was met, and whether it may stand elsewhere.
 #[derive(Drop)]
-pub struct OpenFile<F> {
+pub struct FileInReading<F> {
     pub file: F,
     pub place: u64,
     pub ended: bool,
     pub lost: bool,
 }
 
-impl<F: Handle> OpenFile<F> {
+impl<F: Handle> FileInReading<F> {
     /// A file that was just opened.
-    pub fn at_start(file: F) -> OpenFile<F>
+    pub fn at_start(file: F) -> FileInReading<F>
         ensures { result ≡ record { file = file; place = 0; ended = false; lost = false } }
     {
-        OpenFile {
+        FileInReading {
             file,
             place: 0,
             ended: false,

@@ -16,7 +16,7 @@ ghost use Rattle.pt_folder.specs.Reading.{IsNext, IsOfReading, ReadsBy, StandsOp
 use crate::bytes::ReadBuffer;
 use crate::failure::{Failure, FailureReason, Last};
 use crate::folder::{Folder, count_failure};
-use crate::reading::OpenFile;
+use crate::reading::FileInReading;
 use crate::syscalls::Syscalls;
 use crate::system::{Handle, Input, System};
 use crate::{listing, parting};
@@ -28,7 +28,7 @@ use std::alloc::Global;
 pub struct HostSource<'a, S: System> {
     syscalls: Syscalls<S>,
     folder: Folder<'a>,
-    reading: Option<OpenFile<S::File>>,
+    reading: Option<FileInReading<S::File>>,
     at: String,
     looked: String,
     // What the names of a directory and the bytes of a file are read into.
@@ -236,7 +236,7 @@ fn open<S: System>(
     syscalls: &mut Syscalls<S>,
     folder: &Folder<'_>,
     path: &NamePath,
-    opened: &mut Option<OpenFile<S::File>>,
+    opened: &mut Option<FileInReading<S::File>>,
     at: &mut String,
 ) -> Result<(), TreeFault>
     ensures same { OnErr result (opened.new ≡ opened.old) }
@@ -253,7 +253,7 @@ fn open<S: System>(
     let text = syscalls.look_at_file(text)?;
     match syscalls.system.open_to_read(text.as_str()) {
         Ok(file) => {
-            *opened = Some(OpenFile::at_start(file));
+            *opened = Some(FileInReading::at_start(file));
             *at = text;
             Ok(())
         }
@@ -265,7 +265,7 @@ fn open<S: System>(
 // open, it is a failure. After an error of the system the file stays open, and is read on from where it was. On a fault
 // the block is empty. The bytes may be read into `room` first. `at` is the file's path, with which a failure is kept.
 fn read_on<F: Handle + Drop>(
-    reading: &mut Option<OpenFile<F>>,
+    reading: &mut Option<FileInReading<F>>,
     block: &mut Block,
     room: &mut ReadBuffer,
     at: &str,

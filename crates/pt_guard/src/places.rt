@@ -75,8 +75,8 @@ impl Lockable for File {
     }
 }
 
-/// A system with folders that are somewhere and can be locked. A lock that is held can't be let go of but by giving it back. Where a path leads, or
-/// to what, is answered with an error where the system gives one, as where nothing stands there.
+/// A system with folders that are somewhere and can be locked. A lock that is held can't be let go of but by giving it back. Where a path leads, and
+/// what is there, is answered with an error where the system gives one, as where nothing stands there.
 pub trait Places {
     type Lock;
 

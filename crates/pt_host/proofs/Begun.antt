@@ -4,7 +4,7 @@ use Rattle.pt_folder.specs.DestHeld.{told_with as dest_told}
 use Rattle.pt_folder.specs.DestLaws.{Kept}
 use Rattle.pt_folder.specs.Reading.{unread_open}
 use Rattle.pt_folder.specs.SourceHeld.{told_of as source_told}
-use Rattle.pt_folder.specs.declared.reading.OpenFile.{OpenFile}
+use Rattle.pt_folder.specs.declared.reading.FileInReading.{FileInReading}
 use Rattle.pt_folder.specs.declared.unsynced_change.UnsyncedChange.{UnsyncedChange}
 use Rattle.pt_folder.specs.declared.writing.FileInWriting.{FileInWriting as Open}
 use Rattle.pt_tree.specs.Ignoring.{told_without}
@@ -13,7 +13,7 @@ use Rattle.pt_host.specs.Made.{RunCall, RunsFrom, RunsOver, Start}
 use Rattle.pt_host.specs.declared.host.HostIo.{HostIo}
 use Rattle.pt_state.specs.Outside.{states}
 
-pub begun : {S D W E F : Type 0} (words : HostIoWords S D W (Kept F)) (bytes : E → Option (List ℕ)) (call : RunCall) (host_io : HostIo S D W) (s : S) (s-at : List ℕ) (r : Option (OpenFile E)) (s-fails : ℕ) (d : D) (d-at : List ℕ) (synced : Bool) (unsynced : Option UnsyncedChange) (w : Option (Open F)) (d-fails : ℕ) (o : W) (l-fails : ℕ)
+pub begun : {S D W E F : Type 0} (words : HostIoWords S D W (Kept F)) (bytes : E → Option (List ℕ)) (call : RunCall) (host_io : HostIo S D W) (s : S) (s-at : List ℕ) (r : Option (FileInReading E)) (s-fails : ℕ) (d : D) (d-at : List ℕ) (synced : Bool) (unsynced : Option UnsyncedChange) (w : Option (Open F)) (d-fails : ℕ) (o : W) (l-fails : ℕ)
     → (s ≡ host_io.store) × (s-at ≡ call.store) → (r ≡ None) × (s-fails ≡ 0) → (d ≡ host_io.folder) × (d-at ≡ call.folder) → (w ≡ None) × (d-fails ≡ 0) → (synced ≡ call.options.sync) × (unsynced ≡ None) → (o ≡ host_io.output) × (l-fails ≡ 0)
     → (after : HostIo S D W) (status : ℕ)
     → RunsFrom words call.options (record {

@@ -76,8 +76,8 @@ pub record HoldsNoObject (held : Held) : Type 0 where
   pub rows : held.rows ≡ []
   pub contents : held.contents ≡ []
 
--- while an object is under way they are those of its files, before it is entered and between objects there are none, and of a run that has ended
--- nothing is said
+-- while an object is under way the rows are those of its files, before it is entered and between objects there are none, and of a run that has
+-- ended nothing is said
 abbrev pub RowsAt : Job → (Path → List ℕ) → Phase → Held → Type 0
 RowsAt job bytes (phase.Carrying object stage.Open) held = HoldsNoObject held
 RowsAt job bytes (phase.Carrying object _) held = AreRows job bytes held

@@ -51,7 +51,7 @@ TellsStill (Some start) (Some now) P = P start now
 
 -- ---- what the items that are done came to
 
--- how many items are through, where so many are done: one more at an object's line, which is all that is left of it
+-- how many items are through, where so many have their line: one more where the line of an object is all that it lacks
 abbrev pub items_through : Phase → ℕ → ℕ
 items_through (phase.Carrying object stage.Line) count = suc count
 items_through _ count = count

@@ -137,7 +137,7 @@ fn after_item(item: u8) -> Phase
 
 /// Renames `staging` to the storage root.
 ///
-/// Halts for `Dest` where it can't be renamed, and for `Memory` where a growth is refused; nothing is changed then.
+/// Halts for `Dest` where it can't be renamed, and for `Memory` where a growth is refused; what the destination tells is as it was then.
 pub fn rename_root<O: Io>(state: &State, out: &mut O) -> Result<Phase, Fault>
     requires { MayMove (O.states out.old).dest staging_path storage_root }
     ensures turn { TakesTurn O.Io (0, 0) (phase.Opening opening.RootRename)

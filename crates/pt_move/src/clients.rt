@@ -4,7 +4,7 @@
 //!   changed, and the log has all lines.
 //! - `lines_told`, over every devices, though they tell nothing: the lines before the end line are no more than the limit of turns.
 //! - `Run` owns a run under way and its devices; `with_log` exchanges a log that tells nothing for another; `step` keeps all that a step
-//!   promises, from whatever start the run is in progress, and `steps` makes so many steps. `most` makes so many steps too, and gives the most
+//!   promises, from whatever start the run is in progress, and `make_steps` makes so many steps. `measure_steps` makes so many too, and gives the most
 //!   records that the run held after one, and its turns: where the source tells, the records are within its bound, and where the destination
 //!   told too, the turns within the work.
 //! - `carry_through` makes a run, and after each fault takes the staging folder away and makes another, so many in all, over any devices. Where

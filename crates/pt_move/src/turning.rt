@@ -75,7 +75,7 @@ fn turn_at<O: Io>(state: &mut State, phase: Phase, out: &mut O) -> Result<Phase,
     match phase {
         Phase::Opening(opening) => match opening {
             Opening::Begin => store::begin(state, out),
-            Opening::Prefix(kind) => store::look_at_prefix(state, kind, out),
+            Opening::Prefix(kind) => store::find_prefix(state, kind, out),
             Opening::Staging => root::look_at_staging(state, out),
             Opening::Root => root::look_at_root(state, out),
             Opening::RootMake(item) => root::make_root(state, item, out),

@@ -11,7 +11,7 @@
 //! - `Layout::place`: exactly the place of the identifier, as a path: the tuples from the front of its SHA-256, then its last name.
 //!   `Layout::place_text`: its names with `/` between.
 //! - `Share::of`: accepts exactly the shares 1 to N of up to 4,096, and refuses each other pair by the first rule that it breaks. `whole`: the
-//!   one share of one. `only`: of a share what begins with some texts; `with_list`: what stands in a list. `holds`: exactly whether the number of
+//!   one share of one. `with_only`: of a share what begins with some texts; `with_list`: what stands in a list. `holds`: exactly whether the number of
 //!   the share that the identifier's SHA-256 gives (`share_number`) is its own, and it is `chosen`: it stands in the list or begins with one of the
 //!   texts, or there is neither; `is_first`: whether it is 1.
 //! - `IdentifierList::of`: the list of just these identifiers (`ListsAs`). `contains`: exactly whether one stands in it. Which were met, and what

@@ -241,7 +241,7 @@ fn site_path(alloc: Global, object: &Object, trail: &Trail) -> Result<NamePath, 
 {
     let _listings = trail.len();
     let innermost = trail.path()?;
-    let path = NamePath::new(alloc).append(&innermost.names()[..object.site - 1])?;
+    let path = NamePath::new(alloc).with_names(&innermost.names()[..object.site - 1])?;
     Ok(path)
 }
 

@@ -51,7 +51,7 @@ fn is_store(listing: &Listing) -> bool
 ///
 /// Halts for `Prefix` where it is no file, has more than 1,024 bytes, or isn't UTF-8 without the line ends at its end, for `Source` where
 /// it can't be opened or read, and for `Memory` where a growth is refused. What is held stays then, but for the block.
-pub fn look_at_prefix<O: Io>(
+pub fn find_prefix<O: Io>(
     state: &mut State,
     here: Option<Kind>,
     out: &mut O,

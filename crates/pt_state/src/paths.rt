@@ -26,7 +26,7 @@ pub fn in_pairtree(mut path: NamePath) -> Result<NamePath, MemoryFault>
 pub fn in_storage_root(alloc: Global, path: &NamePath) -> Result<NamePath, MemoryFault>
     ensures { IfOk result (λ whole. whole ≡ in_root path.now) }
 {
-    NamePath::of_known_with_room(alloc, &[WellKnownName::StorageRoot], path.len())?.append(
+    NamePath::of_known_with_room(alloc, &[WellKnownName::StorageRoot], path.len())?.with_names(
         path.names(),
     )
 }
@@ -40,7 +40,7 @@ pub fn front_in_storage_root(
     ensures { IfOk result (λ whole. whole ≡ in_root (take names path.now)) }
 {
     let most = names.min(path.len());
-    NamePath::of_known_with_room(alloc, &[WellKnownName::StorageRoot], most)?.append(
+    NamePath::of_known_with_room(alloc, &[WellKnownName::StorageRoot], most)?.with_names(
         &path.names()[..most],
     )
 }
@@ -49,7 +49,9 @@ pub fn front_in_storage_root(
 pub fn in_staging(alloc: Global, path: &NamePath) -> Result<NamePath, MemoryFault>
     ensures { IfOk result (λ whole. whole ≡ staging ++ path.now) }
 {
-    NamePath::of_known_with_room(alloc, &[WellKnownName::Staging], path.len())?.append(path.names())
+    NamePath::of_known_with_room(alloc, &[WellKnownName::Staging], path.len())?.with_names(
+        path.names(),
+    )
 }
 
 /// The path of the entry at a trail's place, from below `pairtree_root` on; the innermost listing's at its end.
@@ -114,7 +116,7 @@ pub fn source_path(
     } else {
         entry_in_pairtree(alloc, trail, room)?
     };
-    directory.append(path.names())
+    directory.with_names(path.names())
 }
 
 /// The content path in `staging` that has so many names of a logical path.
@@ -131,5 +133,5 @@ pub fn staged_content_path(
         WellKnownName::Version,
         WellKnownName::Content,
     ];
-    NamePath::of_known_with_room(alloc, &above, names)?.append(&path.names()[..names])
+    NamePath::of_known_with_room(alloc, &above, names)?.with_names(&path.names()[..names])
 }

@@ -21,7 +21,7 @@ pub struct State {
     pub contents: Contents,
     /// What was read last.
     pub block: Block,
-    /// What was read of the open file.
+    /// What was read of the open file; or of an inventory its text, until its sidecar is made.
     pub hasher: Hasher,
     /// How many lines of each kind were put, and how many turns were made.
     pub counts: Report,

@@ -1,5 +1,5 @@
-//! Names, paths and listings; what a source, a destination and a log are; a log over a writer; and a source without the entries of some
-//! names.
+//! Names, paths and listings; what a source, a destination and a log are; a log over a writer; a source without the entries of some names,
+//! and one that is watched.
 //!
 //! A source's tree is a `Forest`: the entries of a directory in the order of their names, each a file with its bytes, a directory with its own
 //! entries, or something else. A destination's tree is a function (`Tree`): at each path a file's bytes, a folder, something else, or nothing.

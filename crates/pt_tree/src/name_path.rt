@@ -110,7 +110,7 @@ impl NamePath {
     }
 
     /// The path with these names behind it. `Memory` where a growth was refused.
-    pub fn append(self, names: &[Name]) -> Result<NamePath, MemoryFault>
+    pub fn with_names(self, names: &[Name]) -> Result<NamePath, MemoryFault>
         ensures { IfOk result (λ longer. longer ≡ self ++ names.now) }
     {
         let mut list = match self.names {
@@ -123,7 +123,7 @@ impl NamePath {
         })
     }
 
-    /// A path of its own with these names behind this one's, as `append` of a copy. `Memory` where a growth was refused.
+    /// A path of its own with these names behind this one's, as `with_names` of a copy. `Memory` where a growth was refused.
     pub fn concat(&self, names: &[Name]) -> Result<NamePath, MemoryFault>
         ensures { IfOk result (λ longer. longer ≡ self.now ++ names.now) }
     {

@@ -83,7 +83,7 @@ impl<S: Source, D: Dest, L: Log> Run<S, D, L> {
     /// Makes so many turns, unless the run ends before, and gives the most that was held and made after one of them. From whatever start the run
     /// is in progress: where the source tells, what was held is within the bound of the source; where the destination told too, the turns are
     /// within the work.
-    pub fn measure(&mut self, turns: u64) -> Most
+    pub fn measure_steps(&mut self, turns: u64) -> Most
         requires { HasBegun
             (states_of S.Source D.Dest L.Log self.old.source self.old.dest self.old.log)
             self.old.mover }

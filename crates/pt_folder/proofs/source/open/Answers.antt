@@ -9,7 +9,7 @@ use Rattle.pt_folder.specs.Folder.{entry_in, entry_text}
 use Rattle.pt_folder.specs.Laws.{IsPath}
 use Rattle.pt_folder.specs.Opening.{LeadsToFile, OpensOnce}
 use Rattle.pt_folder.specs.Reading.{OpensAt}
-use Rattle.pt_folder.specs.declared.reading.OpenFile.{OpenFile}
+use Rattle.pt_folder.specs.declared.reading.FileInReading.{FileInReading}
 use Rattle.pt_folder.specs.declared.system.System.{Ghosts as OfSystem}
 use Rattle.pt_folder.proofs.source.open.Goals as goal
 
@@ -19,7 +19,7 @@ found (Err e) x leads = absurd (cc)
 
 -- a file was found by a look at a path, and was asked to be opened
 asked : {S F D T : Type 0} (sys : OfSystem S F D)
-    (folder text : List ℕ) (p : Path) (w v : Option (OpenFile F)) (old mid new : S) (x : T) (answer : Result F Error) (result : Result (Unit {0}) TreeFault)
+    (folder text : List ℕ) (p : Path) (w v : Option (FileInReading F)) (old mid new : S) (x : T) (answer : Result F Error) (result : Result (Unit {0}) TreeFault)
     → text ≡ entry_text folder p → (length folder ≡ 0 → ⊥) → IsPath p → (reply : Result Kind Error) × sys.looks old text reply mid × LeadsToFile reply (Ok x)
     → sys.opens mid text answer new → OpensAt w v answer result
     → OpensOnce sys (entry_in folder p) (change_of w v) (change_of old new) result

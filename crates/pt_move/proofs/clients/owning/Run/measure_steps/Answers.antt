@@ -1,6 +1,6 @@
 use Rattle.std.proofs.Common.{refl}
 use Rattle.pt_move.proofs.Holding.{goes_on, most_after}
-use Rattle.pt_move.proofs.clients.owning.Run.measure.Goals as goal
+use Rattle.pt_move.proofs.clients.owning.Run.measure_steps.Goals as goal
 
 pub returns-then-eq : goal.returns-then-eq
 returns-then-eq g c start s is =

@@ -3,7 +3,7 @@ use Rattle.pt_move.specs.Running.{HasBegun}
 use Rattle.pt_state.specs.Outside.{states_of}
 use Rattle.pt_tree.specs.Forest.{Forest}
 use Rattle.pt_move.specs.Holding.{GoesOn, IsMost}
-use Rattle.pt_move.proofs.clients.owning.Run.measure.Given as goal
+use Rattle.pt_move.proofs.clients.owning.Run.measure_steps.Given as goal
 
 -- the run is to begin, or in progress over its devices, and held no more than the bound
 abbrev pub invariant-loop : goal.invariant-loop

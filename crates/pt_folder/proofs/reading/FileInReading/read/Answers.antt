@@ -1,10 +1,10 @@
-use Rattle.pt_folder.specs.declared.reading.OpenFile.{OpenFile}
+use Rattle.pt_folder.specs.declared.reading.FileInReading.{FileInReading}
 use Rattle.std.proofs.Common.{◌∙◌, ◌+◌, ap, subst, drop, List, ℕ}
 use Rattle.std.specs.Prelude.{not, Option}
 use Rattle.std.specs.Option.{option_map}
 use Rattle.pt_folder.specs.Reading.{IsNext}
 use Rattle.pt_folder.proofs.Forward.{read_stands, read_next, read_moved, unread_same}
-use Rattle.pt_folder.proofs.reading.OpenFile.read.Goals as goal
+use Rattle.pt_folder.proofs.reading.FileInReading.read.Goals as goal
 
 pub returns-in-Ok-clause-stands : goal.returns-in-Ok-clause-stands
 returns-in-Ok-clause-stands g c =
@@ -35,5 +35,5 @@ pub returns-in-Ok-clause-reads : goal.returns-in-Ok-clause-reads
 returns-in-Ok-clause-reads g c =
     let old = c.args.self.now in
     let mid = c.go_back.new.self in
-    let place = ap (λ (r : OpenFile g.row.F.Denot). r.place + c.len.result) c.go_back.ensures.still ∙ ap (λ n. old.place + n) c.len.ensures.value in
+    let place = ap (λ (r : FileInReading g.row.F.Denot). r.place + c.len.result) c.go_back.ensures.still ∙ ap (λ n. old.place + n) c.len.ensures.value in
     rw c.if-self.false (mid.file, c.in_default.ensures.gone, c.in-Ok.ensures.reads, place, ap not c.is_full.ensures.value, c.in_default.ensures.there)
