@@ -28,6 +28,8 @@ mod sidecars;
 #[cfg(test)]
 mod sites;
 #[cfg(test)]
+mod spoiled_sources;
+#[cfg(test)]
 mod tables;
 #[cfg(test)]
 mod trails;

@@ -17,15 +17,15 @@ const A_8191: &[u8] = &[b'a'; 8191];
 
 const A_8192: &[u8] = &[b'a'; 8192];
 
-const A_8193: &[u8] = &[b'a'; 8193];
+pub(crate) const A_8193: &[u8] = &[b'a'; 8193];
 
 const A_8194: &[u8] = &[b'a'; 8194];
 
 const B_8194: &[u8] = &[b'b'; 8194];
 
-// A tree that rows of this kind are about: what is done at a path, or found there.
-trait Goes<W> {
-    // Whether that goes as the row says.
+/// A tree that rows of this kind are about: what is done at a path, or found there.
+pub(crate) trait Goes<W> {
+    /// Whether that goes as the row says.
     fn goes(&mut self, alloc: Global, at: &NamePath, what: &W) -> bool;
 }
 
@@ -36,8 +36,8 @@ fn goes_at<W, T: Goes<W>>(tree: &mut T, alloc: Global, at: &str, what: &W) -> bo
     }
 }
 
-// The first of these rows that goes otherwise over this tree, counted from 0.
-fn find_wrong_row<W, T: Goes<W> + Drop>(
+/// The first of these rows that goes otherwise over this tree, counted from 0.
+pub(crate) fn find_wrong_row<W, T: Goes<W> + Drop>(
     tree: T,
     alloc: Global,
     rows: &[(&str, W)],
@@ -93,9 +93,12 @@ fn plants(source: &mut MemSource, file: &NamePath, bytes: &[u8]) -> bool {
     source.plant_file(file, bytes).is_ok()
 }
 
-// Reads the file at a path to its end, and answers how many bytes it has and how many calls of `next` that took.
+/// Reads the file at a path to its end, and answers how many bytes it has and how many calls of `next` that took.
 #[tactic(auto, using(pt_tree::proofs::Held::reading))]
-fn read_file<S: Source>(source: &mut S, path: &NamePath) -> Result<(usize, usize), TreeFault>
+pub(crate) fn read_file<S: Source>(
+    source: &mut S,
+    path: &NamePath,
+) -> Result<(usize, usize), TreeFault>
     requires { CanOpen (S.told source.old) path.now }
 {
     let mut length = 0usize;

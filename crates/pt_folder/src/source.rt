@@ -23,7 +23,8 @@ use crate::{listing, parting};
 use pt_tree::{BLOCK, Block, Kind, Listing, ListsNamed, NamePath, Source, TreeFault};
 use std::alloc::Global;
 
-/// A folder of the system as a source. It tells the tree that the system keeps there, where it keeps one.
+/// A folder of the system as a source. It tells the tree that the system keeps there, where it keeps one. It doesn't tell
+/// where it fails.
 #[derive(Drop)]
 pub struct HostSource<'a, S: System> {
     syscalls: Syscalls<S>,
@@ -121,6 +122,8 @@ impl<'a, S: System> Source for HostSource<'a, S> {
 
     ghost told = { told };
 
+    ghost failing = { λ _. None };
+
     ghost failed = { λ s. s.failures };
 
     ghost called = { λ s. was_called s.calls };
@@ -130,6 +133,8 @@ impl<'a, S: System> Source for HostSource<'a, S> {
     ghost is_kept = { λ _. refl };
 
     ghost keeps_on = { λ _ _ _ p q. q ∙ p };
+
+    ghost keeps_failing = { λ _ _ _. refl };
 
     ghost proper = { λ s state is. proper_held (S.forest s.syscalls.system s.folder.path.now)
         (unread_open ⟦<S::File as Input>⟧.bytes s.reading) state

@@ -6,5 +6,6 @@ mod Listed
 mod Opened
 mod Planted
 mod SourceCalls
+mod SourceFailing
 mod Swaps
 mod Taken

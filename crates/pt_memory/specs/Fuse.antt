@@ -1,10 +1,14 @@
 -- When a memory device fails: after so many more calls, if it has a fuse.
-use Rattle.std.specs.Prelude.{ℕ, Bool, false, ◌+◌, ◌-◌, ◌==◌, cond, min, Option, Result, Ok, Err}
+use Rattle.std.specs.Prelude.{ℕ, Bool, false, ◌+◌, ◌-◌, ◌==◌, cond, is_some, min, Option, Result, Ok, Err}
 use Rattle.std.specs.Option.{option_map, option_map_or}
 use Rattle.pt_tree.specs.declared.faults.TreeFault.{TreeFault}
 use Rattle.pt_tree.specs.declared.faults.TreeFault.TheVariants.{Device}
 use Rattle.pt_memory.specs.declared.fuse.Fuse.{Fuse}
 use Rattle.pt_tree.specs.Failures.{greatest_count}
+
+-- calls are counted down
+abbrev pub has_fuse : Fuse → Bool
+has_fuse f = is_some f.left
 
 -- the next call fails
 abbrev pub is_blown : Fuse → Bool

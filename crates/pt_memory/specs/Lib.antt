@@ -8,3 +8,4 @@ pub mod MemSource
 pub mod MemSourceTells
 pub mod Opening
 pub mod Planting
+pub mod SpoiledSource

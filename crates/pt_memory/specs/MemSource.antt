@@ -1,5 +1,5 @@
 -- What a source in memory holds.
-use Rattle.std.specs.Prelude.{◌≡◌, ℕ, Bool, true, false, ◌+◌, ◌%◌, ◌^◌, take, drop, length, List, Option, None, Some, Result, Ok, Err, MatchResult}
+use Rattle.std.specs.Prelude.{◌≡◌, ℕ, Bool, true, false, ◌+◌, ◌%◌, ◌^◌, cond, take, drop, length, List, Option, None, Some, Result, Ok, Err, MatchResult}
 use Rattle.std.specs.Option.{option_map, option_and_then}
 use Rattle.pt_memory.specs.declared.mem_source.MemSource.{MemSource}
 use Rattle.pt_memory.specs.declared.fuse.Fuse.{Fuse}
@@ -58,6 +58,10 @@ fused left s = record s { fuse = with_fuse left s.fuse }
 -- a call that was counted failed beside that
 abbrev pub after_source_failure : SourceState → SourceState
 after_source_failure s = record (after_source_call s) { fuse = after_failure (after_call s.fuse) }
+
+-- a call was counted, and failed by the fuse, or though the fuse let it pass
+abbrev pub after_refusal : SourceState → SourceState
+after_refusal s = cond (is_blown s.fuse) (after_source_call s) (after_source_failure s)
 
 -- A call: it fails by the fuse, or because what it needs isn't there; else P says what it gives.
 abbrev pub CallGives : {T X : Type 0} → Bool → SourceState → SourceState → Option X

@@ -1,4 +1,4 @@
-//! A source, a destination and a log in memory, which tell what they hold; and a source whose tree changes.
+//! A source, a destination and a log in memory, which tell what they hold; a source whose tree changes; and one of which something can't be read.
 //!
 //! Devices in memory, which no code of the program needs.
 //!
@@ -11,6 +11,8 @@
 //! - `same`: true exactly where the trees are equal. `has_file`, `has_dir`, `may_make`, `may_move`: true exactly where the calls that need it
 //!   may be made.
 //! - `LooseSource`: tells nothing; its file changes after a given number of calls (`swap_after`), and each call's effect on it is exact.
+//! - `SpoiledSource`: a `MemSource` of which what stands at some paths can't be listed or read; each call's effect on it is exact.
+//! - Without a fuse a `MemSource` tells that it never fails, and a `SpoiledSource` that it fails at these paths and nowhere else.
 #![tactic(auto)]
 
 mod changes;
@@ -24,6 +26,7 @@ mod moving;
 mod opening;
 pub mod pieces;
 mod planting;
+mod spoiled_source;
 pub mod texts;
 
 pub use loose_source::{LooseSource, SwapFault};
@@ -31,3 +34,4 @@ pub use mem_dest::{MemDest, TakeFault};
 pub use mem_log::MemLog;
 pub use mem_source::MemSource;
 pub use planting::PlantFault;
+pub use spoiled_source::SpoiledSource;

@@ -1,4 +1,5 @@
-ghost use Rattle.std.specs.Prelude.{◌≡◌, ◌<◌, [], None, IfOk, OnOk, OnErr, length, ⊤};
+ghost use Rattle.std.proofs.Common.{refl};
+ghost use Rattle.std.specs.Prelude.{◌≡◌, ◌<◌, [], None, IfOk, MatchResult, OnErr, length, ⊤};
 ghost use Rattle.pt_memory.specs.declared.loose_source.SwapFault.TheVariants as fault;
 
 use crate::MemSource;
@@ -130,12 +131,15 @@ impl LooseSource {
 
 impl Source for LooseSource {
     ghost use Rattle.std.specs.Prelude.{Option};
+    ghost use Rattle.pt_tree.specs.Failing.{ListsAs, OpensAs, ReadsAs};
     ghost use Rattle.pt_tree.specs.Source.{IsListed, IsRead};
     ghost use Rattle.pt_tree.specs.Failures.{IsCounted, IsOneMoreCall};
     ghost use Rattle.pt_memory.specs.MemSource.{ListGives, OpenGives, NextGives};
     ghost use Rattle.pt_memory.specs.LooseSource.{Then, loose_called, loose_failures, loose_state, untold};
 
     ghost told = { λ _. None };
+
+    ghost failing = { λ _. None };
 
     ghost failed = { loose_failures };
 
@@ -147,18 +151,21 @@ impl Source for LooseSource {
 
     ghost keeps_on = { λ _ _ _ _ _. tt };
 
+    ghost keeps_failing = { λ _ _ _. refl };
+
     ghost proper = { untold };
 
     fn failures(&self) -> u64 {
         self.source.failures()
     }
 
-    #[tactic(auto, unfolding(pt_tree::specs::Source::IsListed))]
+    #[tactic(auto, unfolding(pt_tree::specs::Failing::ListsAs, pt_tree::specs::Source::IsListed))]
     fn list(&mut self, path: &NamePath) -> Result<Listing, TreeFault>
         ensures gives { Then (λ between.
             ListGives (loose_state self.old).source between path.now result) (loose_state self.old)
             (loose_state self.new) }
         ensures listing { IfOk result (λ listing. IsListed None path.now listing) }
+        ensures fails { ListsAs None None path.now result }
         ensures failures { IsCounted (loose_failures self.old)
             (loose_failures self.new) result }
         ensures calls { IsOneMoreCall (loose_called self.old) (loose_called self.new) }
@@ -168,10 +175,12 @@ impl Source for LooseSource {
         listing
     }
 
+    #[tactic(auto, unfolding(pt_tree::specs::Failing::OpensAs))]
     fn open(&mut self, path: &NamePath) -> Result<(), TreeFault>
         ensures gives { Then (λ between.
             OpenGives (loose_state self.old).source between path.now result) (loose_state self.old)
             (loose_state self.new) }
+        ensures fails { OpensAs None None path.now result }
         ensures failures { IsCounted (loose_failures self.old)
             (loose_failures self.new) result }
         ensures calls { IsOneMoreCall (loose_called self.old) (loose_called self.new) }
@@ -181,13 +190,14 @@ impl Source for LooseSource {
         opened
     }
 
-    #[tactic(auto, unfolding(pt_tree::specs::Source::IsRead))]
+    #[tactic(auto, unfolding(pt_tree::specs::Failing::ReadsAs, pt_tree::specs::Source::IsRead))]
     fn next(&mut self, block: &mut Block) -> Result<(), TreeFault>
         ensures gives { Then (λ between.
             NextGives (loose_state self.old).source between block.new.items result)
             (loose_state self.old) (loose_state self.new) }
-        ensures block { OnOk result (IsRead None block.new.items) }
-        ensures empty { OnErr result (block.new.items ≡ []) }
+        ensures block { MatchResult result (λ _. IsRead None block.new.items)
+            (λ _. block.new.items ≡ []) }
+        ensures fails { ReadsAs None None block.new.items result }
         ensures failures { IsCounted (loose_failures self.old)
             (loose_failures self.new) result }
         ensures calls { IsOneMoreCall (loose_called self.old) (loose_called self.new) }

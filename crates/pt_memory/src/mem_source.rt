@@ -1,7 +1,9 @@
-ghost use Rattle.std.specs.Prelude.{◌≡◌, ◌↔◌, ◌<◌, [], Some, None, IsTrue, IfOk, OnOk, OnErr, length, ⊤};
+ghost use Rattle.std.proofs.Common.{◌∙◌, refl};
+ghost use Rattle.std.specs.Prelude.{◌≡◌, ◌↔◌, ◌<◌, [], Some, None, IsTrue, IfOk, MatchResult, OnOk, OnErr, length};
 ghost use Rattle.std.specs.Prelude.{true};
 ghost use Rattle.std.specs.Option.{option_copied, option_map};
 ghost use Rattle.pt_memory.specs.Entries.{forest_of};
+ghost use Rattle.pt_tree.specs.declared.faults.TreeFault.TheVariants.{Device};
 ghost use Rattle.pt_tree.specs.Forest.{is_proper};
 
 use crate::PlantFault;
@@ -13,7 +15,7 @@ use crate::planting::{dir_in, dir_leaf, file_in, file_leaf, free_name, other_lea
 use pt_tree::{Block, Kind, Listing, MemoryFault, NamePath, Source, TreeFault};
 use std::alloc::Global;
 
-/// A tree of files in memory, to read from. It always tells.
+/// A tree of files in memory, to read from. It always tells; and without a fuse, that it never fails.
 #[derive(Debug, Drop)]
 pub struct MemSource {
     alloc: Global,
@@ -24,7 +26,7 @@ pub struct MemSource {
 }
 
 impl MemSource {
-    ghost use Rattle.pt_memory.specs.MemSource.{source_state, source_tree, new_state, fused, after_source_call, swapped, IsPlanted, ListGives};
+    ghost use Rattle.pt_memory.specs.MemSource.{source_state, source_tree, new_state, fused, after_refusal, after_source_call, swapped, IsPlanted, ListGives};
     ghost use Rattle.pt_memory.specs.MemSource.{OpenGives, NextGives};
     ghost use Rattle.pt_memory.specs.Fuse.{fuse_answer};
     ghost use Rattle.pt_tree.specs.Forest.{Dir, file_at, kind_of, listing_at, node_at};
@@ -145,6 +147,17 @@ impl MemSource {
         self.fuse.pass()
     }
 
+    // One more call, which fails also where the fuse lets it pass.
+    pub(crate) fn refuse(&mut self) -> TreeFault
+        ensures state { source_state self.new ≡ after_refusal (source_state self.old) }
+        ensures answer { result ≡ Device }
+    {
+        match self.count_call() {
+            Ok(()) => self.fuse.fail(),
+            Err(fault) => fault,
+        }
+    }
+
     // `list` of the trait, on any tree and path: what is no directory is a failure.
     pub(crate) fn list_at(&mut self, path: &NamePath) -> Result<Listing, TreeFault>
         ensures { ListGives (source_state self.old) (source_state self.new) path.now result }
@@ -190,21 +203,26 @@ impl MemSource {
 impl Source for MemSource {
     ghost use Rattle.std.specs.Prelude.{Some};
     ghost use Rattle.pt_tree.specs.Source.{CanList, IsListed, CanOpen, CanRead, IsRead, after_open, after_next};
+    ghost use Rattle.pt_tree.specs.Failing.{ListsAs, OpensAs, ReadsAs};
     ghost use Rattle.pt_tree.specs.Failures.{IsCounted, IsOneMoreCall};
     ghost use Rattle.pt_memory.specs.MemSource.{source_state, source_called, ListGives, OpenGives, NextGives};
-    ghost use Rattle.pt_memory.specs.MemSourceTells.{source_told, proper_told};
+    ghost use Rattle.pt_memory.specs.MemSourceTells.{KeepsFuse, source_failing, source_told, keeps_failing, proper_told};
 
     ghost told = { source_told };
+
+    ghost failing = { source_failing };
 
     ghost failed = { λ s. s.fuse.failures };
 
     ghost called = { source_called };
 
-    ghost keeps = { λ _ _. ⊤ };
+    ghost keeps = { KeepsFuse };
 
-    ghost is_kept = { λ _. tt };
+    ghost is_kept = { λ _. refl };
 
-    ghost keeps_on = { λ _ _ _ _ _. tt };
+    ghost keeps_on = { λ _ _ _ p q. q ∙ p };
+
+    ghost keeps_failing = { keeps_failing };
 
     ghost proper = { proper_told };
 
@@ -218,6 +236,8 @@ impl Source for MemSource {
         ensures listing { IfOk result (λ listing.
             IsListed (source_told self.old) path.now listing) }
         ensures same { source_told self.new ≡ source_told self.old }
+        ensures fails { ListsAs (source_failing self.old) (source_failing self.new)
+            path.now result }
         ensures failures { IsCounted self.old.fuse.failures self.new.fuse.failures result }
         ensures calls { IsOneMoreCall (source_called self.old) (source_called self.new) }
     {
@@ -230,6 +250,8 @@ impl Source for MemSource {
         ensures opened { OnOk result (source_told self.new
             ≡ option_map (after_open path.now) (source_told self.old)) }
         ensures same { OnErr result (source_told self.new ≡ source_told self.old) }
+        ensures fails { OpensAs (source_failing self.old) (source_failing self.new)
+            path.now result }
         ensures failures { IsCounted self.old.fuse.failures self.new.fuse.failures result }
         ensures calls { IsOneMoreCall (source_called self.old) (source_called self.new) }
     {
@@ -240,11 +262,13 @@ impl Source for MemSource {
         requires { CanRead (source_told self.old) }
         ensures gives { NextGives (source_state self.old)
             (source_state self.new) block.new.items result }
-        ensures block { OnOk result (IsRead (source_told self.old) block.new.items) }
+        ensures block { MatchResult result (λ _. IsRead (source_told self.old) block.new.items)
+            (λ _. block.new.items ≡ []) }
         ensures moved { OnOk result (source_told self.new
             ≡ option_map after_next (source_told self.old)) }
-        ensures empty { OnErr result (block.new.items ≡ []) }
         ensures same { OnErr result (source_told self.new ≡ source_told self.old) }
+        ensures fails { ReadsAs (source_failing self.old) (source_failing self.new)
+            block.new.items result }
         ensures failures { IsCounted self.old.fuse.failures self.new.fuse.failures result }
         ensures calls { IsOneMoreCall (source_called self.old) (source_called self.new) }
     {

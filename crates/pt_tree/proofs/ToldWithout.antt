@@ -1,7 +1,8 @@
 -- What a source tells without the entries of some names, before and after each call.
 use Rattle.std.proofs.Common.{◌≡◌, ℕ, List, refl, sym, ◌∙◌, ap, subst}
-use Rattle.std.specs.Prelude.{Option, None, Some, IsSome, take}
+use Rattle.std.specs.Prelude.{[], Err, IsSome, MatchResult, None, Ok, Option, Result, Some, take}
 use Rattle.std.specs.Option.{option_map}
+use Rattle.pt_tree.specs.Failing.{Failing, ListsAs}
 use Rattle.pt_tree.specs.Forest.{dir_at, file_at, listing_at, listing_of}
 use Rattle.pt_tree.specs.Listing.{Item, left_in}
 use Rattle.pt_tree.specs.Path.{Path}
@@ -40,6 +41,11 @@ is_listed names (Some s) p items may listed = λ r is.
     subst (λ (r : Reading). listing_at r.tree p ≡ Some (left_in names items)) (left_of names s r is)
     (ap (option_map listing_of) left.1 ∙ ap (λ f. Some (listing_of f)) held.2 ∙ ap Some (listing-without names held.0) ∙ ap (λ xs. Some (left_in names xs)) whole)
 
+-- whatever was listed
+pub lists_as : {T : Type 0} (old new : Option Failing) (p : Path) (x y : T) → ListsAs old new p (Ok x) → ListsAs old new p (Ok y)
+unfolding ListsAs
+lists_as old new p x y is = is
+
 pub can_open : (names : List (List ℕ)) (told : Option Reading) (p : Path) → CanOpen (told_without names told) p → CanOpen told p
 unfolding CanOpen
 can_open names told p may = λ s is.
@@ -58,13 +64,18 @@ pub can_read : (names : List (List ℕ)) (told : Option Reading) → CanRead (to
 unfolding CanRead
 can_read names told may = λ s is. may (reading_without names s) (ap (told_without names) is)
 
-pub is_read : (names : List (List ℕ)) (told : Option Reading) (block : List ℕ) → IsRead told block → IsRead (told_without names told) block
+is_read : (names : List (List ℕ)) (told : Option Reading) (block : List ℕ) → IsRead told block → IsRead (told_without names told) block
 unfolding IsRead
 is_read names None block read = λ r is. absurd (cc)
 is_read names (Some s) block read = λ r is. subst (λ (r : Reading). option_map (take 8192) r.unread ≡ Some block) (left_of names s r is) (read s refl)
+
+pub block_read : {E : Type 0} (names : List (List ℕ)) (told : Option Reading) (block : List ℕ) (result : Result (Unit {0}) E) → MatchResult result (λ _. IsRead told block) (λ _. block ≡ [])
+    → MatchResult result (λ _. IsRead (told_without names told) block) (λ _. block ≡ [])
+block_read names told block (Ok x) read = is_read names told block read
+block_read names told block (Err fault) none = none
 
 pub is_moved : (names : List (List ℕ)) (told : Option Reading) → told_without names (option_map after_next told) ≡ option_map after_next (told_without names told)
 is_moved names None = refl
 is_moved names (Some s) = refl
 
-pub ruleset ignoring = (can_list, is_listed, can_open, is_opened, can_read, is_read, is_moved)
+pub ruleset ignoring = (can_list, is_listed, can_open, is_opened, can_read, block_read, is_moved)

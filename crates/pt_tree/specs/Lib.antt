@@ -1,5 +1,6 @@
 pub mod Agree
 pub mod Dest
+pub mod Failing
 pub mod Failures
 pub mod Faults
 pub mod Forest

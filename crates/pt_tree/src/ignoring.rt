@@ -2,7 +2,8 @@
 #![tactic(auto, using(crate::proofs::ToldWithout::ignoring))]
 
 ghost use Rattle.std.proofs.Common.{◌∙◌, refl};
-ghost use Rattle.std.specs.Prelude.{◌≡◌, ◌+◌, ◌-◌, [], IfOk, OnErr, OnOk, length, min};
+ghost use Rattle.std.specs.Prelude.{◌≡◌, ◌+◌, ◌-◌, [], IfOk, MatchResult, OnErr, OnOk, length, min};
+ghost use Rattle.pt_tree.specs.Failing.{ListsAs, OpensAs, ReadsAs};
 ghost use Rattle.pt_tree.specs.Failures.{IsCounted, IsOneMoreCall, greatest_count};
 ghost use Rattle.pt_tree.specs.Listing.{left_in};
 ghost use Rattle.std.specs.Option.{option_map};
@@ -75,6 +76,8 @@ impl<S: Source> Ignoring<S> {
 impl<S: Source> Source for Ignoring<S> {
     ghost told = { λ i. told_without i.names (S.told i.source) };
 
+    ghost failing = { λ i. S.failing i.source };
+
     ghost failed = { λ i. S.failed i.source };
 
     ghost called = { λ i. S.called i.source };
@@ -84,6 +87,8 @@ impl<S: Source> Source for Ignoring<S> {
     ghost is_kept = { λ a. (refl, S.is_kept a.source) };
 
     ghost keeps_on = { λ a b c p q. (q.0 ∙ p.0, S.keeps_on a.source b.source c.source p.1 q.1) };
+
+    ghost keeps_failing = { λ a b p. S.keeps_failing a.source b.source p.1 };
 
     ghost proper = { λ i state is. proper_left i.names (S.told i.source) state
         (S.proper i.source) is };
@@ -98,13 +103,15 @@ impl<S: Source> Source for Ignoring<S> {
             (IsListed (told_without self.old.names (S.told self.old.source)) path.now) }
         ensures same { told_without self.new.names (S.told self.new.source)
             ≡ told_without self.old.names (S.told self.old.source) }
+        ensures fails { ListsAs (S.failing self.old.source) (S.failing self.new.source)
+            path.now result }
         ensures failures { IsCounted (S.failed self.old.source) (S.failed self.new.source) result }
         ensures calls { IsOneMoreCall (S.called self.old.source) (S.called self.new.source) }
         ensures keeps { (self.new.names ≡ self.old.names)
             × S.keeps self.old.source self.new.source }
-        ensures left_out { IfOk result (LeavesOut (S.told self.old.source) path.now
-            self.old.names self.old.left_out self.new.left_out) }
-        ensures none { OnErr result (self.new.left_out ≡ self.old.left_out) }
+        ensures left_out { MatchResult result (LeavesOut (S.told self.old.source) path.now
+            self.old.names self.old.left_out self.new.left_out)
+            (λ _. self.new.left_out ≡ self.old.left_out) }
     {
         let mut listing = self.source.list(path)?;
         self.take_out(&mut listing);
@@ -118,6 +125,8 @@ impl<S: Source> Source for Ignoring<S> {
             (told_without self.old.names (S.told self.old.source))) }
         ensures same { OnErr result (told_without self.new.names (S.told self.new.source)
             ≡ told_without self.old.names (S.told self.old.source)) }
+        ensures fails { OpensAs (S.failing self.old.source) (S.failing self.new.source)
+            path.now result }
         ensures failures { IsCounted (S.failed self.old.source) (S.failed self.new.source) result }
         ensures calls { IsOneMoreCall (S.called self.old.source) (S.called self.new.source) }
         ensures keeps { (self.new.names ≡ self.old.names)
@@ -129,13 +138,15 @@ impl<S: Source> Source for Ignoring<S> {
 
     fn next(&mut self, block: &mut Block) -> Result<(), TreeFault>
         requires { CanRead (told_without self.old.names (S.told self.old.source)) }
-        ensures block { OnOk result (IsRead
-            (told_without self.old.names (S.told self.old.source)) block.new.items) }
+        ensures block { MatchResult result (λ _. IsRead
+            (told_without self.old.names (S.told self.old.source)) block.new.items)
+            (λ _. block.new.items ≡ []) }
         ensures moved { OnOk result (told_without self.new.names (S.told self.new.source)
             ≡ option_map after_next (told_without self.old.names (S.told self.old.source))) }
-        ensures empty { OnErr result (block.new.items ≡ []) }
         ensures same { OnErr result (told_without self.new.names (S.told self.new.source)
             ≡ told_without self.old.names (S.told self.old.source)) }
+        ensures fails { ReadsAs (S.failing self.old.source) (S.failing self.new.source)
+            block.new.items result }
         ensures failures { IsCounted (S.failed self.old.source) (S.failed self.new.source) result }
         ensures calls { IsOneMoreCall (S.called self.old.source) (S.called self.new.source) }
         ensures keeps { (self.new.names ≡ self.old.names)

@@ -7,7 +7,8 @@
 //! such a function.
 //!
 //! A device says by a ghost member, `told`, what it holds: a source its tree and what is left of the open file (`Reading`), a destination its
-//! tree and which file is open (`Writing`), a log its bytes. It is `Some` of that, or `None`, which claims nothing. No call of a source or
+//! tree and which file is open (`Writing`), a log its bytes. It is `Some` of that, or `None`, which claims nothing. So a source may say where
+//! it fails (`failing`, `Failing`): at which paths nothing is listed, or opened and read to its end. No call of a source or
 //! destination changes whether it tells, and no call changes a source's tree; a log that tells goes on telling. A failed call leaves what was
 //! told as it was, but that a failed `append` or `put` leaves a part of its piece, from its start. Each device counts its failures up to 2^64 -
 //! 1 (`IsCounted`), a source its calls (`IsOneMoreCall`), and a destination, where it keeps that, how often it was asked what stands
@@ -24,7 +25,7 @@
 //! - `Source`, `Dest`, `Log`: the contracts say exactly what each call gives and leaves, as one equation; told or not, `Device` comes only
 //!   where the count of failures rose or stood at its greatest value. Two clauses are promises of the traits themselves: in a told source's
 //!   tree the names rise in each directory, and a told destination has a folder above each entry. Each call also keeps what a device says of
-//!   itself that none changes (`keeps`).
+//!   itself that none changes (`keeps`), and with that a source fails at the same paths.
 //! - `WriterLog`: a log over any writer, which tells what the writer tells. `write_out`: where it answers Ok all bytes were written, else a
 //!   front of them.
 //! - `Ignoring`: over any source, it tells the source's tree without the entries that have one of its names (`Ignored`), in every directory

@@ -1,5 +1,6 @@
-ghost use Rattle.std.specs.Prelude.{◌≡◌, ℕ, [], Option, Some, true, IfOk, OnOk, OnErr};
+ghost use Rattle.std.specs.Prelude.{◌≡◌, ℕ, [], Option, Some, true, IfOk, MatchResult, OnOk, OnErr};
 ghost use Rattle.std.specs.Option.{option_map};
+ghost use Rattle.pt_tree.specs.Failing.{Failing, ListsAs, OpensAs, ReadsAs, failing_paths};
 ghost use Rattle.pt_tree.specs.Failures.{IsCounted, IsOneMoreCall};
 ghost use Rattle.pt_tree.specs.Forest.{is_proper};
 ghost use Rattle.pt_tree.specs.Source.{Reading, CanList, IsListed, CanOpen, CanRead, IsRead, after_open, after_next};
@@ -8,15 +9,19 @@ use crate::{Block, Listing, NamePath, TreeFault};
 
 /// A tree of files to read from.
 ///
-/// A source may tell what it holds: then contracts say what its calls give. No call changes its tree, or whether it
-/// tells. Each call but `failures` raises the number of calls by one, failed or not, told or not; a running program
-/// can't ask for that number.
+/// A source may tell what it holds: then contracts say what its calls give. It may also tell where it fails. No call changes
+/// its tree, at which paths it fails, or whether it tells. Each call but `failures` raises the number of calls by one, failed
+/// or not, told or not; a running program can't ask for that number.
 ///
 /// Each call answers `Device` only where the count of failures rose in it, or stood at its greatest value, 2^64 - 1;
 /// and `Memory` where a growth was refused.
 pub trait Source {
     /// What it tells, if it does: its tree, and what is left of the open file.
     ghost told: { Self → Option Reading };
+
+    /// Where it fails, if it tells that: at which paths nothing is listed, or opened and read to its end, while elsewhere no call fails;
+    /// and whether reading the open file on fails so. Who tells this should tell its tree.
+    ghost failing: { Self → Option Failing };
 
     /// How often it failed, up to 2^64 - 1.
     ghost failed: { Self → ℕ };
@@ -38,6 +43,7 @@ pub trait Source {
         requires { CanList (told self.old) path.now }
         ensures listing { IfOk result (λ listing. IsListed (told self.old) path.now listing) }
         ensures same { told self.new ≡ told self.old }
+        ensures fails { ListsAs (failing self.old) (failing self.new) path.now result }
         ensures failures { IsCounted (failed self.old) (failed self.new) result }
         ensures calls { IsOneMoreCall (called self.old) (called self.new) }
         ensures keeps { keeps self.old self.new };
@@ -50,6 +56,7 @@ pub trait Source {
         ensures opened { OnOk result (told self.new
             ≡ option_map (after_open path.now) (told self.old)) }
         ensures same { OnErr result (told self.new ≡ told self.old) }
+        ensures fails { OpensAs (failing self.old) (failing self.new) path.now result }
         ensures failures { IsCounted (failed self.old) (failed self.new) result }
         ensures calls { IsOneMoreCall (called self.old) (called self.new) }
         ensures keeps { keeps self.old self.new };
@@ -60,10 +67,11 @@ pub trait Source {
     /// Where the source tells, a file has to be open.
     fn next(&mut self, block: &mut Block) -> Result<(), TreeFault>
         requires { CanRead (told self.old) }
-        ensures block { OnOk result (IsRead (told self.old) block.new.items) }
+        ensures block { MatchResult result (λ _. IsRead (told self.old) block.new.items)
+            (λ _. block.new.items ≡ []) }
         ensures moved { OnOk result (told self.new ≡ option_map after_next (told self.old)) }
-        ensures empty { OnErr result (block.new.items ≡ []) }
         ensures same { OnErr result (told self.new ≡ told self.old) }
+        ensures fails { ReadsAs (failing self.old) (failing self.new) block.new.items result }
         ensures failures { IsCounted (failed self.old) (failed self.new) result }
         ensures calls { IsOneMoreCall (called self.old) (called self.new) }
         ensures keeps { keeps self.old self.new };
@@ -73,6 +81,10 @@ pub trait Source {
 
     /// And so it is after further calls.
     ghost keeps_on: { (a b c : Self) → keeps a b → keeps b c → keeps a c };
+
+    /// So it fails at the same paths.
+    ghost keeps_failing: { (a b : Self) → keeps a b
+        → failing_paths (failing b) ≡ failing_paths (failing a) };
 
     /// In each directory of a tree that is told the names rise, so that none comes twice.
     ghost proper: { (source : Self) (state : Reading) → told source ≡ Some state

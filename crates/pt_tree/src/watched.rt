@@ -46,6 +46,8 @@ impl<S: Source, W: Drop> Watched<S, W> {
 impl<S: Source, W: Watcher> Source for Watched<S, W> {
     ghost told = { λ w. S.told w.source };
 
+    ghost failing = { λ w. S.failing w.source };
+
     ghost failed = { λ w. S.failed w.source };
 
     ghost called = { λ w. S.called w.source };
@@ -55,6 +57,8 @@ impl<S: Source, W: Watcher> Source for Watched<S, W> {
     ghost is_kept = { λ a. S.is_kept a.source };
 
     ghost keeps_on = { λ a b c p q. S.keeps_on a.source b.source c.source p q };
+
+    ghost keeps_failing = { λ a b p. S.keeps_failing a.source b.source p };
 
     ghost proper = { λ w. S.proper w.source };
 
