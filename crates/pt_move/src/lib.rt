@@ -3,7 +3,9 @@
 //! What it promises, over any source, destination and log; docs/GUARANTEES.md has it clause by clause:
 //!
 //! - `migrate_observed` asks for nothing. `Migrates` is what it promises, each clause by its name, and which devices have to tell. An observer
-//!   gets the report after each turn that goes on (`Observer`). `migrate` is that without one, with the same promises.
+//!   gets the report after each turn that goes on (`Observer`). `migrate` is that without one, with the same promises. Beside `Migrates`: a
+//!   source that tells where it fails does so at what a run asks for, or at the file that was open, if a call of it failed
+//!   (`FailsOnlyWhereAsked` of pt_plan); each step promises the same.
 //! - `Mover::step` asks that the devices are those of the earlier steps, as those left them. It promises the same after each answer, against
 //!   the start at which the run began (`Keeps`), and besides that what is held is within the bound, that it is the fields that are listed and
 //!   nothing else (`HoldsNothingElse` of pt_state), and that the turns made are within the work.

@@ -1,6 +1,8 @@
 // A whole run.
 ghost use Rattle.std.specs.Prelude.{ℕ};
+ghost use Rattle.pt_plan.specs.SourceFailures.{FailsOnlyWhereAsked};
 ghost use Rattle.pt_state.specs.Outside.{states_of};
+ghost use Rattle.pt_state.specs.SourceFailures.{source_view};
 ghost use Rattle.pt_move.specs.Migrates.{Migrates};
 
 use crate::{Fault, Mover, NoObserver, Observer, Turn};
@@ -19,7 +21,9 @@ use std::alloc::Global;
 ///
 /// `Source`, `Dest` and `Log` are answered only where that device's count of failures rose, or stood at its greatest
 /// value, and then no other answer is given; `Ended` is never answered. Each other fault comes where its variant of `Fault`
-/// says. Each device stays the one that it is, as its calls keep it.
+/// says. Each device stays the one that it is, as its calls keep it. Where the source's count of failures changed, and it tells where it
+/// fails, it does so at its top, the file of its prefix, or something at `pairtree_root` or below, or at the file that was open in it
+/// before (`source_fails`).
 pub fn migrate<S: Source, D: Dest, L: Log>(
     alloc: Global,
     source: &mut S,
@@ -30,6 +34,8 @@ pub fn migrate<S: Source, D: Dest, L: Log>(
     ensures promises { Migrates job (states_of S.Source D.Dest L.Log source.old dest.old log.old)
         (states_of S.Source D.Dest L.Log source.new dest.new log.new) result }
     ensures source_stays { S.keeps source.old source.new }
+    ensures source_fails { FailsOnlyWhereAsked (source_view S.Source source.old)
+        (source_view S.Source source.new) }
     ensures dest_stays { D.keeps dest.old dest.new }
     ensures log_stays { L.keeps log.old log.new }
 {
@@ -49,6 +55,8 @@ pub fn migrate_observed<S: Source, D: Dest, L: Log, O: Observer<Report>>(
     ensures promises { Migrates job (states_of S.Source D.Dest L.Log source.old dest.old log.old)
         (states_of S.Source D.Dest L.Log source.new dest.new log.new) result }
     ensures source_stays { S.keeps source.old source.new }
+    ensures source_fails { FailsOnlyWhereAsked (source_view S.Source source.old)
+        (source_view S.Source source.new) }
     ensures dest_stays { D.keeps dest.old dest.new }
     ensures log_stays { L.keeps log.old log.new }
 {

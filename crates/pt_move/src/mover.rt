@@ -3,7 +3,9 @@ ghost use Rattle.std.specs.Prelude.{◌≡◌, ◌+◌, length};
 ghost use Rattle.pt_invariant.specs.RunInvariant.{AreStates, Start, start_of};
 ghost use Rattle.pt_plan.specs.DeviceStates.{DeviceStates};
 ghost use Rattle.pt_state.specs.Counting.{AtMostCalls};
+ghost use Rattle.pt_plan.specs.SourceFailures.{FailsOnlyWhereAsked};
 ghost use Rattle.pt_state.specs.Outside.{states_of};
+ghost use Rattle.pt_state.specs.SourceFailures.{source_view};
 ghost use Rattle.pt_walk.specs.Trail.{entries_held};
 ghost use Rattle.pt_move.specs.Bounds.{most_looks};
 ghost use Rattle.pt_move.specs.Promises.{TakesStep, TurnKeeps};
@@ -95,6 +97,8 @@ impl Mover {
             (S.called source.old) (S.called source.new)
             × AtMostCalls (most_looks self.old.phase) (D.looked dest.old) (D.looked dest.new) }
         ensures source_stays { SameDevice S.keeps result source.old source.new }
+        ensures source_fails { FailsOnlyWhereAsked (source_view S.Source source.old)
+            (source_view S.Source source.new) }
         ensures dest_stays { SameDevice D.keeps result dest.old dest.new }
         ensures log_stays { SameDevice L.keeps result log.old log.new }
     {

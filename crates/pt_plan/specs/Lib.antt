@@ -21,6 +21,7 @@ pub mod Roots
 pub mod Run
 pub mod RunFaults
 pub mod ShareLaws
+pub mod SourceFailures
 pub mod Store
 pub mod ToldLines
 pub mod Turn

@@ -1,4 +1,5 @@
 pub mod Asking
+mod Failing
 pub mod Together
 pub mod Turns
 pub mod Fronts

@@ -14,11 +14,11 @@ use Rattle.pt_tree.specs.Tree.{edited_by, put}
 
 -- ---- a question leaves all as it was
 
-opened : (p : Path) (o : Option Reading) → tree_in (option_map (after_open p) o) ≡ tree_in o
+pub opened : (p : Path) (o : Option Reading) → tree_in (option_map (after_open p) o) ≡ tree_in o
 opened p None = refl
 opened p (Some s) = refl
 
-read_on : (o : Option Reading) → tree_in (option_map after_next o) ≡ tree_in o
+pub read_on : (o : Option Reading) → tree_in (option_map after_next o) ≡ tree_in o
 read_on None = refl
 read_on (Some s) = refl
 

@@ -4,6 +4,7 @@ ghost use Rattle.std.specs.Prelude.{◌≡◌, ◌+◌, ◌≤◌, ℕ, true, So
 ghost use Rattle.pt_object.specs.Script.{MakeFolder};
 ghost use Rattle.pt_plan.specs.Lines.{Line, line_text};
 ghost use Rattle.pt_plan.specs.Turn.{Did, FailsPartway};
+ghost use Rattle.pt_plan.specs.SourceFailures.{FailsOnlyWhereAsked, IsAskedFor};
 ghost use Rattle.pt_plan.specs.DeviceStates.{DeviceStates, Adds, Creates, Finishes, Makes, Opens, Peeks, Reads, Renames, asks, does, tells};
 ghost use Rattle.pt_tree.specs.Dest.{Writing, CanPeek, CanWrite, MayMake, MayMove};
 ghost use Rattle.pt_tree.specs.Forest.{is_proper};
@@ -11,6 +12,7 @@ ghost use Rattle.pt_tree.specs.Source.{Reading, CanList, CanOpen, CanRead};
 ghost use Rattle.pt_tree.specs.Tree.{IsTree};
 ghost use Rattle.pt_state.specs.Counting.{AtMostCalls, calls_after, calls_more, calls_most, calls_none, calls_still};
 ghost use Rattle.pt_state.specs.Outside.{Called, Found, Listed, Wrote, states_of};
+ghost use Rattle.pt_state.specs.SourceFailures.{fails_nowhere, fails_on, source_view};
 
 use pt_plan::Fault;
 use pt_tree::{Block, Dest, Kind, Listing, Log, NamePath, Source};
@@ -23,18 +25,20 @@ pub trait Io {
     /// What the three tell, and how often each failed.
     ghost states: { Self → DeviceStates };
 
-    /// It is over the same three devices; the source was called at most so many times more, and the destination asked at
-    /// most so many times more what stands.
+    /// It is over the same three devices; the source was called at most so many times more, and failed only where a run asks it, or at the
+    /// file that was open; and the destination was asked at most so many times more what stands.
     ghost within: { ℕ → ℕ → Self → Self → Type 0 };
 
-    /// Lists a directory of the source.
+    /// Lists a directory of the source, the top or one of the pairtree.
     fn list(&mut self, path: &NamePath) -> Result<Listing, Fault>
-        requires { CanList (states self.old).source path.now }
+        requires listed { CanList (states self.old).source path.now }
+        requires asked_for { IsAskedFor path.now }
         ensures { Listed states (within 1 0) path.now self.old self.new result };
 
-    /// Opens a file of the source.
+    /// Opens a file of the source, that of the prefix or one of the pairtree.
     fn open(&mut self, path: &NamePath) -> Result<(), Fault>
-        requires { CanOpen (states self.old).source path.now }
+        requires opened { CanOpen (states self.old).source path.now }
+        requires asked_for { IsAskedFor path.now }
         ensures { Called states (within 1 0) (asks (Opens path.now)) self.old self.new result };
 
     /// Reads the next block of the open file of the source.
@@ -132,7 +136,9 @@ impl<'s, 'd, 'l, S: Source, D: Dest, L: Log> Io for Devices<'s, 'd, 'l, S, D, L>
         × S.keeps a.source.now b.source.now × D.keeps a.dest.now b.dest.now
         × L.keeps a.log.now b.log.now
         × AtMostCalls n (S.called a.source.now) (S.called b.source.now)
-        × AtMostCalls k (D.looked a.dest.now) (D.looked b.dest.now) };
+        × AtMostCalls k (D.looked a.dest.now) (D.looked b.dest.now)
+        × FailsOnlyWhereAsked (source_view S.Source a.source.now)
+        (source_view S.Source b.source.now) };
 
     ghost none = { λ a. (
       refl,
@@ -143,6 +149,7 @@ impl<'s, 'd, 'l, S: Source, D: Dest, L: Log> Io for Devices<'s, 'd, 'l, S, D, L>
       L.is_kept a.log.now,
       calls_none (S.called a.source.now),
       calls_none (D.looked a.dest.now),
+      fails_nowhere _,
     ) };
 
     ghost most = { λ a b m n k l p few looks. (
@@ -154,6 +161,7 @@ impl<'s, 'd, 'l, S: Source, D: Dest, L: Log> Io for Devices<'s, 'd, 'l, S, D, L>
       p.5,
       calls_most (S.called a.source.now) (S.called b.source.now) m n p.6 few,
       calls_most (D.looked a.dest.now) (D.looked b.dest.now) k l p.7 looks,
+      p.8,
     ) };
 
     ghost still = { λ a b c n k p q. (
@@ -165,6 +173,7 @@ impl<'s, 'd, 'l, S: Source, D: Dest, L: Log> Io for Devices<'s, 'd, 'l, S, D, L>
       L.keeps_on a.log.now b.log.now c.log.now p.5 q.5,
       calls_still (S.called a.source.now) (S.called b.source.now) (S.called c.source.now) n p.6 q.6,
       calls_still (D.looked a.dest.now) (D.looked b.dest.now) (D.looked c.dest.now) k p.7 q.7,
+      fails_on _ _ _ p.8 q.8,
     ) };
 
     ghost after = { λ a b c n k p q. (
@@ -176,6 +185,7 @@ impl<'s, 'd, 'l, S: Source, D: Dest, L: Log> Io for Devices<'s, 'd, 'l, S, D, L>
       L.keeps_on a.log.now b.log.now c.log.now p.5 q.5,
       calls_after (S.called a.source.now) (S.called b.source.now) (S.called c.source.now) n p.6 q.6,
       calls_after (D.looked a.dest.now) (D.looked b.dest.now) (D.looked c.dest.now) k p.7 q.7,
+      fails_on _ _ _ p.8 q.8,
     ) };
 
     ghost more = { λ a b c m n k l p q. (
@@ -188,6 +198,7 @@ impl<'s, 'd, 'l, S: Source, D: Dest, L: Log> Io for Devices<'s, 'd, 'l, S, D, L>
       calls_more (S.called a.source.now) (S.called b.source.now) (S.called c.source.now)
           m n p.6 q.6,
       calls_more (D.looked a.dest.now) (D.looked b.dest.now) (D.looked c.dest.now) k l p.7 q.7,
+      fails_on _ _ _ p.8 q.8,
     ) };
 
     ghost proper = { λ o told is. S.proper o.source.now told is };

@@ -1,6 +1,8 @@
-use Rattle.std.proofs.Common.{arith}
-use Rattle.pt_make.proofs.MakeRules.{make_rules}
+use Rattle.std.proofs.Common.{inl, refl, subst, sym}
+use Rattle.pt_plan.specs.SourceFailures.{IsAskedFor}
 use Rattle.pt_make.proofs.contents.open_copy.Goals as goal
+use Rattle.pt_make.specs.Making.{IsNextCopy}
 
-pub returns : goal.returns
-returns g c = grind (arith, make_rules)
+pub open-requires-clause-asked_for : goal.open-requires-clause-asked_for
+unfolding IsNextCopy
+open-requires-clause-asked_for g c = subst IsAskedFor (sym c.requires.next.1.4) (inl refl)

@@ -2,8 +2,8 @@ use Rattle.std.proofs.Common.{rules}
 use Rattle.pt_scan.proofs.ScanTurns.{may_open_entry, path_too_long}
 use Rattle.pt_scan.proofs.scanning.meet_file.Goals as goal
 
-pub open-requires : goal.open-requires
-open-requires g c = may_open_entry _ _ _ c.requires.may c.requires.file c.in_ok-path.ensures
+pub open-requires-clause-opened : goal.open-requires-clause-opened
+open-requires-clause-opened g c = may_open_entry _ _ _ c.requires.may c.requires.file c.in_ok-path.ensures
 
 pub returns-then-is_longer : goal.returns-then-is_longer
 returns-then-is_longer g c = record {

@@ -1,4 +1,4 @@
-use Rattle.std.proofs.Common.{arith, ◌∙◌, refl}
+use Rattle.std.proofs.Common.{◌∙◌, refl, rules}
 use Rattle.pt_state.specs.Outside.{states_of}
 use Rattle.pt_move.proofs.Rerun.{again_as, ended_as, told_tree}
 use Rattle.pt_move.proofs.clients.anew.carry_through.Goals as goal
@@ -26,5 +26,5 @@ loop-preserved g c =
       ends =
           λ s start is.
           again_as (g.J.Jobs.job c.args.attempts.jobs) c.in-Some.job s start old new later c.in_default-migrate.field-0 (c.in-Some.ensures.made ∙ at.invariant.same) (at.invariant.ends s start is)
-          c.in_default-migrate.ensures.promises refl refl (grind arith steps 100000) (told_tree (g.D.Dest.told taken) (λ w told. g.met.D.Dest.is_tree taken w told));
+          c.in_default-migrate.ensures.promises refl refl (c.take_staging_away.ensures (search rules)) (told_tree (g.D.Dest.told taken) (λ w told. g.met.D.Dest.is_tree taken w told));
     }
