@@ -5,7 +5,7 @@ use Rattle.std.proofs.lemmas.List.{length-append, take-append-drop}
 use Rattle.std.specs.Option.{ForSome, option_map}
 use Rattle.std.specs.Prelude.{IsSome, Option, None, Some, unwrap_or}
 use Rattle.pt_check.specs.Counting.{plus, with_bytes}
-use Rattle.pt_check.specs.Visits.{Opens, Seen, TellsIf, counting, size_trouble}
+use Rattle.pt_check.specs.Visits.{GoesAt, Opens, Seen, TellsIf, counting, size_trouble}
 use Rattle.pt_check.specs.declared.trouble.Trouble.{Trouble}
 use Rattle.pt_check.specs.declared.trouble.Trouble.TheVariants as trouble
 use Rattle.pt_tree.specs.Failures.{greatest_count}
@@ -160,20 +160,23 @@ same_sum total n = omega arith
 -- a file was opened, its bytes counted up to the greatest number, and told if they are too many
 pub opens_step : (here : Option Forest) (reads : Bool) (path : Path) (n : ℕ) (told : Option Trouble) (a m b : Seen)
     → ForSome here (λ tree. n ≡ cond reads (min (length (bytes_at tree path)) greatest_count) 0) → told ≡ size_trouble n → m ≡ counting (with_bytes n) a
-    → TellsIf path told m b → ForSome here (λ tree. Opens reads path (bytes_at tree path) a b)
-opens_step here reads path n told a m b bytes told_is counted tells tree is =
+    → TellsIf path told m b → (reads ≡ true → n < greatest_count → GoesAt path a) → ForSome here (λ tree. Opens reads path (bytes_at tree path) a b)
+opens_step here reads path n told a m b bytes told_is counted tells goes tree is =
     let start : TellsIf path told (counting (with_bytes n) a) b = subst (λ (s : Seen). TellsIf path told s b) counted tells in
     let named : TellsIf path (size_trouble n) (counting (with_bytes n) a) b = subst (λ (o : Option Trouble). TellsIf path o (counting (with_bytes n) a) b) told_is start in
-    by reads (bytes tree is) named
+    by reads goes (bytes tree is) named
   where
     all : ℕ
     all = length (bytes_at tree path)
 
-    by : (r : Bool) → n ≡ cond r (min all greatest_count) 0 → TellsIf path (size_trouble n) (counting (with_bytes n) a) b → Opens r path (bytes_at tree path) a b
-    by true e it =
+    by : (r : Bool) → (r ≡ true → n < greatest_count → GoesAt path a) → n ≡ cond r (min all greatest_count) 0 → TellsIf path (size_trouble n) (counting (with_bytes n) a) b → Opens r path (bytes_at tree path) a b
+    by true goes e it =
         let read : TellsIf path (size_trouble (min all greatest_count)) (counting (with_bytes (min all greatest_count)) a) b =
         subst (λ (k : ℕ). TellsIf path (size_trouble k) (counting (with_bytes k) a) b) e it in
         let sized : TellsIf path (size_trouble all) (counting (with_bytes (min all greatest_count)) a) b =
         subst (λ (o : Option Trouble). TellsIf path o (counting (with_bytes (min all greatest_count)) a) b) (same_size all) read in
-        inl (subst (λ (k : ℕ). TellsIf path (size_trouble all) (record a { numbers = record a.numbers { bytes = k } }) b) (same_sum a.numbers.bytes all) sized)
-    by false e it = inl (subst (λ (k : ℕ). TellsIf path (size_trouble k) (counting (with_bytes k) a) b) e it)
+        inl (
+          subst (λ (k : ℕ). TellsIf path (size_trouble all) (record a { numbers = record a.numbers { bytes = k } }) b) (same_sum a.numbers.bytes all) sized,
+          (λ reads few. goes reads (omega (arith, e, few))),
+        )
+    by false goes e it = inl (subst (λ (k : ℕ). TellsIf path (size_trouble k) (counting (with_bytes k) a) b) e it, (λ reads few. absurd (cc)))

@@ -7,6 +7,8 @@ use Rattle.pt_check.specs.declared.checking.Check.{Check}
 use Rattle.pt_check.specs.declared.numbers.Numbers.{Numbers}
 use Rattle.pt_tree.proofs.Growing.{grows_none, grows_on}
 use Rattle.pt_tree.specs.Source.{Reading, tree_in}
+use Rattle.pt_tree.specs.declared.log.Log.{Ghosts as OfLog}
+use Rattle.pt_tree.specs.declared.source.Source.{Ghosts as OfSource}
 
 -- and what is kept twice is kept
 pub keeps_on : {S L E : Type 0} (told : S → Option Reading) (keeps : S → S → Type 0) (held : L → Option (List ℕ))
@@ -55,7 +57,7 @@ ends_on {S} {L} {E} told keeps held is_kept a b n is =
     counts_on told keeps held is_kept a b (ap (λ (s : Check S L E). s.source) is) (ap (λ (s : Check S L E). s.log) is) (ap (λ (s : Check S L E). s.wants) is)
 
 -- and that is how far it is then
-pub recounted : {S L E : Type 0} (failed : S → ℕ) (held : L → Option (List ℕ)) (a b : Check S L E) (n : Numbers) → b ≡ record a { numbers = b.numbers } → b.numbers ≡ n
-    → seen_by failed held b ≡ record (seen_by failed held a) { numbers = n }
-recounted {S} {L} {E} failed held a b n rest is =
-    ap (λ (s : Check S L E). seen_by failed held s) rest ∙ ap (λ (m : Numbers). record (seen_by failed held a) { numbers = m }) is
+pub recounted : {S L E : Type 0} (source : OfSource S) (log : OfLog L) (a b : Check S L E) (n : Numbers) → b ≡ record a { numbers = b.numbers } → b.numbers ≡ n
+    → seen_by source log b ≡ record (seen_by source log a) { numbers = n }
+recounted {S} {L} {E} source log a b n rest is =
+    ap (λ (s : Check S L E). seen_by source log s) rest ∙ ap (λ (m : Numbers). record (seen_by source log a) { numbers = m }) is

@@ -1,3 +1,4 @@
+mod Goes
 mod Keeping
 mod Kept
 mod NamesRead
@@ -7,5 +8,6 @@ mod Stepping
 mod Parts
 mod Others
 mod Quiet
+pub mod Readable
 mod Visiting
 mod WithinLimits

@@ -76,9 +76,9 @@ looked_all says here there wants again prefix items m n last lists same same_wan
 
 -- then the numbers were told
 pub checked : (says : Says) (here there : Option Forest) (wants again : Wants) (numbers : Numbers) (whole : Bool) (a first last b : Seen) → there ≡ here → again ≡ wants → Finds says [] whole a first
-    → ForSome there (λ t. LooksAll says again t first last) → numbers ≡ last.numbers → b.failed ≡ last.failed → b.numbers ≡ last.numbers
+    → ForSome there (λ t. LooksAll says again t first last) → numbers ≡ last.numbers → b.failing ≡ last.failing → b.failed ≡ last.failed → b.numbers ≡ last.numbers
     → Appends last.held b.held (line_text (End last.numbers)) → ForSome here (λ t. Checks says wants t numbers a b)
-checked says here there wants again numbers whole a first last b same same_wants finds looks is failed counted held t told =
+checked says here there wants again numbers whole a first last b same same_wants finds looks is failing failed counted held t told =
     let all : LooksAll says again t first last = looks t (same ∙ told) in
     record {
       last = last;
@@ -86,20 +86,22 @@ checked says here there wants again numbers whole a first last b same same_wants
       whole = whole;
       looks = inl (finds, subst (λ (r : Wants). LooksAll says r t first last) same_wants all);
       numbers_are = is;
+      failing = failing;
       failed = failed;
       counted = counted;
       held = held;
     }
 
 -- and so they were where the top couldn't be listed
-pub checked_nothing : (says : Says) (here : Option Forest) (wants : Wants) (numbers : Numbers) (a last b : Seen) → TellsUnlisted says [] false a last → numbers ≡ last.numbers → b.failed ≡ last.failed
+pub checked_nothing : (says : Says) (here : Option Forest) (wants : Wants) (numbers : Numbers) (a last b : Seen) → TellsUnlisted says [] false a last → numbers ≡ last.numbers → b.failing ≡ last.failing → b.failed ≡ last.failed
     → b.numbers ≡ last.numbers → Appends last.held b.held (line_text (End last.numbers)) → ForSome here (λ t. Checks says wants t numbers a b)
-checked_nothing says here wants numbers a last b fails is failed counted held t told = record {
+checked_nothing says here wants numbers a last b fails is failing failed counted held t told = record {
   last = last;
   first = last;
   whole = false;
   looks = inr fails;
   numbers_are = is;
+  failing = failing;
   failed = failed;
   counted = counted;
   held = held;

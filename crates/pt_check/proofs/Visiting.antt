@@ -1,7 +1,7 @@
 -- The steps of a check through a folder.
-use Rattle.std.proofs.Common.{◌≡◌, ◌≤◌, ◌+◌, ◌-◌, ◌==◌, ℕ, Bool, true, false, List, [], ◌∷◌, ◌++◌, refl, sym, ap, ◌∙◌, subst, length, cond, inl, inr}
+use Rattle.std.proofs.Common.{arith, get_or, ◌≡◌, ◌<◌, ◌≤◌, ◌+◌, ◌-◌, ◌==◌, ℕ, Bool, true, false, List, [], ◌∷◌, ◌++◌, refl, sym, ap, ◌∙◌, subst, length, cond, inl, inr}
 use Rattle.std.proofs.lemmas.Bool.{ne_eqb}
-use Rattle.std.proofs.lemmas.Option.{slice_get_past}
+use Rattle.std.proofs.lemmas.Option.{slice_get_cases, slice_get_past}
 use Rattle.std.specs.Option.{ForSome, option_and_then, option_map}
 use Rattle.std.specs.Prelude.{◌⊎◌, IsSome, is_some, Option, None, Some, slice_get}
 use Rattle.pt_check.specs.Lines.{Told}
@@ -69,6 +69,14 @@ pub visited_dir : (says : Says) (wants : Wants) (folder : Folder) (holds : Bool)
 visited_dir says wants folder holds top items place name first now met left proper listed at to meets visits last rest =
     let ahead = dir_ahead top folder.path items place name proper listed at in
     to last (subst (λ (f : Forest). Visits says wants folder holds f now last) (sym ahead.rest_is) (met, meets, left, visits, rest))
+
+-- before its end there is an entry
+pub goes_past : (items : List Item) (place : ℕ) → place < length items → slice_get items place ≡ None → ⊥
+goes_past items place less is = by (slice_get_cases items place).1
+  where
+    by : ((x : Item) × (place < length items) × (slice_get items place ≡ Some x) × (get_or items place x ≡ x)) ⊎ ((length items ≤ place) × (slice_get items place ≡ None)) → ⊥
+    by (inl (x, within, some, same)) = absurd (cc)
+    by (inr (past, none_is)) = omega (arith, less, past)
 
 -- at the end of the listing all was visited
 pub visited_all : (says : Says) (wants : Wants) (folder : Folder) (holds : Bool) (top : Forest) (items : List Item) (place : ℕ) (first now : Seen)
@@ -148,7 +156,8 @@ enters says wants folder items visits a b some does = by (folder.left == 0) (ne_
 pub begins : (says : Says) (wants : Wants) (folder : Folder) (items : List Item) (whole holds : Bool) (a m b : Seen) → Finds says folder.path whole a m
     → cond whole (Judges wants (folder.path, folder.prefix) folder.here items m b) (b ≡ m) → holds ≡ cond whole (has_object (finding_of folder.here items)) false
     → Begins says wants folder items holds a b
-begins says wants folder items true holds a m b same judges holds_is = inl (subst (λ (s : Seen). Judges wants (folder.path, folder.prefix) folder.here items s b) same judges, holds_is)
+begins says wants folder items true holds a m b (same, goes) judges holds_is =
+    inl (subst (λ (s : Seen). Judges wants (folder.path, folder.prefix) folder.here items s b) same judges, holds_is, goes)
 begins says wants folder items false holds a m b tells same holds_is = inr (subst (λ (s : Seen). TellsUnlisted says folder.path true a s) (sym same) tells, holds_is)
 
 -- a folder among the entries was met and visited

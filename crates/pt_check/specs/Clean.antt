@@ -1,7 +1,7 @@
 -- A store of which a check has nothing to tell.
 use Rattle.std.specs.Prelude.{◌≡◌, ◌≢◌, ◌≤◌, ◌+◌, ◌==◌, ◌||◌, ⊤, ℕ, suc, Bool, true, false, cond, length, take, List, [], ◌∷◌, ◌++◌, Option, None, Some}
 use Rattle.pt_check.specs.Prefix.{prefix_trouble}
-use Rattle.pt_check.specs.Visits.{Checks, Folder, Says, Seen, entry_trouble, finding_of, folder_in, folder_trouble, has_object, prefix_path, reserved_trouble, room_trouble, root_folder, size_trouble}
+use Rattle.pt_check.specs.Visits.{Checks, Folder, GoesAt, Says, Seen, entry_trouble, finding_of, folder_in, folder_trouble, has_object, prefix_path, reserved_trouble, room_trouble, root_folder, size_trouble}
 use Rattle.pt_check.specs.Within.{starts_object}
 use Rattle.pt_check.specs.declared.numbers.Numbers.{Numbers}
 use Rattle.pt_check.specs.declared.wants.Wants.{Wants}
@@ -9,10 +9,13 @@ use Rattle.pt_check.specs.declared.within.Within.{Within}
 use Rattle.pt_plan.specs.Items.{Item as WalkItem, Named, PairtreeObject, Skip, cause_of, items}
 use Rattle.pt_plan.specs.Job.{Job}
 use Rattle.pt_plan.specs.Store.{pairtree_root, prefix_file, prefix_of, version_file}
+use Rattle.pt_plan.specs.SourceFailures.{FailsAtOpen, FailsOnlyWhereAsked, IsAskedFor, SourceView, StandsAt}
 use Rattle.pt_plan.specs.TurnStart.{is_dir_kind, is_file_kind, kind_in}
+use Rattle.pt_tree.specs.Failing.{failing_paths}
 use Rattle.pt_tree.specs.Forest.{Forest, none, file, other, dir, listing_of}
 use Rattle.pt_tree.specs.Listing.{Item}
-use Rattle.pt_tree.specs.Path.{joined}
+use Rattle.pt_tree.specs.Path.{Path, joined}
+use Rattle.pt_tree.specs.Source.{tree_in}
 use Rattle.pt_tree.specs.declared.kind.Kind.{Kind}
 use Rattle.pt_tree.specs.declared.kind.Kind.TheVariants as kind
 use Rattle.pt_walk.specs.Left.{bytes_at, inside_at}
@@ -92,7 +95,21 @@ QuietCheckMeansCleanStore =
     (says : Says) (wants : Wants) (tree : Forest) (numbers : Numbers) (a b : Seen) → Checks says wants tree numbers a b
     → numbers.told ≡ 0 → IsCleanStore wants tree × (b.failed ≡ a.failed)
 
+-- and where it read files whole, that source, if it tells where it fails, fails at nothing that a run asks it for
+abbrev pub QuietCheckMeansReadableStore : Type 0
+QuietCheckMeansReadableStore =
+    (says : Says) (wants : Wants) (tree : Forest) (numbers : Numbers) (a b : Seen) → Checks says wants tree numbers a b
+    → numbers.told ≡ 0 → wants.reads ≡ true → (p : Path) → IsAskedFor p → StandsAt tree p → GoesAt p a
+
 -- ---- what follows for a run
+
+-- so the count of failures of a source that tells that tree, and that it fails at those paths, isn't raised by what fails only where a run
+-- asks, if no file is open at which it fails
+abbrev pub NoRunFailsForSource : Type 0
+NoRunFailsForSource =
+    (says : Says) (wants : Wants) (tree : Forest) (numbers : Numbers) (a b : Seen) → Checks says wants tree numbers a b
+    → numbers.told ≡ 0 → wants.reads ≡ true → (old new : SourceView) → tree_in old.told ≡ Some tree
+    → failing_paths old.failing ≡ a.failing → (FailsAtOpen old → ⊥) → FailsOnlyWhereAsked old new → new.failed ≡ old.failed
 
 -- something in it, at any depth, is neither file nor directory
 abbrev pub has_other : Forest → Bool

@@ -1,9 +1,10 @@
 -- What a check does at the folders and entries of a store, one after another.
-use Rattle.std.specs.Prelude.{◌≡◌, ◌≤◌, ◌+◌, ◌-◌, ◌==◌, ◌||◌, ◌⊎◌, ℕ, Bool, true, false, cond, codes, drop, length, nat_lt, take, List, [], ◌∷◌, ◌++◌, Option, None, Some}
+use Rattle.std.specs.Prelude.{◌≡◌, ◌<◌, ◌≤◌, ◌+◌, ◌-◌, ◌==◌, ◌||◌, ◌⊎◌, ℕ, Bool, true, false, cond, codes, drop, length, nat_lt, take, List, [], ◌∷◌, ◌++◌, Option, None, Some}
 use Rattle.std.specs.Io.KnownBytes.{Appends}
 use Rattle.std.specs.List.{concat}
 use Rattle.std.specs.Str.{bytes_eq, is_utf8}
 use Rattle.pt_check.specs.Counting.{plus, with_bytes, with_entry, with_line, with_object, with_object_begun, with_site}
+use Rattle.pt_check.specs.Goes.{GoesBy}
 use Rattle.pt_check.specs.Lines.{Line, End, Told, Unreadable, line_text}
 use Rattle.pt_check.specs.Prefix.{prefix_trouble}
 use Rattle.pt_check.specs.Within.{below, starts_object}
@@ -24,7 +25,8 @@ use Rattle.pt_name.specs.declared.identifying.Identification.TheVariants as answ
 use Rattle.pt_name.specs.declared.identifying.Refusal.TheVariants as refusal
 use Rattle.pt_plan.specs.Store.{pairtree_root, prefix_file, prefix_in, version_file}
 use Rattle.pt_plan.specs.TurnStart.{is_dir_kind, is_file_kind, kind_in}
-use Rattle.pt_tree.specs.Failures.{HasRisen}
+use Rattle.pt_tree.specs.Failing.{failing_paths}
+use Rattle.pt_tree.specs.Failures.{HasRisen, greatest_count}
 use Rattle.pt_tree.specs.Forest.{Forest, File, none, file, other, dir, listing_of}
 use Rattle.pt_tree.specs.Listing.{Item}
 use Rattle.pt_tree.specs.Log.{Grows}
@@ -32,6 +34,8 @@ use Rattle.pt_tree.specs.Path.{Path, joined}
 use Rattle.pt_tree.specs.Source.{Reading, tree_in}
 use Rattle.pt_tree.specs.declared.kind.Kind.{Kind}
 use Rattle.pt_tree.specs.declared.kind.Kind.TheVariants as kind
+use Rattle.pt_tree.specs.declared.log.Log.{Ghosts as OfLog}
+use Rattle.pt_tree.specs.declared.source.Source.{Ghosts as OfSource}
 use Rattle.pt_walk.specs.Left.{bytes_at, inside_at}
 use Rattle.pt_walk.specs.Limits.{greatest_limits}
 use Rattle.pt_walk.specs.Site.{found}
@@ -41,16 +45,27 @@ use Rattle.pt_walk.specs.declared.site.Finding.{Finding}
 use Rattle.pt_walk.specs.declared.site.Finding.TheVariants as finding
 use Rattle.pt_walk.specs.declared.site.Form.TheVariants as form
 
--- how far a check is: how often its source failed, what its log holds, and what it has counted
+-- how far a check is: at which paths its source fails, if it tells that, and how often it failed; what its log holds, and what it
+-- has counted
 pub record Seen : Type 0 where
+  pub failing : Option (Path → Bool)
   pub failed : ℕ
   pub held : Option (List ℕ)
   pub numbers : Numbers
 
--- how far this one is, by what its source and its log say of themselves
-abbrev pub seen_by : {S L E : Type 0} → (S → ℕ) → (L → Option (List ℕ)) → Check S L E → Seen
-seen_by failed held check =
-    record { failed = failed check.source; held = held check.log; numbers = check.numbers }
+-- how far this one is, by the words of its source and its log
+abbrev pub seen_by : {S L E : Type 0} → OfSource S → OfLog L → Check S L E → Seen
+seen_by source log check =
+    record {
+      failing = failing_paths (source.failing check.source);
+      failed = source.failed check.source;
+      held = log.told check.log;
+      numbers = check.numbers;
+    }
+
+-- its source doesn't fail at this path, if it tells where it does
+abbrev pub GoesAt : Path → Seen → Type 0
+GoesAt path a = GoesBy a.failing path
 
 -- the tree of its source, if that tells
 abbrev pub tree_by : {S L E : Type 0} → (S → Option Reading) → Check S L E → Option Forest
@@ -68,6 +83,7 @@ pub record Keeps {S L E : Type 0} (told : S → Option Reading) (keeps : S → S
 
 -- this text of a line is put into the log and counted, and nothing fails
 pub record Puts (text : List ℕ) (a b : Seen) : Type 0 where
+  pub failing : b.failing ≡ a.failing
   pub failed : b.failed ≡ a.failed
   pub numbers : b.numbers ≡ with_line a.numbers
   pub held : Appends a.held b.held text
@@ -88,8 +104,8 @@ TellsIf path (Some trouble) a b = Tells (Told path trouble) a b
 -- the source failed, and that is told of this path with a reason
 abbrev pub TellsFailure : Path → Seen → Seen → Type 0
 TellsFailure path a b =
-    (m : Seen) × HasRisen a.failed m.failed × (m.held ≡ a.held) × (m.numbers ≡ a.numbers)
-    × TellsUnread path m b
+    (m : Seen) × (m.failing ≡ a.failing) × HasRisen a.failed m.failed × (m.held ≡ a.held)
+    × (m.numbers ≡ a.numbers) × TellsUnread path m b
 
 -- it is told of this path once more for each of these reasons
 abbrev pub TellsEach : Path → List (List ℕ) → Seen → Seen → Type 0
@@ -225,11 +241,13 @@ Meets wants path here item a b =
 abbrev pub size_trouble : ℕ → Option Trouble
 size_trouble bytes = cond (nat_lt greatest_limits.file_bytes bytes) (Some trouble.Large) None
 
--- a file with these bytes is opened, read whole if that is wanted, and told if it is too large; or it is told that it can't be
+-- a file with these bytes is opened, read whole if that is wanted, and told if it is too large; or it is told that it can't be. Where it
+-- was read whole, and has fewer bytes than the greatest count, the source doesn't fail there.
 abbrev pub Opens : Bool → Path → List ℕ → Seen → Seen → Type 0
 Opens reads path bytes a b =
     let count = cond reads (length bytes) 0 in
-    TellsIf path (size_trouble count) (counting (with_bytes count) a) b ⊎ TellsFailure path a b
+    TellsIf path (size_trouble count) (counting (with_bytes count) a) b
+    × (reads ≡ true → length bytes < greatest_count → GoesAt path a) ⊎ TellsFailure path a b
 
 -- the same of an entry of this kind, if it is a file
 abbrev pub OpensIf : Bool → Path → Kind → List ℕ → Seen → Seen → Type 0
@@ -275,25 +293,25 @@ module _ (says : Says) where
   -- can be listed, or not.
   abbrev pub TellsReasons : Path → Bool → Seen → Seen → Type 0
   TellsReasons path part a b =
-      (m : Seen) × (a.failed ≤ m.failed) × (m.held ≡ a.held) × (m.numbers ≡ a.numbers)
+      (m : Seen) × (m.failing ≡ a.failing) × (a.failed ≤ m.failed) × (m.held ≡ a.held) × (m.numbers ≡ a.numbers)
       × (reason : List ℕ) × (further : List (List ℕ)) × TellsEach path (reason ∷ further) m b
       × (says path (reason ∷ further) part ≡ true)
 
   -- the source failed to list what is at this path, and that is told so
   abbrev pub TellsUnlisted : Path → Bool → Seen → Seen → Type 0
   TellsUnlisted path part a b =
-      (m : Seen) × HasRisen a.failed m.failed × (m.held ≡ a.held) × (m.numbers ≡ a.numbers)
+      (m : Seen) × (m.failing ≡ a.failing) × HasRisen a.failed m.failed × (m.held ≡ a.held) × (m.numbers ≡ a.numbers)
       × TellsReasons path part m b
 
   -- a folder was listed whole, or what has names in it was, and that is told
   abbrev pub Finds : Path → Bool → Seen → Seen → Type 0
-  Finds path whole a b = cond whole (b ≡ a) (TellsUnlisted path true a b)
+  Finds path whole a b = cond whole ((b ≡ a) × GoesAt path a) (TellsUnlisted path true a b)
 
-  -- a folder that lists these entries is judged, and has an object or not; or it can't be listed whole, and that is told in its place:
-  -- it counts as no site, and is taken for one without an object
+  -- a folder that was listed whole, with these entries, is judged, and has an object or not; or it can't be listed whole, and that is
+  -- told in its place: it counts as no site, and is taken for one without an object
   abbrev pub Begins : Wants → Folder → List Item → Bool → Seen → Seen → Type 0
   Begins wants folder items holds a b = (Judges wants (folder.path, folder.prefix) folder.here items a b
-      × (holds ≡ has_object (finding_of folder.here items))) ⊎ (TellsUnlisted folder.path true a b × (holds ≡ false))
+      × (holds ≡ has_object (finding_of folder.here items)) × GoesAt folder.path a) ⊎ (TellsUnlisted folder.path true a b × (holds ≡ false))
 
   -- a folder is met that lists these entries, by what is then done with them: it is too deep and told so, nothing of it can be listed
   -- and that is told, or it is begun and its entries are visited. Where it can't be listed whole these are those that have names, and
@@ -355,10 +373,11 @@ abbrev pub prefix_path : Path
 prefix_path = prefix_file ∷ []
 
 -- the front of a file of a prefix is read, and told by what it is; or it is told that it can't be. The prefix that is then known is empty
--- where the front is none.
+-- where the front is none. Where the front doesn't fill a block, the source doesn't fail there.
 abbrev pub ReadsFront : Path → List ℕ → List ℕ → Seen → Seen → Type 0
 ReadsFront path front prefix a b =
     TellsIf path (prefix_trouble front) a b × (prefix ≡ prefix_in (Some (File front)))
+    × (length front < 8192 → GoesAt path a)
     ⊎ TellsFailure path a b × (prefix ≡ [])
 
 -- where a file stands at the name of the prefix, its front is read. What is no file there is told, and no prefix.
@@ -383,6 +402,7 @@ pub record Checks (says : Says) (wants : Wants) (tree : Forest) (numbers : Numbe
   pub whole : Bool
   pub looks : (Finds says [] whole a first × LooksAll says wants tree first last) ⊎ TellsUnlisted says [] false a last
   pub numbers_are : numbers ≡ last.numbers
+  pub failing : b.failing ≡ last.failing
   pub failed : b.failed ≡ last.failed
   pub counted : b.numbers ≡ last.numbers
   pub held : Appends last.held b.held (line_text (End last.numbers))

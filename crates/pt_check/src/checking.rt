@@ -86,7 +86,7 @@ impl<S: Source, L: Log, E: Explains<S> + Drop> Check<S, L, E> {
     pub fn run(&mut self) -> Result<Numbers, Fault>
         ensures checked { IfOk result (λ numbers. ForSome (tree_by S.told self.old)
             (λ tree. Checks E.says self.old.wants tree numbers
-            (seen_by S.failed L.told self.old) (seen_by S.failed L.told self.new))) }
+            (seen_by S.Source L.Log self.old) (seen_by S.Source L.Log self.new))) }
         ensures keeps { Keeps S.told S.keeps L.told self.old self.new }
         ensures fault { LogFailsAs (L.failed self.old.log) (L.failed self.new.log) result }
     {
@@ -116,7 +116,7 @@ impl<S: Source, L: Log, E: Explains<S> + Drop> Check<S, L, E> {
         ensures looked { IfOk result (λ prefix. ForSome (tree_by S.told self.old)
             (λ tree. ReadsPrefix (kind_in_items listing.now prefix_file) (bytes_at tree prefix_path)
             (string_bytes prefix)
-            (seen_by S.failed L.told self.old) (seen_by S.failed L.told self.new))) }
+            (seen_by S.Source L.Log self.old) (seen_by S.Source L.Log self.new))) }
         ensures keeps { Keeps S.told S.keeps L.told self.old self.new }
         ensures fault { LogFailsAs (L.failed self.old.log) (L.failed self.new.log) result }
     {
@@ -136,7 +136,7 @@ impl<S: Source, L: Log, E: Explains<S> + Drop> Check<S, L, E> {
         requires { ForSome (tree_by S.told self.old) (λ tree. IsSome (file_at tree file.now)) }
         ensures read { IfOk result (λ prefix. ForSome (tree_by S.told self.old)
             (λ tree. ReadsFront file.now (take 8192 (bytes_at tree file.now)) (string_bytes prefix)
-            (seen_by S.failed L.told self.old) (seen_by S.failed L.told self.new))) }
+            (seen_by S.Source L.Log self.old) (seen_by S.Source L.Log self.new))) }
         ensures keeps { Keeps S.told S.keeps L.told self.old self.new }
         ensures fault { LogFailsAs (L.failed self.old.log) (L.failed self.new.log) result }
     {
@@ -159,7 +159,7 @@ impl<S: Source, L: Log, E: Explains<S> + Drop> Check<S, L, E> {
             (λ tree. listing_at tree [] ≡ Some listing.now) }
         ensures looked { OnOk result (ForSome (tree_by S.told self.old)
             (λ tree. Looks E.says self.old.wants prefix.now tree
-            (seen_by S.failed L.told self.old) (seen_by S.failed L.told self.new))) }
+            (seen_by S.Source L.Log self.old) (seen_by S.Source L.Log self.new))) }
         ensures keeps { Keeps S.told S.keeps L.told self.old self.new }
         ensures fault { LogFailsAs (L.failed self.old.log) (L.failed self.new.log) result }
     {
@@ -193,7 +193,7 @@ impl<S: Source, L: Log, E: Explains<S> + Drop> Check<S, L, E> {
             (λ tree. VisitsFolder E.says self.old.wants
             (record { path = path.now; prefix = prefix.now; here = within; left = left })
             (inside_at tree path.now)
-            (seen_by S.failed L.told self.old) (seen_by S.failed L.told self.new))) }
+            (seen_by S.Source L.Log self.old) (seen_by S.Source L.Log self.new))) }
         ensures keeps { Keeps S.told S.keeps L.told self.old self.new }
         ensures fault { LogFailsAs (L.failed self.old.log) (L.failed self.new.log) result }
     {
@@ -228,7 +228,7 @@ impl<S: Source, L: Log, E: Explains<S> + Drop> Check<S, L, E> {
             (λ tree. here ≡ kind.File → IsSome (file_at tree path.now)) }
         ensures opened { OnOk result (ForSome (tree_by S.told self.old)
             (λ tree. OpensIf self.old.wants.reads path.now here (bytes_at tree path.now)
-            (seen_by S.failed L.told self.old) (seen_by S.failed L.told self.new))) }
+            (seen_by S.Source L.Log self.old) (seen_by S.Source L.Log self.new))) }
         ensures keeps { Keeps S.told S.keeps L.told self.old self.new }
         ensures fault { LogFailsAs (L.failed self.old.log) (L.failed self.new.log) result }
     {
@@ -281,8 +281,8 @@ impl<S: Source, L: Log, E: Explains<S> + Drop> Check<S, L, E> {
     ) -> Result<bool, Fault>
         ensures judged { OnOk result (cond found.now.is_whole
             (Judges self.old.wants (path.now, prefix.now) within found.now.listing
-            (seen_by S.failed L.told self.old) (seen_by S.failed L.told self.new))
-            (seen_by S.failed L.told self.new ≡ seen_by S.failed L.told self.old)) }
+            (seen_by S.Source L.Log self.old) (seen_by S.Source L.Log self.new))
+            (seen_by S.Source L.Log self.new ≡ seen_by S.Source L.Log self.old)) }
         ensures object { IfOk result (λ holds. holds ≡ cond found.now.is_whole
             (has_object_in (finding_of_items within found.now.listing)) false) }
         ensures keeps { Keeps S.told S.keeps L.told self.old self.new }
@@ -306,7 +306,7 @@ impl<S: Source, L: Log, E: Explains<S> + Drop> Check<S, L, E> {
     ) -> Result<bool, Fault>
         ensures judged { OnOk result (Judges self.old.wants
             (path.now, prefix.now) within listing.now
-            (seen_by S.failed L.told self.old) (seen_by S.failed L.told self.new)) }
+            (seen_by S.Source L.Log self.old) (seen_by S.Source L.Log self.new)) }
         ensures object { IfOk result (λ holds. holds
             ≡ has_object_in (finding_of_items within listing.now)) }
         ensures keeps { Keeps S.told S.keeps L.told self.old self.new }
@@ -332,7 +332,7 @@ impl<S: Source, L: Log, E: Explains<S> + Drop> Check<S, L, E> {
         kind: Kind,
     ) -> Result<u64, Fault>
         ensures met { OnOk result (Meets self.old.wants path.now within (name.now, kind)
-            (seen_by S.failed L.told self.old) (seen_by S.failed L.told self.new)) }
+            (seen_by S.Source L.Log self.old) (seen_by S.Source L.Log self.new)) }
         ensures length { IfOk result (λ bytes. bytes ≡ length (joined path.now)) }
         ensures keeps { Keeps S.told S.keeps L.told self.old self.new }
         ensures fault { LogFailsAs (L.failed self.old.log) (L.failed self.new.log) result }
@@ -352,13 +352,13 @@ impl<S: Source, L: Log, E: Explains<S> + Drop> Check<S, L, E> {
     fn list(&mut self, path: &NamePath) -> Result<Option<Found>, Fault>
         requires { ForSome (tree_by S.told self.old) (λ tree. IsSome (dir_at tree path.now)) }
         ensures listed { IfOk result (λ found. MatchOption found
-            (TellsUnlisted E.says path.now false (seen_by S.failed L.told self.old)
-            (seen_by S.failed L.told self.new))
+            (TellsUnlisted E.says path.now false (seen_by S.Source L.Log self.old)
+            (seen_by S.Source L.Log self.new))
             (λ found. ForSome (tree_by S.told self.old)
             (λ tree. listing_at tree path.now ≡ Some found.listing))) }
         ensures found { IfOk result (λ found. IfSome found
             (λ found. Finds E.says path.now found.is_whole
-            (seen_by S.failed L.told self.old) (seen_by S.failed L.told self.new))) }
+            (seen_by S.Source L.Log self.old) (seen_by S.Source L.Log self.new))) }
         ensures keeps { Keeps S.told S.keeps L.told self.old self.new }
         ensures fault { LogFailsAs (L.failed self.old.log) (L.failed self.new.log) result }
     {
@@ -381,7 +381,7 @@ impl<S: Source, L: Log, E: Explains<S> + Drop> Check<S, L, E> {
             (λ tree. listing_at tree path.now ≡ Some found.listing))) }
         ensures part { IfOk result (λ found. IfSome found (λ found. found.is_whole ≡ false)) }
         ensures told { IfOk result (λ found. TellsReasons E.says path.now (is_some found)
-            (seen_by S.failed L.told self.old) (seen_by S.failed L.told self.new)) }
+            (seen_by S.Source L.Log self.old) (seen_by S.Source L.Log self.new)) }
         ensures keeps { Keeps S.told S.keeps L.told self.old self.new }
         ensures fault { LogFailsAs (L.failed self.old.log) (L.failed self.new.log) result }
     {
@@ -408,7 +408,7 @@ impl<S: Source, L: Log, E: Explains<S> + Drop> Check<S, L, E> {
         requires { ForSome (tree_by S.told self.old) (λ tree. IsSome (file_at tree path.now)) }
         ensures opened { OnOk result (ForSome (tree_by S.told self.old)
             (λ tree. Opens self.old.wants.reads path.now (bytes_at tree path.now)
-            (seen_by S.failed L.told self.old) (seen_by S.failed L.told self.new))) }
+            (seen_by S.Source L.Log self.old) (seen_by S.Source L.Log self.new))) }
         ensures keeps { Keeps S.told S.keeps L.told self.old self.new }
         ensures fault { LogFailsAs (L.failed self.old.log) (L.failed self.new.log) result }
     {

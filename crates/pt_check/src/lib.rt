@@ -24,6 +24,9 @@
 //!   such a store passes an object over for `other` (`NoRunSkipsForOther`). None with the greatest limits of pt_walk, which the check holds
 //!   things against, passes anything over for `limit` where the files were read whole (`NoRunSkipsForLimit`), and none with the tuples of the
 //!   check's layout anything for `reserved` (`NoRunSkipsForReserved`).
+//! - Where it told nothing and read the files whole, a source that tells where it fails fails at nothing that a run asks it for
+//!   (`QuietCheckMeansReadableStore`). So no run over that store that fails at nothing else raises its count of failures
+//!   (`NoRunFailsForSource`).
 //! - It answers `Log` only where the log's count of failures rose, `Memory` only where it stayed, and no other fault (`LogFailsAs`).
 //! - Whatever it answers, the source tells the same tree as before, and what stood in the log stands (`Keeps`).
 //!

@@ -1,11 +1,13 @@
 //! What is told of the prefix of a store, which stands before each of its identifiers.
 #![tactic(auto)]
 
-ghost use Rattle.std.specs.Prelude.{◌≡◌, IfOk, IsSome, None, Some, string_bytes, take};
+ghost use Rattle.std.specs.Prelude.{◌≡◌, ◌<◌, length, IfOk, IsSome, None, OnOk, Some, string_bytes, take};
 ghost use Rattle.std.specs.Option.{ForSome};
+ghost use Rattle.pt_check.specs.Goes.{GoesBy};
 ghost use Rattle.pt_check.specs.Prefix.{prefix_trouble as prefix_trouble_of, trouble_of_prefix};
 ghost use Rattle.pt_tree.specs.Source.{tree_in};
 ghost use Rattle.pt_plan.specs.Store.{prefix_in};
+ghost use Rattle.pt_tree.specs.Failing.{failing_paths};
 ghost use Rattle.pt_tree.specs.Failures.{IsCounted};
 ghost use Rattle.pt_tree.specs.Forest.{File, file_at};
 ghost use Rattle.pt_walk.specs.Left.{bytes_at};
@@ -36,6 +38,9 @@ pub(crate) fn open_prefix<S: Source>(
     ensures prefix { IfOk result (λ front. ForSome (tree_in (S.told source.old))
         (λ tree. string_bytes front.prefix
         ≡ prefix_in (Some (File (take 8192 (bytes_at tree path.now)))))) }
+    ensures ended { OnOk result (ForSome (tree_in (S.told source.old))
+        (λ tree. length (take 8192 (bytes_at tree path.now)) < 8192
+        → GoesBy (failing_paths (S.failing source.old)) path.now)) }
     ensures tree { tree_in (S.told source.new) ≡ tree_in (S.told source.old) }
     ensures failures { IsCounted (S.failed source.old) (S.failed source.new) result }
     ensures keeps { S.keeps source.old source.new }

@@ -1,7 +1,8 @@
 -- What a check over a store's folder says of what its system keeps.
 use Rattle.std.proofs.Common.{◌≡◌, ◌∙◌, ℕ, List, subst}
-use Rattle.std.specs.Prelude.{IfErr, IfOk, Option, Result, Ok, Err}
+use Rattle.std.specs.Prelude.{IfErr, IfOk, None, Option, Result, Ok, Err}
 use Rattle.std.specs.Option.{ForSome}
+use Rattle.pt_check.specs.Counting.{no_numbers}
 use Rattle.pt_check.specs.Faults.{LogFailsAs}
 use Rattle.pt_check.specs.Visits.{Checks, Seen}
 use Rattle.pt_check.specs.declared.numbers.Numbers.{Numbers}
@@ -12,12 +13,13 @@ use Rattle.pt_tree.specs.Forest.{Forest}
 use Rattle.pt_host.specs.Checking.{CheckCall, ChecksTree, IsFaultOfCheck, says_anything, unbegun, wants_of}
 
 -- a check is one of a call, whatever its tree and how far it is are called
-pub checks_as : (ran : Result Numbers Fault) (call : CheckCall) (b : Seen) {wants : Wants} {tree store : Option Forest} {a : Seen} {was held : Option (List ℕ)}
-    → wants ≡ wants_of call.options → tree ≡ store → a ≡ unbegun was → b.held ≡ held
+pub checks_as : (ran : Result Numbers Fault) (call : CheckCall) (a b : Seen) {wants : Wants} {tree store : Option Forest} {was held : Option (List ℕ)}
+    → wants ≡ wants_of call.options → tree ≡ store → a.failing ≡ None → a.failed ≡ 0 → a.held ≡ was → a.numbers ≡ no_numbers → b.held ≡ held
     → IfOk ran (λ numbers. ForSome tree (λ t. Checks says_anything wants t numbers a b))
     → IfOk ran (λ numbers. ForSome store (ChecksTree call was held numbers))
-checks_as (Err why) call b wants_are same begun held_is checks = tt
-checks_as (Ok numbers) call b {wants} {a = a} wants_are same begun held_is checks =
+checks_as (Err why) call a b wants_are same untold unfailed held uncounted held_is checks = tt
+checks_as (Ok numbers) call a b {wants} {was = was} wants_are same untold unfailed held uncounted held_is checks =
+    let begun : a ≡ unbegun was = λ i. record { failing = untold i; failed = unfailed i; held = held i; numbers = uncounted i } in
     λ t is. (
       b,
       held_is,

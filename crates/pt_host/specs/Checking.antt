@@ -1,5 +1,5 @@
 -- What a check of a store on a machine comes to.
-use Rattle.std.specs.Prelude.{◌≡◌, ◌==◌, ⊤, ℕ, true, if◌then◌else◌, IfErr, IfOk, List, Option, Result, Ok, Err}
+use Rattle.std.specs.Prelude.{◌≡◌, ◌==◌, ⊤, ℕ, true, if◌then◌else◌, IfErr, IfOk, List, None, Option, Result, Ok, Err}
 use Rattle.std.specs.Option.{ForSome, option_map}
 use Rattle.pt_check.specs.Counting.{no_numbers}
 use Rattle.pt_check.specs.Visits.{Checks, Says, Seen}
@@ -41,9 +41,10 @@ abbrev pub store_checked : {S D W : Type 0} → HostIoWords S D W (Option Forest
     → Option Forest
 store_checked words call host_io = store_tree call.options.ignored (words.store host_io.store call.store)
 
--- a check that has not begun, over an output that holds this: its source didn't fail, and nothing is counted
+-- a check that has not begun, over an output that holds this: its source, which doesn't tell where it fails, didn't fail, and nothing is
+-- counted
 abbrev pub unbegun : Option (List ℕ) → Seen
-unbegun held = record { failed = 0; held = held; numbers = no_numbers }
+unbegun held = record { failing = None; failed = 0; held = held; numbers = no_numbers }
 
 -- what these options want of a check: where a destination is named, its room is that of the folder at that path; and places are of the
 -- layout, whether one is named or not

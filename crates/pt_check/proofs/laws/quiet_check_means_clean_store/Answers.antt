@@ -1,4 +1,4 @@
-use Rattle.pt_check.proofs.Quiet.{clean_store}
+use Rattle.pt_check.proofs.Readable.{clean_store}
 use Rattle.pt_check.proofs.laws.quiet_check_means_clean_store.Goals as goal
 
 pub returns : goal.returns

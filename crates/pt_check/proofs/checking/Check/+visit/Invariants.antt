@@ -13,5 +13,5 @@ invariant-loop-i g l = record {
   unfailed : g.L.Log.failed l.self.log ≡ g.L.Log.failed l.fn.self.log;
   visited : ForSome (tree_by g.S.Source.told l.fn.self) (λ tree. VisitedTo g.E.Explains.says l.fn.self.wants
       (record { path = l.path; prefix = l.prefix; here = l.within; left = l.left }) l.has_object tree l.i
-      (seen_by g.S.Source.failed g.L.Log.told l.initial.self) (seen_by g.S.Source.failed g.L.Log.told l.self));
+      (seen_by g.S.Source g.L.Log l.initial.self) (seen_by g.S.Source g.L.Log l.self));
 }

@@ -17,12 +17,12 @@ pub returns-clause-judged : goal.returns-clause-judged
 returns-clause-judged g c =
     let path = c.args.path.now in
     let what = finding_of c.args.within c.args.listing.now in
-    let a = seen_by g.S.Source.failed g.L.Log.told c.args.self.now in
-    let n = seen_by g.S.Source.failed g.L.Log.told c.count.new.self in
-    let m = seen_by g.S.Source.failed g.L.Log.told c.tell_if.new.self in
-    let b = seen_by g.S.Source.failed g.L.Log.told c.tell_if-2.new.self in
+    let a = seen_by g.S.Source g.L.Log c.args.self.now in
+    let n = seen_by g.S.Source g.L.Log c.count.new.self in
+    let m = seen_by g.S.Source g.L.Log c.tell_if.new.self in
+    let b = seen_by g.S.Source g.L.Log c.tell_if-2.new.self in
     let holds = c.has_object-has_object.ensures ∙ ap has_object c.finding_of-finding.ensures in
-    let counts = recounted g.S.Source.failed g.L.Log.told c.args.self.now c.count.new.self _ c.count.ensures.rest (c.count.ensures.numbers ∙ ap (λ (h : Bool). with_folder c.args.within h a.numbers) holds) in
+    let counts = recounted g.S.Source g.L.Log c.args.self.now c.count.new.self _ c.count.ensures.rest (c.count.ensures.numbers ∙ ap (λ (h : Bool). with_folder c.args.within h a.numbers) holds) in
     let layout : c.count.new.self.wants.layout ≡ c.args.self.now.wants.layout = ap (λ s. s.wants.layout) c.count.ensures.rest in
     let first = c.in_ok-trouble.ensures ∙ ap (λ (f : Finding). folder_trouble c.args.within f path) c.finding_of-finding.ensures in
     let second = c.in_ok-trouble-2.ensures ∙ ap (λ (f : Finding). reserved_trouble c.count.new.self.wants.layout c.args.prefix.now f path) c.finding_of-finding.ensures

@@ -1,3 +1,4 @@
+use Rattle.std.proofs.Common.{rules}
 use Rattle.pt_tree.proofs.Told.{may_list}
 use Rattle.pt_check.proofs.Keeping.{keeps_on, sources_on}
 use Rattle.pt_check.proofs.checking.Check.list_part.Goals as goal
@@ -22,3 +23,9 @@ returns-clause-keeps g c =
     let first = sources_on g.S.Source.told g.S.Source.keeps g.L.Log.told c.args.self.now c.explain_listing.new.source c.explain_listing.ensures.same c.explain_listing.ensures.keeps in
     let on = keeps_on g.S.Source.told g.S.Source.keeps g.L.Log.told g.met.S.Source.keeps_on in
     on _ _ _ (on _ _ _ first c.tell_reason.ensures.keeps) c.tell_each.ensures.keeps
+
+pub returns-in-Some-clause-told : goal.returns-in-Some-clause-told
+returns-in-Some-clause-told g c = let same = g.met.S.Source.keeps_failing _ _ c.explain_listing.ensures.keeps in search rules
+
+pub returns-clause-told : goal.returns-clause-told
+returns-clause-told g c = let same = g.met.S.Source.keeps_failing _ _ c.explain_listing.ensures.keeps in search rules

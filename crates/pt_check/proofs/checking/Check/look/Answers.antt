@@ -31,9 +31,9 @@ returns-then-is_dir-clause-looked g c =
     let marked : c.is_file-marked.result ≡ is_file_kind (kind_in c.args.listing.now version_file) = c.is_file-marked.ensures ∙ ap is_file_kind (c.kind_in.ensures ∙ marks) in
     let lacks : c.missing.result ≡ missing (is_file_kind (kind_in c.args.listing.now version_file)) = c.missing.ensures ∙ ap missing marked in
     let left : c.depth.result + 1 ≡ 601 = ap (λ (n : ℕ). n + 1) (c.depth.ensures.value ∙ ap (λ l. l.depth) c.greatest.ensures) in
-    let a = seen_by g.S.Source.failed g.L.Log.told c.args.self.now in
-    let m = seen_by g.S.Source.failed g.L.Log.told c.tell_if.new.self in
-    let b = seen_by g.S.Source.failed g.L.Log.told c.visit.new.self in
+    let a = seen_by g.S.Source g.L.Log c.args.self.now in
+    let m = seen_by g.S.Source g.L.Log c.tell_if.new.self in
+    let b = seen_by g.S.Source g.L.Log c.visit.new.self in
     let tells : TellsIf c.in_ok-version.version (missing (is_file_kind (kind_in c.args.listing.now version_file))) a m =
     subst (λ (o : Option Trouble). TellsIf c.in_ok-version.version o a m) lacks c.in_ok-tell_if.ensures.told in
     on_ok_weaker c.visit.result

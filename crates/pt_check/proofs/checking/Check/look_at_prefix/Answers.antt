@@ -27,4 +27,4 @@ returns-in-Some-File-clause-looked g c =
     let here : kind_in c.args.listing.now prefix_file ≡ Some kind.File = sym named ∙ c.in-Some-File.is ∙ ap Some c.in-Some-File.field-0-is in
     IfOk-weaker c.read_prefix.result _ _
     (λ prefix. prefix_step (tree_by g.S.Source.told c.args.self.now) (kind_in c.args.listing.now prefix_file) c.in_ok-path.path (string_bytes prefix)
-    (seen_by g.S.Source.failed g.L.Log.told c.args.self.now) (seen_by g.S.Source.failed g.L.Log.told c.read_prefix.new.self) here c.in_ok-path.ensures) c.read_prefix.ensures.read
+    (seen_by g.S.Source g.L.Log c.args.self.now) (seen_by g.S.Source g.L.Log c.read_prefix.new.self) here c.in_ok-path.ensures) c.read_prefix.ensures.read

@@ -1,4 +1,4 @@
-use Rattle.std.proofs.Common.{ap, ◌∙◌}
+use Rattle.std.proofs.Common.{◌∙◌}
 use Rattle.pt_check.specs.Visits.{seen_by}
 use Rattle.pt_check.proofs.Keeping.{keeps_on}
 use Rattle.pt_check.proofs.Parts.{each_step}
@@ -14,7 +14,7 @@ loop-reason-preserved g c =
       keeps = keeps_on g.S.Source.told g.S.Source.keeps g.L.Log.told g.met.S.Source.keeps_on _ _ _ so_far.keeps c.tell_reason.ensures.keeps;
       source = c.tell_reason.ensures.source ∙ so_far.source;
       unfailed = c.in_ok-tell_reason.ensures.fault ∙ so_far.unfailed;
-      told = each_step c.args.path.now c.args.reasons.now c.loop-reason.reason-index c.reason-item.result _ c.as_str.result.now (seen_by g.S.Source.failed g.L.Log.told c.args.self.now)
-          (seen_by g.S.Source.failed g.L.Log.told c.loop-reason.self) (seen_by g.S.Source.failed g.L.Log.told c.tell_reason.new.self) c.loop-reason-test.true c.reason-item.is c.as_str.ensures.value
+      told = each_step c.args.path.now c.args.reasons.now c.loop-reason.reason-index c.reason-item.result _ c.as_str.result.now (seen_by g.S.Source g.L.Log c.args.self.now)
+          (seen_by g.S.Source g.L.Log c.loop-reason.self) (seen_by g.S.Source g.L.Log c.tell_reason.new.self) c.loop-reason-test.true c.reason-item.is c.as_str.ensures.value
           so_far.told c.in_ok-tell_reason.ensures.told;
     }

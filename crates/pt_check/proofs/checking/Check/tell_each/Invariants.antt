@@ -9,5 +9,5 @@ invariant-loop-reason g l = record {
   source : l.self.source ≡ l.fn.self.source;
   unfailed : g.L.Log.failed l.self.log ≡ g.L.Log.failed l.fn.self.log;
   told : TellsEach l.path (map (λ reason. string_bytes reason) (take l.reason-index l.reasons))
-      (seen_by g.S.Source.failed g.L.Log.told l.fn.self) (seen_by g.S.Source.failed g.L.Log.told l.self);
+      (seen_by g.S.Source g.L.Log l.fn.self) (seen_by g.S.Source g.L.Log l.self);
 }
