@@ -7,4 +7,5 @@ mod Recorded
 mod Rehearsed
 mod RehearsalTold
 mod Roomy
+mod Unhalted
 mod AllSynced

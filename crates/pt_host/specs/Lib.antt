@@ -8,6 +8,7 @@ pub mod Events
 pub mod HostCall
 pub mod Machine
 pub mod Made
+pub mod QuietCheckLaw
 pub mod RehearsalLaw
 pub mod Room
 pub mod Served

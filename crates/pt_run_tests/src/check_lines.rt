@@ -1,59 +1,17 @@
 //! The lines of a check over stores in memory.
 #![tactic(auto)]
 
-use pt_check::{Check, CheckDevices, Explains, UnlistedFolder, Wants};
-use pt_memory::texts::store;
-use pt_memory::{MemLog, MemSource};
+use crate::spoiled_stores::{ItFailed, spoiled_store};
+use pt_check::{Check, CheckDevices, Wants};
+use pt_memory::{MemLog, MemSource, SpoiledSource};
 use pt_name::Layout;
-use pt_tree::{MemoryFault, NamePath, Source};
 use std::alloc::Global;
 
-// What is told of each call that fails. Where further reasons are given, what failed to list lists its entries all the same, and from then
-// on each call passes.
-#[derive(Drop)]
-struct ItFailed {
-    further: &'static [&'static str],
-}
-
-impl Explains<MemSource> for ItFailed {
-    ghost use Rattle.std.specs.Prelude.{true};
-
-    ghost says = { λ _ _ _. true };
-
-    fn reason(&self, alloc: Global, _: &MemSource) -> Result<String, MemoryFault> {
-        Ok(String::from_str(alloc, "it failed")?)
-    }
-
-    fn explain_listing(
-        &self,
-        alloc: Global,
-        source: &mut MemSource,
-        path: &NamePath,
-    ) -> Result<UnlistedFolder, MemoryFault> {
-        let reason = self.reason(alloc, source)?;
-        let mut further = Vec::new(alloc);
-        for reason in self.further {
-            further.push(String::from_str(alloc, reason)?)?;
-        }
-        let mut listing = None;
-        if !further.is_empty() {
-            source.fuse(None);
-            // That the count is one of 64 bits, for the proof.
-            let _failures = source.failures();
-            listing = source.list(path).ok();
-        }
-        Ok(UnlistedFolder {
-            reason,
-            further,
-            listing,
-        })
-    }
-}
-
-// A check: the store's entries, how many calls of it pass, the further reasons of one that doesn't, the room of a destination, whether its places
-// have tuples, and the log.
+// A check: the store's entries, where nothing can be read, how many calls of it pass, the further reasons of one that doesn't, the room of a
+// destination, whether its places have tuples, and the log.
 struct Row {
     entries: &'static str,
+    spoiled: &'static [&'static str],
     calls: Option<u64>,
     further: &'static [&'static str],
     room: Option<u64>,
@@ -63,6 +21,7 @@ struct Row {
 
 const WHOLE: Row = Row {
     entries: " ab/c/obj/f=abc",
+    spoiled: &[],
     calls: None,
     further: &[],
     room: None,
@@ -72,6 +31,7 @@ const WHOLE: Row = Row {
 
 const TWO_OBJECTS: Row = Row {
     entries: " ab/c/obj/f=abc ab/d/obj/f=de ab/d/obj/g=fg ab/d/obj/h/i=hi",
+    spoiled: &[],
     calls: None,
     further: &[],
     room: None,
@@ -81,6 +41,7 @@ const TWO_OBJECTS: Row = Row {
 
 const STRAY: Row = Row {
     entries: " ab/c/.DS_Store=x ab/c/obj/f=abc",
+    spoiled: &[],
     calls: None,
     further: &[],
     room: None,
@@ -90,6 +51,7 @@ const STRAY: Row = Row {
 
 const OTHER: Row = Row {
     entries: " ab/c/obj/l?",
+    spoiled: &[],
     calls: None,
     further: &[],
     room: None,
@@ -99,6 +61,7 @@ const OTHER: Row = Row {
 
 const BAD_NAME: Row = Row {
     entries: " ^z/c/obj/f=",
+    spoiled: &[],
     calls: None,
     further: &[],
     room: None,
@@ -109,6 +72,7 @@ const BAD_NAME: Row = Row {
 // The site of `ab` is `ab`, and this one is its twin, if that is there.
 const SPELLING: Row = Row {
     entries: " ^6/1b/obj/f=",
+    spoiled: &[],
     calls: None,
     further: &[],
     room: None,
@@ -118,6 +82,7 @@ const SPELLING: Row = Row {
 
 const PAST: Row = Row {
     entries: " a/bc/obj/f=",
+    spoiled: &[],
     calls: None,
     further: &[],
     room: None,
@@ -128,6 +93,7 @@ const PAST: Row = Row {
 // After the top, `pairtree_root` and `ab` no call passes: each folder beside them is still met, and told.
 const FAILING: Row = Row {
     entries: " ab/c/obj/f=abc de/f/obj/g=de",
+    spoiled: &[],
     calls: Some(3),
     further: &[],
     room: None,
@@ -138,7 +104,8 @@ const FAILING: Row = Row {
 // The site of `ab/c` lists its entries, but isn't judged: it counts as none, and has no object. The next one is whole.
 const PART: Row = Row {
     entries: " ab/c/obj/f=abc ab/c/de/obj/l? de/f/obj/g=de",
-    calls: Some(3),
+    spoiled: &["pairtree_root/ab/c"],
+    calls: None,
     further: &["again", "and again"],
     room: None,
     has_tuples: true,
@@ -148,7 +115,8 @@ const PART: Row = Row {
 // So does the top of a store.
 const PART_OF_TOP: Row = Row {
     entries: " ab/c/obj/f=abc",
-    calls: Some(0),
+    spoiled: &[""],
+    calls: None,
     further: &["again"],
     room: None,
     has_tuples: true,
@@ -158,6 +126,7 @@ const PART_OF_TOP: Row = Row {
 // There is room for the two bytes of `ff`, and not for the three of `d/f`; what is no file of an object needs none.
 const ROOM: Row = Row {
     entries: " ab/c/obj/d/f=abc ab/c/obj/ff=de ad/e/obj/longer/",
+    spoiled: &[],
     calls: None,
     further: &[],
     room: Some(2),
@@ -168,6 +137,7 @@ const ROOM: Row = Row {
 // Without tuples the place of `extensions` is the root's own.
 const RESERVED: Row = Row {
     entries: " ex/te/ns/io/ns/obj/f=",
+    spoiled: &[],
     calls: None,
     further: &[],
     room: None,
@@ -210,7 +180,7 @@ fn wanted(room: Option<u64>, has_tuples: bool) -> Wants {
 // Whether a check of which this is wanted ends well, and its log is this.
 fn tells(
     alloc: Global,
-    source: MemSource,
+    source: SpoiledSource,
     further: &'static [&'static str],
     wants: Wants,
     log: &str,
@@ -227,9 +197,8 @@ fn tells(
 }
 
 fn holds(alloc: Global, row: &Row) -> bool {
-    match store(alloc, row.entries) {
-        Ok(mut source) => {
-            source.fuse(row.calls);
+    match spoiled_store(alloc, row.entries, row.spoiled, row.calls) {
+        Ok(source) => {
             let wants = wanted(row.room, row.has_tuples);
             tells(alloc, source, row.further, wants, row.log)
         }
@@ -248,7 +217,7 @@ fn what_a_store_must_have_is_told_as_missing(rt: HostRuntime) {
     assert!(rt;
         tells(
             rt.alloc(),
-            MemSource::new(rt.alloc()),
+            SpoiledSource::new(MemSource::new(rt.alloc()), Vec::new(rt.alloc())),
             &[],
             wanted(None, true),
             EMPTY

@@ -18,6 +18,8 @@ mod limits;
 #[cfg(test)]
 mod lines;
 #[cfg(test)]
+mod spoiled_stores;
+#[cfg(test)]
 mod standing_roots;
 #[cfg(test)]
 mod steps;
