@@ -1,5 +1,5 @@
 -- The roots that choices leave which divide a store, as its shares, are together the root that one run leaves.
-use Rattle.std.proofs.Common.{◌≡◌, ◌≢◌, ◌≤◌, ◌==◌, ℕ, Bool, true, false, List, [], ◌∷◌, ◌++◌, arith, ap, sym, ◌∙◌, refl, cond, eq-eqb, length, inl, inr, take, append_assoc}
+use Rattle.std.proofs.Common.{◌≡◌, ◌≢◌, ◌≤◌, ℕ, Bool, true, false, List, [], ◌∷◌, ◌++◌, arith, ap, sym, ◌∙◌, refl, cond, eq-eqb, length, inl, inr, take, append_assoc}
 use Rattle.std.specs.Prelude.{◌||◌, ◌⊎◌, Option, None, Some, filter, flat_map, is_some}
 use Rattle.std.specs.List.{list_all}
 use Rattle.std.specs.Option.{option_or}

@@ -21,7 +21,7 @@ use Rattle.pt_plan.proofs.Growing.{carried_grows}
 use Rattle.pt_plan.specs.Carried.{Carried, carried_among}
 use Rattle.pt_plan.specs.Items.{Holds, PairtreeObject, bad_entry, outcome, outcome_by}
 use Rattle.pt_plan.specs.Job.{Job}
-use Rattle.pt_plan.specs.Lines.{Done, Line, bytes_in_all, line_by_outcome}
+use Rattle.pt_plan.specs.Lines.{Done, bytes_in_all, line_by_outcome}
 use Rattle.pt_plan.specs.Run.{Counts, Held}
 use Rattle.pt_plan.specs.Store.{pairtree_of}
 use Rattle.pt_plan.specs.TurnMake.{path_of_source}

@@ -12,7 +12,6 @@ use Rattle.pt_plan.specs.TurnStart.{IsStore}
 use Rattle.pt_plan.specs.TurnWalk.{OpensRoot}
 use Rattle.pt_plan.specs.DeviceStates.{Calls}
 use Rattle.pt_plan.specs.declared.phase.Phase.{Phase}
-use Rattle.pt_plan.specs.declared.phase.Opening.TheVariants as opening
 use Rattle.pt_plan.specs.declared.phase.Phase.TheVariants as phase
 use Rattle.pt_plan.specs.declared.phase.Stage.TheVariants as stage
 use Rattle.pt_invariant.specs.RunInvariant.{IsQuiet}

@@ -1,5 +1,5 @@
 -- From a good start nothing is refused: each refusal says what no good start is.
-use Rattle.std.proofs.Common.{◌≡◌, ℕ, zero, suc, Bool, true, false, List, [], ◌∷◌, refl, ap, sym, ◌∙◌, inl, inr}
+use Rattle.std.proofs.Common.{◌≡◌, ℕ, zero, suc, Bool, true, List, [], ◌∷◌, refl, ap, sym, ◌∙◌, inl, inr}
 use Rattle.std.specs.List.{list_all}
 use Rattle.std.specs.Prelude.{Some, flat_map, is_some, slice_get, ◌⊎◌}
 use Rattle.std.proofs.lemmas.Bool.{and_parts, false≢true, true≢false}
