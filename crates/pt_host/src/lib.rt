@@ -29,7 +29,8 @@
 //! - `rehearsal_tells_the_run`: where a rehearsal and a run of one job over the same store and the same tree of DEST both end well, and the
 //!   log tells, both logs get the same text, and the status is the same (`RehearsalTellsTheRun`).
 //! - `no_run_is_halted_for_source`: where a check read each file whole and told nothing, no run over its store answers `Source`, if the source
-//!   tells where it fails (`NoRunIsHaltedForSource`), which a folder of the system doesn't.
+//!   tells the paths at which it fails, as the check's did, has no such file open, and can count a failure more (`NoRunIsHaltedForSource`).
+//!   A folder of the system tells no paths.
 //! - `audit_guarded`: the guard, with a lock that others may share, the audit over what is lent, which is given back, and the lock
 //!   (`Audits`). Where it ends well the output has got its log, of the trees that both systems keep, and after a fault a front of it.
 //!   After any answer both systems keep the same trees, what stood in the output stands, a refusal is true of the store and of the
