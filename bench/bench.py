@@ -7,7 +7,7 @@ What counts is processor time, of the user and of the system together, as the sy
 it says less of other work on the machine than time on a clock does. Each command is run seven times, the commands of a store in
 turn; its figure is the median, and beside it stand the least and the most. A run reads each file twice, digests it twice and writes
 it once, so its due is sha512sum twice and cp -r once. Objects and megabytes a second are those of a second of processor time.
-Then the root that a run made is held against its store by `audit`, as often.
+Then the root that a run made is held against its store by `audit`, and by `audit --extra`, as often.
 
 --instructions  counts also the instructions of one run each of the program and its peer, by callgrind of valgrind, over the small
                 stores. It would count each byte that `rep stosb` fills as one, so the C library is told to fill without it.
@@ -35,11 +35,13 @@ HERE = os.path.dirname(os.path.abspath(__file__))
 PEER = os.path.join(HERE, "peer.rs")
 DEBIAN = "/usr/share/cargo/registry"
 
-# Objects, files in each, bytes in each file on average, folders above each file within its object.
-Store = namedtuple("Store", "objects files size depth")
+# Objects, files in each, bytes in each file on average, folders above each file within its object; and whether their names are spread over
+# all shorties of two letters or digits, and not counted from 0.
+Store = namedtuple("Store", "objects files size depth spread", defaults=[False])
 STORES = {
     "small": Store(2000, 4, 2_000, 0),
     "single": Store(6000, 1, 300, 0),
+    "spread": Store(20_000, 1, 300, 0, True),
     "large": Store(4, 4, 16_000_000, 0),
     "wide": Store(1, 10_000, 200, 0),
     "deep": Store(20, 20, 2_000, 300),
@@ -77,6 +79,17 @@ def folder_of(store, at, file):
     return at
 
 
+def name_of(store, number):
+    """The identifier of an object: six digits, or eight letters and digits of which all come first, with 1,296 shorties below the root."""
+    if not store.spread:
+        return f"{number:06d}"
+    rest, name = number * 2_654_435_761 % 36**8, ""
+    for _ in range(8):
+        rest, digit = divmod(rest, 36)
+        name += "0123456789abcdefghijklmnopqrstuvwxyz"[digit]
+    return name
+
+
 def make_store(folder, store):
     """Makes a store with noise in its files, and gives how many bytes it holds."""
     noise = random.Random(1)
@@ -85,8 +98,8 @@ def make_store(folder, store):
         version.write("This directory conforms to Pairtree Version 0.1.\n")
     held = 0
     for number in range(store.objects):
-        name = f"{number:06d}"
-        at = f"{folder}/pairtree_root/{name[:2]}/{name[2:4]}/{name[4:]}/object"
+        name = name_of(store, number)
+        at = "/".join([f"{folder}/pairtree_root", *(name[place : place + 2] for place in range(0, len(name), 2)), "object"])
         for file in range(store.files):
             place = folder_of(store, at, file)
             if file % IN_A_FOLDER == 0:
@@ -127,10 +140,15 @@ def measure_times(commands, dest, repeats, output):
 
 
 def audit_times(program, source, dest, repeats, output):
-    """The processor times of audits of the root that a run makes of a source."""
+    """The processor times of audits of the root that a run makes of a source, without `--extra` and with it, in turn."""
     emptied(dest)
     processor_time([program, *MIGRATE, source, dest], output)
-    return [processor_time([program, "audit", source, dest], output) for _ in range(repeats)]
+    commands = {"audit": [program, "audit", source, dest], "extra": [program, "audit", "--extra", source, dest]}
+    times = {name: [] for name in commands}
+    for _ in range(repeats):
+        for name, command in commands.items():
+            times[name].append(processor_time(command, output))
+    return times
 
 
 def instructions(command, dest, folder):
@@ -201,9 +219,10 @@ def tell(name, store, held, times):
         print(f"    {command:10} {middle[command]:8.3f} s ({min(taken):.3f} to {max(taken):.3f})")
     own = middle["migrate"]
     due = 2 * middle["sha512sum"] + middle["cp -r"]
-    against = [f"{own / middle[other]:.2f} times {other}" for other in times if other not in ("migrate", "audit")]
+    against = [f"{own / middle[other]:.2f} times {other}" for other in times if other not in ("migrate", "audit", "extra")]
     print(f"    {store.objects / own:.0f} objects, {store.objects * store.files / own:.0f} files, {held / own / 1e6:.1f} MB a second")
-    print(f"    migrate takes {', '.join(against)}, {own / due:.2f} times its due; audit {middle['audit'] / own:.2f} times migrate", flush=True)
+    audits = f"audit {middle['audit'] / own:.2f} times migrate, with --extra {middle['extra'] / middle['audit']:.2f} times that"
+    print(f"    migrate takes {', '.join(against)}, {own / due:.2f} times its due; {audits}", flush=True)
 
 
 def measure(program, peer, name, folder, counts):
@@ -216,7 +235,7 @@ def measure(program, peer, name, folder, counts):
     repeats = MILLION_REPEATS if name in MILLION else REPEATS
     times, outputs = measure_times(commands, dest, repeats, f"{folder}/output")
     check_outputs(name, store, outputs)
-    times["audit"] = audit_times(program, source, dest, repeats, f"{folder}/output")
+    times |= audit_times(program, source, dest, repeats, f"{folder}/output")
     tell(name, store, held, times)
     if counts and held < 1e8 and name not in MILLION:
         for command in ("migrate", "plain Rust"):

@@ -12,7 +12,6 @@ use Rattle.pt_invariant.proofs.source.RootChecks.{peeked_whole}
 use Rattle.pt_invariant.proofs.Tests.{take_one}
 use Rattle.pt_invariant.specs.DestInvariant.{HasRootFiles}
 use Rattle.pt_invariant.specs.RefusalLaws.{HasOtherFile, IsNoFolder}
-use Rattle.pt_compare.specs.Root.{IsSeen, kind_at}
 use Rattle.pt_object.specs.Holding.{IsFree}
 use Rattle.pt_object.specs.RootFiles.{root_files_of}
 use Rattle.pt_move.proofs.Outcomes.{reading_of}
@@ -22,9 +21,9 @@ use Rattle.pt_plan.specs.Job.{Job}
 use Rattle.pt_plan.specs.Roots.{storage_root}
 use Rattle.pt_plan.specs.TurnStart.{is_dir_kind, is_file_kind}
 use Rattle.pt_plan.specs.TurnWalk.{in_root}
-use Rattle.pt_tree.specs.Forest.{Dir, File, Forest, Node, Other, as_file, file_at, find, kind_of, node_at}
+use Rattle.pt_tree.specs.Forest.{Dir, File, Forest, Node, Other, as_file, file_at, find, kind_at, kind_of, node_at}
 use Rattle.pt_tree.specs.Path.{Path}
-use Rattle.pt_tree.specs.Source.{IsRead, Reading, after_open, tree_in}
+use Rattle.pt_tree.specs.Source.{IsRead, IsSeen, Reading, after_open, tree_in}
 use Rattle.pt_tree.specs.Tree.{Bytes, Entry, Folder, bytes_of, entry_of}
 use Rattle.pt_tree.specs.declared.faults.TreeFault.{TreeFault}
 use Rattle.pt_tree.specs.declared.kind.Kind.{Kind}

@@ -11,11 +11,11 @@ use Rattle.std.proofs.lemmas.List.{drop_more, take-append-drop}
 use Rattle.std.proofs.lemmas.List.Elements.{All-append, All-cons, All-head, All-nil, All-tail, All-weaker}
 use Rattle.std.proofs.lemmas.Str.{IsUtf8-from_ascii, is_utf8-from_IsUtf8}
 use Rattle.std.proofs.lemmas.Str.Ascii.{IsAscii-from_all}
-use Rattle.pt_tree.specs.Forest.{Dir, File, Forest, Node, Other, as_dir, dir_at, find, kind_of, listing_at, listing_of, node_at, none}
+use Rattle.pt_tree.specs.Forest.{Dir, File, Forest, Node, Other, as_dir, dir_at, find, kind_at, kind_of, listing_at, listing_of, node_at, none}
 use Rattle.pt_tree.specs.Listing.{Item}
 use Rattle.pt_tree.specs.Name.{AreNames, is_forbidden_name, is_name, name_refusal}
 use Rattle.pt_tree.specs.Path.{Path, last_name, same_path, split_path}
-use Rattle.pt_tree.specs.Source.{IsListed, Reading, tree_in}
+use Rattle.pt_tree.specs.Source.{IsListed, IsSeen, Reading, tree_in}
 use Rattle.pt_tree.specs.Pieces.{IsRefusal, earlier, first_refusal, names_in}
 use Rattle.pt_tree.specs.declared.kind.Kind.{Kind}
 use Rattle.pt_tree.specs.declared.kind.Kind.TheVariants as kind
@@ -43,7 +43,7 @@ use Rattle.pt_plan.specs.declared.phase.Phase.TheVariants as phase
 use Rattle.pt_plan.specs.declared.phase.Stage.TheVariants as stage
 use Rattle.pt_invariant.specs.SourceInvariant.{SourcePart}
 use Rattle.pt_invariant.proofs.source.InPairtree.{listing_in}
-use Rattle.pt_compare.specs.Root.{Stands, kind_at, same_kind}
+use Rattle.pt_compare.specs.Root.{Stands, same_kind}
 use Rattle.pt_plan.specs.TurnMake.{common_names}
 use Rattle.pt_compare.specs.declared.difference.Comparison.{Comparison}
 use Rattle.pt_compare.proofs.Listed.{node_in}
@@ -193,41 +193,15 @@ standing_dir (Some kind.File) = refl
 standing_dir (Some kind.Dir) = refl
 standing_dir (Some kind.Other) = refl
 
-dir_listed : (f : Forest) (way : Path) (n : List ℕ) (listing : List Item) → listing_at f way ≡ Some listing → is_dir_kind (kind_at f (way ++ n ∷ [])) ≡ is_dir_kind (kind_in listing n)
-dir_listed f way n listing listed = by (dir_at f way) refl listed
-  where
-    only : (o : Option Node) → option_map kind_of (option_and_then (λ y. node_at y []) o) ≡ option_map kind_of o
-    only None = refl
-    only (Some x) = refl
-
-    by : (o : Option Forest) → dir_at f way ≡ o → option_map listing_of o ≡ Some listing → is_dir_kind (kind_at f (way ++ n ∷ [])) ≡ is_dir_kind (kind_in listing n)
-    by None at is = absurd (cc)
-    by (Some d) at is =
-        let same : listing_of d ≡ listing = cc in
-        ap (λ (o : Option Node). is_dir_kind (option_map kind_of o)) (node_in (Dir f) way n d at)
-        ∙ ap is_dir_kind (only (find d n) ∙ sym (kind_listed d n) ∙ ap (λ (l : List Item). kind_in l n) same)
-
--- what a listing has stands there
-pub listed_stands : (told : Option Reading) (way longer : Path) (n : List ℕ) (listing : List Item) → IsListed told way listing → longer ≡ way ++ n ∷ [] → is_dir_kind (kind_in listing n) ≡ true → Stands (tree_in told) (longer, kind.Dir)
-unfolding IsListed
-listed_stands None way longer n listing listed long is = refl
-listed_stands (Some s) way longer n listing listed long is = subst (λ (p : Path). Stands (Some s.tree) (p, kind.Dir)) (sym long) (standing_dir (kind_at s.tree (way ++ n ∷ [])) ∙ dir_listed s.tree way n listing (listed s refl) ∙ is)
-
 no_dir : (f : Forest) (p q : Path) → is_dir_kind (kind_at f p) ≡ false → is_dir_kind (kind_at f (p ++ q)) ≡ false
 no_dir f p [] lacks = ap (λ (x : Path). is_dir_kind (kind_at f x)) (append-nil p) ∙ lacks
 no_dir f p (n ∷ q) lacks = ap (λ (o : Option Node). is_dir_kind (option_map kind_of o)) (below (Dir f) p n q lacks)
 
--- and below what it lacks nothing stands
-pub listed_lacks : (told : Option Reading) (way path rest : Path) (n d : List ℕ) (i : ℕ) (listing : List Item) → IsListed told way listing → way ++ drop i rest ≡ in_pairtree path → i < length rest → n ≡ get_or rest i d → is_dir_kind (kind_in listing n) ≡ false
-    → ForSome (tree_in told) (λ f. false ≡ is_dir_kind (kind_at f (in_pairtree path)))
-unfolding IsListed
-listed_lacks None way path rest n d i listing listed whole within is lacks = λ f told. absurd (cc)
-listed_lacks (Some s) way path rest n d i listing listed whole within is lacks = λ f told.
-    let same : s.tree ≡ f = cc in
-    let names : (way ++ n ∷ []) ++ drop (i + 1) rest ≡ in_pairtree path =
-    append_assoc way (n ∷ []) (drop (i + 1) rest) ∙ ap (λ (p : Path). way ++ p) (ap (λ (x : List ℕ). x ∷ drop (i + 1) rest) is ∙ sym (drop_more rest i d within)) ∙ whole in
-    subst (λ (f : Forest). false ≡ is_dir_kind (kind_at f (in_pairtree path))) same
-    (sym (ap (λ (p : Path). is_dir_kind (kind_at s.tree p)) (sym names) ∙ no_dir s.tree (way ++ n ∷ []) (drop (i + 1) rest) (dir_listed s.tree way n listing (listed s refl) ∙ lacks)))
+-- below what is seen as no directory none stands
+pub seen_lacks : (tree : Option Forest) (longer path rest : Path) (i : ℕ) (here : Option Kind) → IsSeen tree longer here → is_dir_kind here ≡ false → longer ++ drop (i + 1) rest ≡ in_pairtree path
+    → ForSome tree (λ f. false ≡ is_dir_kind (kind_at f (in_pairtree path)))
+seen_lacks tree longer path rest i here seen is whole = λ f told.
+    sym (ap (λ (p : Path). is_dir_kind (kind_at f p)) (sym whole) ∙ no_dir f longer (drop (i + 1) rest) (ap is_dir_kind (seen f told) ∙ is))
 
 -- the front that a path has in common with one that stands stands
 pub front_stands : (tree : Option Forest) (path standing first : Path) (n : ℕ) → Stands tree (in_pairtree standing, kind.Dir) → n ≡ common_names path standing → first ≡ take n path → Stands tree (in_pairtree first, kind.Dir)

@@ -26,7 +26,7 @@ use crate::lines::{end_line, object_line};
 use crate::root_reader::RootReader;
 use crate::survey::{ObjectAtHand, Survey, SurveyEvent};
 use crate::twin::{is_second, skip_prefix};
-use pt_compare::{Comparison, Root, ScannedObject, compare};
+use pt_compare::{Comparison, ScannedObject, compare};
 use pt_move::{Job, Observer};
 use pt_plan::Fault;
 use pt_state::paths::{in_pairtree, in_storage_root};
@@ -47,7 +47,7 @@ use std::alloc::Global;
 /// each of them the survey holds no more than a run's bound, and nothing but a run's fields. While a file of the store is read
 /// for its digest, what stands in the root is read beside it; of a content that isn't alike both are read once more. A step calls
 /// the store at most once or twice; no clause counts what the comparison reads.
-pub fn audit<S: Source, R: Root, L: Log, O: Observer<Counts>>(
+pub fn audit<S: Source, R: Source, L: Log, O: Observer<Counts>>(
     alloc: Global,
     source: &mut S,
     root: &mut R,
@@ -85,7 +85,7 @@ pub struct Audited {
 
 /// The same as `audit`, but for the end line, which is left to the caller: after a fault the log has a front of what is told of the first
 /// items. It answers the faults of `audit`, and gives what the caller may go on with.
-pub fn audit_objects<S: Source, R: Root, L: Log, O: Observer<Counts>>(
+pub fn audit_objects<S: Source, R: Source, L: Log, O: Observer<Counts>>(
     alloc: Global,
     source: &mut S,
     root: &mut R,
@@ -151,7 +151,7 @@ struct AuditFinding {
 
 impl Auditor {
     // Makes the steps of a survey that has just begun, to its end. After each it is told how many lines there are.
-    fn go_through<S: Source, R: Root, L: Log, O: Observer<Counts>>(
+    fn go_through<S: Source, R: Source, L: Log, O: Observer<Counts>>(
         &mut self,
         source: &mut S,
         root: &mut R,
@@ -194,7 +194,7 @@ impl Auditor {
     }
 
     // Makes one step of the survey, and tells of what was seen. Whether there is more to see.
-    fn go_on<S: Source, R: Root, L: Log>(
+    fn go_on<S: Source, R: Source, L: Log>(
         &mut self,
         source: &mut S,
         root: &mut R,
@@ -231,7 +231,7 @@ impl Auditor {
     }
 
     // Tells of what was seen by a step.
-    fn tell<S: Source, R: Root, L: Log>(
+    fn tell<S: Source, R: Source, L: Log>(
         &self,
         sight: SurveyEvent,
         source: &mut S,
@@ -285,7 +285,7 @@ impl Auditor {
     }
 
     // Compares the object at hand, and tells what was found. The counts with it.
-    fn tell_object<S: Source, R: Root, L: Log>(
+    fn tell_object<S: Source, R: Source, L: Log>(
         &self,
         source: &mut S,
         root: &mut R,
@@ -320,7 +320,7 @@ impl Auditor {
     }
 
     // What is found of the object at hand, and whether it is a twin.
-    fn judge<S: Source, R: Root>(
+    fn judge<S: Source, R: Source>(
         &self,
         hand: &ObjectAtHand<'_>,
         source: &mut S,
@@ -348,7 +348,7 @@ impl Auditor {
     }
 
     // What is found of the object at hand.
-    fn compare<S: Source, R: Root>(
+    fn compare<S: Source, R: Source>(
         &self,
         hand: &ObjectAtHand<'_>,
         source: &mut S,
@@ -382,7 +382,7 @@ impl Auditor {
 }
 
 // Makes one step of the survey, and reads the root as far.
-fn see<S: Source, R: Root, L: Log>(
+fn see<S: Source, R: Source, L: Log>(
     survey: &mut Survey,
     beside: &mut RootReader,
     source: &mut S,

@@ -9,19 +9,19 @@ ghost use Rattle.pt_name.specs.Tuples.{IsLayout};
 ghost use Rattle.pt_tree.specs.Failures.{IsCounted};
 ghost use Rattle.pt_state.specs.States.{job_of};
 
-use pt_compare::{Root, find_kind};
+use pt_compare::find_kind;
 use pt_move::Job;
 use pt_object::{WellKnownName, root_files};
 use pt_plan::Fault;
 use pt_plan::kinds::{is_dir, is_file};
 use pt_state::paths::in_storage_root;
-use pt_tree::{Block, NamePath, TreeFault};
+use pt_tree::{Block, NamePath, Source, TreeFault};
 use std::alloc::Global;
 
 /// Whether a run could go on with the root that stands: nothing stands at `ocfl`, or a directory with the three files of this
 /// layout (OCFL 1.1, "Root Structure"; extension 0003). `Target` where something else does; `Dest` where the root can't be
 /// read, or there is no folder for it; `Memory` where a growth was refused.
-pub(crate) fn check_layout<R: Root>(alloc: Global, root: &mut R, job: &Job) -> Result<(), Fault>
+pub(crate) fn check_layout<R: Source>(alloc: Global, root: &mut R, job: &Job) -> Result<(), Fault>
     requires { IsLayout job.now.layout }
     ensures layout { ForSome (tree_in (R.told root.old)) (TellsLayout (job_of job.now) result) }
     ensures root { KeepsRoot R.told R.keeps root.old root.new }
@@ -32,7 +32,7 @@ pub(crate) fn check_layout<R: Root>(alloc: Global, root: &mut R, job: &Job) -> R
 }
 
 // Whether nothing stands at `ocfl`, or a directory with the files of this layout.
-fn is_of_layout<R: Root>(alloc: Global, root: &mut R, job: &Job) -> Result<bool, TreeFault>
+fn is_of_layout<R: Source>(alloc: Global, root: &mut R, job: &Job) -> Result<bool, TreeFault>
     requires { IsLayout job.now.layout }
     ensures layout { IfOk result (λ same. ForSome (tree_in (R.told root.old))
         (IsSo (job_of job.now) same)) }
@@ -53,7 +53,7 @@ fn is_of_layout<R: Root>(alloc: Global, root: &mut R, job: &Job) -> Result<bool,
 }
 
 // Whether the layout's files stand in the root, each with its bytes.
-fn has_files<R: Root>(alloc: Global, root: &mut R, job: &Job) -> Result<bool, TreeFault>
+fn has_files<R: Source>(alloc: Global, root: &mut R, job: &Job) -> Result<bool, TreeFault>
     requires layout { IsLayout job.now.layout }
     requires folder { ForSome (tree_in (R.told root.old)) IsFolder }
     ensures layout { IfOk result (λ same. ForSome (tree_in (R.told root.old))
@@ -75,7 +75,7 @@ fn has_files<R: Root>(alloc: Global, root: &mut R, job: &Job) -> Result<bool, Tr
 }
 
 // Whether a file of these bytes, of which there are fewer than a block holds, stands at a path of the root.
-fn has_file<R: Root>(
+fn has_file<R: Source>(
     alloc: Global,
     root: &mut R,
     path: &NamePath,

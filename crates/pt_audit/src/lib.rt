@@ -58,6 +58,6 @@ mod twin;
 
 pub use auditing::{Audited, audit, audit_objects};
 pub use counts::Counts;
-pub use pt_compare::{Comparison, Difference, Root, Why};
+pub use pt_compare::{Comparison, Difference, Why};
 pub use survey::{ObjectAtHand, OpenedFile, Survey, SurveyEvent};
 pub use twin::{object_stands, proper_site, skip_prefix};

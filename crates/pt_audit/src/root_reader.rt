@@ -12,10 +12,10 @@ ghost use Rattle.pt_tree.specs.Path.{rest_below};
 ghost use Rattle.pt_tree.specs.Source.{Reading};
 
 use crate::survey::{Survey, SurveyEvent};
-use pt_compare::{Root, come_next, content_path, has_ended, open_standing};
+use pt_compare::{come_next, content_path, has_ended, open_standing};
 use pt_plan::Fault;
 use pt_state::paths::in_storage_root;
-use pt_tree::{Block, MemoryFault, Name, NamePath};
+use pt_tree::{Block, MemoryFault, Name, NamePath, Source};
 use std::alloc::Global;
 
 /// What is read of the root beside the object that is scanned.
@@ -53,7 +53,7 @@ impl RootReader {
 
     /// Reads on beside a survey, after each of its steps: the file that it opened, the block that it read, or the end of that
     /// file. `Dest` where the root can't be read, and `Memory` where a growth was refused.
-    pub(crate) fn follow<R: Root>(
+    pub(crate) fn follow<R: Source>(
         &mut self,
         root: &mut R,
         survey: &Survey,
@@ -80,7 +80,7 @@ impl RootReader {
     }
 
     // Opens the file of the root beside the one that was opened, where all contents before it are alike.
-    fn open<R: Root>(&mut self, root: &mut R, survey: &Survey) -> Result<(), Fault>
+    fn open<R: Source>(&mut self, root: &mut R, survey: &Survey) -> Result<(), Fault>
         requires ready { CanFollow (R.told root.old) self.old }
         requires saw { sight_at survey.now.phase ≡ sight.Opened }
         ensures paced { (source : Option Reading)
@@ -121,7 +121,7 @@ impl RootReader {
     }
 
     // Reads a block of the root's file, as long as all is alike.
-    fn read<R: Root>(&mut self, root: &mut R, survey: &Survey) -> Result<(), Fault>
+    fn read<R: Source>(&mut self, root: &mut R, survey: &Survey) -> Result<(), Fault>
         requires ready { CanFollow (R.told root.old) self.old }
         requires saw { sight_at survey.now.phase ≡ sight.Block }
         ensures paced { (source : Option Reading)
@@ -140,7 +140,7 @@ impl RootReader {
     }
 
     // Ends the root's file with that of the source: where both end here and it is stored, one content more is alike.
-    fn end<R: Root>(&mut self, root: &mut R, survey: &Survey) -> Result<(), Fault>
+    fn end<R: Source>(&mut self, root: &mut R, survey: &Survey) -> Result<(), Fault>
         requires ready { CanFollow (R.told root.old) self.old }
         requires saw { sight_at survey.now.phase ≡ sight.Scan }
         ensures paced { (source : Option Reading)

@@ -5,7 +5,8 @@ ghost use Rattle.std.specs.Prelude.{◌≡◌, IfOk, drop, length};
 ghost use Rattle.std.specs.Option.{ForSome};
 ghost use Rattle.pt_audit.specs.Twin.{has_object as has_object_finding, is_second as is_second_site};
 ghost use Rattle.pt_audit.specs.Twin.{object_stands as object_stands_in, proper_site as proper_site_of};
-ghost use Rattle.pt_compare.specs.Root.{Stands, kind_at as kind_there};
+ghost use Rattle.pt_compare.specs.Root.{Stands};
+ghost use Rattle.pt_tree.specs.Forest.{kind_at as kind_there};
 ghost use Rattle.pt_tree.specs.Source.{tree_in};
 ghost use Rattle.pt_plan.specs.TurnStart.{is_dir_kind};
 ghost use Rattle.pt_plan.specs.TurnWalk.{in_pairtree as in_pairtree_of};
@@ -16,7 +17,7 @@ ghost use Rattle.pt_walk.specs.Sites.{at_of as at_of_path};
 
 use pt_move::Job;
 use pt_name::pairpath;
-use pt_plan::kinds::{is_dir, kind_in};
+use pt_plan::kinds::is_dir;
 use pt_plan::names::alike_names;
 use pt_scan::judging::form_of;
 use pt_state::paths::in_pairtree;
@@ -25,7 +26,7 @@ use pt_walk::{At, Finding, judge};
 use std::alloc::Global;
 
 /// Whether a site isn't where an identifier belongs, which is given without the store's prefix, and an object stands there, as a
-/// run judges a site. `Device` where a folder can't be listed, `Memory` where a growth was refused.
+/// run judges a site. `Device` where a look fails or that site can't be listed, `Memory` where a growth was refused.
 pub(crate) fn is_second<S: Source>(
     source: &mut S,
     job: &Job,
@@ -49,8 +50,9 @@ pub(crate) fn is_second<S: Source>(
 /// Whether an object stands at a site, as a run judges a site. Both paths are from below `pairtree_root` on; at the first a
 /// directory stands.
 ///
-/// Of what leads there each folder is listed, one after another, from the last that leads to the first path too, up to the first
-/// that lacks the next one. `Device` where one can't be listed, `Memory` where a growth was refused.
+/// Of what leads there each name is looked at, one after another, behind those that lead to the first path too, up to the first at which
+/// no folder stands; the site alone is listed. `Device` where a look fails or the site can't be listed, `Memory` where a growth was
+/// refused.
 pub fn object_stands<S: Source>(
     source: &mut S,
     job: &Job,
@@ -119,11 +121,10 @@ fn leads_to<S: Source>(
     let front = NamePath::new(path.allocator()).with_names(first)?;
     let mut way = in_pairtree(front)?;
     for name in rest {
-        let listing = source.list(&way)?;
-        if !is_dir(kind_in(&listing, name.bytes())) {
+        way.push(name.copy()?)?;
+        if !is_dir(source.kind(&way)?) {
             return Ok(false);
         }
-        way.push(name.copy()?)?;
     }
     Ok(true)
 }

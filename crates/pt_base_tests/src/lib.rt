@@ -14,6 +14,8 @@ mod inventories;
 #[cfg(test)]
 mod logs;
 #[cfg(test)]
+mod loose_sources;
+#[cfg(test)]
 mod memory_trees;
 #[cfg(test)]
 mod name_lengths;
@@ -35,3 +37,5 @@ mod tables;
 mod trails;
 #[cfg(test)]
 mod walk_laws;
+#[cfg(test)]
+mod wrapped_sources;

@@ -1,4 +1,4 @@
-//! Sources and destinations in memory: what they plant, list, read, make, move and take away, and a source that changes.
+//! Sources and destinations in memory: what they plant, list, read, make, move and take away.
 ghost use Rattle.pt_tree.specs.Dest.{MayMake};
 ghost use Rattle.pt_memory.specs.MemDest.{dest_told};
 ghost use Rattle.pt_tree.specs.Source.{CanOpen};
@@ -6,7 +6,7 @@ ghost use Rattle.pt_tree.specs.Source.{CanOpen};
 use crate::names::is_entry;
 use crate::tables::none_goes_wrong;
 use pt_memory::texts::{path, tree};
-use pt_memory::{LooseSource, MemDest, MemSource, PlantFault, SwapFault, TakeFault};
+use pt_memory::{MemDest, MemSource, PlantFault, SwapFault, TakeFault};
 use pt_tree::{
     Block, Dest, Kind, ListingFault, MemoryFault, NameFault, NamePath, Source, TreeFault,
 };
@@ -15,13 +15,9 @@ use std::alloc::Global;
 // Texts of 8,191 to 8,194 bytes: a block has up to 8,192.
 const A_8191: &[u8] = &[b'a'; 8191];
 
-const A_8192: &[u8] = &[b'a'; 8192];
+pub(crate) const A_8192: &[u8] = &[b'a'; 8192];
 
 pub(crate) const A_8193: &[u8] = &[b'a'; 8193];
-
-const A_8194: &[u8] = &[b'a'; 8194];
-
-const B_8194: &[u8] = &[b'b'; 8194];
 
 /// A tree that rows of this kind are about: what is done at a path, or found there.
 pub(crate) trait Goes<W> {
@@ -63,6 +59,12 @@ enum InSource {
     Lists(usize, Option<(&'static str, Kind)>),
     // The directory can't be listed once the fuse is blown, and that is counted.
     FailsToList,
+    // A look at what stands there is answered so.
+    Shows(Result<Option<Kind>, TreeFault>),
+    // The fuse lets so many calls pass.
+    Fuse(u64),
+    // The source failed so often.
+    Failed(u64),
 }
 
 impl Goes<InSource> for MemSource {
@@ -73,6 +75,9 @@ impl Goes<InSource> for MemSource {
             InSource::IsReadIn(bytes, calls) => is_read_in(self, at, bytes, *calls),
             InSource::Lists(place, entry) => lists(self, at, *place, *entry),
             InSource::FailsToList => fails_to_list(self, at),
+            InSource::Shows(answer) => self.kind(at) == *answer,
+            InSource::Fuse(calls) => blows_after(self, *calls),
+            InSource::Failed(failures) => self.failures() == *failures,
         }
     }
 }
@@ -89,7 +94,7 @@ fn plant(source: &mut MemSource, at: &NamePath, kind: Kind) -> Result<(), PlantF
     }
 }
 
-fn plants(source: &mut MemSource, file: &NamePath, bytes: &[u8]) -> bool {
+pub(crate) fn plants(source: &mut MemSource, file: &NamePath, bytes: &[u8]) -> bool {
     source.plant_file(file, bytes).is_ok()
 }
 
@@ -147,6 +152,11 @@ fn fails_to_list(source: &mut MemSource, dir: &NamePath) -> bool {
     }
 }
 
+fn blows_after(source: &mut MemSource, calls: u64) -> bool {
+    source.fuse(Some(calls));
+    true
+}
+
 const NO_PLACE: &[(&str, InSource)] = &[
     (
         "x/y",
@@ -179,6 +189,27 @@ const THREE_KINDS: &[(&str, InSource)] = &[
     ("", InSource::FailsToList),
 ];
 
+// A look shows what stands; below what is no directory nothing does. It is a call as any other, also for the fuse.
+const LOOKS: &[(&str, InSource)] = &[
+    ("a", InSource::Plant(Kind::Dir, Ok(()))),
+    ("a/b", InSource::Plant(Kind::File, Ok(()))),
+    ("a/c", InSource::Plant(Kind::Other, Ok(()))),
+    ("", InSource::Shows(Ok(Some(Kind::Dir)))),
+    ("a", InSource::Shows(Ok(Some(Kind::Dir)))),
+    ("a/b", InSource::Shows(Ok(Some(Kind::File)))),
+    ("a/c", InSource::Shows(Ok(Some(Kind::Other)))),
+    ("a/d", InSource::Shows(Ok(None))),
+    ("d", InSource::Shows(Ok(None))),
+    ("a/b/d", InSource::Shows(Ok(None))),
+    ("d/e", InSource::Shows(Ok(None))),
+    ("", InSource::Failed(0)),
+    ("", InSource::Fuse(2)),
+    ("a", InSource::Shows(Ok(Some(Kind::Dir)))),
+    ("a/d", InSource::Shows(Ok(None))),
+    ("a", InSource::Shows(Err(TreeFault::Device))),
+    ("", InSource::Failed(1)),
+];
+
 const SOURCES: &[(&str, &[(&str, InSource)])] = &[
     ("planting is refused where it has no place", NO_PLACE),
     ("a file is read block by block", IN_BLOCKS),
@@ -186,6 +217,7 @@ const SOURCES: &[(&str, &[(&str, InSource)])] = &[
         "names and kinds are listed, and the fuse is blown",
         THREE_KINDS,
     ),
+    ("a look shows the kind of what stands", LOOKS),
 ];
 
 #[test]
@@ -367,90 +399,4 @@ fn faults_have_numbers(rt: HostRuntime) {
         numbers == [1, 2, 3, 4, 5, 1, 2, 1, 1, 2, 1, 2, 3, 1, 1, 2],
         "{numbers:?}"
     );
-}
-
-// What is done at a path of a source that may change while it is read, or found there.
-enum Loose {
-    // Swapping the file's bytes after so many calls is answered so.
-    Swap(u64, &'static [u8], Result<(), SwapFault>),
-    // Opening it is answered so.
-    Open(Result<(), TreeFault>),
-    // The next block of the open file is these bytes.
-    Gives(&'static [u8]),
-    // The source failed so often.
-    Failed(u64),
-}
-
-impl Goes<Loose> for LooseSource {
-    fn goes(&mut self, _: Global, at: &NamePath, what: &Loose) -> bool {
-        match what {
-            Loose::Swap(calls, bytes, answer) => self.swap_after(*calls, at, bytes) == *answer,
-            Loose::Open(answer) => self.open(at) == *answer,
-            Loose::Gives(bytes) => gives(self, bytes),
-            Loose::Failed(failures) => self.failures() == *failures,
-        }
-    }
-}
-
-fn plants_at(source: &mut MemSource, alloc: Global, at: &str, bytes: &[u8]) -> bool {
-    match path(alloc, at) {
-        Ok(at) => plants(source, &at, bytes),
-        Err(_) => false,
-    }
-}
-
-// Over a source of a file `f` of these bytes; without one, none goes right.
-fn find_wrong_in_loose(alloc: Global, bytes: &[u8], rows: &[(&str, Loose)]) -> Option<usize> {
-    let mut source = MemSource::new(alloc);
-    let is_planted = plants_at(&mut source, alloc, "f", bytes);
-    let wrong = find_wrong_row(LooseSource::of(source), alloc, rows);
-    if is_planted { wrong } else { Some(0) }
-}
-
-fn gives(source: &mut LooseSource, bytes: &[u8]) -> bool {
-    let mut block = Block::new();
-    source.next(&mut block).is_ok() && block.as_slice() == bytes
-}
-
-const SWAPS: &[(&str, Loose)] = &[
-    ("g", Loose::Swap(0, b"", Err(SwapFault::Absent))),
-    ("f", Loose::Swap(2, b"b", Ok(()))),
-    ("g", Loose::Swap(0, b"", Err(SwapFault::Absent))),
-];
-
-const GROWS: &[(&str, Loose)] = &[
-    ("f", Loose::Swap(2, B_8194, Ok(()))),
-    ("f", Loose::Open(Ok(()))),
-    ("f", Loose::Gives(A_8192)),
-    ("f", Loose::Gives(b"bb")),
-];
-
-const SHRINKS: &[(&str, Loose)] = &[
-    ("f", Loose::Swap(2, b"b", Ok(()))),
-    ("f", Loose::Open(Ok(()))),
-    ("f", Loose::Gives(A_8192)),
-    ("f", Loose::Gives(b"")),
-    ("f", Loose::Open(Ok(()))),
-    ("f", Loose::Gives(b"b")),
-];
-
-const FAILS: &[(&str, Loose)] = &[
-    ("g", Loose::Failed(0)),
-    ("g", Loose::Open(Err(TreeFault::Device))),
-    ("g", Loose::Failed(1)),
-];
-
-// The bytes of the file `f` before the rows.
-const LOOSE: &[(&str, &[u8], &[(&str, Loose)])] = &[
-    ("a swap wants a file", b"a", SWAPS),
-    ("a file grows while it is read", A_8192, GROWS),
-    ("a file shrinks while it is read", A_8194, SHRINKS),
-    ("a loose source counts its failures", b"a", FAILS),
-];
-
-#[test]
-fn loose_sources_go_as_the_rows_say(rt: HostRuntime) {
-    for (what, bytes, rows) in LOOSE {
-        none_goes_wrong(&rt, what, find_wrong_in_loose(rt.alloc(), bytes, rows));
-    }
 }

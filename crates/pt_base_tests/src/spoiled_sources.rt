@@ -7,13 +7,15 @@ use crate::memory_trees::{A_8193, Goes, find_wrong_row, read_file};
 use crate::tables::none_goes_wrong;
 use pt_memory::texts::{add, path};
 use pt_memory::{MemSource, SpoiledSource};
-use pt_tree::{Block, NamePath, Source, TreeFault};
+use pt_tree::{Block, Kind, NamePath, Source, TreeFault};
 use std::alloc::Global;
 
 // What is done at a path of such a source, or found there.
 enum Spoiled {
     // The directory is listed with so many entries; or that fails.
     Lists(Result<usize, TreeFault>),
+    // A look at what stands there is answered so.
+    Shows(Result<Option<Kind>, TreeFault>),
     // Opening the file is answered so.
     Opens(Result<(), TreeFault>),
     // The file is opened, and each of its next blocks has so many bytes; or reading that block fails.
@@ -31,6 +33,7 @@ impl Goes<Spoiled> for SpoiledSource {
     fn goes(&mut self, alloc: Global, at: &NamePath, what: &Spoiled) -> bool {
         match what {
             Spoiled::Lists(answer) => lists(self, at, *answer),
+            Spoiled::Shows(answer) => self.kind(at) == *answer,
             Spoiled::Opens(answer) => opens(self, at, *answer),
             Spoiled::Gives(blocks) => self.source().has_file(at) && gives(self, at, blocks),
             Spoiled::IsRead(answer) => is_read(self, at, *answer),
@@ -202,6 +205,19 @@ const ONE_BY_ONE: &[(&str, Spoiled)] = &[
     ("", Spoiled::Failed(3)),
 ];
 
+// Entries of a directory that can't be listed can't be looked at, whatever stands there; what itself can't be read can.
+const LOOKED_AT: &[(&str, Spoiled)] = &[
+    ("e/h", Spoiled::Shows(Err(TreeFault::Device))),
+    ("e/i", Spoiled::Shows(Err(TreeFault::Device))),
+    ("x/y", Spoiled::Shows(Err(TreeFault::Device))),
+    ("", Spoiled::Failed(3)),
+    ("e", Spoiled::Shows(Ok(Some(Kind::Dir)))),
+    ("d/f", Spoiled::Shows(Ok(Some(Kind::File)))),
+    ("x", Spoiled::Shows(Ok(None))),
+    ("", Spoiled::Shows(Ok(Some(Kind::Dir)))),
+    ("", Spoiled::Failed(3)),
+];
+
 // A large file fails at its first block, and not only at its end.
 const LARGE: &[(&str, Spoiled)] = &[
     ("l", Spoiled::Opens(Ok(()))),
@@ -217,11 +233,13 @@ const LARGE: &[(&str, Spoiled)] = &[
 // The top alone can't be listed; what is below it can be read.
 const TOP: &[(&str, Spoiled)] = &[
     ("", Spoiled::Lists(Err(TreeFault::Device))),
-    ("", Spoiled::Failed(1)),
+    ("d", Spoiled::Shows(Err(TreeFault::Device))),
+    ("", Spoiled::Failed(2)),
+    ("d/f", Spoiled::Shows(Ok(Some(Kind::File)))),
     ("d", Spoiled::Lists(Ok(3))),
     ("d/f", Spoiled::IsRead(Ok((3, 2)))),
     ("i", Spoiled::IsRead(Ok((0, 1)))),
-    ("", Spoiled::Failed(1)),
+    ("", Spoiled::Failed(2)),
 ];
 
 const FUSED: &[(&str, Spoiled)] = &[
@@ -232,6 +250,15 @@ const FUSED: &[(&str, Spoiled)] = &[
     ("", Spoiled::Failed(2)),
     // A call that is refused by both is one failure.
     ("e", Spoiled::Lists(Err(TreeFault::Device))),
+    ("", Spoiled::Failed(3)),
+];
+
+const FUSED_LOOKS: &[(&str, Spoiled)] = &[
+    // A look that fails and one that goes well use the fuse up.
+    ("e/h", Spoiled::Shows(Err(TreeFault::Device))),
+    ("d/f", Spoiled::Shows(Ok(Some(Kind::File)))),
+    ("d/f", Spoiled::Shows(Err(TreeFault::Device))),
+    ("e/h", Spoiled::Shows(Err(TreeFault::Device))),
     ("", Spoiled::Failed(3)),
 ];
 
@@ -255,9 +282,16 @@ const TABLES: &[Table] = &[
     ),
     Table("what is beside it is read", None, PATHS, BESIDE),
     Table("files are opened one by one", None, PATHS, ONE_BY_ONE),
+    Table("entries are looked at", None, PATHS, LOOKED_AT),
     Table("a large file fails at once", None, &["l"], LARGE),
     Table("the top can't be listed", None, &[""], TOP),
     Table("a listing that fails uses the fuse", Some(2), PATHS, FUSED),
+    Table(
+        "a look that fails uses the fuse",
+        Some(2),
+        PATHS,
+        FUSED_LOOKS,
+    ),
     Table(
         "a block that fails uses the fuse",
         Some(2),

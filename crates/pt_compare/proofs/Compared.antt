@@ -11,7 +11,7 @@ use Rattle.pt_compare.specs.Found.{IsFirst, IsFound, LeavesExtra, IsWrong, Meets
 use Rattle.pt_compare.specs.Marks.{Marks, all_met, at_first, inside, kind_in, no_marks, with_mark}
 use Rattle.pt_compare.specs.Meeting.{IsWrongInventory, Meets, MeetsFrom, MeetsIn, MeetsText, MeetsTextIn, NotedStand, StandsSo}
 use Rattle.pt_compare.specs.Parts.{content_items, early_items, files_of, first_items, last_items}
-use Rattle.pt_compare.specs.Root.{IsSeen, kind_at}
+use Rattle.pt_tree.specs.Source.{IsSeen}
 use Rattle.pt_compare.specs.declared.difference.Difference.{Difference}
 use Rattle.pt_compare.specs.declared.difference.Comparison.{Comparison}
 use Rattle.pt_compare.specs.declared.difference.Comparison.TheVariants as finding
@@ -34,7 +34,7 @@ use Rattle.pt_object.specs.Script.{Item, MakeFile}
 use Rattle.pt_object.specs.declared.algorithm.Algorithm.{Algorithm}
 use Rattle.pt_object.specs.declared.table.contents.Content.{Content}
 use Rattle.pt_object.specs.declared.rows.Row.{Row}
-use Rattle.pt_tree.specs.Forest.{Dir, Forest, node_at}
+use Rattle.pt_tree.specs.Forest.{Dir, Forest, kind_at, node_at}
 use Rattle.pt_tree.specs.Path.{Path, same_path}
 use Rattle.pt_tree.specs.Tree.{Bytes, Tree}
 use Rattle.pt_tree.specs.declared.kind.Kind.{Kind}

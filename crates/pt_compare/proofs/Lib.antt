@@ -5,7 +5,6 @@ pub mod Contents
 pub mod Described
 pub mod Entering
 pub mod Findings
-pub mod Folders
 pub mod Going
 pub mod Listed
 pub mod Made

@@ -6,13 +6,14 @@ use Rattle.std.specs.Cmp.Lexicographic.{same_text}
 use Rattle.std.specs.Str.{bytes_eq}
 use Rattle.std.proofs.lemmas.Bool.{true≢false}
 use Rattle.std.proofs.lemmas.List.{drop_all, drop_more, take-append-drop}
-use Rattle.pt_compare.specs.Root.{CanLook, Lacks, Stands, is_standing, kind_at, same_kind}
+use Rattle.pt_compare.specs.Root.{Lacks, Stands, is_standing, same_kind}
+use Rattle.pt_tree.specs.Source.{CanLook}
 use Rattle.pt_plan.specs.TurnMake.{common_names}
 use Rattle.pt_plan.specs.TurnStart.{is_dir_kind}
 use Rattle.pt_compare.proofs.Roots.{below, one_dir, same_dir, stands_dir}
 use Rattle.pt_tree.proofs.AtPaths.{parent-last}
 use Rattle.pt_tree.proofs.Paths.{split_parts}
-use Rattle.pt_tree.specs.Forest.{Dir, Forest, kind_of}
+use Rattle.pt_tree.specs.Forest.{Dir, Forest, kind_at, kind_of}
 use Rattle.pt_tree.specs.Path.{Path, parent, split_path}
 use Rattle.pt_tree.specs.declared.kind.Kind.TheVariants as kind
 

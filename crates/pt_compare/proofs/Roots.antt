@@ -3,11 +3,12 @@ use Rattle.std.proofs.Common.{◌≡◌, ◌<◌, ◌+◌, ℕ, List, [], ◌∷
 use Rattle.std.proofs.lemmas.List.{drop_more, take-append-drop, take_more}
 use Rattle.std.specs.Prelude.{Option, None, Some, IsSome}
 use Rattle.std.specs.Option.{option_map, option_map_or, option_and_then, ForSome}
-use Rattle.pt_tree.specs.Forest.{Forest, Node, File, Dir, Other, as_dir, as_file, dir_at, file_at, find, kind_of, node_at}
+use Rattle.pt_tree.specs.Forest.{Dir, File, Forest, Node, Other, as_dir, as_file, dir_at, file_at, find, kind_at, kind_of, node_at}
 use Rattle.pt_tree.specs.Path.{Path, parent}
 use Rattle.pt_tree.specs.declared.kind.Kind.{Kind}
 use Rattle.pt_tree.specs.declared.kind.Kind.TheVariants as kind
-use Rattle.pt_compare.specs.Root.{CanLook, IsSeen, Lacks, Stands, kind_at, same_kind}
+use Rattle.pt_compare.specs.Root.{Lacks, Stands, same_kind}
+use Rattle.pt_tree.specs.Source.{CanLook, IsSeen}
 use Rattle.pt_plan.specs.TurnStart.{is_dir_kind, is_file_kind}
 use Rattle.pt_compare.proofs.Listed.{itself}
 use Rattle.pt_tree.proofs.Paths.{parent-push}

@@ -1,16 +1,12 @@
 -- What a root that stands tells.
-use Rattle.std.specs.Prelude.{◌≡◌, Bool, true, false, List, Option, None, Some, IsSome, is_some}
-use Rattle.std.specs.Option.{option_map, option_map_or, ForSome}
-use Rattle.pt_tree.specs.Forest.{Dir, Forest, dir_at, is_proper, kind_of, listing_at, node_at}
+use Rattle.std.specs.Prelude.{◌≡◌, Bool, true, false, List, Option, None, Some, is_some}
+use Rattle.std.specs.Option.{option_map_or, ForSome}
+use Rattle.pt_tree.specs.Forest.{Forest, is_proper, kind_at, listing_at}
 use Rattle.pt_tree.specs.Listing.{Item}
-use Rattle.pt_tree.specs.Path.{Path, parent}
+use Rattle.pt_tree.specs.Path.{Path}
 use Rattle.pt_tree.specs.Source.{Reading, tree_in}
 use Rattle.pt_tree.specs.declared.kind.Kind.{Kind}
 use Rattle.pt_tree.specs.declared.kind.Kind.TheVariants as kind
-
--- the kind of what stands at a path, if anything does
-abbrev pub kind_at : Forest → Path → Option Kind
-kind_at tree p = option_map kind_of (node_at (Dir tree) p)
 
 -- it is the same root, whose tree is as it was
 abbrev pub KeepsRoot : {R : Type 0} → (R → Option Reading) → (R → R → Type 0) → R → R → Type 0
@@ -35,14 +31,6 @@ Stands tree e = is_standing tree e ≡ true
 -- where a tree is told, nothing of this kind stands there
 abbrev pub Lacks : Option Forest → Path × Kind → Type 0
 Lacks tree e = ForSome tree (λ f. is_standing (Some f) e ≡ false)
-
--- where a tree is told, what stands at a path is of this kind, or nothing stands there
-abbrev pub IsSeen : Option Forest → Path → Option Kind → Type 0
-IsSeen tree p here = ForSome tree (λ f. kind_at f p ≡ here)
-
--- where a tree is told, a directory is above the path
-unfoldable pub CanLook : Option Forest → Path → Type 0
-CanLook tree p = ForSome tree (λ f. IsSome (dir_at f (parent p)))
 
 -- where a tree is told, this is what its directory at a path lists, whose names rise
 unfoldable pub Lists : Option Forest → Path → List Item → Type 0

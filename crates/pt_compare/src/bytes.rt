@@ -5,15 +5,18 @@ ghost use Rattle.pt_compare.specs.Bytes.{CameNext, IsAllLeft, IsNotNext, TellsEn
 ghost use Rattle.pt_compare.specs.Root.{Reads};
 ghost use Rattle.pt_tree.specs.Source.{tree_in};
 
-use crate::Root;
-use pt_tree::{BLOCK, Block, TreeFault};
+use pt_tree::{BLOCK, Block, Source, TreeFault};
 use std::alloc::Global;
 
 // How many blocks of a file are read at most: 2^64 bytes, of which memory has to be wanting before.
 const MOST: u64 = 1 << 51;
 
 /// Whether these bytes come next in the open file of a root: block by block, of which all but the last have to be full.
-pub fn come_next<R: Root>(root: &mut R, block: &mut Block, bytes: &[u8]) -> Result<bool, TreeFault>
+pub fn come_next<R: Source>(
+    root: &mut R,
+    block: &mut Block,
+    bytes: &[u8],
+) -> Result<bool, TreeFault>
     requires { Reads (R.told root.old) }
     ensures tree { tree_in (R.told root.new) ≡ tree_in (R.told root.old) }
     ensures keeps { R.keeps root.old root.new }
@@ -36,7 +39,7 @@ pub fn come_next<R: Root>(root: &mut R, block: &mut Block, bytes: &[u8]) -> Resu
 }
 
 /// Whether the open file of a root has no further bytes.
-pub fn has_ended<R: Root>(root: &mut R, block: &mut Block) -> Result<bool, TreeFault>
+pub fn has_ended<R: Source>(root: &mut R, block: &mut Block) -> Result<bool, TreeFault>
     requires { Reads (R.told root.old) }
     ensures tree { tree_in (R.told root.new) ≡ tree_in (R.told root.old) }
     ensures keeps { R.keeps root.old root.new }
@@ -49,7 +52,7 @@ pub fn has_ended<R: Root>(root: &mut R, block: &mut Block) -> Result<bool, TreeF
 }
 
 /// Whether the open file of a root has these bytes, and no further ones.
-pub(crate) fn are_the_rest<R: Root>(
+pub(crate) fn are_the_rest<R: Source>(
     root: &mut R,
     block: &mut Block,
     bytes: &[u8],
@@ -68,7 +71,7 @@ pub(crate) fn are_the_rest<R: Root>(
 }
 
 /// All that is left of the open file of a root.
-pub(crate) fn rest_of<R: Root>(
+pub(crate) fn rest_of<R: Source>(
     alloc: Global,
     root: &mut R,
     block: &mut Block,

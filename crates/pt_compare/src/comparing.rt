@@ -7,19 +7,19 @@ ghost use Rattle.pt_compare.specs.Marks.{inside, marks_of, marks_over};
 ghost use Rattle.pt_compare.specs.Meeting.{FailsAs, FailsInRoot, MeetsFrom, MeetsIn, NotedStand, both};
 ghost use Rattle.pt_compare.specs.Parts.{content_items, files_of, first_items, fronts, last_items, way_items};
 ghost use Rattle.pt_compare.specs.Ways.{AreMet};
-ghost use Rattle.pt_compare.specs.Root.{IsSeen, KeepsRoot};
+ghost use Rattle.pt_compare.specs.Root.{KeepsRoot};
 ghost use Rattle.pt_tree.specs.Failures.{IsCounted};
 ghost use Rattle.pt_plan.specs.declared.fault.Fault.TheVariants as fault;
 ghost use Rattle.pt_object.specs.Distinct.{content_of_row, distinct};
 ghost use Rattle.pt_object.specs.FilePaths.{row_paths};
 ghost use Rattle.pt_tree.specs.PathOrder.{part_in_order};
-ghost use Rattle.pt_tree.specs.Source.{CanOpen, tree_in};
+ghost use Rattle.pt_tree.specs.Source.{CanOpen, IsSeen, tree_in};
 
 use crate::entries::Entries;
 use crate::meeting::{Stored, meet_bytes, meet_folder, meet_inventory, meet_stored};
 use crate::paths::{content_path, join};
 use crate::stop::Stop;
-use crate::{Comparison, Difference, Root, ScannedObject, Why, find_kind};
+use crate::{Comparison, Difference, ScannedObject, Why, find_kind};
 use pt_object::{WellKnownName, object_declaration, sidecar};
 use pt_plan::Fault;
 use pt_plan::names::alike_names;
@@ -34,7 +34,7 @@ use std::alloc::Global;
 ///
 /// What is known to be alike isn't read again. `Source` where a call of the source failed, `Dest` where one of the root did, and `Memory` where a
 /// growth was refused, or a file has more than 2^77 bytes.
-pub fn compare<S: Source, R: Root>(
+pub fn compare<S: Source, R: Source>(
     alloc: Global,
     source: &mut S,
     root: &mut R,
@@ -68,7 +68,7 @@ pub fn compare<S: Source, R: Root>(
 }
 
 // The kind of what stands at an object's place, if anything does; what is known of it isn't looked at.
-fn at_place<R: Root>(
+fn at_place<R: Source>(
     alloc: Global,
     root: &mut R,
     object: &ScannedObject<'_>,
@@ -101,7 +101,7 @@ fn find_left_over(entries: &Entries) -> Result<Comparison, Fault>
 }
 
 // Meets all of an object.
-fn meet_object<S: Source, R: Root>(
+fn meet_object<S: Source, R: Source>(
     alloc: Global,
     source: &mut S,
     root: &mut R,
@@ -129,7 +129,7 @@ fn meet_object<S: Source, R: Root>(
 }
 
 // Meets the place itself, the declaration (OCFL 1.1, "Object Conformance Declaration") and the version's folder.
-fn meet_first<R: Root>(
+fn meet_first<R: Source>(
     alloc: Global,
     root: &mut R,
     place: &NamePath,
@@ -149,7 +149,7 @@ fn meet_first<R: Root>(
 }
 
 // Meets the contents (OCFL 1.1, "Content Directory"), each with the folders on the way to it that are new.
-fn meet_contents<S: Source, R: Root>(
+fn meet_contents<S: Source, R: Source>(
     alloc: Global,
     source: &mut S,
     root: &mut R,
@@ -214,7 +214,7 @@ struct Way<'a> {
 }
 
 // Meets the folders on the way to a content that the last content didn't need.
-fn meet_way<R: Root>(
+fn meet_way<R: Source>(
     alloc: Global,
     root: &mut R,
     place: &NamePath,
@@ -255,7 +255,7 @@ fn folders_met(last: &Option<NamePath>, path: &NamePath) -> usize
 }
 
 // Meets the inventories and their sidecars (OCFL 1.1, "Inventory", "Inventory Digest").
-fn meet_inventories<R: Root>(
+fn meet_inventories<R: Source>(
     alloc: Global,
     root: &mut R,
     object: &ScannedObject<'_>,
@@ -278,7 +278,7 @@ fn meet_inventories<R: Root>(
 
 // Meets what follows from the inventory in the version's folder: its sidecar, the same inventory at the top, and the sidecar
 // there.
-fn meet_copies<R: Root>(
+fn meet_copies<R: Source>(
     alloc: Global,
     root: &mut R,
     object: &ScannedObject<'_>,

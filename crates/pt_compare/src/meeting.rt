@@ -18,12 +18,12 @@ use crate::entries::{Entries, note};
 use crate::inventories::text_if_made;
 use crate::paths::join;
 use crate::stop::{Stop, of_root, of_source};
-use crate::{Difference, Root, ScannedObject, Why};
+use crate::{Difference, ScannedObject, Why};
 use pt_tree::{Block, Kind, NamePath, Source};
 use std::alloc::Global;
 
 /// Meets a folder, and notes its entries.
-pub(crate) fn meet_folder<R: Root>(
+pub(crate) fn meet_folder<R: Source>(
     root: &mut R,
     place: &NamePath,
     entries: &mut Entries,
@@ -46,7 +46,7 @@ pub(crate) fn meet_folder<R: Root>(
 }
 
 /// Meets a file that has these bytes.
-pub(crate) fn meet_bytes<R: Root>(
+pub(crate) fn meet_bytes<R: Source>(
     root: &mut R,
     place: &NamePath,
     entries: &mut Entries,
@@ -77,7 +77,7 @@ pub(crate) struct Stored<'a> {
 }
 
 /// Meets a content; what is known to be alike isn't read again.
-pub(crate) fn meet_stored<S: Source, R: Root>(
+pub(crate) fn meet_stored<S: Source, R: Source>(
     source: &mut S,
     root: &mut R,
     place: &NamePath,
@@ -118,7 +118,7 @@ fn take_file(entries: &mut Entries, path: &NamePath) -> Result<(), Stop>
 }
 
 // Meets a content by its bytes and those of its file.
-fn meet_content<S: Source, R: Root>(
+fn meet_content<S: Source, R: Source>(
     source: &mut S,
     root: &mut R,
     place: &NamePath,
@@ -148,7 +148,7 @@ fn meet_content<S: Source, R: Root>(
 
 /// Meets the inventory in the version's folder, which has to be one that a run could make of the object's files, and gives its
 /// text.
-pub(crate) fn meet_inventory<R: Root>(
+pub(crate) fn meet_inventory<R: Source>(
     alloc: Global,
     root: &mut R,
     object: &ScannedObject<'_>,
@@ -174,7 +174,7 @@ pub(crate) fn meet_inventory<R: Root>(
 }
 
 // Takes a file out of what is noted, and opens it.
-fn open_file<R: Root>(
+fn open_file<R: Source>(
     root: &mut R,
     place: &NamePath,
     entries: &mut Entries,

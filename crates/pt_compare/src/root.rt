@@ -3,31 +3,18 @@ ghost use Rattle.std.specs.Prelude.{◌≡◌, IfOk, IsFalse, IsTrue};
 ghost use Rattle.pt_compare.specs.Beside.{OpensStanding};
 ghost use Rattle.pt_tree.specs.declared.kind.Kind.TheVariants as kind;
 ghost use Rattle.pt_tree.specs.Failures.{IsCounted};
-ghost use Rattle.pt_compare.specs.Root.{CanLook, IsSeen, Lacks, Stands};
-ghost use Rattle.pt_tree.specs.Source.{tree_in};
+ghost use Rattle.pt_compare.specs.Root.{Lacks, Stands};
+ghost use Rattle.pt_tree.specs.Source.{IsSeen, tree_in};
 
 use pt_plan::kinds::{is_dir, is_file};
 use pt_plan::names::alike_names;
 use pt_tree::{Kind, Name, NamePath, Source, TreeFault};
 use std::alloc::Global;
 
-/// A source that is asked, too, what stands at a path.
-pub trait Root: Source {
-    /// The kind of what stands at a path, links not followed; None where nothing does.
-    ///
-    /// Where it tells, a directory has to be above the path. The open file stays as it is. The faults are those of a source's calls.
-    fn kind(&mut self, path: &NamePath) -> Result<Option<Kind>, TreeFault>
-        requires { CanLook (tree_in (Self.told self.old)) path.now }
-        ensures kind { IfOk result (λ here. IsSeen (tree_in (Self.told self.old)) path.now here) }
-        ensures same { Self.told self.new ≡ Self.told self.old }
-        ensures failures { IsCounted (Self.failed self.old) (Self.failed self.new) result }
-        ensures keeps { Self.keeps self.old self.new };
-}
-
 /// The kind of what stands at a path; None where nothing does, also below what is no directory. Each entry on its way is
 /// looked at, from the top on, up to the first that isn't a directory.
 /// `Memory` where a growth was refused, else the fault of the look that failed.
-pub fn find_kind<R: Root>(
+pub fn find_kind<R: Source>(
     alloc: Global,
     root: &mut R,
     path: &NamePath,
@@ -54,7 +41,7 @@ pub fn find_kind<R: Root>(
 /// Each folder on its way is looked at, but for those that lead to a folder that is known to stand. The folder of the file is
 /// that one from then on, if it isn't above it.
 /// `Memory` where a growth was refused, else the fault of the look or the opening that failed.
-pub fn open_standing<R: Root>(
+pub fn open_standing<R: Source>(
     alloc: Global,
     root: &mut R,
     folder: &mut NamePath,
@@ -81,7 +68,7 @@ pub fn open_standing<R: Root>(
 }
 
 // Whether the folder of these names stands. It is the one that is known to stand from then on, unless that is below it.
-fn stand_above<R: Root>(
+fn stand_above<R: Source>(
     alloc: Global,
     root: &mut R,
     folder: &mut NamePath,

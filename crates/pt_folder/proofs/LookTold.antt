@@ -1,9 +1,9 @@
 -- What a look at an entry of a source tells, by the law of its system.
 use Rattle.std.proofs.Common.{◌≡◌, List, ℕ, ap, inl, inr}
 use Rattle.std.specs.Prelude.{Option, IsSome, IfOk, Result, Ok, Err}
-use Rattle.std.specs.Option.{option_map, ForSome}
+use Rattle.std.specs.Option.{ForSome}
 use Rattle.std.specs.declared.io.Error.{Error}
-use Rattle.pt_tree.specs.Forest.{Dir, Forest, dir_at, kind_of, node_at}
+use Rattle.pt_tree.specs.Forest.{Forest, dir_at, kind_at}
 use Rattle.pt_tree.specs.Path.{Path, parent}
 use Rattle.pt_tree.specs.declared.faults.TreeFault.{TreeFault}
 use Rattle.pt_tree.specs.declared.kind.Kind.{Kind}
@@ -18,8 +18,8 @@ module _ {S : Type 0} (kept : S → List ℕ → Option Forest) (looks : S → L
   look_same result above (inr asked) = (law old new folder p asked.reply asked.named above asked.made).same
 
   pub look_tells : (result : Result (Option Kind) TreeFault) → ForSome (kept old folder) (λ f. IsSome (dir_at f (parent p))) → AsksOnce looks LeadsToKind (entry_in folder p) (change_of old new) result
-      → IfOk result (λ here. ForSome (kept old folder) (λ f. option_map kind_of (node_at (Dir f) p) ≡ here))
+      → IfOk result (λ here. ForSome (kept old folder) (λ f. kind_at f p ≡ here))
   look_tells (Err e) above asked = tt
   look_tells (Ok here) above (inl none) = absurd none.1
   look_tells (Ok here) above (inr asked) = let look = law old new folder p asked.reply asked.named above asked.made in
-      λ f is. right_kind_here (option_map kind_of (node_at (Dir f) p)) asked.reply here (look.shown f is) asked.gives
+      λ f is. right_kind_here (kind_at f p) asked.reply here (look.shown f is) asked.gives

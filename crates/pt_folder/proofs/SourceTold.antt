@@ -1,16 +1,17 @@
 -- What a source tells after a file is opened, and after a block is read, by the laws of its system.
 use Rattle.std.proofs.Common.{◌≡◌, ℕ, List, [], ◌∷◌, false, refl, sym, ap, subst, ◌∙◌, inl, inr, take, drop}
-use Rattle.std.specs.Prelude.{Option, None, Some, IsSome, Result, Ok, Err, OnOk, OnErr, MatchResult}
+use Rattle.std.specs.Prelude.{Option, None, Some, IsSome, Result, Ok, Err, IfOk, OnOk, OnErr, MatchResult}
 use Rattle.std.specs.Option.{option_map, ForSome}
 use Rattle.std.specs.declared.io.Error.{Error}
 use Rattle.pt_tree.specs.declared.faults.TreeFault.{TreeFault}
-use Rattle.pt_tree.specs.Forest.{Forest, file_at, dir_at}
+use Rattle.pt_tree.specs.Forest.{Forest, file_at, dir_at, kind_at}
+use Rattle.pt_tree.specs.declared.kind.Kind.{Kind}
 use Rattle.pt_tree.specs.Path.{Path, parent}
 use Rattle.pt_tree.specs.Tree.{Entry, bytes_of, tree_of}
 use Rattle.pt_tree.proofs.AtPaths.{bytes_at, stands_in}
 use Rattle.pt_folder.specs.Calls.{change_of}
 use Rattle.pt_folder.specs.Folder.{entry_in, entry_text}
-use Rattle.pt_tree.specs.Source.{CanList, CanOpen, CanRead, IsListed, IsRead, after_open}
+use Rattle.pt_tree.specs.Source.{CanList, CanLook, CanOpen, CanRead, IsListed, IsRead, IsSeen, after_open, tree_in}
 use Rattle.pt_tree.specs.Source.{Reading as Told}
 use Rattle.pt_tree.specs.Listing.{Item}
 use Rattle.pt_tree.specs.Forest.{listing_at}
@@ -37,6 +38,17 @@ pub is_listed : (unread : Option (List ℕ)) (o : Option Forest) (p : Path) (ite
 unfolding IsListed
 is_listed unread None p items h = λ s is. absurd (cc)
 is_listed unread (Some f) p items h = λ s is. let same : told_at unread f ≡ s = cc in subst (λ (s : Told). listing_at s.tree p ≡ Some items) same (h f refl)
+
+pub can_look : (unread : Option (List ℕ)) (o : Option Forest) (p : Path) → CanLook (tree_in (told_of o unread)) p → ForSome o (λ f. IsSome (dir_at f (parent p)))
+unfolding CanLook
+can_look unread None p h = λ f is. absurd (cc)
+can_look unread (Some f) p h = h
+
+pub is_seen : (unread : Option (List ℕ)) (o : Option Forest) (p : Path) (r : Result (Option Kind) TreeFault) → IfOk r (λ here. ForSome o (λ f. kind_at f p ≡ here))
+    → IfOk r (λ here. IsSeen (tree_in (told_of o unread)) p here)
+is_seen unread None p (Ok here) h = λ f is. absurd (cc)
+is_seen unread (Some f) p (Ok here) h = h
+is_seen unread o p (Err e) h = tt
 
 pub is_read : (unread : Option (List ℕ)) (o : Option Forest) (block : List ℕ) → CanRead (told_of o unread) → IsNext unread block → IsRead (told_of o unread) block
 unfolding IsRead CanRead

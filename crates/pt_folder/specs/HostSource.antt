@@ -127,10 +127,6 @@ module _ {S F D : Type 0} {sys : OfSystem S F D} {handle : OfHandle F} {file : O
   abbrev pub open_file : HostSource S F D sys handle file dir → Option (Open F) × String Global
   open_file s = (s.reading, s.at)
 
-  -- what stays when something is looked at: the folder, the open file, its path, and how many calls there were
-  abbrev pub lasting : HostSource S F D sys handle file dir → Folder × Option (Open F) × String Global × ℕ
-  lasting s = (s.folder, s.reading, s.at, s.calls)
-
   -- a call on the same folder is counted, and its failure is
   pub record IsCall {T : Type 0} (old new : HostSource S F D sys handle file dir)
       (result : Result T TreeFault) : Type 0 where

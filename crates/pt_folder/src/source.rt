@@ -1,11 +1,8 @@
 ghost use Rattle.std.proofs.Common.{◌∙◌, refl};
-ghost use Rattle.std.specs.Prelude.{◌≡◌, [], Some, None, Err, IfErr, IfOk, IfSome, IsSome, OnOk, OnErr, string_bytes};
+ghost use Rattle.std.specs.Prelude.{◌≡◌, [], Some, None, Err, IfErr, IfOk, IfSome, OnOk, OnErr, string_bytes};
 ghost use Rattle.std.specs.Prelude.{drop as drop_items};
-ghost use Rattle.std.specs.Option.{option_map, ForSome};
+ghost use Rattle.std.specs.Option.{option_map};
 ghost use Rattle.pt_tree.specs.declared.faults.TreeFault.TheVariants.{Device};
-ghost use Rattle.pt_tree.specs.Failures.{IsCounted};
-ghost use Rattle.pt_tree.specs.Forest.{Dir, dir_at, kind_of, node_at};
-ghost use Rattle.pt_tree.specs.Path.{parent};
 ghost use Rattle.pt_folder.specs.Syscalls.{new_syscalls};
 ghost use Rattle.pt_folder.specs.Calls.{change_of};
 ghost use Rattle.pt_folder.specs.Failure.{OnDevice};
@@ -40,7 +37,7 @@ pub struct HostSource<'a, S: System> {
 }
 
 impl<'a, S: System> HostSource<'a, S> {
-    ghost use Rattle.pt_folder.specs.HostSource.{IsLookedAt, KeepsLook, Looks, failure_of, folder_path, kept_by, lasting, system_of};
+    ghost use Rattle.pt_folder.specs.HostSource.{failure_of, folder_path, system_of};
 
     /// A source over the folder at a path of a system, as the runtime's. It calls nothing and takes no memory.
     pub fn new(system: S, alloc: Global, path: &'a str) -> HostSource<'a, S>
@@ -78,30 +75,11 @@ impl<'a, S: System> HostSource<'a, S> {
         self.at.as_str()
     }
 
-    /// The path that `lstat` answered last; empty before the first.
+    /// The path that `kind` answered last; empty before the first.
     pub fn looked_path(&self) -> &str
         ensures { result.now ≡ string_bytes self.now.looked }
     {
         self.looked.as_str()
-    }
-
-    /// The kind of what stands at a path, links not followed; None where nothing does.
-    ///
-    /// Where the system keeps a tree, a directory has to be above the path. The open file stays as it is.
-    /// `Device` where the system can't tell, `Memory` where a growth was refused.
-    pub fn lstat(&mut self, path: &NamePath) -> Result<Option<Kind>, TreeFault>
-        requires { ForSome (kept_by self.old) (λ f. IsSome (dir_at f (parent path.now))) }
-        ensures kind { IfOk result (λ here. ForSome (kept_by self.old)
-            (λ f. option_map kind_of (node_at (Dir f) path.now) ≡ here)) }
-        ensures same { kept_by self.new ≡ kept_by self.old }
-        ensures asked { Looks self.old self.new path.now result }
-        ensures kept { OnDevice result (KeepsLook self.old self.new path.now) }
-        ensures still { lasting self.new ≡ lasting self.old }
-        ensures looked { IsLookedAt self.old self.new path.now result }
-        ensures failures { IsCounted self.old.failures self.new.failures result }
-    {
-        let kind = self.syscalls.kind_at(&self.folder, path, &mut self.looked);
-        count_failure(&mut self.failures, kind)
     }
 
     /// The system, as the calls left it; the open file is closed.
@@ -114,9 +92,11 @@ impl<'a, S: System> HostSource<'a, S> {
 
 impl<'a, S: System> Source for HostSource<'a, S> {
     ghost use Rattle.std.specs.Prelude.{Option};
-    ghost use Rattle.pt_tree.specs.Source.{CanList, IsListed, CanOpen, CanRead, IsRead, after_open, after_next};
+    ghost use Rattle.pt_tree.specs.Source.{CanList, IsListed, CanLook, IsSeen, CanOpen, CanRead, IsRead};
+    ghost use Rattle.pt_tree.specs.Source.{after_open, after_next, tree_in};
     ghost use Rattle.pt_folder.specs.Devices.{was_called};
-    ghost use Rattle.pt_folder.specs.HostSource.{CannotList, IsCall, IsReading, KeepsList, KeepsOpen, KeepsRead, Lists, Opens, Reads};
+    ghost use Rattle.pt_folder.specs.HostSource.{CannotList, IsCall, IsLookedAt, IsReading, KeepsList, KeepsLook};
+    ghost use Rattle.pt_folder.specs.HostSource.{KeepsOpen, KeepsRead, Lists, Looks, Opens, Reads};
     ghost use Rattle.pt_folder.specs.HostSource.{folder_path, open_file, told};
     ghost use Rattle.pt_folder.specs.SourceHeld.{proper_held};
 
@@ -157,6 +137,21 @@ impl<'a, S: System> Source for HostSource<'a, S> {
         self.calls = self.calls.wrapping_add(1);
         let listing = listing::list(&mut self.syscalls, &self.folder, path, &mut self.room);
         count_failure(&mut self.failures, listing)
+    }
+
+    fn kind(&mut self, path: &NamePath) -> Result<Option<Kind>, TreeFault>
+        requires { CanLook (tree_in (told self.old)) path.now }
+        ensures kind { IfOk result (λ here. IsSeen (tree_in (told self.old)) path.now here) }
+        ensures same { told self.new ≡ told self.old }
+        ensures asked { Looks self.old self.new path.now result }
+        ensures kept { OnDevice result (KeepsLook self.old self.new path.now) }
+        ensures looked { IsLookedAt self.old self.new path.now result }
+        ensures reading { open_file self.new ≡ open_file self.old }
+        ensures call { IsCall self.old self.new result }
+    {
+        self.calls = self.calls.wrapping_add(1);
+        let kind = self.syscalls.kind_at(&self.folder, path, &mut self.looked);
+        count_failure(&mut self.failures, kind)
     }
 
     fn open(&mut self, path: &NamePath) -> Result<(), TreeFault>

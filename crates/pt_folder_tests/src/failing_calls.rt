@@ -247,6 +247,30 @@ const NO_FILES: &[SourceStep] = &[
     SourceStep::Calls(2),
 ];
 
+// A look is one call of the system, whose failure is counted; the open file is read on.
+const LOOKS: &[SourceStep] = &[
+    SourceStep::Kind("ad", Ok(Some(Kind::Dir))),
+    SourceStep::Kind("al", Ok(Some(Kind::Other))),
+    SourceStep::Calls(2),
+    SourceStep::Open("a", Ok(())),
+    SourceStep::CallFails(1),
+    SourceStep::Kind("b", FAILS),
+    SourceStep::Next(0, 8192),
+    SourceStep::Kind("b", Ok(Some(Kind::File))),
+];
+
+// Where the system says that nothing is there, that is no failure.
+const LACKS: &[SourceStep] = &[
+    SourceStep::CallFails(1),
+    SourceStep::Kind("a", Ok(None)),
+    SourceStep::Kind("a", Ok(Some(Kind::File))),
+];
+
+const LOOKS_IN_WANT: &[SourceStep] = &[
+    SourceStep::CallFails(1),
+    SourceStep::Kind("a", Err(TreeFault::Memory)),
+];
+
 // Bytes at a time, the error of a call that fails, the steps, and how many failures they make.
 const OVER_A_SOURCE: &[(usize, ErrorKind, &[SourceStep], u64)] = &[
     // short reads are not the end
@@ -263,6 +287,12 @@ const OVER_A_SOURCE: &[(usize, ErrorKind, &[SourceStep], u64)] = &[
     (4096, ErrorKind::Other, GOES_BACK, 2),
     // what is no file is not opened
     (4096, ErrorKind::Other, NO_FILES, 2),
+    // what stands at a path is looked at
+    (4096, ErrorKind::Other, LOOKS, 1),
+    (4096, ErrorKind::PermissionDenied, LOOKS, 1),
+    (4096, ErrorKind::NotFound, LACKS, 0),
+    (4096, ErrorKind::NotADirectory, LACKS, 0),
+    (4096, ErrorKind::OutOfMemory, LOOKS_IN_WANT, 0),
 ];
 
 #[test]

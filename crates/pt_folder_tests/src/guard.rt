@@ -78,6 +78,10 @@ impl<'a> Places for &'a FakePlaces {
         })
     }
 
+    fn look(&mut self, _: &str) -> io::Result<()> {
+        Err(io::Error::from(ErrorKind::NotFound))
+    }
+
     fn hold(&mut self, _: &str, claim: Claim) -> LockAttempt<u8> {
         self.asked.set(true);
         match (self.lock, claim) {

@@ -140,7 +140,7 @@ const LISTED: &[(&str, Kind)] = &[
     ("\u{e9}", Kind::File),
 ];
 
-// What each path's list answers, and its kind.
+// What each path's list answers, and its kind, asked of a source and of a destination.
 const KINDS: FolderCase = FolderCase {
     name: "pt_folder_kinds",
     entries: KINDS_OF_ENTRIES,
@@ -152,6 +152,15 @@ const KINDS: FolderCase = FolderCase {
         SourceStep::List("no", Err(TreeFault::Device)),
         SourceStep::List("b/x", Err(TreeFault::Device)),
         SourceStep::List("to_dir", Err(TreeFault::Device)),
+        SourceStep::Kind("", Ok(Some(Kind::Dir))),
+        SourceStep::Kind("b", Ok(Some(Kind::File))),
+        SourceStep::Kind("dir", Ok(Some(Kind::Dir))),
+        SourceStep::Kind("dir/in", Ok(Some(Kind::File))),
+        SourceStep::Kind("to_file", Ok(Some(Kind::Other))),
+        SourceStep::Kind("to_dir", Ok(Some(Kind::Other))),
+        SourceStep::Kind(".to_nothing", Ok(Some(Kind::Other))),
+        SourceStep::Kind("no", Ok(None)),
+        SourceStep::Kind("b/x", Ok(None)),
     ],
     rows: &[
         (DestStep::Kind(""), Ok(Some(Kind::Dir))),

@@ -151,6 +151,8 @@ pub enum SourceStep {
     Open(&'static str, Result<(), TreeFault>),
     /// The names and kinds in a directory.
     List(&'static str, Result<&'static [(&'static str, Kind)], TreeFault>),
+    /// What stands there.
+    Kind(&'static str, Answer),
     /// The next block is so many bytes of the file, from a place on.
     Next(u64, usize),
     /// No block is given, for this fault.
@@ -190,7 +192,7 @@ fn try_source_steps<R: Files>(
     Ok((None, source.failures()))
 }
 
-#[tactic(auto, unfolding(pt_tree::specs::Source::CanRead, pt_tree::specs::Source::CanList, pt_tree::specs::Source::CanOpen))]
+#[tactic(auto, unfolding(pt_tree::specs::Source::CanRead, pt_tree::specs::Source::CanList, pt_tree::specs::Source::CanLook, pt_tree::specs::Source::CanOpen))]
 fn goes<R: Files>(
     source: &mut HostSource<'_, &R>,
     block: &mut Block,
@@ -200,6 +202,7 @@ fn goes<R: Files>(
 ) -> Result<bool, Fail> {
     Ok(match step {
         SourceStep::Open(at, answer) => source.open(&path(alloc, at)?) == answer,
+        SourceStep::Kind(at, answer) => source.kind(&path(alloc, at)?) == answer,
         SourceStep::List(at, answer) => is_listed(&source.list(&path(alloc, at)?), answer),
         SourceStep::Next(start, len) => source.next(block).is_ok()
             && is_part(block.as_slice(), start, len),

@@ -1,18 +1,19 @@
 -- What a call of a source in memory gives is what the trait says.
 use Rattle.std.proofs.Common.{◌≡◌, ℕ, ◌+◌, List, true, false, refl, sym, ◌∙◌, ap, arith, length, inl, inr}
-use Rattle.std.specs.Prelude.{Bool, take, drop, Option, None, Some, Result, Ok, Err, IfOk, OnOk, MatchResult}
+use Rattle.std.specs.Prelude.{Bool, cond, take, drop, Option, None, Some, Result, Ok, Err, IfOk, OnOk, MatchResult}
 use Rattle.std.specs.Option.{option_map, option_and_then}
 use Rattle.std.proofs.lemmas.Bool.{cases_lt}
 use Rattle.std.proofs.lemmas.List.{drop-drop, drop_all, length-take}
 use Rattle.pt_tree.specs.declared.faults.TreeFault.{TreeFault}
-use Rattle.pt_tree.specs.declared.faults.TreeFault.TheVariants.{Memory}
+use Rattle.pt_tree.specs.declared.faults.TreeFault.TheVariants.{Device, Memory}
+use Rattle.pt_tree.specs.declared.kind.Kind.{Kind}
 use Rattle.pt_tree.specs.Path.{Path}
 use Rattle.pt_tree.specs.Listing.{Item}
-use Rattle.pt_tree.specs.Forest.{file_at, listing_at}
+use Rattle.pt_tree.specs.Forest.{Forest, file_at, kind_at, listing_at}
 use Rattle.pt_memory.specs.Opening.{moved_on}
 use Rattle.pt_memory.specs.Fuse.{is_blown}
-use Rattle.pt_tree.specs.Source.{Reading, IsListed, IsRead, after_next}
-use Rattle.pt_memory.specs.MemSource.{SourceState, CallGives, ListGives, NextGives, after_source_call, unread_of, reading_of}
+use Rattle.pt_tree.specs.Source.{Reading, IsListed, IsRead, IsSeen, after_next, tree_in}
+use Rattle.pt_memory.specs.MemSource.{SourceState, CallGives, KindGives, ListGives, NextGives, after_source_call, unread_of, reading_of}
 
 is_listed : (s : Reading) (p : Path) (items : List Item) → listing_at s.tree p ≡ Some items → IsListed (Some s) p items
 unfolding IsListed
@@ -28,6 +29,13 @@ listed old new p r gives = by (is_blown old.fuse) (listing_at old.tree p) r refl
     by true o (Ok items) at g = absurd (cc)
     by false None (Ok items) at g = absurd (cc)
     by false (Some found) (Ok items) at g = is_listed (reading_of old) p items (at ∙ ap (λ (l : List Item). Some l) (sym g.1))
+
+pub seen : (old new : SourceState) (p : Path) (r : Result (Option Kind) TreeFault) → KindGives old new p r → IfOk r (λ here. IsSeen (tree_in (Some (reading_of old))) p here)
+seen old new p r gives = rw gives.answer (by (is_blown old.fuse))
+  where
+    by : (t : Bool) → IfOk {E = TreeFault} (cond t (Err Device) (Ok (kind_at old.tree p))) (λ here. IsSeen (Some old.tree) p here)
+    by true = tt
+    by false = λ f is. let same : old.tree ≡ f = cc in ap (λ (f : Forest). kind_at f p) (sym same)
 
 is_read : (s : Reading) (bytes block : List ℕ) → s.unread ≡ Some bytes → block ≡ take 8192 bytes → IsRead (Some s) block
 unfolding IsRead

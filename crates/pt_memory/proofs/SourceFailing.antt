@@ -4,14 +4,15 @@ use Rattle.std.specs.Prelude.{◌==◌, Bool, cond, is_some, Option, None, Some,
 use Rattle.std.specs.Option.{ForSome, option_map, option_map_or}
 use Rattle.pt_tree.specs.declared.faults.TreeFault.{TreeFault}
 use Rattle.pt_tree.specs.declared.faults.TreeFault.TheVariants.{Device, Memory}
-use Rattle.pt_tree.specs.Failing.{Failing, GoesAs, ListsAs, OpensAs, ReadsAs}
-use Rattle.pt_tree.specs.Forest.{Forest, dir_at, file_at, listing_at, listing_of}
+use Rattle.pt_tree.specs.Failing.{Failing, GoesAs, ListsAs, LooksAs, LooksWith, OpensAs, ReadsAs}
+use Rattle.pt_tree.specs.Forest.{Forest, dir_at, file_at, kind_at, listing_at, listing_of}
 use Rattle.pt_tree.specs.Listing.{Item}
-use Rattle.pt_tree.specs.Path.{Path}
+use Rattle.pt_tree.specs.Path.{Path, parent}
+use Rattle.pt_tree.specs.declared.kind.Kind.{Kind}
 use Rattle.pt_tree.specs.Source.{CanList, CanOpen, CanRead}
 use Rattle.pt_memory.specs.declared.fuse.Fuse.{Fuse}
 use Rattle.pt_memory.specs.Fuse.{after_call, has_fuse, is_blown}
-use Rattle.pt_memory.specs.MemSource.{SourceState, CallGives, after_refusal, ListGives, OpenGives, NextGives, reading_of, unread_of}
+use Rattle.pt_memory.specs.MemSource.{SourceState, CallGives, after_refusal, KindGives, ListGives, OpenGives, NextGives, reading_of, unread_of}
 use Rattle.pt_memory.specs.MemSourceTells.{fuse_failing}
 
 -- where it tells at which paths it fails, it fails as it does without a fuse
@@ -54,6 +55,14 @@ lists failing old new p r readable can gives = told_so failing old.fuse _ (λ no
     well items (Err Device) is = absurd (cc)
     well items (Err Memory) is = tt
 
+pub looks : (failing : Failing) (old new : SourceState) (p : Path) (r : Result (Option Kind) TreeFault) → KindGives old new p r → LooksAs (fuse_failing failing old.fuse) (fuse_failing failing new.fuse) p r
+unfolding LooksAs
+looks failing old new p r gives = told_so failing old.fuse _ (λ none. (ap (λ s. fuse_failing failing s.fuse) gives.state ∙ still_so failing old.fuse none, rw gives.answer (well old.fuse.left none)))
+  where
+    well : (left : Option ℕ) → is_some left ≡ false → LooksWith {T = Option Kind} (failing.at (parent p)) (cond (option_map_or (λ n. n == 0) left false) (Err Device) (Ok (kind_at old.tree p)))
+    well None none = tt
+    well (Some n) none = absurd (cc)
+
 -- `after` is where it fails once the file is open
 pub opens : (failing after : Failing) (old new : SourceState) (p : Path) (r : Result (Unit {0}) TreeFault) → after ≡ record failing { reading = failing.at p } → CanOpen (Some (reading_of old)) p → OpenGives old new p r
     → OpensAs (fuse_failing failing old.fuse) (fuse_failing after new.fuse) p r
@@ -83,6 +92,11 @@ pub refuses_list : (T : Type 0) (failing : Failing) (old new : SourceState) (p :
     → ListsAs {T = T} (fuse_failing failing old.fuse) (fuse_failing failing new.fuse) p (Err fault)
 unfolding ListsAs
 refuses_list T failing old new p fault spoiled is told = rw told (told_so failing old.fuse _ (λ none. (refused failing old new is none, spoiled)))
+
+pub refuses_look : (T : Type 0) (failing : Failing) (old new : SourceState) (p : Path) (fault : TreeFault) → failing.at (parent p) ≡ true → new ≡ after_refusal old → fault ≡ Device
+    → LooksAs {T = T} (fuse_failing failing old.fuse) (fuse_failing failing new.fuse) p (Err fault)
+unfolding LooksAs
+refuses_look T failing old new p fault spoiled is told = rw told (told_so failing old.fuse _ (λ none. (refused failing old new is none, spoiled)))
 
 pub refuses_next : (T : Type 0) (failing : Failing) (old new : SourceState) (block : List ℕ) (fault : TreeFault) → failing.reading ≡ true → new ≡ after_refusal old → fault ≡ Device
     → ReadsAs {T = T} (fuse_failing failing old.fuse) (fuse_failing failing new.fuse) block (Err fault)

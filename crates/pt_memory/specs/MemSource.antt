@@ -6,7 +6,8 @@ use Rattle.pt_memory.specs.declared.fuse.Fuse.{Fuse}
 use Rattle.pt_memory.specs.Entries.{forest_of, open_of}
 use Rattle.pt_tree.specs.declared.faults.TreeFault.{TreeFault}
 use Rattle.pt_tree.specs.declared.faults.TreeFault.TheVariants.{Device, Memory}
-use Rattle.pt_tree.specs.Forest.{Forest, none, changed, file_at, listing_at, rewritten}
+use Rattle.pt_tree.specs.declared.kind.Kind.{Kind}
+use Rattle.pt_tree.specs.Forest.{Forest, none, changed, file_at, kind_at, listing_at, rewritten}
 use Rattle.pt_tree.specs.Listing.{Item}
 use Rattle.pt_memory.specs.Opening.{moved_on}
 use Rattle.pt_memory.specs.Fuse.{after_call, after_failure, is_blown, with_fuse}
@@ -76,6 +77,11 @@ ListGives old new p result =
     CallGives (is_blown old.fuse) old new (listing_at old.tree p) result
     (λ items. (new ≡ after_source_call old)
     × MatchResult result (λ listing. listing ≡ items) (λ e. e ≡ Memory))
+
+-- `kind` gives the kind of what stands there, wherever that is
+pub record KindGives (old new : SourceState) (p : Path) (result : Result (Option Kind) TreeFault) : Type 0 where
+  pub state : new ≡ after_source_call old
+  pub answer : result ≡ cond (is_blown old.fuse) (Err Device) (Ok (kind_at old.tree p))
 
 -- `open` opens the file at its start
 abbrev pub OpenGives : SourceState → SourceState → Path → Result (Unit {0}) TreeFault → Type 0

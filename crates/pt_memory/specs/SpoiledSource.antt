@@ -4,13 +4,14 @@ use Rattle.std.specs.List.{list_any}
 use Rattle.std.proofs.Common.{ap, refl, sym, ◌∙◌}
 use Rattle.pt_memory.specs.declared.spoiled_source.SpoiledSource.{SpoiledSource}
 use Rattle.pt_memory.specs.Fuse.{has_fuse}
-use Rattle.pt_memory.specs.MemSource.{SourceState, source_state, after_refusal, ListGives, OpenGives, NextGives}
+use Rattle.pt_memory.specs.MemSource.{SourceState, source_state, after_refusal, KindGives, ListGives, OpenGives, NextGives}
 use Rattle.pt_memory.specs.MemSourceTells.{KeepsFuse, fuse_failing}
 use Rattle.pt_tree.specs.declared.faults.TreeFault.{TreeFault}
 use Rattle.pt_tree.specs.declared.faults.TreeFault.TheVariants.{Device}
 use Rattle.pt_tree.specs.Failing.{Failing, failing_paths}
 use Rattle.pt_tree.specs.Listing.{Item}
-use Rattle.pt_tree.specs.Path.{Path, same_path}
+use Rattle.pt_tree.specs.Path.{Path, parent, same_path}
+use Rattle.pt_tree.specs.declared.kind.Kind.{Kind}
 
 -- the tree in memory, the paths at which nothing can be read, and whether the open file was opened at one of them
 pub record SpoiledState : Type 0 where
@@ -46,6 +47,12 @@ abbrev pub SpoiledListGives : SpoiledState → SpoiledState → Path → Result 
 SpoiledListGives old new p result = (new ≡ record old { source = new.source })
     × GivesUnless (is_spoiled old.spoiled p) old.source new.source result
     (ListGives old.source new.source p result)
+
+-- what `kind` gives: it fails on an entry of a directory that can't be listed
+abbrev pub SpoiledKindGives : SpoiledState → SpoiledState → Path → Result (Option Kind) TreeFault → Type 0
+SpoiledKindGives old new p result = (new ≡ record old { source = new.source })
+    × GivesUnless (is_spoiled old.spoiled (parent p)) old.source new.source result
+    (KindGives old.source new.source p result)
 
 -- what `open` gives: it is the tree's, wherever the file stands; whether what is open now can be read, its path says
 abbrev pub SpoiledOpenGives : SpoiledState → SpoiledState → Path → Result (Unit {0}) TreeFault → Type 0

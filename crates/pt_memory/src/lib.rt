@@ -11,7 +11,8 @@
 //! - `same`: true exactly where the trees are equal. `has_file`, `has_dir`, `may_make`, `may_move`: true exactly where the calls that need it
 //!   may be made.
 //! - `LooseSource`: tells nothing; its file changes after a given number of calls (`swap_after`), and each call's effect on it is exact.
-//! - `SpoiledSource`: a `MemSource` of which what stands at some paths can't be listed or read; each call's effect on it is exact.
+//! - `SpoiledSource`: a `MemSource` of which what stands at some paths can't be listed or read, and no entry there looked at; each call's
+//!   effect on it is exact.
 //! - Without a fuse a `MemSource` tells that it never fails, and a `SpoiledSource` that it fails at these paths and nowhere else.
 #![tactic(auto)]
 

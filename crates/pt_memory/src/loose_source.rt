@@ -3,7 +3,7 @@ ghost use Rattle.std.specs.Prelude.{◌≡◌, ◌<◌, [], None, IfOk, MatchRes
 ghost use Rattle.pt_memory.specs.declared.loose_source.SwapFault.TheVariants as fault;
 
 use crate::MemSource;
-use pt_tree::{Block, Listing, MemoryFault, NamePath, Source, TreeFault};
+use pt_tree::{Block, Kind, Listing, MemoryFault, NamePath, Source, TreeFault};
 use thiserror::Error;
 
 /// Why no swap is set.
@@ -131,10 +131,10 @@ impl LooseSource {
 
 impl Source for LooseSource {
     ghost use Rattle.std.specs.Prelude.{Option};
-    ghost use Rattle.pt_tree.specs.Failing.{ListsAs, OpensAs, ReadsAs};
-    ghost use Rattle.pt_tree.specs.Source.{IsListed, IsRead};
+    ghost use Rattle.pt_tree.specs.Failing.{ListsAs, LooksAs, OpensAs, ReadsAs};
+    ghost use Rattle.pt_tree.specs.Source.{IsListed, IsRead, IsSeen};
     ghost use Rattle.pt_tree.specs.Failures.{IsCounted, IsOneMoreCall};
-    ghost use Rattle.pt_memory.specs.MemSource.{ListGives, OpenGives, NextGives};
+    ghost use Rattle.pt_memory.specs.MemSource.{KindGives, ListGives, OpenGives, NextGives};
     ghost use Rattle.pt_memory.specs.LooseSource.{Then, loose_called, loose_failures, loose_state, untold};
 
     ghost told = { λ _. None };
@@ -173,6 +173,22 @@ impl Source for LooseSource {
         let listing = self.source.list_at(path);
         self.tick();
         listing
+    }
+
+    #[tactic(auto, unfolding(pt_tree::specs::Failing::LooksAs))]
+    fn kind(&mut self, path: &NamePath) -> Result<Option<Kind>, TreeFault>
+        ensures gives { Then (λ between.
+            KindGives (loose_state self.old).source between path.now result) (loose_state self.old)
+            (loose_state self.new) }
+        ensures kind { IfOk result (λ here. IsSeen None path.now here) }
+        ensures fails { LooksAs None None path.now result }
+        ensures failures { IsCounted (loose_failures self.old)
+            (loose_failures self.new) result }
+        ensures calls { IsOneMoreCall (loose_called self.old) (loose_called self.new) }
+    {
+        let here = self.source.look_at(path);
+        self.tick();
+        here
     }
 
     #[tactic(auto, unfolding(pt_tree::specs::Failing::OpensAs))]

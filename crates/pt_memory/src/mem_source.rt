@@ -26,10 +26,10 @@ pub struct MemSource {
 }
 
 impl MemSource {
-    ghost use Rattle.pt_memory.specs.MemSource.{source_state, source_tree, new_state, fused, after_refusal, after_source_call, swapped, IsPlanted, ListGives};
-    ghost use Rattle.pt_memory.specs.MemSource.{OpenGives, NextGives};
+    ghost use Rattle.pt_memory.specs.MemSource.{source_state, source_tree, new_state, fused, after_refusal, after_source_call, swapped, IsPlanted, KindGives};
+    ghost use Rattle.pt_memory.specs.MemSource.{ListGives, OpenGives, NextGives};
     ghost use Rattle.pt_memory.specs.Fuse.{fuse_answer};
-    ghost use Rattle.pt_tree.specs.Forest.{Dir, file_at, kind_of, listing_at, node_at};
+    ghost use Rattle.pt_tree.specs.Forest.{file_at, kind_at, listing_at};
     ghost use Rattle.pt_tree.specs.Refusal.{Answers};
     ghost use Rattle.pt_memory.specs.Planting.{plant_refusal};
     ghost use Rattle.pt_tree.specs.Tree.{tree_of, Bytes, Folder, Special};
@@ -96,7 +96,7 @@ impl MemSource {
 
     /// The kind of what stands at a path; None where nothing does.
     pub fn kind_at(&self, path: &NamePath) -> Option<Kind>
-        ensures { result ≡ option_map kind_of (node_at (Dir (source_tree self.now)) path.now) }
+        ensures { result ≡ kind_at (source_tree self.now) path.now }
     {
         match at(&self.entries, path.names()) {
             Some(Found::File(_)) => Some(Kind::File),
@@ -172,6 +172,14 @@ impl MemSource {
         }
     }
 
+    // `kind` of the trait, on any tree and path.
+    pub(crate) fn look_at(&mut self, path: &NamePath) -> Result<Option<Kind>, TreeFault>
+        ensures { KindGives (source_state self.old) (source_state self.new) path.now result }
+    {
+        self.count_call()?;
+        Ok(self.kind_at(path))
+    }
+
     // `open` of the trait, on any tree and path: what is no file is a failure.
     pub(crate) fn open_at(&mut self, path: &NamePath) -> Result<(), TreeFault>
         ensures { OpenGives (source_state self.old) (source_state self.new) path.now result }
@@ -202,10 +210,11 @@ impl MemSource {
 
 impl Source for MemSource {
     ghost use Rattle.std.specs.Prelude.{Some};
-    ghost use Rattle.pt_tree.specs.Source.{CanList, IsListed, CanOpen, CanRead, IsRead, after_open, after_next};
-    ghost use Rattle.pt_tree.specs.Failing.{ListsAs, OpensAs, ReadsAs};
+    ghost use Rattle.pt_tree.specs.Source.{CanList, IsListed, IsSeen, CanOpen, CanRead, IsRead};
+    ghost use Rattle.pt_tree.specs.Source.{after_open, after_next, tree_in};
+    ghost use Rattle.pt_tree.specs.Failing.{ListsAs, LooksAs, OpensAs, ReadsAs};
     ghost use Rattle.pt_tree.specs.Failures.{IsCounted, IsOneMoreCall};
-    ghost use Rattle.pt_memory.specs.MemSource.{source_state, source_called, ListGives, OpenGives, NextGives};
+    ghost use Rattle.pt_memory.specs.MemSource.{source_state, source_called, KindGives, ListGives, OpenGives, NextGives};
     ghost use Rattle.pt_memory.specs.MemSourceTells.{KeepsFuse, source_failing, source_told, keeps_failing, proper_told};
 
     ghost told = { source_told };
@@ -242,6 +251,19 @@ impl Source for MemSource {
         ensures calls { IsOneMoreCall (source_called self.old) (source_called self.new) }
     {
         self.list_at(path)
+    }
+
+    fn kind(&mut self, path: &NamePath) -> Result<Option<Kind>, TreeFault>
+        ensures gives { KindGives (source_state self.old) (source_state self.new) path.now result }
+        ensures kind { IfOk result (λ here.
+            IsSeen (tree_in (source_told self.old)) path.now here) }
+        ensures same { source_told self.new ≡ source_told self.old }
+        ensures fails { LooksAs (source_failing self.old) (source_failing self.new)
+            path.now result }
+        ensures failures { IsCounted self.old.fuse.failures self.new.fuse.failures result }
+        ensures calls { IsOneMoreCall (source_called self.old) (source_called self.new) }
+    {
+        self.look_at(path)
     }
 
     fn open(&mut self, path: &NamePath) -> Result<(), TreeFault>

@@ -3,13 +3,13 @@ ghost use Rattle.std.specs.Prelude.{◌≡◌, [], false, IfOk, MatchResult, OnE
 ghost use Rattle.std.specs.Option.{option_map};
 
 use crate::MemSource;
-use pt_tree::{Block, Listing, NamePath, Source, TreeFault};
+use pt_tree::{Block, Kind, Listing, NamePath, Source, TreeFault};
 
 /// A tree of files in memory of which what stands at some paths can't be listed or read. It always tells; and without a
 /// fuse, that it fails at these paths and nowhere else.
 ///
 /// A file at one of them is opened as any other, so that whoever only opens it sees no failure; but each `next` of it
-/// fails, and leaves it where it was. A call that fails so is a call like any other, also for a fuse, and answers
+/// fails, and leaves it where it was. A look at an entry of a directory at one of them fails. A call that fails so is a call like any other, also for a fuse, and answers
 /// `Device`.
 #[derive(Debug, Drop)]
 pub struct SpoiledSource {
@@ -20,6 +20,7 @@ pub struct SpoiledSource {
 
 impl SpoiledSource {
     ghost use Rattle.pt_memory.specs.SpoiledSource.{is_spoiled};
+    ghost use Rattle.pt_tree.specs.Path.{parent};
 
     /// Takes a tree over as it is, with its fuse and its counts. What stands at these paths can't be listed, or opened
     /// and read, from now on; nothing has to stand there. A file that is open already is read on, wherever it stands.
@@ -48,16 +49,28 @@ impl SpoiledSource {
     {
         self.spoiled.contains(path)
     }
+
+    // Whether the directory above a path can't be listed; the top has none above, and stands for it.
+    fn is_spoiled_above(&self, path: &NamePath) -> bool
+        ensures { result ≡ is_spoiled self.now.spoiled.items (parent path.now) }
+    {
+        let above = match path.split() {
+            Some((above, _)) => above,
+            None => path.names(),
+        };
+        self.spoiled.iter().any(|other| other.names() == above)
+    }
 }
 
 impl Source for SpoiledSource {
-    ghost use Rattle.pt_tree.specs.Failing.{ListsAs, OpensAs, ReadsAs};
+    ghost use Rattle.pt_tree.specs.Failing.{ListsAs, LooksAs, OpensAs, ReadsAs};
     ghost use Rattle.pt_tree.specs.Failures.{IsCounted, IsOneMoreCall};
-    ghost use Rattle.pt_tree.specs.Source.{CanList, CanOpen, CanRead, IsListed, IsRead, after_next, after_open};
+    ghost use Rattle.pt_tree.specs.Source.{CanList, CanOpen, CanRead, IsListed, IsRead, IsSeen};
+    ghost use Rattle.pt_tree.specs.Source.{after_next, after_open, tree_in};
     ghost use Rattle.pt_memory.specs.MemSource.{source_called};
     ghost use Rattle.pt_memory.specs.MemSourceTells.{source_told, proper_told};
-    ghost use Rattle.pt_memory.specs.SpoiledSource.{KeepsSpoiled, SpoiledListGives, SpoiledNextGives, SpoiledOpenGives};
-    ghost use Rattle.pt_memory.specs.SpoiledSource.{keeps_failing, keeps_on, spoiled_failing, spoiled_state};
+    ghost use Rattle.pt_memory.specs.SpoiledSource.{KeepsSpoiled, SpoiledKindGives, SpoiledListGives, SpoiledNextGives};
+    ghost use Rattle.pt_memory.specs.SpoiledSource.{SpoiledOpenGives, keeps_failing, keeps_on, spoiled_failing, spoiled_state};
 
     ghost told = { λ s. source_told s.source };
 
@@ -100,6 +113,26 @@ impl Source for SpoiledSource {
             return Err(self.source.refuse());
         }
         self.source.list(path)
+    }
+
+    fn kind(&mut self, path: &NamePath) -> Result<Option<Kind>, TreeFault>
+        ensures gives { SpoiledKindGives (spoiled_state self.old) (spoiled_state self.new)
+            path.now result }
+        ensures kind { IfOk result (λ here.
+            IsSeen (tree_in (source_told self.old.source)) path.now here) }
+        ensures same { source_told self.new.source ≡ source_told self.old.source }
+        ensures fails { LooksAs (spoiled_failing self.old) (spoiled_failing self.new)
+            path.now result }
+        ensures failures { IsCounted self.old.source.fuse.failures
+            self.new.source.fuse.failures result }
+        ensures calls { IsOneMoreCall (source_called self.old.source)
+            (source_called self.new.source) }
+        ensures keeps { KeepsSpoiled self.old self.new }
+    {
+        if self.is_spoiled_above(path) {
+            return Err(self.source.refuse());
+        }
+        self.source.kind(path)
     }
 
     fn open(&mut self, path: &NamePath) -> Result<(), TreeFault>

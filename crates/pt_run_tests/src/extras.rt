@@ -36,6 +36,7 @@ const SAME: Row = Row {
     root: &[
         ("ocfl/0=ocfl_1.1", ""),
         ("ocfl/ocfl_1.1.md", ""),
+        ("ocfl/ocfl_extensions_1.0.md", ""),
         ("ocfl/ocfl_layout.json", ""),
         ("ocfl/extensions/a/b", ""),
         ABC,

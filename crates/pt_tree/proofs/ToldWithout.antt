@@ -1,14 +1,16 @@
 -- What a source tells without the entries of some names, before and after each call.
-use Rattle.std.proofs.Common.{◌≡◌, ℕ, List, refl, sym, ◌∙◌, ap, subst}
+use Rattle.std.proofs.Common.{◌≡◌, ℕ, List, true, false, refl, sym, ◌∙◌, ap, subst}
 use Rattle.std.specs.Prelude.{[], Err, IsSome, MatchResult, None, Ok, Option, Result, Some, take}
 use Rattle.std.specs.Option.{option_map}
-use Rattle.pt_tree.specs.Failing.{Failing, ListsAs}
-use Rattle.pt_tree.specs.Forest.{dir_at, file_at, listing_at, listing_of}
+use Rattle.std.proofs.lemmas.Bool.{cond-true, cond-false}
+use Rattle.pt_tree.specs.Failing.{Failing, ListsAs, LooksAs}
+use Rattle.pt_tree.specs.Forest.{Forest, dir_at, file_at, kind_at, listing_at, listing_of}
 use Rattle.pt_tree.specs.Listing.{Item, left_in}
-use Rattle.pt_tree.specs.Path.{Path}
-use Rattle.pt_tree.specs.Source.{CanList, CanOpen, CanRead, IsListed, IsRead, Reading, after_next, after_open}
-use Rattle.pt_tree.specs.Ignoring.{reading_without, told_without, without}
-use Rattle.pt_tree.proofs.TreesWithout.{dir_found, file_found, listing-without}
+use Rattle.pt_tree.specs.Path.{Path, parent}
+use Rattle.pt_tree.specs.Source.{CanList, CanLook, CanOpen, CanRead, IsListed, IsRead, IsSeen, Reading, after_next, after_open, tree_in}
+use Rattle.pt_tree.specs.declared.kind.Kind.{Kind}
+use Rattle.pt_tree.specs.Ignoring.{is_past, reading_without, told_without, without}
+use Rattle.pt_tree.proofs.TreesWithout.{dir_found, file_found, kind_at-without, listing-without}
 
 some_of : {A : Type 0} (o : Option A) → IsSome o → (x : A) × (o ≡ Some x)
 some_of None is = absurd (cc)
@@ -46,6 +48,37 @@ pub lists_as : {T : Type 0} (old new : Option Failing) (p : Path) (x y : T) → 
 unfolding ListsAs
 lists_as old new p x y is = is
 
+-- a directory that is left above a path is above it
+pub can_look : (names : List (List ℕ)) (told : Option Reading) (p : Path) → CanLook (tree_in (told_without names told)) p → CanLook (tree_in told) p
+unfolding CanLook
+can_look names None p may = λ f is. absurd (cc)
+can_look names (Some s) p may = λ f is.
+    let left = some_of (dir_at (without names s.tree) (parent p)) (may (without names s.tree) refl) in
+    let held = dir_found names s.tree (parent p) left.0 left.1 in
+    let same : s.tree ≡ f = cc in
+    subst (λ (f : Forest). IsSome (dir_at f (parent p))) same (some_from _ held.0 held.1)
+
+-- past one of the names nothing is seen
+pub none_past : (names : List (List ℕ)) (told : Option Reading) (p : Path) → is_past names p ≡ true → IsSeen (tree_in (told_without names told)) p None
+none_past names None p past = λ f is. absurd (cc)
+none_past names (Some s) p past = λ f is.
+    let same : without names s.tree ≡ f = cc in
+    subst (λ (f : Forest). kind_at f p ≡ None) same (kind_at-without names s.tree p ∙ cond-true (is_past names p) None (kind_at s.tree p) past)
+
+-- and elsewhere what stands
+pub seen_left : (names : List (List ℕ)) (told : Option Reading) (p : Path) (here : Option Kind) → is_past names p ≡ false → IsSeen (tree_in told) p here
+    → IsSeen (tree_in (told_without names told)) p here
+seen_left names None p here left seen = λ f is. absurd (cc)
+seen_left names (Some s) p here left seen = λ f is.
+    let same : without names s.tree ≡ f = cc in
+    subst (λ (f : Forest). kind_at f p ≡ here) same
+    (kind_at-without names s.tree p ∙ cond-false (is_past names p) None (kind_at s.tree p) left ∙ seen s.tree refl)
+
+-- whatever was seen
+pub looks_as : {T : Type 0} (old new : Option Failing) (p : Path) (x y : T) → LooksAs old new p (Ok x) → LooksAs old new p (Ok y)
+unfolding LooksAs
+looks_as old new p x y is = is
+
 pub can_open : (names : List (List ℕ)) (told : Option Reading) (p : Path) → CanOpen (told_without names told) p → CanOpen told p
 unfolding CanOpen
 can_open names told p may = λ s is.
@@ -78,4 +111,4 @@ pub is_moved : (names : List (List ℕ)) (told : Option Reading) → told_withou
 is_moved names None = refl
 is_moved names (Some s) = refl
 
-pub ruleset ignoring = (can_list, is_listed, can_open, is_opened, can_read, block_read, is_moved)
+pub ruleset ignoring = (can_list, can_look, is_listed, can_open, is_opened, can_read, block_read, is_moved)

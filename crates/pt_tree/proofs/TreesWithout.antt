@@ -1,15 +1,15 @@
 -- What is found in a tree without the entries of some names is found in the tree.
 use Rattle.std.proofs.Common.{◌≡◌, ℕ, List, [], ◌∷◌, true, false, refl, sym, ◌∙◌, ap, inl, inr}
-use Rattle.std.specs.Prelude.{Bool, cond, not, Option, None, Some}
+use Rattle.std.specs.Prelude.{Bool, ◌||◌, cond, not, Option, None, Some}
 use Rattle.std.specs.Option.{option_map, option_and_then}
 use Rattle.std.specs.Str.{bytes_eq}
 use Rattle.std.proofs.lemmas.Bool.{cases_Bool, cond-true, cond-false}
 use Rattle.pt_tree.specs.declared.kind.Kind.TheVariants as kind
-use Rattle.pt_tree.specs.Forest.{Forest, none, file, other, dir, Node, File, Dir, Other, as_dir, as_file, dir_at, file_at, find, listing_of, node_at}
+use Rattle.pt_tree.specs.Forest.{Forest, none, file, other, dir, Node, File, Dir, Other, as_dir, as_file, dir_at, file_at, find, kind_at, kind_of, listing_of, node_at}
 use Rattle.pt_tree.specs.Listing.{Item, is_among, left_in}
 use Rattle.pt_tree.specs.Path.{Path}
 use Rattle.pt_tree.proofs.Names.{same_name}
-use Rattle.pt_tree.specs.Ignoring.{without}
+use Rattle.pt_tree.specs.Ignoring.{is_past, without}
 
 -- what stands at an entry that is left
 abbrev pub node_without : List (List ℕ) → Node → Node
@@ -102,6 +102,45 @@ file_found names f p bytes is = by (node_at (Dir (without names f)) p) refl is
     by : (found : Option Node) → node_at (Dir (without names f)) p ≡ found → option_and_then as_file found ≡ Some bytes → file_at f p ≡ Some bytes
     by None at is = absurd (cc)
     by (Some x) at is = let held = node_found names (Dir f) p x at in from x held.0 held.1 held.2 is
+
+-- nothing stands past one of the names, and all else as it is left
+node_at-without : (names : List (List ℕ)) (x : Node) (p : Path) → node_at (node_without names x) p ≡ cond (is_past names p) None (entry_without names (node_at x p))
+node_at-without names x [] = refl
+node_at-without names (File b) (n ∷ p) = none_left (is_past names (n ∷ p))
+  where
+    none_left : (a : Bool) → None ≡ cond a None (entry_without names None)
+    none_left true = refl
+    none_left false = refl
+node_at-without names Other (n ∷ p) = none_left (is_past names (n ∷ p))
+  where
+    none_left : (a : Bool) → None ≡ cond a None (entry_without names None)
+    none_left true = refl
+    none_left false = refl
+node_at-without names (Dir d) (n ∷ p) =
+    ap (option_and_then (λ node. node_at node p)) (find-without names d n)
+    ∙ by (is_among names n) (find d n) (λ x. node_at-without names x p)
+  where
+    none_left : (a : Bool) → None ≡ cond a None (entry_without names None)
+    none_left true = refl
+    none_left false = refl
+
+    by : (a : Bool) (found : Option Node) → ((x : Node) → node_at (node_without names x) p ≡ cond (is_past names p) None (entry_without names (node_at x p)))
+        → option_and_then (λ node. node_at node p) (cond a None (entry_without names found))
+        ≡ cond (a || is_past names p) None (entry_without names (option_and_then (λ node. node_at node p) found))
+    by true found later = refl
+    by false None later = none_left (is_past names p)
+    by false (Some x) later = later x
+
+-- so what is seen there is of the same kind
+pub kind_at-without : (names : List (List ℕ)) (f : Forest) (p : Path) → kind_at (without names f) p ≡ cond (is_past names p) None (kind_at f p)
+kind_at-without names f p = ap (option_map kind_of) (node_at-without names (Dir f) p) ∙ by (is_past names p) (node_at (Dir f) p)
+  where
+    by : (a : Bool) (found : Option Node) → option_map kind_of (cond a None (entry_without names found)) ≡ cond a None (option_map kind_of found)
+    by true found = refl
+    by false None = refl
+    by false (Some (File b)) = refl
+    by false (Some (Dir d)) = refl
+    by false (Some Other) = refl
 
 -- a directory lists what is left
 pub listing-without : (names : List (List ℕ)) (f : Forest) → listing_of (without names f) ≡ left_in names (listing_of f)

@@ -1,12 +1,12 @@
 -- Where the calls of a source fail, if it tells that.
 use Rattle.std.specs.Prelude.{◌≡◌, ◌<◌, ℕ, Bool, true, false, length, List, Option, Some, Result, Ok, Err, ⊤}
 use Rattle.std.specs.Option.{option_map, ForSome}
-use Rattle.pt_tree.specs.Path.{Path}
+use Rattle.pt_tree.specs.Path.{Path, parent}
 use Rattle.pt_tree.specs.declared.faults.TreeFault.{TreeFault}
 use Rattle.pt_tree.specs.declared.faults.TreeFault.TheVariants.{Device, Memory}
 
--- at which paths it fails, so that nothing there is listed, or opened and read to its end; and whether it fails at the open file, so that
--- this isn't read to its end
+-- at which paths it fails, so that nothing there is listed, or opened and read to its end, and a look at an entry of it may fail; and
+-- whether it fails at the open file, so that this isn't read to its end
 pub record Failing : Type 0 where
   pub at : Path → Bool
   pub reading : Bool
@@ -28,6 +28,16 @@ GoesAs fails (Err Memory) = ⊤
 -- where it tells that, a directory is listed just where it doesn't fail
 unfoldable pub ListsAs : {T : Type 0} → Option Failing → Option Failing → Path → Result T TreeFault → Type 0
 ListsAs old new p result = ForSome old (λ f. (new ≡ Some f) × GoesAs (f.at p) result)
+
+-- a look fails only where the source does; there it may go well
+abbrev pub LooksWith : {T : Type 0} → Bool → Result T TreeFault → Type 0
+LooksWith fails (Ok x) = ⊤
+LooksWith fails (Err Device) = fails ≡ true
+LooksWith fails (Err Memory) = ⊤
+
+-- where it tells that, a look at an entry fails only where it fails at the directory above: where that is listed, each look goes well
+unfoldable pub LooksAs : {T : Type 0} → Option Failing → Option Failing → Path → Result T TreeFault → Type 0
+LooksAs old new p result = ForSome old (λ f. (new ≡ Some f) × LooksWith (f.at (parent p)) result)
 
 -- a file is opened, and is such as its path says; or it isn't, where its path says that it fails
 abbrev pub OpensWith : {T : Type 0} → Failing → Option Failing → Path → Result T TreeFault → Type 0

@@ -68,6 +68,10 @@ dir_at forest path = option_and_then as_dir (node_at (Dir forest) path)
 abbrev pub file_at : Forest → Path → Option (List ℕ)
 file_at forest path = option_and_then as_file (node_at (Dir forest) path)
 
+-- the kind of what stands at a path, if anything does
+abbrev pub kind_at : Forest → Path → Option Kind
+kind_at forest path = option_map kind_of (node_at (Dir forest) path)
+
 -- what the directory at a path lists
 abbrev pub listing_at : Forest → Path → Option (List Item)
 listing_at forest path = option_map listing_of (dir_at forest path)

@@ -1,5 +1,6 @@
 -- A tree without the entries of some names.
-use Rattle.std.specs.Prelude.{◌≡◌, ℕ, ◌+◌, ◌-◌, min, cond, length, List, Option}
+use Rattle.std.specs.Prelude.{◌≡◌, ℕ, Bool, ◌+◌, ◌-◌, min, cond, length, List, Option}
+use Rattle.std.specs.List.{list_any}
 use Rattle.std.specs.Option.{option_map}
 use Rattle.pt_tree.specs.Forest.{Forest, none, file, other, dir}
 use Rattle.pt_tree.specs.Failures.{greatest_count}
@@ -25,6 +26,10 @@ reading_without names s = record { tree = without names s.tree; unread = s.unrea
 -- what a source tells without the entries of these names, if it tells
 abbrev pub told_without : List (List ℕ) → Option Reading → Option Reading
 told_without names told = option_map (reading_without names) told
+
+-- one of the names on a path is among these, so that nothing stands there
+abbrev pub is_past : List (List ℕ) → Path → Bool
+is_past names p = list_any (is_among names) p
 
 -- of all entries of a directory those with these names were left out, and the count of what was left out rose by as many
 pub record LeavesOut (told : Option Reading) (p : Path) (names : List (List ℕ)) (before after : ℕ)

@@ -1,9 +1,10 @@
 -- What a source tells, and what its calls need and give.
 use Rattle.std.specs.Prelude.{◌≡◌, ℕ, take, drop, List, Option, Some, IsSome}
 use Rattle.std.specs.Option.{option_map, ForSome}
-use Rattle.pt_tree.specs.Forest.{Forest, dir_at, file_at, listing_at}
+use Rattle.pt_tree.specs.Forest.{Forest, dir_at, file_at, kind_at, listing_at}
 use Rattle.pt_tree.specs.Listing.{Item}
-use Rattle.pt_tree.specs.Path.{Path}
+use Rattle.pt_tree.specs.Path.{Path, parent}
+use Rattle.pt_tree.specs.declared.kind.Kind.{Kind}
 
 -- the tree, and the bytes of the open file that are left to read, if one is open
 pub record Reading : Type 0 where
@@ -21,6 +22,14 @@ CanList told p = ForSome told (λ s. IsSome (dir_at s.tree p))
 -- where the source tells, these are the directory's names and kinds
 unfoldable pub IsListed : Option Reading → Path → List Item → Type 0
 IsListed told p items = ForSome told (λ s. listing_at s.tree p ≡ Some items)
+
+-- where a tree is told, a directory is above the path
+unfoldable pub CanLook : Option Forest → Path → Type 0
+CanLook tree p = ForSome tree (λ f. IsSome (dir_at f (parent p)))
+
+-- where a tree is told, what stands at a path is of this kind, or nothing stands there
+abbrev pub IsSeen : Option Forest → Path → Option Kind → Type 0
+IsSeen tree p here = ForSome tree (λ f. kind_at f p ≡ here)
 
 -- where the source tells, a file is there
 unfoldable pub CanOpen : Option Reading → Path → Type 0

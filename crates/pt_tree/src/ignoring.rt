@@ -2,16 +2,17 @@
 #![tactic(auto, using(crate::proofs::ToldWithout::ignoring))]
 
 ghost use Rattle.std.proofs.Common.{◌∙◌, refl};
-ghost use Rattle.std.specs.Prelude.{◌≡◌, ◌+◌, ◌-◌, [], IfOk, MatchResult, OnErr, OnOk, length, min};
-ghost use Rattle.pt_tree.specs.Failing.{ListsAs, OpensAs, ReadsAs};
+ghost use Rattle.std.specs.Prelude.{◌≡◌, ◌+◌, ◌-◌, [], IfOk, MatchResult, None, OnErr, OnOk, length, min, true};
+ghost use Rattle.pt_tree.specs.Failing.{ListsAs, LooksAs, OpensAs, ReadsAs};
 ghost use Rattle.pt_tree.specs.Failures.{IsCounted, IsOneMoreCall, greatest_count};
 ghost use Rattle.pt_tree.specs.Listing.{left_in};
 ghost use Rattle.std.specs.Option.{option_map};
-ghost use Rattle.pt_tree.specs.Source.{CanList, CanOpen, CanRead, IsListed, IsRead, after_next, after_open};
-ghost use Rattle.pt_tree.specs.Ignoring.{LeavesOut, told_without};
+ghost use Rattle.pt_tree.specs.Source.{CanList, CanLook, CanOpen, CanRead, IsListed, IsRead, IsSeen};
+ghost use Rattle.pt_tree.specs.Source.{after_next, after_open, tree_in};
+ghost use Rattle.pt_tree.specs.Ignoring.{LeavesOut, is_past, told_without};
 ghost use Rattle.pt_tree.specs.ProperLeft.{proper_left};
 
-use crate::{Block, Ignored, Listing, ListsNamed, NamePath, Source, TreeFault};
+use crate::{Block, Ignored, Kind, Listing, ListsNamed, NamePath, Source, TreeFault};
 
 /// A source as if the entries with some names weren't there, whatever they are and hold.
 ///
@@ -57,6 +58,15 @@ impl<S: Source> Ignoring<S> {
         ensures { result ≡ self.now.left_out }
     {
         self.left_out
+    }
+
+    // Whether one of the names on a path, its last among them, is left out.
+    fn leads_past(&self, path: &NamePath) -> bool
+        ensures { result ≡ is_past self.now.names path.now }
+    {
+        path.names()
+            .iter()
+            .any(|name| self.names.names().contains(name))
     }
 
     // Takes the entries that have its names out of a listing, and counts them.
@@ -116,6 +126,29 @@ impl<S: Source> Source for Ignoring<S> {
         let mut listing = self.source.list(path)?;
         self.take_out(&mut listing);
         Ok(listing)
+    }
+
+    fn kind(&mut self, path: &NamePath) -> Result<Option<Kind>, TreeFault>
+        requires { CanLook (tree_in (told_without self.old.names (S.told self.old.source)))
+            path.now }
+        ensures kind { IfOk result
+            (IsSeen (tree_in (told_without self.old.names (S.told self.old.source))) path.now) }
+        ensures same { told_without self.new.names (S.told self.new.source)
+            ≡ told_without self.old.names (S.told self.old.source) }
+        ensures fails { LooksAs (S.failing self.old.source) (S.failing self.new.source)
+            path.now result }
+        ensures failures { IsCounted (S.failed self.old.source) (S.failed self.new.source) result }
+        ensures calls { IsOneMoreCall (S.called self.old.source) (S.called self.new.source) }
+        ensures keeps { (self.new.names ≡ self.old.names)
+            × (self.new.left_out ≡ self.old.left_out)
+            × S.keeps self.old.source self.new.source }
+        ensures past { is_past self.old.names path.now ≡ true → IfOk result (λ here. here ≡ None) }
+    {
+        let here = self.source.kind(path)?;
+        if self.leads_past(path) {
+            return Ok(None);
+        }
+        Ok(here)
     }
 
     fn open(&mut self, path: &NamePath) -> Result<(), TreeFault>

@@ -8,8 +8,8 @@
 //!
 //! A device says by a ghost member, `told`, what it holds: a source its tree and what is left of the open file (`Reading`), a destination its
 //! tree and which file is open (`Writing`), a log its bytes. It is `Some` of that, or `None`, which claims nothing. So a source may say where
-//! it fails (`failing`, `Failing`): at which paths nothing is listed, or opened and read to its end. No call of a source or
-//! destination changes whether it tells, and no call changes a source's tree; a log that tells goes on telling. A failed call leaves what was
+//! it fails (`failing`, `Failing`): at which paths nothing is listed, or opened and read to its end, and a look at an entry may fail. No call
+//! of a source or destination changes whether it tells, and no call changes a source's tree; a log that tells goes on telling. A failed call leaves what was
 //! told as it was, but that a failed `append` or `put` leaves a part of its piece, from its start. Each device counts its failures up to 2^64 -
 //! 1 (`IsCounted`), a source its calls (`IsOneMoreCall`), and a destination, where it keeps that, how often it was asked what stands
 //! (`AreAsManyCalls`): `kind` and `peek` raise that, and every other call leaves it.
@@ -30,9 +30,9 @@
 //!   front of them.
 //! - `Ignoring`: over any source, it tells the source's tree without the entries that have one of its names (`Ignored`), in every directory
 //!   and whatever they are and hold (`without`), and with that meets `Source`, all calls: a listing is the source's without them, in its order,
-//!   and a file that is read is the source's. Each of its calls is one of the source's, and fails where that fails. So all that `migrate`
+//!   a file that is read is the source's, and a look past one of the names finds nothing, told or not (`is_past`). Each of its calls is one of the source's, and fails where that fails. So all that `migrate`
 //!   promises of a run over it is said of the store without them.
-//! - `Watched`: a source of whose calls a `Watcher` is told. In all else it is the source within, and meets `Source` by that one's contracts.
+//! - `Watched`: a source of whose calls but looks a `Watcher` is told. In all else it is the source within, and meets `Source` by that one's contracts.
 //! - `ListsNamed`: a source that can list a directory past entries whose bytes are no name. Where it tells, a listing is that of `list`.
 //!   `Ignoring` is one over one.
 //! - `left_out`: none at first; a listing that is answered adds as many as were left out of the source's, up to 2^64 - 1, and each other call

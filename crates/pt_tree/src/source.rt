@@ -1,11 +1,12 @@
 ghost use Rattle.std.specs.Prelude.{◌≡◌, ℕ, [], Option, Some, true, IfOk, MatchResult, OnOk, OnErr};
 ghost use Rattle.std.specs.Option.{option_map};
-ghost use Rattle.pt_tree.specs.Failing.{Failing, ListsAs, OpensAs, ReadsAs, failing_paths};
+ghost use Rattle.pt_tree.specs.Failing.{Failing, ListsAs, LooksAs, OpensAs, ReadsAs, failing_paths};
 ghost use Rattle.pt_tree.specs.Failures.{IsCounted, IsOneMoreCall};
 ghost use Rattle.pt_tree.specs.Forest.{is_proper};
-ghost use Rattle.pt_tree.specs.Source.{Reading, CanList, IsListed, CanOpen, CanRead, IsRead, after_open, after_next};
+ghost use Rattle.pt_tree.specs.Source.{Reading, CanList, IsListed, CanLook, IsSeen, CanOpen, CanRead, IsRead};
+ghost use Rattle.pt_tree.specs.Source.{after_open, after_next, tree_in};
 
-use crate::{Block, Listing, NamePath, TreeFault};
+use crate::{Block, Kind, Listing, NamePath, TreeFault};
 
 /// A tree of files to read from.
 ///
@@ -19,8 +20,8 @@ pub trait Source {
     /// What it tells, if it does: its tree, and what is left of the open file.
     ghost told: { Self → Option Reading };
 
-    /// Where it fails, if it tells that: at which paths nothing is listed, or opened and read to its end, while elsewhere no call fails;
-    /// and whether reading the open file on fails so. Who tells this should tell its tree.
+    /// Where it fails, if it tells that: at which paths nothing is listed, or opened and read to its end, and a look at an entry may fail,
+    /// while elsewhere no call fails; and whether reading the open file on fails so. Who tells this should tell its tree.
     ghost failing: { Self → Option Failing };
 
     /// How often it failed, up to 2^64 - 1.
@@ -44,6 +45,18 @@ pub trait Source {
         ensures listing { IfOk result (λ listing. IsListed (told self.old) path.now listing) }
         ensures same { told self.new ≡ told self.old }
         ensures fails { ListsAs (failing self.old) (failing self.new) path.now result }
+        ensures failures { IsCounted (failed self.old) (failed self.new) result }
+        ensures calls { IsOneMoreCall (called self.old) (called self.new) }
+        ensures keeps { keeps self.old self.new };
+
+    /// The kind of what stands at a path, links not followed; None where nothing does.
+    ///
+    /// Where the source tells, a directory has to be above the path; the top has none above. The open file stays as it is.
+    fn kind(&mut self, path: &NamePath) -> Result<Option<Kind>, TreeFault>
+        requires { CanLook (tree_in (told self.old)) path.now }
+        ensures kind { IfOk result (λ here. IsSeen (tree_in (told self.old)) path.now here) }
+        ensures same { told self.new ≡ told self.old }
+        ensures fails { LooksAs (failing self.old) (failing self.new) path.now result }
         ensures failures { IsCounted (failed self.old) (failed self.new) result }
         ensures calls { IsOneMoreCall (called self.old) (called self.new) }
         ensures keeps { keeps self.old self.new };

@@ -1,7 +1,7 @@
 //! A source that is watched.
 ghost use Rattle.std.specs.Prelude.{◌≡◌};
 
-use crate::{Block, Listing, NamePath, Source, TreeFault};
+use crate::{Block, Kind, Listing, NamePath, Source, TreeFault};
 
 /// Who is told of the calls of a watched source.
 pub trait Watcher {
@@ -23,7 +23,7 @@ pub struct Watched<S: Source, W> {
 }
 
 impl<S: Source, W: Drop> Watched<S, W> {
-    /// A source of whose calls this one is told.
+    /// A source of whose calls but looks this one is told.
     pub fn new(source: S, watcher: W) -> Watched<S, W>
         ensures { result.source ≡ source }
     {
@@ -69,6 +69,10 @@ impl<S: Source, W: Watcher> Source for Watched<S, W> {
     fn list(&mut self, path: &NamePath) -> Result<Listing, TreeFault> {
         self.watcher.come_to(path);
         self.source.list(path)
+    }
+
+    fn kind(&mut self, path: &NamePath) -> Result<Option<Kind>, TreeFault> {
+        self.source.kind(path)
     }
 
     fn open(&mut self, path: &NamePath) -> Result<(), TreeFault> {

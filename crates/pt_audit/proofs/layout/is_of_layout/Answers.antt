@@ -2,7 +2,7 @@ use Rattle.std.proofs.Common.{subst, sym}
 use Rattle.std.specs.Option.{ForSome}
 use Rattle.pt_audit.proofs.Layouts.{no_root, other_root, root_is_folder}
 use Rattle.pt_audit.specs.Layout.{IsFolder}
-use Rattle.pt_compare.specs.Root.{IsSeen}
+use Rattle.pt_tree.specs.Source.{IsSeen}
 use Rattle.pt_tree.specs.Source.{tree_in}
 use Rattle.pt_state.specs.States.{job_of}
 use Rattle.pt_audit.proofs.layout.is_of_layout.Goals as goal

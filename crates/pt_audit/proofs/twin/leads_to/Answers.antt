@@ -1,14 +1,14 @@
 use Rattle.std.proofs.Common.{◌≡◌, ◌++◌, ◌∷◌, [], List, ℕ, ap, drop, refl, rules, subst, sym, take, true, false, ◌∙◌}
 use Rattle.std.proofs.lemmas.List.{take-append-drop}
-use Rattle.pt_audit.proofs.Twins.{front_stands, listed_lacks, listed_stands}
+use Rattle.pt_audit.proofs.Twins.{front_stands, seen_lacks}
 use Rattle.pt_compare.proofs.Opening.{way_on}
+use Rattle.pt_compare.proofs.Roots.{can_look, seen_dir}
 use Rattle.pt_compare.specs.Root.{Stands}
 use Rattle.pt_plan.specs.TurnMake.{common_names}
 use Rattle.pt_plan.specs.Store.{pairtree_root}
-use Rattle.pt_plan.specs.TurnStart.{is_dir_kind, kind_in}
 use Rattle.pt_plan.specs.TurnWalk.{in_pairtree}
 use Rattle.pt_tree.specs.Path.{Path}
-use Rattle.pt_tree.specs.Source.{IsListed, tree_in}
+use Rattle.pt_tree.specs.Source.{CanLook, IsSeen, tree_in}
 use Rattle.pt_tree.specs.declared.kind.Kind.TheVariants as kind
 use Rattle.pt_audit.proofs.twin.leads_to.Goals as goal
 
@@ -31,25 +31,29 @@ loop-name-init g c =
       keeps = g.met.S.Source.is_kept c.args.source.now;
     }
 
+pub kind-requires : goal.kind-requires
+kind-requires g c =
+    let at = c.loop-name.invariant in
+    subst (λ (p : Path). CanLook (tree_in (g.S.Source.told c.loop-name.source)) p) (sym c.in_ok-push.ensures.ok)
+    (subst (λ t. CanLook (tree_in t) (c.loop-name.way ++ c.in_ok-copy.field-0 ∷ [])) (sym at.same) (can_look (tree_in (g.S.Source.told c.args.source.now)) c.loop-name.way c.in_ok-copy.field-0 at.stands))
+
 pub loop-name-preserved : goal.loop-name-preserved
 loop-name-preserved g c =
     let at = c.loop-name.invariant in
-    let n = c.name-item.result in
-    let longer : c.push.new.self ≡ c.loop-name.way ++ n ∷ [] = c.in_ok-push.ensures.ok ∙ ap (λ (x : List ℕ). c.loop-name.way ++ x ∷ []) c.in_ok-copy.ensures.bytes in
-    let listed : IsListed (g.S.Source.told c.args.source.now) c.loop-name.way c.in_ok-listing.listing = subst (λ t. IsListed t c.loop-name.way c.in_ok-listing.listing) at.same c.in_ok-listing.ensures.listing in
-    let dir : is_dir_kind (kind_in c.in_ok-listing.listing n) ≡ true = search rules in
+    let tree = tree_in (g.S.Source.told c.args.source.now) in
+    let seen : IsSeen tree c.push.new.self c.in_ok-kind.field-0 = subst (λ t. IsSeen (tree_in t) c.push.new.self c.in_ok-kind.field-0) at.same c.in_ok-kind.ensures.kind in
     record {
-      whole = way_on c.loop-name.way c.push.new.self c.split_at.result.1.now (in_pairtree c.args.path.now) n _ c.loop-name.name-index at.whole c.loop-name-test.true c.name-item.is longer;
-      same = c.in_ok-listing.ensures.same ∙ at.same;
-      failed = c.in_ok-listing.ensures.failures ∙ at.failed;
-      stands = listed_stands (g.S.Source.told c.args.source.now) c.loop-name.way c.push.new.self n c.in_ok-listing.listing listed longer dir;
-      keeps = g.met.S.Source.keeps_on _ _ _ at.keeps c.in_ok-listing.ensures.keeps;
+      whole = way_on c.loop-name.way c.push.new.self c.split_at.result.1.now (in_pairtree c.args.path.now) c.in_ok-copy.field-0 _ c.loop-name.name-index at.whole c.loop-name-test.true (c.in_ok-copy.ensures.bytes ∙ c.name-item.is) c.in_ok-push.ensures.ok;
+      same = c.in_ok-kind.ensures.same ∙ at.same;
+      failed = c.in_ok-kind.ensures.failures ∙ at.failed;
+      stands = seen_dir tree c.push.new.self c.in_ok-kind.field-0 seen (search rules);
+      keeps = g.met.S.Source.keeps_on _ _ _ at.keeps c.in_ok-kind.ensures.keeps;
     }
 
 pub returns-then-not-is_dir-clause-there : goal.returns-then-not-is_dir-clause-there
 returns-then-not-is_dir-clause-there g c =
     let at = c.loop-name.invariant in
-    let n = c.name-item.result in
-    let listed : IsListed (g.S.Source.told c.args.source.now) c.loop-name.way c.in_ok-listing.listing = subst (λ t. IsListed t c.loop-name.way c.in_ok-listing.listing) at.same c.in_ok-listing.ensures.listing in
-    let lacks : is_dir_kind (kind_in c.in_ok-listing.listing n) ≡ false = search rules in
-    listed_lacks (g.S.Source.told c.args.source.now) c.loop-name.way c.args.path.now c.split_at.result.1.now n _ c.loop-name.name-index c.in_ok-listing.listing listed at.whole c.loop-name-test.true c.name-item.is lacks
+    let tree = tree_in (g.S.Source.told c.args.source.now) in
+    let seen : IsSeen tree c.push.new.self c.in_ok-kind.field-0 = subst (λ t. IsSeen (tree_in t) c.push.new.self c.in_ok-kind.field-0) at.same c.in_ok-kind.ensures.kind in
+    let whole = way_on c.loop-name.way c.push.new.self c.split_at.result.1.now (in_pairtree c.args.path.now) c.in_ok-copy.field-0 _ c.loop-name.name-index at.whole c.loop-name-test.true (c.in_ok-copy.ensures.bytes ∙ c.name-item.is) c.in_ok-push.ensures.ok in
+    seen_lacks tree c.push.new.self c.args.path.now c.split_at.result.1.now c.loop-name.name-index c.in_ok-kind.field-0 seen (sym c.is_dir.ensures ∙ c.if-not-is_dir.true) whole

@@ -5,7 +5,7 @@ use Rattle.std.proofs.lemmas.Result.{IfOk-weaker}
 use Rattle.pt_compare.specs.Entries.{Noted}
 use Rattle.pt_compare.specs.Found.{MeetsObject, sought_of}
 use Rattle.pt_compare.specs.Marks.{inside, marks_of, with_mark}
-use Rattle.pt_compare.specs.Root.{IsSeen}
+use Rattle.pt_tree.specs.Source.{IsSeen}
 use Rattle.pt_tree.specs.Source.{tree_in}
 use Rattle.pt_compare.specs.declared.stop.Stop.{Stop}
 use Rattle.pt_walk.specs.Left.{bytes_at}

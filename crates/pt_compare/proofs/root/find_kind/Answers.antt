@@ -2,7 +2,7 @@ use Rattle.std.proofs.lemmas.List.{take_all}
 use Rattle.std.proofs.Common.{subst, sym, ◌∙◌, ◌++◌, ◌∷◌, [], arith}
 use Rattle.std.specs.Prelude.{None}
 use Rattle.pt_tree.specs.Path.{Path}
-use Rattle.pt_compare.specs.Root.{CanLook, IsSeen}
+use Rattle.pt_tree.specs.Source.{CanLook, IsSeen}
 use Rattle.pt_tree.specs.Source.{tree_in}
 use Rattle.pt_compare.proofs.Roots.{look_below, none_below, way_more}
 use Rattle.pt_compare.proofs.root.find_kind.Goals as goal

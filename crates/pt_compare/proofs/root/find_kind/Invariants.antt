@@ -1,5 +1,5 @@
 use Rattle.std.proofs.Common.{◌≡◌, take}
-use Rattle.pt_compare.specs.Root.{IsSeen}
+use Rattle.pt_tree.specs.Source.{IsSeen}
 use Rattle.pt_tree.specs.Source.{tree_in}
 use Rattle.pt_compare.proofs.root.find_kind.Given as goal
 

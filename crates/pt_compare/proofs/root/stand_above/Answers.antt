@@ -1,7 +1,8 @@
 use Rattle.pt_tree.specs.declared.kind.Kind.TheVariants as kind
 use Rattle.std.proofs.Common.{rules, sym, subst, ◌∙◌, ◌++◌, ◌∷◌, [], refl, ap, arith}
 use Rattle.pt_tree.specs.Path.{Path}
-use Rattle.pt_compare.specs.Root.{CanLook, IsSeen, Lacks, Stands}
+use Rattle.pt_compare.specs.Root.{Lacks, Stands}
+use Rattle.pt_tree.specs.Source.{CanLook, IsSeen}
 use Rattle.pt_tree.specs.Source.{tree_in}
 use Rattle.pt_compare.proofs.Opening.{dir_alike, dir_whole, no_dir_on, way_on, way_start, way_whole}
 use Rattle.pt_compare.proofs.Roots.{can_look, no_dir_seen, seen_dir}

@@ -1,6 +1,6 @@
 -- Each call of a source: a folder of the system doesn't tell where it fails, so of that nothing is asked.
 use Rattle.pt_tree.proofs.Told.{by_result}
-use Rattle.pt_tree.specs.Failing.{ListsAs, OpensAs, ReadsAs}
+use Rattle.pt_tree.specs.Failing.{ListsAs, LooksAs, OpensAs, ReadsAs}
 use Rattle.pt_folder.proofs.source.HostSourceSource.TheImpl.Goals as goal
 
 pub list-tells : goal.list-tells
@@ -8,6 +8,18 @@ unfolding ListsAs
 list-tells g c =
     let own = c.ensures in record {
       listing = own.listing;
+      same = own.same;
+      fails = λ f is. absurd (cc);
+      failures = own.call.failures;
+      calls = own.call.calls;
+      keeps = own.call.folder;
+    }
+
+pub kind-tells : goal.kind-tells
+unfolding LooksAs
+kind-tells g c =
+    let own = c.ensures in record {
+      kind = own.kind;
       same = own.same;
       fails = λ f is. absurd (cc);
       failures = own.call.failures;
