@@ -5,7 +5,8 @@ use crate::system::MadeSystem;
 use crate::trace::Trace;
 use pt_guard::{Claim, FileId, LockAttempt, Places};
 use pt_host::{
-    AuditOptions, Feedback, Host, HostIo, Progress, RunOptions, Syncs, audit_guarded, run_guarded,
+    AllowedLines, AuditOptions, Feedback, Host, HostIo, Progress, RunOptions, Syncs, audit_guarded,
+    run_guarded,
 };
 use pt_move::Job;
 use pt_name::{Layout, Share};
@@ -88,6 +89,10 @@ impl<'a> Places for Machine<'a> {
         Err(io::Error::from(ErrorKind::NotFound))
     }
 
+    fn look(&mut self, _: &str) -> io::Result<()> {
+        Err(io::Error::from(ErrorKind::NotFound))
+    }
+
     fn hold(&mut self, _: &str, _: Claim) -> LockAttempt<u8> {
         LockAttempt::Held(7)
     }
@@ -162,7 +167,10 @@ pub fn carry(rt: &HostRuntime, machine: &mut Machine<'_>, how: How) -> Option<u8
         ignored: ignored(machine.alloc, how.tidy)?,
         sync: false,
         rehearse: how.rehearse,
-        present_ok: false,
+        allowed: AllowedLines {
+            present: false,
+            skips: false,
+        },
         feedback: NOTHING_SHOWN,
     };
     Some(run_guarded(rt, machine, options, "store", "root"))

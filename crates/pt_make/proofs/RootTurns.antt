@@ -1,28 +1,29 @@
 -- The turns that look at a storage root or make one, from their calls.
-use Rattle.std.proofs.Common.{◌≡◌, ◌<◌, ◌≤◌, ◌-◌, ℕ, zero, suc, List, [], ◌++◌, refl, sym, ap, ◌∙◌, true, false, arith}
-use Rattle.std.specs.Prelude.{Option, None, Some, Result, Ok, Err, IsErrAnd, IfOk, IsSome, slice_get}
+use Rattle.std.proofs.Common.{◌≡◌, ◌<◌, ◌≤◌, ◌-◌, ℕ, zero, suc, List, [], ◌∷◌, ◌++◌, append_assoc, refl, sym, ap, ◌∙◌, true, false, arith}
+use Rattle.std.specs.Prelude.{Option, None, Some, Result, Ok, Err, IsErrAnd, IfOk, IsSome, codes, is_some, slice_get}
 use Rattle.std.specs.Option.{option_map}
 use Rattle.std.specs.Str.{bytes_eq}
 use Rattle.pt_name.specs.Tuples.{Tuples}
 use Rattle.pt_object.proofs.Ways.{same_name}
-use Rattle.pt_state.proofs.Words.{MakeFile, MakeFolder, staging, Answer, Did, FailsPartway, Start, Changes, Finds, Makes, Renames, DeviceStates, does, Fault, Phase, Turned, KeepsAll, Writing, IsKindAt, MayMake, Path, Bytes, kind_of_entry, Kind}
+use Rattle.pt_state.proofs.Words.{MakeFile, MakeFolder, staging, Answer, Answers, Did, FailsPartway, Start, Changes, Finds, Puts, Makes, Renames, DeviceStates, does, Fault, Phase, Turned, KeepsAll, Writing, IsKindAt, MayMake, Path, Bytes, kind_of_entry, Kind}
 use Rattle.pt_state.specs.declared.state.State.{State}
 use Rattle.pt_state.proofs.Words.fault
 use Rattle.pt_state.proofs.Words.kind
 use Rattle.pt_state.proofs.Words.opening
 use Rattle.pt_state.proofs.Words.phase
-use Rattle.pt_object.specs.RootFiles.{root_files_of}
+use Rattle.pt_object.specs.RootFiles.{extension_name, root_files_of}
 use Rattle.pt_object.specs.Script.{Item}
 use Rattle.pt_object.specs.Scripts.{root_script}
 use Rattle.pt_plan.specs.Enabled.{MayMakeRootItem}
 use Rattle.pt_plan.specs.Roots.{storage_root}
 use Rattle.pt_plan.specs.TurnStart.{HasNoStaging, HasStaging, HasNoRoot, HasRoot, IsNoRoot, MakesRoot, RenamesRoot, IsSame, IsNoFile, Differs, after_file, after_item, is_dir_kind, is_file_kind}
 use Rattle.pt_plan.specs.DeviceStates.{Peeks}
-use Rattle.pt_make.specs.Root.{IsRootFile, IsRootItem}
+use Rattle.pt_make.specs.Root.{IsRootFile, IsRootItem, configuration, inner_folder, outer_folder}
 use Rattle.pt_state.proofs.Together.{looked_same, looked_then}
 use Rattle.pt_state.proofs.Turns.{keeps_same, left_some, turns}
 use Rattle.pt_tree.specs.Dest.{CanPeek, MayMove}
-use Rattle.pt_tree.specs.Tree.{Entry as TreeEntry, bytes_of}
+use Rattle.pt_tree.proofs.Below.{gap_below}
+use Rattle.pt_tree.specs.Tree.{Entry as TreeEntry, Folder, IsTree, Tree, bytes_of}
 use Rattle.pt_state.proofs.Starts.{StartsAt, goes, halts}
 
 -- ---- staging and the root
@@ -137,6 +138,63 @@ pub no_file : (s : State) (w w' : DeviceStates) (number : ℕ) (whole : Path) (b
 unfolding IsRootFile
 no_file s w w' number whole bytes here did file is =
     halts w w' (IsNoFile _ number file.0 bytes here file.1.1 (sym is)) (rw file.1.0 at did) keeps_same
+
+-- below what is no folder nothing stands
+none_below : (t : Tree) → IsTree t → (p : Path) (name : List ℕ) (rest : Path) → (t p ≡ Some Folder → ⊥) → t (p ++ name ∷ rest) ≡ None
+none_below t tree p name rest other =
+    ap t (sym (append_assoc p (name ∷ []) rest)) ∙ gap_below t tree (p ++ name ∷ []) rest (by (t (p ++ name ∷ [])) refl)
+  where
+    by : (o : Option TreeEntry) → t (p ++ name ∷ []) ≡ o → o ≡ None
+    by None e = refl
+    by (Some entry) e = absurd (other (tree.above p name (ap is_some e)))
+
+-- so nothing is told to stand below what isn't found to be one
+pub lacks_below : (told : Option Writing) → ((s : Writing) → told ≡ Some s → IsTree s.tree) → (p : Path) (name : List ℕ) (rest : Path) (here : Option Kind) → IsKindAt told p here → is_dir_kind here ≡ false → IsKindAt told (p ++ name ∷ rest) None
+unfolding IsKindAt
+lacks_below told trees p name rest here found other = λ s e.
+    ap (option_map kind_of_entry) (none_below s.tree (trees s e) p name rest (λ folder. by here (sym (ap (option_map kind_of_entry) folder) ∙ found s e) other))
+  where
+    by : (here : Option Kind) → Some kind.Dir ≡ here → is_dir_kind here ≡ false → ⊥
+    by None is none = cc
+    by (Some kind.File) is none = cc
+    by (Some kind.Dir) is none = cc
+    by (Some kind.Other) is none = cc
+
+-- so the layout's configuration isn't there where one of the folders that it lies in isn't found to be one
+pub outer_lacks : (w w' : DeviceStates) (path : Path) (here : Option Kind) → path ≡ outer_folder → ((s : Writing) → w.dest ≡ Some s → IsTree s.tree) → Did (does (Finds path here)) w w' → is_dir_kind here ≡ false → IsKindAt w.dest configuration None
+unfolding Did Changes
+outer_lacks w w' path here is trees did other = lacks_below w.dest trees outer_folder extension_name (codes "config.json" ∷ []) here (rw is at did).0.dest.0 other
+
+pub inner_lacks : (w between w' : DeviceStates) (outer path : Path) (found here : Option Kind) → path ≡ inner_folder → ((s : Writing) → w.dest ≡ Some s → IsTree s.tree) → Did (does (Finds outer found)) w between → Did (does (Finds path here)) between w' → is_dir_kind here ≡ false → IsKindAt w.dest configuration None
+unfolding Did Changes
+inner_lacks w between w' outer path found here is trees first did other =
+    lacks_below w.dest trees inner_folder (codes "config.json") [] here (rw is at (rw (looked_same outer found w between first) at did)).0.dest.0 other
+
+-- and a folder stands where one is found
+is_folder : (here : Option Kind) → is_dir_kind here ≡ true → here ≡ Some kind.Dir
+is_folder None is = absurd (cc)
+is_folder (Some kind.File) is = absurd (cc)
+is_folder (Some kind.Dir) is = refl
+is_folder (Some kind.Other) is = absurd (cc)
+
+pub outer_stands : (w w' : DeviceStates) (path : Path) (here : Option Kind) → path ≡ outer_folder → Did (does (Finds path here)) w w' → is_dir_kind here ≡ true → IsKindAt w.dest outer_folder (Some kind.Dir)
+unfolding Did Changes
+outer_stands w w' path here is did folder = rw (is_folder here folder) at (rw is at did).0.dest.0
+
+pub inner_stands : (w between w' : DeviceStates) (outer path : Path) (found here : Option Kind) → path ≡ inner_folder → Did (does (Finds outer found)) w between → Did (does (Finds path here)) between w' → is_dir_kind here ≡ true → IsKindAt w.dest inner_folder (Some kind.Dir)
+unfolding Did Changes
+inner_stands w between w' outer path found here is first did folder =
+    rw (is_folder here folder) at (rw is at (rw (looked_same outer found w between first) at did)).0.dest.0
+
+-- the configuration's path is that of the root's last file
+configuration_at : (tuples : Tuples) (whole : Path) (bytes : List ℕ) → IsRootFile tuples 2 whole bytes → whole ≡ configuration
+unfolding IsRootFile path_in
+configuration_at tuples whole bytes file = file.1.0 ∙ ap (λ (p : Path). storage_root ++ p) (sym (ap path_in file.1.1))
+
+pub no_configuration : (s : State) (w w' : DeviceStates) (path : Path) (bytes : List ℕ) → IsRootFile s.job.layout 2 path bytes → IsKindAt w.dest configuration None → w' ≡ w → Turned (phase.Opening (opening.RootCheck 2)) s s w w' (Err fault.Target)
+unfolding Did Answers Changes Puts
+no_configuration s w w' path bytes file none same =
+    rw same (no_file s w w 2 path bytes None (record { source = refl; dest = (rw (configuration_at _ path bytes file) none, refl); log = refl }, refl) file refl)
 
 -- it was found, and then peeked into
 peeked : (a b c : DeviceStates) (whole : Path) (at : Path) (here : Option Kind) (block : List ℕ) → whole ≡ at → Did (does (Finds whole here)) a b → Did (does (Peeks whole block)) b c → Did (does (Peeks at block)) a c

@@ -1,7 +1,7 @@
 //! The destination has to hold a storage root of this program and layout, or none, which is then made.
 #![tactic(auto, using(crate::proofs::RootTurns::root_rules))]
 
-ghost use Rattle.std.specs.Prelude.{◌≡◌, ◌<◌, IfOk};
+ghost use Rattle.std.specs.Prelude.{◌≡◌, ◌<◌, None, Some, IfErr, IfOk, OnOk, false, true};
 ghost use Rattle.pt_name.specs.Tuples.{Tuples};
 ghost use Rattle.pt_object.specs.Script.{MakeFile, MakeFolder};
 ghost use Rattle.pt_object.specs.Scripts.{staging as staging_path};
@@ -10,19 +10,24 @@ ghost use Rattle.pt_plan.specs.Roots.{storage_root};
 ghost use Rattle.pt_plan.specs.TurnStart.{after_file as after_file_of, after_item as after_item_of};
 ghost use Rattle.pt_plan.specs.declared.phase.Opening.TheVariants as opening;
 ghost use Rattle.pt_plan.specs.declared.phase.Phase.TheVariants as phase;
-ghost use Rattle.pt_tree.specs.Dest.{MayMake, MayMove};
+ghost use Rattle.pt_plan.specs.Turn.{FailsUnchanged};
+ghost use Rattle.pt_tree.specs.Dest.{IsKindAt, MayMake, MayMove};
+ghost use Rattle.pt_tree.specs.declared.kind.Kind.TheVariants as kind;
 ghost use Rattle.pt_state.specs.Turns.{TakesTurn};
-ghost use Rattle.pt_make.specs.Root.{IsFileAt, IsItemAt, IsRootItem};
+ghost use Rattle.pt_make.specs.Root.{IsFileAt, IsItemAt, IsRootItem, configuration, inner_folder, looks_at_file, outer_folder};
 
 use crate::placing::rename_staging;
 use pt_object::{WellKnownName, root_files};
-use pt_plan::kinds::is_file;
+use pt_plan::kinds::{is_dir, is_file};
 use pt_plan::{Fault, Opening, Phase};
 use pt_state::files::put_file;
 use pt_state::paths::{in_staging, in_storage_root};
 use pt_state::{Io, State};
 use pt_tree::{Kind, MemoryFault, NamePath};
 use std::alloc::Global;
+
+// The number of the layout's configuration among the files of a root: it is the last one.
+const CONFIGURATION: usize = 2;
 
 /// Asks whether `staging` is there.
 ///
@@ -150,11 +155,12 @@ pub fn rename_root<O: Io>(state: &State, out: &mut O) -> Result<Phase, Fault>
 
 /// Compares one of the three files of the storage root that stands with what this program writes.
 ///
-/// Halts for `Target` where no file stands there, or one with other bytes, for `Dest` where that can't be asked or the file not be read,
-/// and for `Memory` where a growth is refused. What is held stays then, but for the block.
+/// Halts for `Target` where no file stands there, or one with other bytes, or where one of the folders on the way to it is none itself, as
+/// a link to one is; for `Dest` where that can't be asked or the file not be read, and for `Memory` where a growth is refused. What is held
+/// stays then, but for the block.
 pub fn check_root<O: Io>(state: &mut State, file: usize, out: &mut O) -> Result<Phase, Fault>
     requires { file < 3 }
-    ensures turn { TakesTurn O.Io (0, 2) (phase.Opening (opening.RootCheck file))
+    ensures turn { TakesTurn O.Io (0, looks_at_file file) (phase.Opening (opening.RootCheck file))
         (state.old, out.old) (state.new, out.new) result }
 {
     let files = root_files(state.alloc, state.job.layout)?;
@@ -162,7 +168,63 @@ pub fn check_root<O: Io>(state: &mut State, file: usize, out: &mut O) -> Result<
         unreachable!()
     };
     let whole = in_storage_root(state.alloc, path)?;
+    if file == CONFIGURATION {
+        return check_configuration(state, &whole, bytes, out);
+    }
     compare(state, file, &whole, bytes, out)
+}
+
+// The same of the layout's configuration, the last of these files, with the folders that it lies in. Each is asked for itself: by the
+// configuration's path the system would go through a link that stands in a folder's place.
+fn check_configuration<O: Io>(
+    state: &mut State,
+    path: &NamePath,
+    bytes: &[u8],
+    out: &mut O,
+) -> Result<Phase, Fault>
+    requires here { IsFileAt state.old.job.layout 2 path.now bytes.now }
+    ensures turn { TakesTurn O.Io (0, 4) (phase.Opening (opening.RootCheck 2))
+        (state.old, out.old) (state.new, out.new) result }
+{
+    let outer = NamePath::of_known(
+        state.alloc,
+        &[WellKnownName::StorageRoot, WellKnownName::Extensions],
+    )?;
+    let inner = NamePath::of_known(
+        state.alloc,
+        &[
+            WellKnownName::StorageRoot,
+            WellKnownName::Extensions,
+            WellKnownName::Extension,
+        ],
+    )?;
+    if !has_folders(&outer, &inner, out)? {
+        return Err(Fault::Target);
+    }
+    compare(state, CONFIGURATION, path, bytes, out)
+}
+
+// Whether the two folders that the layout's configuration lies in stand in the destination, the outer one asked first.
+fn has_folders<O: Io>(outer: &NamePath, inner: &NamePath, out: &mut O) -> Result<bool, Fault>
+    requires outer { outer.now ≡ outer_folder }
+    requires inner { inner.now ≡ inner_folder }
+    ensures stays { OnOk result (O.states out.new ≡ O.states out.old) }
+    ensures outer { IfOk result (λ has. has ≡ true
+        → IsKindAt (O.states out.old).dest outer_folder (Some kind.Dir)) }
+    ensures inner { IfOk result (λ has. has ≡ true
+        → IsKindAt (O.states out.old).dest inner_folder (Some kind.Dir)) }
+    ensures lacks { IfOk result (λ has. has ≡ false
+        → IsKindAt (O.states out.old).dest configuration None) }
+    ensures failed { IfErr result (λ why. FailsUnchanged why (O.states out.old)
+        (O.states out.new)) }
+    ensures few { O.within 0 2 out.old out.new }
+{
+    let here = out.kind(outer)?;
+    if !is_dir(here) {
+        return Ok(false);
+    }
+    let here = out.kind(inner)?;
+    Ok(is_dir(here))
 }
 
 fn compare<O: Io>(

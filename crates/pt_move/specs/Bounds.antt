@@ -1,5 +1,6 @@
 -- Numbers that always hold of a run, whatever its devices answer.
 use Rattle.std.specs.Prelude.{◌≡◌, ◌≤◌, ◌<◌, ◌+◌, ◌*◌, ℕ, length, ⊤}
+use Rattle.pt_make.specs.Root.{looks_at_file}
 use Rattle.pt_plan.specs.Job.{Job}
 use Rattle.pt_plan.specs.Run.{Counts, Held, Kept}
 use Rattle.pt_plan.specs.TurnPlace.{bytes_in_rows}
@@ -46,7 +47,7 @@ most_calls _ = 1
 abbrev pub most_looks : Phase → ℕ
 most_looks (phase.Opening opening.Staging) = 1
 most_looks (phase.Opening opening.Root) = 1
-most_looks (phase.Opening (opening.RootCheck file)) = 2
+most_looks (phase.Opening (opening.RootCheck file)) = looks_at_file file
 most_looks phase.Judge = 1
 most_looks (phase.Carrying object (stage.Tuples number)) = 1
 most_looks _ = 0

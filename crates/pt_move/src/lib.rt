@@ -14,7 +14,8 @@
 //!   the very values that they were.
 //! - In one turn the trail enters at most one listing or leaves inner ones (`Moves`), rows and contents gain at most one record or are emptied
 //!   (`Gains`), and at most one line is counted. The source is called at most once, or twice where the prefix is read. What stands in the
-//!   destination is asked at most once, twice where a file of the root is compared, and in most turns never (`most_looks`).
+//!   destination is asked at most once, twice where a file of the root is compared, four times where that is the layout's configuration, and in
+//!   most turns never (`most_looks`).
 //! - What one turn puts into the log, if anything, is one line, byte for byte, which is counted under its kind where it was put whole. After a
 //!   `put` that failed the log got a front of one line, and nothing is counted (`Tells`).
 //! - `turn`: makes, for every phase and over any devices, a turn of pt_plan's definitions, with the same answer, and never answers `Turns` or

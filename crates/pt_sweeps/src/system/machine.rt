@@ -3,7 +3,8 @@ ghost use Rattle.std.specs.Prelude.{⊤};
 
 use pt_guard::{Claim, FileId, LockAttempt, Places};
 use pt_host::{
-    AuditOptions, Feedback, Host, HostIo, Progress, RunOptions, Syncs, audit_guarded, run_guarded,
+    AllowedLines, AuditOptions, Feedback, Host, HostIo, Progress, RunOptions, Syncs, audit_guarded,
+    run_guarded,
 };
 use pt_memory::{MemDest, MemSource};
 use pt_memory_system::{Faults, MemorySystem};
@@ -49,6 +50,10 @@ impl<'a> Places for Machine<'a> {
     }
 
     fn identify(&mut self, _: &str) -> io::Result<FileId> {
+        Err(io::Error::from(ErrorKind::NotFound))
+    }
+
+    fn look(&mut self, _: &str) -> io::Result<()> {
         Err(io::Error::from(ErrorKind::NotFound))
     }
 
@@ -251,7 +256,10 @@ fn run_options(alloc: Global, rehearse: bool) -> Option<RunOptions> {
         ignored: Ignored::new(alloc),
         sync: false,
         rehearse,
-        present_ok: false,
+        allowed: AllowedLines {
+            present: false,
+            skips: false,
+        },
         feedback: NOTHING_SHOWN,
     })
 }
