@@ -1,8 +1,11 @@
 mod BothWays
+mod Converted
 mod ExtraRules
 mod Keeping
 mod LineTexts
 mod Objects
+mod Passed
+mod ReadTexts
 mod Reading
 mod Roots
 mod Telling

@@ -3,11 +3,25 @@ use Rattle.std.proofs.Common.{◌≡◌, ℕ, true, false, List, [], ◌∷◌, 
 use Rattle.std.specs.Option.{ForSome, option_and_then, option_map, option_map_or}
 use Rattle.std.specs.Prelude.{IsSome, is_some, Option, None, Some}
 use Rattle.pt_plan.proofs.FoundKinds.{kind_listed}
-use Rattle.pt_compare.specs.Root.{Stands, kind_at, same_kind}
+use Rattle.pt_compare.specs.Root.{Stands, same_kind}
 use Rattle.pt_plan.specs.TurnStart.{is_dir_kind, kind_in}
-use Rattle.pt_tree.specs.Forest.{Dir, File, Forest, Node, Other, as_dir, dir_at, find, kind_of, listing_of, node_at}
+use Rattle.pt_tree.specs.Forest.{Dir, File, Forest, Node, Other, as_dir, dir_at, find, kind_at, kind_of, listing_of, node_at}
 use Rattle.pt_tree.specs.Path.{Path}
+use Rattle.pt_tree.specs.Source.{CanLook}
 use Rattle.pt_tree.specs.declared.kind.Kind.TheVariants as kind
+
+-- what is seen at a name of the top is what the top lists
+pub top_kind : (tree : Forest) (name : List ℕ) → kind_at tree (name ∷ []) ≡ kind_in (listing_of tree) name
+top_kind tree name = only (find tree name) ∙ sym (kind_listed tree name)
+  where
+    only : (o : Option Node) → option_map kind_of (option_and_then (λ n. node_at n []) o) ≡ option_map kind_of o
+    only None = refl
+    only (Some x) = refl
+
+-- each name of the top may be looked at
+pub look_top : (tree : Option Forest) (name : List ℕ) → CanLook tree (name ∷ [])
+unfolding CanLook
+look_top tree name = λ f is. refl
 
 -- a folder that is listed stands there
 pub dir_top : (tree : Forest) (name : List ℕ) → is_dir_kind (kind_in (listing_of tree) name) ≡ true → IsSome (dir_at tree (name ∷ []))

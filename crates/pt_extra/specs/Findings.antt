@@ -51,9 +51,13 @@ is_object items = is_file_kind (kind_in items (known_text known.Declaration))
 
 -- ---- the root
 
--- a file of this name says what a root is: its layout, or the specification (OCFL 1.1, "Root Structure")
+-- a file of this name is a copy of a specification: OCFL's (OCFL 1.1, "Root Structure"), or that of its extensions
+abbrev pub is_copy : List ℕ → Bool
+is_copy name = bytes_eq (take 9 name) (codes "ocfl_1.1.") || bytes_eq name (codes "ocfl_extensions_1.0.md")
+
+-- a file of this name says what a root is: its layout, or a specification
 abbrev pub is_text : List ℕ → Bool
-is_text name = bytes_eq name (known_text known.LayoutFile) || bytes_eq (take 9 name) (codes "ocfl_1.1.")
+is_text name = bytes_eq name (known_text known.LayoutFile) || is_copy name
 
 -- an entry of the top is the root's own: its declaration, a file that says what it is, or the extensions
 abbrev pub is_own : List ℕ → Kind → Bool

@@ -15,7 +15,7 @@ ghost use Rattle.pt_tree.specs.Log.{AppendsFront};
 
 use crate::lines::end_line;
 use crate::{ExtraDevices, ExtraNumbers, Extras};
-use pt_audit::{Audited, Counts, Root, audit_objects};
+use pt_audit::{Audited, Counts, audit_objects};
 use pt_move::{Job, Observer};
 use pt_plan::Fault;
 use pt_tree::{Log, Source};
@@ -43,7 +43,7 @@ pub struct AuditEnd<S, R, L> {
 /// lines of what the store has and before the end line, which counts both.
 ///
 /// It answers the faults of `audit`, and those of a walk (`Extras::run`). After a fault the log has a front of what is told.
-pub fn audit<S: Source, R: Root, L: Log, O: Observer<Counts>>(
+pub fn audit<S: Source, R: Source, L: Log, O: Observer<Counts>>(
     alloc: Global,
     devices: ExtraDevices<S, R, L>,
     job: Job,
@@ -95,7 +95,7 @@ fn without_extras(ran: Result<Counts, Fault>) -> Result<AuditCounts, Fault>
 }
 
 // An audit that tells of what the store lacks too.
-fn audit_with_extras<S: Source, R: Root, L: Log, O: Observer<Counts>>(
+fn audit_with_extras<S: Source, R: Source, L: Log, O: Observer<Counts>>(
     alloc: Global,
     devices: ExtraDevices<S, R, L>,
     job: Job,

@@ -1,22 +1,19 @@
 //! The identifier of an object that stands, as its inventory says it.
 ghost use Rattle.std.specs.Prelude.{◌≡◌, ◌<◌, IfOk, IfSome, Some, length};
-ghost use Rattle.std.specs.Option.{ForSome, option_map, unwrap_or};
+ghost use Rattle.std.specs.Option.{ForSome, option_map};
 ghost use Rattle.std.specs.String.{string_bytes};
 ghost use Rattle.pt_compare.specs.Bytes.{left_in};
 ghost use Rattle.pt_compare.specs.Root.{Reads};
 ghost use Rattle.pt_tree.specs.Source.{tree_in};
-ghost use Rattle.pt_extra.specs.Inventories.{id_by, id_in, id_of as id_of_folder, text_in, unless_long};
+ghost use Rattle.pt_extra.specs.Inventories.{id_in, id_of as id_of_folder, unless_long};
 ghost use Rattle.pt_tree.specs.Failures.{IsCounted};
 ghost use Rattle.pt_tree.specs.Forest.{listing_at};
 ghost use Rattle.pt_walk.specs.Left.{inside_at};
-ghost use Rattle.serde_json.specs.Data.{null};
-ghost use Rattle.serde_json.specs.Read.{read};
-ghost use Rattle.serde_json.specs.View.{view};
 
+use crate::inventory::identifier_in_text;
 use pt_object::WellKnownName;
 use pt_plan::kinds::{is_file, kind_in};
 use pt_tree::{Block, KnownName, Listing, MemoryFault, Name, NamePath, Source, TreeFault};
-use serde_json::Value;
 use std::alloc::Global;
 
 // How many bytes an inventory may have that is read.
@@ -83,38 +80,4 @@ fn identifier_in(alloc: Global, bytes: Vec<u8>) -> Result<Option<String>, Memory
         return Ok(None);
     };
     identifier_in_text(alloc, text.as_str())
-}
-
-// The identifier in an inventory of this text.
-fn identifier_in_text(alloc: Global, text: &str) -> Result<Option<String>, MemoryFault>
-    ensures id { IfOk result (λ id. option_map string_bytes id
-        ≡ id_by (unwrap_or (read text.now) null)) }
-    ensures some { IfOk result (λ id. IfSome id (λ text. 0 < length (string_bytes text))) }
-{
-    let inventory = parse(alloc, text)?;
-    let Some(id) = text_at(&inventory) else {
-        return Ok(None);
-    };
-    if id.is_empty() {
-        return Ok(None);
-    }
-    Ok(Some(String::from_str(alloc, id)?))
-}
-
-// The text at `id`.
-fn text_at(inventory: &Value) -> Option<&str>
-    ensures { option_map (λ text. text.now) result ≡ text_in (view inventory.now) }
-{
-    inventory.get("id")?.as_str()
-}
-
-// The JSON of a text; null where it is none.
-fn parse(alloc: Global, text: &str) -> Result<Value, MemoryFault>
-    ensures { IfOk result (λ value. view value ≡ unwrap_or (read text.now) null) }
-{
-    match Value::from_str(alloc, text) {
-        Ok(value) => Ok(value),
-        Err(error) if error.is_memory() => Err(MemoryFault::Memory),
-        Err(_) => Ok(Value::Null),
-    }
 }

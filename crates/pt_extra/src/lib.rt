@@ -17,12 +17,14 @@
 //! - Store and root are the same, with the same trees, and what stood in the log stands (`Keeps`). A device is blamed exactly where it failed
 //!   (`Fails`); `Dest` is the root's fault, and else `Memory` alone is answered, where a growth was refused.
 //!
-//! What it holds are the listings on the way to where it stands, of which there are no more than 34, and one inventory.
+//! What it holds are the listings on the way to where it stands, of which there are no more than 34, and one inventory, with as much room again: of what
+//! that says only the identifier is kept (inventory.rt).
 #![tactic(auto, using(crate::proofs::ExtraRules::extra_rules))]
 
 mod auditing;
 mod devices;
 mod identifier;
+mod inventory;
 mod lines;
 mod numbers;
 mod parts;

@@ -1,7 +1,7 @@
 //! What of a root is its own, and what is an object.
 ghost use Rattle.std.specs.Prelude.{◌≡◌};
 ghost use Rattle.std.specs.Str.{bytes_eq};
-ghost use Rattle.pt_extra.specs.Findings.{is_object as is_object_of, is_own as is_own_entry, is_part as is_part_of, is_text as is_text_name};
+ghost use Rattle.pt_extra.specs.Findings.{is_copy as is_copy_name, is_object as is_object_of, is_own as is_own_entry, is_part as is_part_of, is_text as is_text_name};
 ghost use Rattle.pt_object.specs.WellKnown.{known_text};
 
 use pt_object::WellKnownName;
@@ -10,6 +10,9 @@ use pt_tree::{Kind, KnownName, Listing, Name, NamePath};
 
 // An object's declaration in OCFL 1.0, which a root of 1.1 may have too.
 const OLDER: &str = "0=ocfl_object_1.0";
+
+// The specification of OCFL's extensions.
+const OF_EXTENSIONS: &str = "ocfl_extensions_1.0.md";
 
 /// Whether a folder that lists these is an object's root (OCFL 1.1, "Object Structure").
 pub(crate) fn is_object(listing: &Listing) -> bool
@@ -37,11 +40,18 @@ fn is_own(name: &Name, kind: Kind) -> bool
     }
 }
 
-// Whether a file of this name says what a root is: its layout, or the specification.
+// Whether a file of this name says what a root is: its layout, or a specification.
 fn is_text(name: &Name) -> bool
     ensures { result ≡ is_text_name name.now }
 {
-    is_known(name, WellKnownName::LayoutFile) || name.bytes().starts_with(b"ocfl_1.1.")
+    is_known(name, WellKnownName::LayoutFile) || is_copy(name)
+}
+
+// Whether a file of this name is a copy of a specification: OCFL's, or that of its extensions.
+fn is_copy(name: &Name) -> bool
+    ensures { result ≡ is_copy_name name.now }
+{
+    name.bytes().starts_with(b"ocfl_1.1.") || name.bytes() == OF_EXTENSIONS.as_bytes()
 }
 
 // Whether a name is this one.

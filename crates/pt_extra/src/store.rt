@@ -12,13 +12,13 @@ ghost use Rattle.pt_tree.specs.Forest.{listing_of};
 use pt_audit::{object_stands, proper_site, skip_prefix};
 use pt_move::Job;
 use pt_object::WellKnownName;
-use pt_plan::kinds::{is_dir, kind_in};
-use pt_tree::{KnownName, NamePath, Source, TreeFault};
+use pt_plan::kinds::is_dir;
+use pt_tree::{NamePath, Source, TreeFault};
 use std::alloc::Global;
 
 /// Whether an object stands in a store, each of whose identifiers begins with this prefix, where this identifier belongs.
 ///
-/// `Device` where a folder on the way can't be listed, `Memory` where a growth was refused.
+/// Each folder on the way is looked at, and its site alone is listed. `Device` where one of these calls fails, `Memory` where a growth was refused.
 pub(crate) fn has_object<S: Source>(
     alloc: Global,
     store: &mut S,
@@ -43,7 +43,9 @@ pub(crate) fn has_object<S: Source>(
     object_stands(store, job, &NamePath::new(alloc), site)
 }
 
-/// Whether the top of a tree lists a folder of this name.
+/// Whether the top of a tree has a folder of this name: one look, and nothing is listed.
+///
+/// `Device` where the look fails, `Memory` where a growth was refused.
 pub(crate) fn has_folder<S: Source>(
     alloc: Global,
     source: &mut S,
@@ -55,7 +57,6 @@ pub(crate) fn has_folder<S: Source>(
     ensures failures { IsCounted (S.failed source.old) (S.failed source.new) result }
     ensures keeps { S.keeps source.old source.new }
 {
-    let top = NamePath::new(alloc);
-    let listing = source.list(&top)?;
-    Ok(is_dir(kind_in(&listing, name.text().as_bytes())))
+    let path = NamePath::of_known(alloc, &[name])?;
+    Ok(is_dir(source.kind(&path)?))
 }

@@ -1,0 +1,85 @@
+-- The text at `id` in what was read.
+use Rattle.std.proofs.Common.{◌≡◌, ◌∙◌, ap, refl, sym, subst, codes, ℕ, List, [], ◌∷◌, length, Option, Some, None, option_map, arith}
+use Rattle.std.specs.Option.{option_and_then, unwrap_or}
+use Rattle.std.specs.Cmp.Lexicographic.{other_text, same_text}
+use Rattle.std.specs.Prelude.{true, false}
+use Rattle.std.specs.Str.{bytes_eq}
+use Rattle.json.specs.Token as spec
+use Rattle.json.specs.Json.{items, members, value, parse_map}
+use Rattle.json.specs.Json as json
+use Rattle.json.specs.Lex.{tokens}
+use Rattle.json.specs.Reads.{token_of}
+use Rattle.json.specs.declared.token.Token.{Token}
+use Rattle.json.specs.declared.token.Token.TheVariants.{BeginObject, EndObject, BeginArray, EndArray, Key, String, Number, Bool, Null, Bad}
+use Rattle.json.proofs.Grammar.{value_is, value-begin_array}
+use Rattle.pt_extra.specs.Inventories.{id_by, text_in, unless_empty}
+use Rattle.serde_json.specs.Data.{Data, Items, Members, Num, array, null, number, object, put}
+use Rattle.serde_json.specs.Find.{as_str, get_member}
+use Rattle.serde_json.specs.Read.{converted, number_of, of_items, of_json, read}
+use Rattle.pt_extra.proofs.Converted.{converted-array, whole_and_more, whole_read, whole_refused}
+use Rattle.serde_json.proofs.Views.{get_member-put, get_member-put_other}
+
+-- the name is `id`, or another
+pub is_id : (name : List ℕ) → bytes_eq name (codes "id") ≡ true → name ≡ codes "id"
+is_id name is = same_text name (codes "id") (sym is)
+
+pub no_id : (name : List ℕ) → bytes_eq name (codes "id") ≡ false → codes "id" ≡ name → ⊥
+no_id name is same = other_text name (codes "id") (sym is) (sym same)
+
+-- once a value stands at `id`
+pub text_at : (k : List ℕ) (d : Data) (ms : Members) → k ≡ codes "id" → text_in (object (put k d ms)) ≡ as_str d
+text_at k d ms is = subst (λ (n : List ℕ). option_and_then as_str (get_member n (put k d ms)) ≡ as_str d) is (ap (option_and_then as_str) (get_member-put k d ms))
+
+-- and at another name
+pub text_kept : (k : List ℕ) (d : Data) (ms : Members) → (codes "id" ≡ k → ⊥) → text_in (object (put k d ms)) ≡ text_in (object ms)
+text_kept k d ms other = ap (option_and_then as_str) (get_member-put_other (codes "id") k d ms other)
+
+-- ---- what is no object has none
+
+abbrev pub text_read : Option (Data × List spec.Token) → Option (List ℕ)
+text_read o = option_and_then (λ p. text_in p.0) o
+
+of_array : (o : Option (Items × List spec.Token)) → text_read (parse_map array o) ≡ None
+of_array None = refl
+of_array (Some p) = refl
+
+of_number : (n : Option Num) (rest : List spec.Token) → text_read (option_map (λ d. (d, rest)) (option_map number n)) ≡ None
+of_number None rest = refl
+of_number (Some n) rest = refl
+
+pub no_object : (ts rest : List spec.Token) (t : Token) → ts ≡ token_of t ∷ rest → (t ≡ BeginObject → ⊥) → text_read (converted of_json (value 127 ts)) ≡ None
+no_object ts rest BeginObject first other = absurd (other refl)
+no_object ts rest BeginArray first other =
+    ap (λ o. text_read (converted of_json o)) (ap (value 127) first ∙ value-begin_array 127 rest (omega arith))
+    ∙ ap text_read (converted-array (items (value 126) (length rest) rest)) ∙ of_array (converted of_items (items (value 126) (length rest) rest))
+no_object ts rest (Number s) first other = ap (λ o. text_read (converted of_json o)) (ap (value 127) first ∙ value_is 127 _) ∙ of_number (number_of s.now) rest
+no_object ts rest EndObject first other = ap (λ o. text_read (converted of_json o)) (ap (value 127) first ∙ value_is 127 _)
+no_object ts rest EndArray first other = ap (λ o. text_read (converted of_json o)) (ap (value 127) first ∙ value_is 127 _)
+no_object ts rest (Key s) first other = ap (λ o. text_read (converted of_json o)) (ap (value 127) first ∙ value_is 127 _)
+no_object ts rest (String s) first other = ap (λ o. text_read (converted of_json o)) (ap (value 127) first ∙ value_is 127 _)
+no_object ts rest (Bool b) first other = ap (λ o. text_read (converted of_json o)) (ap (value 127) first ∙ value_is 127 _)
+no_object ts rest Null first other = ap (λ o. text_read (converted of_json o)) (ap (value 127) first ∙ value_is 127 _)
+no_object ts rest Bad first other = ap (λ o. text_read (converted of_json o)) (ap (value 127) first ∙ value_is 127 _)
+
+-- ---- the whole text
+
+-- nothing is read of it
+nothing : (text : List ℕ) → read text ≡ None → None ≡ id_by (unwrap_or (read text) null)
+nothing text is = sym (ap (λ o. id_by (unwrap_or o null)) is)
+
+pub none_read : (text : List ℕ) → text_read (converted of_json (value 127 (tokens text))) ≡ None → None ≡ id_by (unwrap_or (read text) null)
+none_read text none = by (converted of_json (value 127 (tokens text))) refl none
+  where
+    by : (o : Option (Data × List spec.Token)) → converted of_json (value 127 (tokens text)) ≡ o → text_read o ≡ None → None ≡ id_by (unwrap_or (read text) null)
+    by None is none = nothing text (whole_refused (value 127 (tokens text)) is)
+    by (Some (d, [])) is none =
+        sym (ap (λ o. id_by (unwrap_or o null)) (whole_read (value 127 (tokens text)) d is) ∙ ap (option_and_then unless_empty) none)
+    by (Some (d, t ∷ rest)) is none = nothing text (whole_and_more (value 127 (tokens text)) d t rest is)
+
+-- more comes behind it
+pub more_read : (text : List ℕ) (d : Data) (t : spec.Token) (rest ts : List spec.Token) → converted of_json (value 127 (tokens text)) ≡ Some (d, ts) → ts ≡ t ∷ rest → None ≡ id_by (unwrap_or (read text) null)
+more_read text d t rest ts is more = nothing text (whole_and_more (value 127 (tokens text)) d t rest (is ∙ ap (λ r. Some (d, r)) more))
+
+-- it is all
+pub all_read : (text : List ℕ) (d : Data) (ts : List spec.Token) → converted of_json (value 127 (tokens text)) ≡ Some (d, ts) → ts ≡ [] → id_by d ≡ id_by (unwrap_or (read text) null)
+all_read text d ts is end = sym (ap (λ o. id_by (unwrap_or o null)) (whole_read (value 127 (tokens text)) d (is ∙ ap (λ r. Some (d, r)) end)))
