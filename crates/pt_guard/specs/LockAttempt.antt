@@ -1,6 +1,8 @@
 -- What an answer to the question for a lock says.
 use Rattle.std.specs.Prelude.{◌≡◌, ◌⊎◌, ⊤, ℕ, Bool, true, false, List, Option, Result, Ok, Err, MatchResult}
+use Rattle.std.specs.IoError.{error_kind}
 use Rattle.std.specs.declared.io.Error.{Error}
+use Rattle.std.specs.declared.io.ErrorKind.TheVariants.{NotADirectory}
 use Rattle.pt_guard.specs.Declaration.{TellsOfOne}
 use Rattle.pt_guard.specs.PlaceCall.{PlaceCall, Hold}
 use Rattle.pt_guard.specs.Wanting.{IsWanting}
@@ -28,14 +30,24 @@ HoldsBy answers claim (Ok false) came = AsksLock answers claim came
 HoldsBy answers claim (Err error) came = (IsWanting error × (came ≡ hold.Unknown error))
     ⊎ ((¬ IsWanting error) × AsksLock answers claim came)
 
--- a folder's names are asked for first; where one is a declaration's it is a root or an object itself, and else its lock is asked for, also where
--- they can't be read
+-- of a folder, by this answer, the names are asked for; where one is a declaration's it is a root or an object itself, and else its lock is asked for,
+-- also where they can't be read. What is no folder can't be locked, nor what can't be told
+abbrev pub HoldsKind : {D F : Type 0} → (D → Option (List ℕ)) → (Claim → F → Result Bool Error → Type 0)
+    → Claim → Result Bool Error → LockAttempt F → Type 0
+HoldsKind remaining answers claim (Ok true) came = (told : Result Bool Error)
+    × TellsOfOne remaining told × HoldsBy answers claim told came
+HoldsKind remaining answers claim (Ok false) came = (error : Error)
+    × (error_kind error ≡ NotADirectory) × (came ≡ hold.Unknown error)
+HoldsKind remaining answers claim (Err error) came = came ≡ hold.Unknown error
+
+-- whether it is a folder is asked first
 abbrev pub AsksFolder : {D F : Type 0} → (D → Option (List ℕ)) → (Claim → F → Result Bool Error → Type 0)
     → Claim → LockAttempt F → Type 0
-AsksFolder remaining answers claim came = (told : Result Bool Error)
-    × TellsOfOne remaining told × HoldsBy answers claim told came
+AsksFolder remaining answers claim came = (is_folder : Result Bool Error)
+    × HoldsKind remaining answers claim is_folder came
 
--- of a call on the runtime's folders: what asking for a lock comes to is by the folder's names and the question for it; of the others nothing is said
+-- of a call on the runtime's folders: what asking for a lock comes to is by the kind of what is there, its names and the question for it; of the others
+-- nothing is said
 abbrev pub SaysOfLocks : {S D F : Type 0} → (D → Option (List ℕ)) → (Claim → F → Result Bool Error → Type 0)
     → S → PlaceCall F → S → Type 0
 SaysOfLocks remaining answers old (Hold claim path came) new = AsksFolder remaining answers claim came

@@ -12,6 +12,8 @@ pub data PlaceCall (L : Type 0) : Type 0 where
   Resolve : (path : List ℕ) → (place : Result Place Error) → PlaceCall L
   -- what a path leads to, links followed
   Identify : (path : List ℕ) → (id : Result FileId Error) → PlaceCall L
+  -- what stands at a path, a link not followed
+  Look : (path : List ℕ) → (stands : Result (Unit {0}) Error) → PlaceCall L
   -- the lock of the folder at a path, asked for in this way
   Hold : (claim : Claim) → (path : List ℕ) → (came : LockAttempt L) → PlaceCall L
   -- a lock is given back

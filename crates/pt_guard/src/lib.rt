@@ -7,8 +7,9 @@
 //!   is the other's (`Overlaps`). It answers `Overlap` exactly where a path leads to the other's place or below it, or a folder on the way is
 //!   the other's; `Hidden` exactly where what stands can't be resolved or told; both before the lock is asked for.
 //! - It answers `Root` exactly where the folders lie apart and asking for the destination's lock came to this: it is a storage root or an
-//!   object itself, and the lock wasn't asked for. Of the runtime's own instance: the names of the folder are asked for first, and told as they
-//!   are (`AsksFolder`, `HoldsBy`); where they can't be read the lock is asked for all the same.
+//!   object itself, and the lock wasn't asked for. Of the runtime's own instance: whether it is a folder is asked first, and what isn't can't
+//!   be locked (`AsksFolder`, `HoldsKind`); then the names of the folder are asked for, and told as they are (`HoldsBy`); where they can't be read
+//!   the lock is asked for all the same.
 //! - It answers `Taken` exactly where the lock, asked for alone or to be shared (`Claim`), is another's so that it can't be had (`Begins`). It
 //!   goes on where a path leads nowhere, or the folder can't be locked, and says why.
 //! - An error by which the system wants memory (`IsWanting`) is none of these, but `Memory`, after which nothing more is asked; else that is

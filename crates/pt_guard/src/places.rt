@@ -5,8 +5,8 @@ ghost use Rattle.std.specs.declared.io.Error.{Error};
 ghost use Rattle.std.specs.declared.result.Result.{Result};
 ghost use Rattle.pt_guard.specs.declared.places.Claim.{Claim};
 ghost use Rattle.pt_guard.specs.declared.places.LockAttempt.{LockAttempt};
-ghost use Rattle.pt_guard.specs.LockAttempt.{AsksLock, HoldsBy, SaysOfLocks, hold_of};
-ghost use Rattle.pt_guard.specs.PlaceCall.{PlaceCall, Hold, Identify, Release, Resolve};
+ghost use Rattle.pt_guard.specs.LockAttempt.{AsksLock, HoldsBy, HoldsKind, SaysOfLocks, hold_of};
+ghost use Rattle.pt_guard.specs.PlaceCall.{PlaceCall, Hold, Identify, Look, Release, Resolve};
 ghost use Rattle.pt_guard.specs.Wanting.{IsWanting};
 
 use crate::declared::declares;
@@ -35,7 +35,7 @@ pub enum LockAttempt<L> {
     Taken,
     /// It wasn't asked for: the folder is a storage root or an object itself, by an entry whose name begins with `0=ocfl_`.
     Root,
-    /// It can't be asked for, for this reason: the folder can't be opened, or its file system has no locks.
+    /// It can't be asked for, for this reason: there is no folder, or it can't be opened, or its file system has no locks.
     Unknown(io::Error),
 }
 
@@ -91,7 +91,11 @@ pub trait Places {
     fn identify(&mut self, path: &str) -> io::Result<FileId>
         ensures { does self.old (Identify path.now result) self.new };
 
-    /// Asks for the lock of the folder at a path, unless that is a storage root or an object itself.
+    /// Looks at what stands at a path, a link not followed.
+    fn look(&mut self, path: &str) -> io::Result<()>
+        ensures { does self.old (Look path.now result) self.new };
+
+    /// Asks for the lock of the folder at a path, unless that is a storage root or an object itself. What is no folder isn't opened.
     fn hold(&mut self, path: &str, claim: Claim) -> LockAttempt<Self::Lock>
         ensures { does self.old (Hold claim path.now result) self.new };
 
@@ -120,13 +124,42 @@ where
         })
     }
 
+    fn look(&mut self, path: &str) -> io::Result<()> {
+        self.symlink_metadata(path)?;
+        Ok(())
+    }
+
     fn hold(&mut self, path: &str, claim: Claim) -> LockAttempt<R::File> {
-        let told = declares(*self, path);
-        held_by(*self, told, path, claim)
+        let is_folder = leads_to_folder(*self, path);
+        held_by_kind(*self, is_folder, path, claim)
     }
 
     fn release(&mut self, lock: R::File) {
         drop(lock);
+    }
+}
+
+// Whether a path leads to a folder, links followed.
+fn leads_to_folder<R: Files>(rt: &R, path: &str) -> io::Result<bool> {
+    let metadata = rt.metadata(path)?;
+    Ok(metadata.is_dir())
+}
+
+// What asking so for the lock of the folder at a path comes to, by whether that is a folder. What isn't may be a pipe, whose opening would wait.
+fn held_by_kind<R: Files + AllocGlobal>(
+    rt: &R,
+    is_folder: io::Result<bool>,
+    path: &str,
+    claim: Claim,
+) -> LockAttempt<R::File>
+where
+    R::File: Lockable,
+    ensures { HoldsKind R.Dir.remaining R.File.answers claim is_folder result }
+{
+    match is_folder {
+        Ok(true) => held_by(rt, declares(rt, path), path, claim),
+        Ok(false) => LockAttempt::Unknown(io::Error::from(io::ErrorKind::NotADirectory)),
+        Err(error) => LockAttempt::Unknown(error),
     }
 }
 

@@ -12,6 +12,7 @@ use Rattle.pt_host.specs.Durable.{IsLogged, IsOnDisk, LogStays}
 use Rattle.pt_host.specs.Ends.{run_status}
 use Rattle.pt_host.specs.Made.{IsRun}
 use Rattle.pt_host.specs.declared.log.DurableLog.{DurableLog}
+use Rattle.pt_host.specs.declared.options.AllowedLines.{AllowedLines}
 
 -- the log is blamed exactly where it failed, in a rehearsal too
 pub log_counts : (job : Job) (rehearse : Bool) (was : Option Writing) (old new : DeviceStates) (ran : Result Report Fault) → IsRun job rehearse was old new ran → Counts 3 old.failures.log new.failures.log ran
@@ -19,14 +20,14 @@ log_counts job true was old new ran run = run.promises.log
 log_counts job false was old new ran run = run.promises.log
 
 -- so it failed nowhere in a run that ended well
-unfailed : (present_ok : Bool) (ran : Result Report Fault) (before after : ℕ) → Counts 3 before after ran → before ≡ 0 → run_status present_ok ran ≢ 3 → after ≡ 0
-unfailed present_ok (Ok report) before after counts none well = counts ∙ none
-unfailed present_ok (Err fault) before after counts none well = absurd (well refl)
+unfailed : (allowed : AllowedLines) (ran : Result Report Fault) (before after : ℕ) → Counts 3 before after ran → before ≡ 0 → run_status allowed ran ≢ 3 → after ≡ 0
+unfailed allowed (Ok report) before after counts none well = counts ∙ none
+unfailed allowed (Err fault) before after counts none well = absurd (well refl)
 
 -- and its file is where all stands that it wrote, if it wrote anything
-pub logged : {W E : Type 0} (puts : E → W → Result (Unit {0}) Error → E → Type 0) (present_ok : Bool) (old new : DurableLog W E) (ran : Result Report Fault) → LogStays puts old new → Counts 3 old.failures new.failures ran → old.failures ≡ 0
-    → IsLogged puts old.file old.writer new.writer (run_status present_ok ran)
-logged {W} {E} puts present_ok old new ran stays counts none = by old.file refl
+pub logged : {W E : Type 0} (puts : E → W → Result (Unit {0}) Error → E → Type 0) (allowed : AllowedLines) (old new : DurableLog W E) (ran : Result Report Fault) → LogStays puts old new → Counts 3 old.failures new.failures ran → old.failures ≡ 0
+    → IsLogged puts old.file old.writer new.writer (run_status allowed ran)
+logged {W} {E} puts allowed old new ran stays counts none = by old.file refl
   where
     of_file : (o : Option E) → is_some o ≡ true → IfSome o (IsOnDisk puts new.writer) → (after : E) × IsOnDisk puts new.writer after
     of_file None some there = absurd (cc)
@@ -36,6 +37,6 @@ logged {W} {E} puts present_ok old new ran stays counts none = by old.file refl
     there some (inl same) = inl (ap (λ l. l.writer) same)
     there some (inr put) = inr (of_file new.file some put)
 
-    by : (o : Option E) → old.file ≡ o → IsLogged puts o old.writer new.writer (run_status present_ok ran)
+    by : (o : Option E) → old.file ≡ o → IsLogged puts o old.writer new.writer (run_status allowed ran)
     by None is = tt
-    by (Some file) is = λ well. there (stays.file (ap is_some is)) (stays.there (unfailed present_ok ran old.failures new.failures counts none well))
+    by (Some file) is = λ well. there (stays.file (ap is_some is)) (stays.there (unfailed allowed ran old.failures new.failures counts none well))

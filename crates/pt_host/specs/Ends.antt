@@ -3,6 +3,7 @@ use Rattle.std.specs.Prelude.{◌≡◌, ◌⊎◌, ◌+◌, ◌==◌, ℕ, Bool
 use Rattle.pt_guard.specs.declared.guard.GuardFault.{GuardFault}
 use Rattle.pt_guard.specs.declared.guard.GuardFault.TheVariants as guard
 use Rattle.pt_plan.specs.declared.fault.Fault.{Fault}
+use Rattle.pt_host.specs.declared.options.AllowedLines.{AllowedLines}
 use Rattle.pt_state.specs.declared.job.Report.{Report}
 
 -- of a run that may not begin: 2 where its folders lie in one another, or it isn't known where, or the destination is a storage root itself,
@@ -14,22 +15,27 @@ guard_status guard.Root = 2
 guard_status guard.Taken = 3
 guard_status guard.Memory = 3
 
--- how many lines of a run's log tell of what it did not carry: skip lines, and present lines unless these are well
-abbrev pub uncarried : Bool → Report → ℕ
-uncarried false report = report.present + report.skipped
-uncarried true report = report.skipped
+-- how many lines count, of so many of one kind: none where that kind is allowed
+abbrev pub counted_unless : Bool → ℕ → ℕ
+counted_unless true lines = 0
+counted_unless false lines = lines
 
--- of a run, whose present lines are well or not: 0 where its log has no such line, 1 where it has, 3 after a fault
-abbrev pub run_status : Bool → Result Report Fault → ℕ
-run_status present_ok (Ok report) = if uncarried present_ok report == 0 then 0 else 1
-run_status present_ok (Err fault) = 3
+-- how many lines of a run's log tell of what it did not carry, and aren't allowed: present lines and skip lines
+abbrev pub uncarried : AllowedLines → Report → ℕ
+uncarried allowed report =
+    counted_unless allowed.present report.present + counted_unless allowed.skips report.skipped
+
+-- of a run whose log may have these lines: 0 where it has no other that tells of what was not carried, 1 where it has, 3 after a fault
+abbrev pub run_status : AllowedLines → Result Report Fault → ℕ
+run_status allowed (Ok report) = if uncarried allowed report == 0 then 0 else 1
+run_status allowed (Err fault) = 3
 
 -- what a run came to, and its status
-abbrev pub RunEnds : Bool → ℕ → Type 0
-RunEnds present_ok status = (result : Result Report Fault) × (status ≡ run_status present_ok result)
+abbrev pub RunEnds : AllowedLines → ℕ → Type 0
+RunEnds allowed status = (result : Result Report Fault) × (status ≡ run_status allowed result)
 
--- with a list of identifiers a run or an audit that would end with 0 may end with 1, where one of them was met nowhere; without a list it
--- ends as it does
+-- with a list of identifiers a run or an audit that would end with 0 may end with 1, where no object was met of one of them; without a list
+-- it ends as it does
 abbrev pub EndsWithList : Option (List (List ℕ)) → ℕ → ℕ → Type 0
 EndsWithList None plain status = status ≡ plain
 EndsWithList (Some ids) plain status = (status ≡ plain) ⊎ ((plain ≡ 0) × (status ≡ 1))
@@ -38,6 +44,6 @@ EndsWithList (Some ids) plain status = (status ≡ plain) ⊎ ((plain ≡ 0) × 
 abbrev pub OfList : {H : Type 0} → Option (List (List ℕ)) → (H → H → ℕ → Type 0) → H → H → ℕ → Type 0
 OfList list makes old new status = (plain : ℕ) × makes old new plain × EndsWithList list plain status
 
--- it may not begin, or it came to this, and ends with this status, whether present lines are well or not
-abbrev pub Ends : Bool → ℕ → Type 0
-Ends present_ok status = ((fault : GuardFault) × (status ≡ guard_status fault)) ⊎ RunEnds present_ok status
+-- it may not begin, or it came to this, and ends with this status, where its log may have these lines
+abbrev pub Ends : AllowedLines → ℕ → Type 0
+Ends allowed status = ((fault : GuardFault) × (status ≡ guard_status fault)) ⊎ RunEnds allowed status

@@ -1,47 +1,48 @@
 -- The file in which a run or an audit is recorded: which calls are made on it, and which status it leaves.
-use Rattle.std.specs.Prelude.{◌≡◌, ◌⊎◌, ◌↔◌, ◌++◌, ℕ, Bool, IsTrue, MatchBool, List, Option, Some, None, Result, Ok, Err, codes}
+use Rattle.std.specs.Prelude.{◌≡◌, ◌⊎◌, ◌++◌, ℕ, List, Option, Some, None, Result, Ok, Err, codes}
 use Rattle.std.specs.IoError.{error_kind}
 use Rattle.std.specs.declared.io.Error.{Error}
 use Rattle.std.specs.declared.io.ErrorKind.{ErrorKind}
-use Rattle.std.specs.declared.io.ErrorKind.TheVariants.{AlreadyExists, OutOfMemory}
+use Rattle.std.specs.declared.io.ErrorKind.TheVariants.{AlreadyExists, NotADirectory, NotFound, OutOfMemory}
 use Rattle.pt_guard.specs.FilePlace.{JudgesFile}
-use Rattle.pt_guard.specs.PlaceCall.{Identify}
-use Rattle.pt_guard.specs.Wanting.{IsWanting}
+use Rattle.pt_guard.specs.PlaceCall.{Look}
 use Rattle.pt_guard.specs.declared.file.FileFault.{FileFault}
 use Rattle.pt_guard.specs.declared.file.FileFault.TheVariants as place
-use Rattle.pt_guard.specs.declared.places.FileId.{FileId}
 use Rattle.pt_host.specs.HostCall.{MakeFile, MoveFile}
 use Rattle.pt_host.specs.Machine.{MachineWords}
 use Rattle.pt_host.specs.declared.event.EventFault.{EventFault}
 use Rattle.pt_host.specs.declared.event.EventFault.TheVariants as fault
 use Rattle.pt_host.specs.declared.event.EventFile.{EventFile}
+use Rattle.pt_host.specs.declared.event.EventPath.{EventPath}
+use Rattle.pt_host.specs.declared.event.EventPath.TheVariants as which
 
 -- the paths of a file and of what is to replace it
 abbrev pub paths_of : List ℕ → List ℕ × List ℕ
 paths_of path = (path, path ++ codes ".part")
 
--- why a file can't be made or replaced, by an error of this kind
-abbrev pub fault_by : ErrorKind → Error → EventFault
-fault_by OutOfMemory error = fault.Memory
-fault_by AlreadyExists error = fault.Stands
-fault_by _ error = fault.Unwritten error
+-- why a file can't be made or replaced at one of these paths, by an error of this kind
+abbrev pub fault_by : EventPath → ErrorKind → Error → EventFault
+fault_by path OutOfMemory error = fault.Memory
+fault_by path AlreadyExists error = fault.Stands path
+fault_by path _ error = fault.Unwritten path error
 
 -- and by an error
-abbrev pub fault_of : Error → EventFault
-fault_of error = fault_by (error_kind error) error
+abbrev pub fault_of : EventPath → Error → EventFault
+fault_of path error = fault_by path (error_kind error) error
 
--- what is answered where a call came to this
-abbrev pub answer_of : Result (Unit {0}) Error → Result (Unit {0}) EventFault
-answer_of (Ok done) = Ok done
-answer_of (Err error) = Err (fault_of error)
+-- what is answered where a call on one of these paths came to this
+abbrev pub answer_of : EventPath → Result (Unit {0}) Error → Result (Unit {0}) EventFault
+answer_of path (Ok done) = Ok done
+answer_of path (Err error) = Err (fault_of path error)
 
--- the status where an event can't begin: 2 where its file may not be there or stands, else 3
+-- the status where an event can't begin: 2 where its file may not be there, or something stands, or may, else 3
 abbrev pub event_status : EventFault → ℕ
 event_status (fault.Place place.Inside) = 2
 event_status (fault.Place place.Hidden) = 2
 event_status (fault.Place place.Memory) = 3
-event_status fault.Stands = 2
-event_status (fault.Unwritten error) = 3
+event_status (fault.Stands path) = 2
+event_status (fault.Unseen error) = 2
+event_status (fault.Unwritten path error) = 3
 event_status fault.Memory = 3
 
 -- the status of what ended with this one: where the end can't be recorded, 3
@@ -54,26 +55,32 @@ abbrev pub Stops : {H : Type 0} → EventFault → H → H → Result (Unit {0})
 Stops why mid new result = (result ≡ Err why) × (new ≡ mid)
 
 module _ {H : Type 0} (words : MachineWords H) where
-  -- a file is made where nothing stands, with some text
-  abbrev pub MakesNew : List ℕ → H → H → Result (Unit {0}) EventFault → Type 0
-  MakesNew path old new result = (text : List ℕ) × (made : Result (Unit {0}) Error)
-      × words.host old (MakeFile path text made) new × (result ≡ answer_of made)
+  -- a file is made at one of these paths, where nothing stands, with some text
+  abbrev pub MakesNew : EventPath → List ℕ → H → H → Result (Unit {0}) EventFault → Type 0
+  MakesNew path at old new result = (text : List ℕ) × (made : Result (Unit {0}) Error)
+      × words.host old (MakeFile at text made) new × (result ≡ answer_of path made)
 
   -- what is to replace a file is renamed to it
   abbrev pub MovesOver : List ℕ × List ℕ → H → H → Result (Unit {0}) EventFault → Type 0
   MovesOver paths old new result = (moved : Result (Unit {0}) Error)
-      × words.host old (MoveFile paths.1 paths.0 moved) new × (result ≡ answer_of moved)
+      × words.host old (MoveFile paths.1 paths.0 moved) new × (result ≡ answer_of which.File moved)
 
-  -- the file is made where this says that nothing stands at the path of what is to replace it
-  abbrev pub MakesBy : List ℕ → Result FileId Error → H → H → Result (Unit {0}) EventFault → Type 0
-  MakesBy path (Ok found) mid new result = Stops fault.Stands mid new result
-  MakesBy path (Err error) mid new result = (wanting : Bool) × (IsTrue wanting ↔ IsWanting error)
-      × MatchBool wanting (Stops fault.Memory mid new result) (MakesNew path mid new result)
+  -- the file is made where an error of this kind says that nothing stands at the path of what is to replace it
+  abbrev pub MakesByKind : List ℕ → ErrorKind → Error → H → H → Result (Unit {0}) EventFault → Type 0
+  MakesByKind path NotFound error mid new result = MakesNew which.File path mid new result
+  MakesByKind path NotADirectory error mid new result = MakesNew which.File path mid new result
+  MakesByKind path OutOfMemory error mid new result = Stops fault.Memory mid new result
+  MakesByKind path _ error mid new result = Stops (fault.Unseen error) mid new result
 
-  -- what stands at the path of what is to replace the file is asked for, and by that it is made
+  -- and where this says so
+  abbrev pub MakesBy : List ℕ → Result (Unit {0}) Error → H → H → Result (Unit {0}) EventFault → Type 0
+  MakesBy path (Ok stands) mid new result = Stops (fault.Stands which.Part) mid new result
+  MakesBy path (Err error) mid new result = MakesByKind path (error_kind error) error mid new result
+
+  -- what stands at the path of what is to replace the file is looked for, and by that it is made
   abbrev pub MakesUnlessLeft : List ℕ × List ℕ → H → H → Result (Unit {0}) EventFault → Type 0
-  MakesUnlessLeft paths old new result = (found : Result FileId Error) × (mid : H)
-      × words.places old (Identify paths.1 found) mid × MakesBy paths.0 found mid new result
+  MakesUnlessLeft paths old new result = (looked : Result (Unit {0}) Error) × (mid : H)
+      × words.places old (Look paths.1 looked) mid × MakesBy paths.0 looked mid new result
 
   -- it is made where it may lie there, by this answer
   abbrev pub MakesWhere : List ℕ × List ℕ → Result (Unit {0}) FileFault → H → H
@@ -109,7 +116,7 @@ module _ {H : Type 0} (words : MachineWords H) where
   -- the file is replaced: by one with some text, which is made beside it first
   abbrev pub Replaces : List ℕ × List ℕ → H → H → Result (Unit {0}) EventFault → Type 0
   Replaces paths old new result = (made : Result (Unit {0}) EventFault) × (mid : H)
-      × MakesNew paths.1 old mid made × MovesMade paths made mid new result
+      × MakesNew which.Part paths.1 old mid made × MovesMade paths made mid new result
 
   -- an event ends: its file is replaced; or memory was wanting for a text, before anything was asked
   abbrev pub EndsFile : List ℕ × List ℕ → H → H → Result (Unit {0}) EventFault → Type 0

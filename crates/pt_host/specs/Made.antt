@@ -47,7 +47,7 @@ pub record IsRun (job : Job) (rehearse : Bool) (was : Option Writing) (old new :
 abbrev pub IsMade : RunOptions → Option Writing → DeviceStates → DeviceStates → ℕ → Type 0
 IsMade options was old new status =
     (ran : Result Report Fault) × IsRun options.job options.rehearse was old new ran
-    × (status ≡ run_status options.present_ok ran)
+    × (status ≡ run_status options.allowed ran)
 
 -- the paths of a run's two folders, the names of the entries that are left out of the store, and whether files are
 -- put onto the disk

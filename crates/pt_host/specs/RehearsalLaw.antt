@@ -1,5 +1,5 @@
 -- What a rehearsal tells of the run that it rehearses.
-use Rattle.std.specs.Prelude.{◌≡◌, ◌++◌, ℕ, Bool, true, false, List, Option, None, Some, Ok}
+use Rattle.std.specs.Prelude.{◌≡◌, ◌++◌, ℕ, true, false, List, Option, None, Some, Ok}
 use Rattle.pt_plan.specs.DeviceStates.{DeviceStates, dest_tree}
 use Rattle.pt_tree.specs.Source.{tree_in}
 use Rattle.pt_state.specs.declared.job.Job.{Job}
@@ -9,12 +9,13 @@ use Rattle.pt_tree.specs.Forest.{Forest}
 use Rattle.pt_tree.specs.Tree.{Tree}
 use Rattle.pt_host.specs.Ends.{run_status}
 use Rattle.pt_host.specs.Made.{IsRun}
+use Rattle.pt_host.specs.declared.options.AllowedLines.{AllowedLines}
 
 -- where a rehearsal and a run, of one job, over the same store and the same tree of the destination, both end well, both
--- logs get the same text, and both end with the same status, whether present lines are well or not
+-- logs get the same text, and both end with the same status, whichever lines these may have
 abbrev pub RehearsalTellsTheRun : Type 0
 RehearsalTellsTheRun =
-    (job : Job) (present_ok : Bool) (s : Forest) (t : Tree) (was : Option Writing) (old new old' new' : DeviceStates)
+    (job : Job) (allowed : AllowedLines) (s : Forest) (t : Tree) (was : Option Writing) (old new old' new' : DeviceStates)
     (report report' : Report) (now : Writing) (first last first' last' : List ℕ)
     → IsRun job true (Some (record { tree = t; writing = None })) old new (Ok report)
     → IsRun job false was old' new' (Ok report')
@@ -23,4 +24,4 @@ RehearsalTellsTheRun =
     → old.log ≡ Some first → new.log ≡ Some last
     → old'.log ≡ Some first' → new'.log ≡ Some last'
     → ((told : List ℕ) × (last ≡ first ++ told) × (last' ≡ first' ++ told))
-    × (run_status present_ok (Ok report) ≡ run_status present_ok (Ok report'))
+    × (run_status allowed (Ok report) ≡ run_status allowed (Ok report'))

@@ -89,7 +89,8 @@ fn options_of_run(alloc: Global, options: &RunOptions) -> Result<Members, AllocE
     members.put_names("ignore", options.ignored.names())?;
     members.put_flag("sync", options.sync)?;
     members.put_flag("dry-run", options.rehearse)?;
-    members.put_flag("present-ok", options.present_ok)?;
+    members.put_flag("present-ok", options.allowed.present)?;
+    members.put_flag("skips-ok", options.allowed.skips)?;
     put_feedback(&mut members, &options.feedback)?;
     Ok(members)
 }

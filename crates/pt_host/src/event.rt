@@ -1,8 +1,8 @@
 //! The file in which a run or an audit is recorded as an event: made before it, and replaced after it.
-ghost use Rattle.std.specs.Prelude.{◌≡◌, ◌++◌, ◌↔◌, IfOk, IsTrue, codes, option_map};
-ghost use Rattle.pt_guard.specs.Wanting.{IsWanting};
+ghost use Rattle.std.specs.Prelude.{◌≡◌, ◌++◌, Err, IfOk, codes, option_map};
 ghost use Rattle.pt_host.specs.Events.{BeginsEvent, EndsEvent, EndsFile, MakesEvent, MakesNew};
-ghost use Rattle.pt_host.specs.Events.{MakesUnlessLeft, MovesOver, Replaces, event_status};
+ghost use Rattle.pt_host.specs.Events.{MakesBy, MakesUnlessLeft, MovesOver, Replaces, event_status};
+ghost use Rattle.pt_host.specs.Events.{fault_of};
 
 use crate::asked::Asked;
 use crate::folders::Folders;
@@ -10,10 +10,10 @@ use crate::saying::end_with_fault;
 use crate::status::{FAILED, REFUSED};
 use crate::{Host, Machine, Text};
 use pt_guard::{FileFault, judge_file};
-use pt_messages::{Event, Outcome, Reads};
+use pt_messages::{Event, Outcome, Reads, escape};
 use pt_move::Fault;
 use pt_tree::MemoryFault;
-use std::alloc::{AllocError, AllocGlobal};
+use std::alloc::{AllocError, AllocGlobal, Global};
 use std::io;
 use std::io::ErrorKind;
 use std::rt::Clock;
@@ -22,21 +22,69 @@ use thiserror::Error;
 // What stands behind a file's path in the path of what is to replace it.
 const PART: &str = ".part";
 
+/// Which of the two paths of an event.
+#[derive(Clone, Copy, Debug, PartialEq, Eq)]
+pub enum EventPath {
+    /// That of its file.
+    File,
+    /// That of what is to replace the file, which has `.part` behind it.
+    Part,
+}
+
+impl EventPath {
+    // What stands in it behind the file's path.
+    fn end(self) -> &'static str {
+        match self {
+            EventPath::File => "",
+            EventPath::Part => PART,
+        }
+    }
+}
+
 /// Why an event can't be recorded in its file.
 #[derive(Debug, Drop, Error)]
 pub enum EventFault {
     /// The file may not lie there.
     #[error("{0}")]
     Place(FileFault),
-    /// Something stands at its path, or at that with `.part` behind it.
+    /// Something stands at this path of it.
     #[error("FILE of --event stands already, or FILE.part does")]
-    Stands,
-    /// It can't be written.
-    #[error("cannot write FILE of --event: {0}")]
-    Unwritten(io::Error),
+    Stands(EventPath),
+    /// The system can't tell what stands at its path with `.part` behind it, as where that has too long a name.
+    #[error("FILE.part of --event cannot be looked at")]
+    Unseen(io::Error),
+    /// It can't be written at this path, or moved there.
+    #[error("cannot write FILE of --event")]
+    Unwritten(EventPath, io::Error),
     /// A growth was refused.
     #[error("out of memory")]
     Memory,
+}
+
+impl EventFault {
+    // Why a file can't be made at one of its paths, or moved there, by the system's error.
+    fn at(path: EventPath, error: io::Error) -> EventFault
+        ensures { result ≡ fault_of path error }
+    {
+        match error.kind() {
+            ErrorKind::OutOfMemory => EventFault::Memory,
+            ErrorKind::AlreadyExists => EventFault::Stands(path),
+            _ => EventFault::Unwritten(path, error),
+        }
+    }
+
+    // Its text, and behind that, where it has these, the path that it speaks of and the system's reason. An error where a growth was refused.
+    fn text_with_path(&self, alloc: Global, file: &str) -> Result<String, AllocError> {
+        let file = escape(alloc, file)?;
+        match self {
+            EventFault::Place(_) | EventFault::Memory => self.to_string(alloc),
+            EventFault::Stands(path) => format!(in alloc; "{self}: {file}{}", path.end()),
+            EventFault::Unseen(error) => format!(in alloc; "{self}: {file}{PART}: {error}"),
+            EventFault::Unwritten(path, error) => {
+                format!(in alloc; "{self}: {file}{}: {error}", path.end())
+            }
+        }
+    }
 }
 
 impl From<AllocError> for EventFault {
@@ -69,21 +117,6 @@ impl From<FileFault> for EventFault {
 
     fn from(fault: FileFault) -> Self {
         EventFault::Place(fault)
-    }
-}
-
-impl From<io::Error> for EventFault {
-    ghost use Rattle.std.specs.Prelude.{◌≡◌};
-    ghost use Rattle.pt_host.specs.Events.{fault_of};
-
-    ghost from_gives = { λ error e. e ≡ fault_of error };
-
-    fn from(error: io::Error) -> Self {
-        match error.kind() {
-            ErrorKind::OutOfMemory => EventFault::Memory,
-            ErrorKind::AlreadyExists => EventFault::Stands,
-            _ => EventFault::Unwritten(error),
-        }
     }
 }
 
@@ -131,31 +164,6 @@ impl EventFile {
             part: self.part.as_str(),
         }
     }
-
-    // Records how it ended: with this status, and so.
-    fn finish<R: Clock + AllocGlobal, H: Host>(
-        self,
-        rt: &R,
-        host: &mut H,
-        status: u8,
-        outcome: &Outcome,
-    ) -> Result<(), EventFault>
-        ensures { EndsFile ⟦<H as Machine>⟧.words (self.path, self.part)
-            host.old host.new result }
-    {
-        let EventFile {
-            path,
-            part,
-            event,
-            ..
-        } = self;
-        let text = end_text(rt, event, status, outcome)?;
-        let paths = EventPaths {
-            file: path.as_str(),
-            part: part.as_str(),
-        };
-        paths.replace(host, text.as_str())
-    }
 }
 
 // The path of an event's file, and that of what is to replace it.
@@ -187,11 +195,36 @@ impl<'a> EventPaths<'a> {
         ensures { MakesUnlessLeft ⟦<H as Machine>⟧.words
             (self.entry.file.now, self.entry.part.now) host.old host.new result }
     {
-        match host.identify(self.part) {
-            Ok(_) => Err(EventFault::Stands),
-            Err(error) if is_wanting(&error) => Err(EventFault::Memory),
-            Err(_) => make_new(host, self.file, text),
+        match host.look(self.part) {
+            Ok(()) => Err(EventFault::Stands(EventPath::Part)),
+            Err(error) => self.make_by(host, text, error),
         }
+    }
+
+    // The same where the look for what is to replace it gave this error: it is made where that says that nothing stands there.
+    fn make_by<H: Host>(self, host: &mut H, text: &str, error: io::Error) -> Result<(), EventFault>
+        ensures { MakesBy ⟦<H as Machine>⟧.words self.entry.file.now (Err error)
+            host.old host.new result }
+    {
+        match error.kind() {
+            ErrorKind::NotFound | ErrorKind::NotADirectory => {
+                make_new(host, (EventPath::File, self.file), text)
+            }
+            ErrorKind::OutOfMemory => Err(EventFault::Memory),
+            _ => Err(EventFault::Unseen(error)),
+        }
+    }
+
+    // Replaces the file by one with this text, if there was memory for that.
+    fn finish<H: Host>(
+        self,
+        host: &mut H,
+        text: Result<String, AllocError>,
+    ) -> Result<(), EventFault>
+        ensures { EndsFile ⟦<H as Machine>⟧.words
+            (self.entry.file.now, self.entry.part.now) host.old host.new result }
+    {
+        self.replace(host, text?.as_str())
     }
 
     // Replaces the file by one with this text, which is made at the other path first.
@@ -199,7 +232,7 @@ impl<'a> EventPaths<'a> {
         ensures { Replaces ⟦<H as Machine>⟧.words
             (self.entry.file.now, self.entry.part.now) host.old host.new result }
     {
-        make_new(host, self.part, text)?;
+        make_new(host, (EventPath::Part, self.part), text)?;
         move_over(host, self.part, self.file)
     }
 }
@@ -215,20 +248,14 @@ fn end_text<R: Clock + AllocGlobal>(
     event.line()
 }
 
-// Whether an error says that memory was wanting.
-fn is_wanting(error: &io::Error) -> bool
-    ensures { IsTrue result ↔ IsWanting error.now }
+// Makes a file at one of an event's paths, where nothing stands.
+fn make_new<H: Host>(host: &mut H, at: (EventPath, &str), text: &str) -> Result<(), EventFault>
+    ensures { MakesNew ⟦<H as Machine>⟧.words at.entry.0 at.entry.1.now
+        host.old host.new result }
 {
-    error.kind() == ErrorKind::OutOfMemory
-}
-
-// Makes a file where nothing stands.
-fn make_new<H: Host>(host: &mut H, path: &str, text: &str) -> Result<(), EventFault>
-    ensures { MakesNew ⟦<H as Machine>⟧.words path.now host.old host.new result }
-{
-    match host.create_new(path, text) {
+    match host.create_new(at.1, text) {
         Ok(()) => Ok(()),
-        Err(error) => Err(EventFault::from(error)),
+        Err(error) => Err(EventFault::at(at.0, error)),
     }
 }
 
@@ -238,7 +265,7 @@ fn move_over<H: Host>(host: &mut H, from: &str, to: &str) -> Result<(), EventFau
 {
     match host.move_file(from, to) {
         Ok(()) => Ok(()),
-        Err(error) => Err(EventFault::from(error)),
+        Err(error) => Err(EventFault::at(EventPath::File, error)),
     }
 }
 
@@ -246,8 +273,8 @@ fn move_over<H: Host>(host: &mut H, from: &str, to: &str) -> Result<(), EventFau
 /// the run or the audit begins.
 ///
 /// `Memory` where a growth was refused: of a text, before anything is asked, or by the system. `Place` as of `judge_file`; then `Stands`, where
-/// something stands at the path with `.part` behind it, or at the file's; and `Unwritten`, where the file can't be made or written, of which a
-/// part may then be left.
+/// something stands at the path with `.part` behind it, also a link that leads nowhere, or at the file's; `Unseen`, where the system can't tell what
+/// stands at the first; and `Unwritten`, where the file can't be made or written, of which a part may then be left.
 pub(crate) fn begin_event<R, H: Host>(
     rt: &R,
     host: &mut H,
@@ -283,36 +310,60 @@ pub(crate) fn end_event<R: Clock + Eprint + AllocGlobal, H: Host>(
     let Some(file) = event else {
         return status;
     };
-    match file.finish(rt, host, status, outcome) {
+    let EventFile {
+        path,
+        part,
+        event,
+        ..
+    } = file;
+    let paths = EventPaths {
+        file: path.as_str(),
+        part: part.as_str(),
+    };
+    match paths.finish(host, end_text(rt, event, status, outcome)) {
         Ok(()) => status,
-        Err(fault) => end_unrecorded(rt, &fault),
+        Err(fault) => end_unrecorded(rt, &fault, paths.file),
     }
 }
 
-// Says why the end of an event isn't recorded, and gives the status of that.
-fn end_unrecorded(rt: &impl Eprint, fault: &EventFault) -> u8
+// Says why the end of the event of this file isn't recorded, and gives the status of that.
+fn end_unrecorded<R: Eprint + AllocGlobal>(rt: &R, fault: &EventFault, file: &str) -> u8
     ensures { result ≡ 3 }
 {
     match fault {
         EventFault::Memory => end_with_fault(rt, &Fault::Memory),
         _ => {
-            let _ = eprintln!(rt; "pairtree2ocfl: the event has no end: {fault}");
+            tell(rt, "the event has no end: ", fault, file);
             FAILED
         }
     }
 }
 
-/// Says why an event can't be begun, and gives the status of that.
-pub(crate) fn end_unbegun(rt: &impl Eprint, fault: &EventFault) -> u8
+// Says why an event isn't recorded in this file, behind a text. Where there is no memory for the path it isn't told.
+fn tell<R: Eprint + AllocGlobal>(rt: &R, front: &str, fault: &EventFault, file: &str) {
+    let _ = match fault.text_with_path(rt.alloc(), file) {
+        Ok(text) => eprintln!(rt; "pairtree2ocfl: {front}{text}"),
+        Err(_) => eprintln!(rt; "pairtree2ocfl: {front}{fault}"),
+    };
+}
+
+/// Says why an event can't be begun, whose file is named so, and gives the status of that.
+pub(crate) fn end_unbegun<R: Eprint + AllocGlobal>(
+    rt: &R,
+    fault: &EventFault,
+    file: Option<&str>,
+) -> u8
     ensures { result ≡ event_status fault.now }
 {
     let status = match fault {
         EventFault::Memory | EventFault::Place(FileFault::Memory) => {
             return end_with_fault(rt, &Fault::Memory);
         }
-        EventFault::Place(FileFault::Inside | FileFault::Hidden) | EventFault::Stands => REFUSED,
-        EventFault::Unwritten(_) => FAILED,
+        EventFault::Place(FileFault::Inside | FileFault::Hidden)
+        | EventFault::Stands(_)
+        | EventFault::Unseen(_) => REFUSED,
+        EventFault::Unwritten(_, _) => FAILED,
     };
-    let _ = eprintln!(rt; "pairtree2ocfl: {fault}");
+    tell(rt, "", fault, file.unwrap_or(""));
     status
 }

@@ -83,11 +83,11 @@ where
             let Ending { status, outcome } = make(rt, host, asked, folders);
             end_event(rt, host, event, status, &outcome)
         }
-        Err(fault) => end_unbegun(rt, &fault),
+        Err(fault) => end_unbegun(rt, &fault, path),
     }
 }
 
-// Makes it, and tells standard error which identifiers of its list were met nowhere.
+// Makes it, and tells standard error of which identifiers of its list no object was met.
 fn make<R, H: Host>(rt: &R, host: &mut H, asked: Asked, folders: Folders<'_>) -> Ending
 where
     R: Reads + Clock + Eprint + AllocGlobal + Terminals,

@@ -11,7 +11,7 @@ use crate::guarded::make_guarded;
 use crate::log::SyncsOutput;
 use crate::options::Telling;
 use crate::running::{Ended, Ending};
-use crate::saying::{tell_fault, tell_why};
+use crate::saying::tell_fault;
 use crate::status::{DONE, FAILED, INCOMPLETE};
 use crate::{AuditOptions, Host, HostIo, Machine};
 use pt_extra::{AuditCounts, AuditEnd, ExtraDevices, audit};
@@ -26,8 +26,8 @@ use std::io::Write;
 use std::rt::Clock;
 
 /// Holds the root in a destination against a store on a machine, and gives the exit status: 0 each object stands as a run makes
-/// it, and, where extras are told too, the log has no line of these; 1 the log has lines that tell of others, or an identifier of the
-/// list was met nowhere; 2 the folders lie in one another, or it isn't known where, or the destination is a storage root itself; 3 a
+/// it, and, where extras are told too, the log has no line of these; 1 the log has lines that tell of others, or no object was met of
+/// an identifier of the list; 2 the folders lie in one another, or it isn't known where, or the destination is a storage root itself; 3 a
 /// fault, or a run holds the destination. Standard error tells of 2 and 3, and of these identifiers.
 ///
 /// The guard is asked first, and for a lock that other audits may share. Where the audit may begin it is made over what the machine
@@ -120,7 +120,7 @@ where
     let sides = AuditSides {
         source: &source,
         root: &devices.root,
-        store: folders.store,
+        folders,
     };
     let why = report_outcome(rt, &ran, telling, sides);
     let outcome = Outcome::new(words, devices.log.counts(), ran.as_ref().err(), why);
@@ -146,15 +146,15 @@ fn words_of(with_extras: bool) -> Words {
     }
 }
 
-// What an audit read, and the path of the store.
+// What an audit read, and the paths of that.
 #[derive(Drop)]
 struct AuditSides<'r, 'a, S: System, D: System> {
     source: &'r HostSource<'a, S>,
     root: &'r HostSource<'a, D>,
-    store: &'r str,
+    folders: Folders<'r>,
 }
 
-// Says what an audit came to, if a fault ended it, and why, if that is asked for; and gives why, where that is told or recorded.
+// Says what an audit came to, if a fault ended it, and why, if that is asked for or is at the top of a folder; and gives why.
 fn report_outcome<R: Reads + Eprint + AllocGlobal, S: System, D: System>(
     rt: &R,
     ran: &Result<AuditCounts, Fault>,
@@ -165,11 +165,13 @@ fn report_outcome<R: Reads + Eprint + AllocGlobal, S: System, D: System>(
         return Ok(None);
     };
     tell_audit_fault(rt, fault);
-    if !telling.wants_why() {
-        return Ok(None);
+    let folders = sides.folders;
+    let why = reason::of_audit(rt, fault, sides.source, sides.root, folders.store);
+    if let Ok(Some(why)) = &why
+        && (telling.verbose || folders.have_at_top(fault, why))
+    {
+        reason::tell(rt, why);
     }
-    let why = reason::of_audit(rt, fault, sides.source, sides.root, sides.store);
-    tell_why(rt, telling, &why);
     why
 }
 

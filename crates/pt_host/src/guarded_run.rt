@@ -19,8 +19,8 @@ use std::io::ErrorKind;
 use std::rt::Clock;
 
 /// Carries a store into a destination on a machine, or rehearses that, and gives the exit status: 0 all was carried; 1 the log has lines
-/// that tell of what was not, or an identifier of the list was met nowhere; 2 the folders lie in one another, or it isn't known where, or
-/// the destination is a storage root itself; 3 a fault, or another run or an audit holds the destination. Standard error tells of 2 and
+/// that tell of what was not, or no object was met of an identifier of the list; 2 the folders lie in one another, or it isn't known where,
+/// or the destination is a storage root itself; 3 a fault, or another run or an audit holds the destination. Standard error tells of 2 and
 /// 3, and of these identifiers.
 ///
 /// The guard is asked first, and the lock for this run alone. Where the run may begin, the log that is expected to be as long
@@ -71,7 +71,7 @@ where
         status,
         host_io,
         outcome,
-    } = run(rt, devices, options, expected, folders.store);
+    } = run(rt, devices, options, expected, folders);
     host.take_back(host_io);
     Ending { status, outcome }
 }

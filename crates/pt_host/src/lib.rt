@@ -13,8 +13,8 @@
 //!   expected. What is lent is asked for; a run from the store's folder to the destination's is made over it, with the job that is wanted,
 //!   or a rehearsal of it; what was lent is given back as the run left it.
 //! - With each run comes all that `Migrates` of pt_move promises, over what its devices tell of these folders at the start (of the store's
-//!   without the entries that are left out), and the status by its answer (`run_status`). Where that was asked for, what was present counts
-//!   as carried (`uncarried`).
+//!   without the entries that are left out), and the status by its answer (`run_status`). Lines of what was present or passed
+//!   over don't count where they are allowed (`uncarried`).
 //! - Where the log has a file and no fault ended the run, all that the output then holds was put onto the disk by it, or nothing was
 //!   written (`IsLogged`). The system of DEST is left as calls left it of a destination that is set as wanted, to its end (`Serves`); of a
 //!   rehearsal, which makes nothing there, that isn't said.
@@ -79,7 +79,7 @@ pub use guarded_run::run_guarded;
 pub use host::{Host, HostIo, OutputFile};
 pub use log::{DurableLog, Syncs, SyncsOutput};
 pub use machine::Machine;
-pub use options::{AuditOptions, CheckOptions, Feedback, RunOptions};
+pub use options::{AllowedLines, AuditOptions, CheckOptions, Feedback, RunOptions};
 pub use pt_messages::{Progress, Reads, Terminals, VERSION};
 pub use room::longest_made;
 pub use saying::end_with_fault;

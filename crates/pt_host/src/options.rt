@@ -1,5 +1,5 @@
 //! What the options of a run, an audit and a check say, whoever asks for one: the command line, a test, or a program of its own.
-ghost use Rattle.std.specs.Prelude.{◌≡◌, ◌||◌, is_some, option_map};
+ghost use Rattle.std.specs.Prelude.{◌≡◌, is_some, option_map};
 
 use crate::Text;
 use pt_messages::{Progress, Watching, Words};
@@ -18,10 +18,19 @@ pub struct RunOptions {
     pub sync: bool,
     /// Whether it is rehearsed only: nothing is made or changed.
     pub rehearse: bool,
-    /// Whether present lines leave the status at 0.
-    pub present_ok: bool,
+    /// Which lines leave the status at 0, though they tell of what it doesn't carry.
+    pub allowed: AllowedLines,
     /// What is shown of it beside its log.
     pub feedback: Feedback,
+}
+
+/// Which lines the log of a run may have so that its status is 0, beside those of what was carried.
+#[derive(Clone, Copy, Debug)]
+pub struct AllowedLines {
+    /// Present lines.
+    pub present: bool,
+    /// Skip lines.
+    pub skips: bool,
 }
 
 /// All that the options of an audit say.
@@ -69,20 +78,11 @@ pub struct Feedback {
     pub event: Option<Text>,
 }
 
-// Which reasons are wanted of a fault: to be told, and to be recorded in an event.
+// What is wanted of a fault's reason: that it is told, wherever the fault came, and that it is recorded in an event.
 #[derive(Clone, Copy)]
 pub(crate) struct Telling {
     pub verbose: bool,
     pub records: bool,
-}
-
-impl Telling {
-    // Whether they are wanted at all.
-    pub(crate) fn wants_why(self) -> bool
-        ensures { result ≡ (self.verbose || self.records) }
-    {
-        self.verbose || self.records
-    }
 }
 
 impl Feedback {
@@ -106,7 +106,7 @@ impl Feedback {
         }
     }
 
-    // Which reasons it wants of a fault.
+    // What it wants of a fault's reason.
     pub(crate) fn telling(&self) -> Telling
         ensures { result ≡ record { verbose = self.now.verbose; records = is_some self.now.event } }
     {

@@ -1,5 +1,5 @@
 //! A run over its devices, and what it came to.
-ghost use Rattle.std.specs.Prelude.{◌≡◌, Bool};
+ghost use Rattle.std.specs.Prelude.{◌≡◌};
 ghost use Rattle.pt_folder.specs.HostDest.{folder_path as dest_path, kept_by};
 ghost use Rattle.pt_folder.specs.HostSource.{folder_path as store_path};
 ghost use Rattle.pt_host.specs.Devices.{seen_without, told_at_rest};
@@ -8,14 +8,16 @@ ghost use Rattle.pt_host.specs.Ends.{run_status};
 ghost use Rattle.pt_host.specs.Machine.{host_io_words};
 ghost use Rattle.pt_host.specs.Made.{IsRun, IsUnsyncedBy, LeavesKept, RunsFrom};
 ghost use Rattle.pt_host.specs.Served.{IsServed, ServesTo};
+ghost use Rattle.pt_host.specs.declared.options.AllowedLines.{AllowedLines};
 ghost use Rattle.pt_state.specs.Outside.{states_of};
 
 use crate::devices::RunDevices;
+use crate::folders::Folders;
 use crate::log::{DurableLog, SyncsOutput};
 use crate::options::Telling;
-use crate::saying::{tell_fault, tell_why};
+use crate::saying::tell_fault;
 use crate::status::{DONE, FAILED, INCOMPLETE};
-use crate::{HostIo, RunOptions};
+use crate::{AllowedLines, HostIo, RunOptions};
 use pt_folder::{HostDest, HostSource, System};
 use pt_messages::{
     CountedLog, FaultReason, Outcome, Reads, Tally, Terminals, Watch, Words, reason,
@@ -43,13 +45,13 @@ pub(crate) struct Ending {
 }
 
 /// Makes the run that is asked for over its devices, or rehearses it, watched as its options say, and tells standard error of a fault.
-/// `expected` is how many lines its log may come to, where that is known, and `store` the path of the store.
+/// `expected` is how many lines its log may come to, where that is known, and `folders` has the paths that are told.
 pub(crate) fn run<R, S: System, D: System, W: Write, F: SyncsOutput<W> + Drop>(
     rt: &R,
     devices: RunDevices<'_, S, D, W, F>,
     options: RunOptions,
     expected: Option<u64>,
-    store: &str,
+    folders: Folders<'_>,
 ) -> Ended<S, D, W>
 where
     R: Reads + Clock + Eprint + AllocGlobal + Terminals,
@@ -95,11 +97,11 @@ where
     let sides = RunSides {
         source: &source,
         dest: &dest,
-        store,
+        folders,
     };
     let why = report_outcome(rt, &ran, telling, sides);
     let outcome = Outcome::new(Words::Run, log.counts(), ran.as_ref().err(), why);
-    let status = status_of(&ran, options.present_ok);
+    let status = status_of(&ran, options.allowed);
     let host_io = HostIo {
         store: source.into_system(),
         folder: dest.into_system(),
@@ -142,8 +144,8 @@ fn run_or_rehearse<'a, S: Source, D: System, L: Log>(
     ensures log { L.keeps log.old log.new }
     ensures dest { result.dest.folder ≡ dest.entry.folder }
     ensures served { IsServed task.entry.rehearse dest.entry result.dest }
-    ensures unsynced { (present_ok : Bool) → IsUnsyncedBy dest.entry.synced dest.entry.failures
-        (run_status present_ok result.ran) result.dest.unsynced }
+    ensures unsynced { (allowed : AllowedLines) → IsUnsyncedBy dest.entry.synced dest.entry.failures
+        (run_status allowed result.ran) result.dest.unsynced }
     ensures rehearsed { LeavesKept task.entry.rehearse (kept_by dest.entry) (kept_by result.dest) }
 {
     let Task {
@@ -162,15 +164,15 @@ fn run_or_rehearse<'a, S: Source, D: System, L: Log>(
     Ran { ran, dest }
 }
 
-// The two sides of a run that has ended: its folders, and the path of the store.
+// The two sides of a run that has ended: its folders, and their paths.
 #[derive(Drop)]
 struct RunSides<'r, 'a, S: System, D: System> {
     source: &'r HostSource<'a, S>,
     dest: &'r HostDest<'a, D>,
-    store: &'r str,
+    folders: Folders<'r>,
 }
 
-// Says what a run over these folders came to, if a fault ended it, and why, if that is asked for; and gives why, where that is told or recorded.
+// Says what a run over these folders came to, if a fault ended it, and why, if that is asked for or is at the top of one; and gives why.
 fn report_outcome<R: Reads + Eprint + AllocGlobal, S: System, D: System>(
     rt: &R,
     ran: &Result<Report, Fault>,
@@ -181,21 +183,23 @@ fn report_outcome<R: Reads + Eprint + AllocGlobal, S: System, D: System>(
         return Ok(None);
     };
     tell_fault(rt, fault);
-    if !telling.wants_why() {
-        return Ok(None);
+    let folders = sides.folders;
+    let why = reason::of_run(rt, fault, sides.source, sides.dest, folders.store);
+    if let Ok(Some(why)) = &why
+        && (telling.verbose || folders.have_at_top(fault, why))
+    {
+        reason::tell(rt, why);
     }
-    let why = reason::of_run(rt, fault, sides.source, sides.dest, sides.store);
-    tell_why(rt, telling, &why);
     why
 }
 
-// The exit status of a run, whose present lines are well or not.
-fn status_of(ran: &Result<Report, Fault>, present_ok: bool) -> u8
-    ensures { result ≡ run_status present_ok ran.now }
+// The exit status of a run, whose log may have these lines.
+fn status_of(ran: &Result<Report, Fault>, allowed: AllowedLines) -> u8
+    ensures { result ≡ run_status allowed ran.now }
 {
     match ran {
-        Ok(report) if report.skipped > 0 => INCOMPLETE,
-        Ok(report) if report.present > 0 && !present_ok => INCOMPLETE,
+        Ok(report) if report.skipped > 0 && !allowed.skips => INCOMPLETE,
+        Ok(report) if report.present > 0 && !allowed.present => INCOMPLETE,
         Ok(_) => DONE,
         Err(_) => FAILED,
     }

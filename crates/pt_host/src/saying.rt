@@ -2,30 +2,14 @@
 ghost use Rattle.std.specs.Prelude.{◌≡◌};
 ghost use Rattle.pt_host.specs.Ends.{guard_status};
 
-use crate::options::Telling;
 use crate::status::{FAILED, REFUSED};
 use pt_guard::GuardFault;
-use pt_messages::{FaultReason, reason};
 use pt_move::Fault;
-use std::alloc::{AllocError, AllocGlobal};
 
 /// Says which fault it was, in its own words.
 pub(crate) fn tell_fault(rt: &impl Eprint, fault: &Fault) {
     let number = fault.number();
     let _ = eprintln!(rt; "pairtree2ocfl: fault {number}: {fault}");
-}
-
-/// Says why a fault came, where that is known and is to be told.
-pub(crate) fn tell_why<R: Eprint + AllocGlobal>(
-    rt: &R,
-    telling: Telling,
-    why: &Result<Option<FaultReason>, AllocError>,
-) {
-    if telling.verbose
-        && let Ok(Some(why)) = why
-    {
-        reason::tell(rt, why);
-    }
 }
 
 /// Says which fault ended the command, in its own words, and gives the status of faults.

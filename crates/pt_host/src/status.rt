@@ -4,7 +4,7 @@
 pub const DONE: u8 = 0;
 
 /// A run or an audit came to its end, and its log has lines to read: of what was passed over, of an object whose place was
-/// taken, of one that is absent or differs; or an identifier of its list was met nowhere.
+/// taken, of one that is absent or differs; or no object was met of an identifier of its list.
 pub const INCOMPLETE: u8 = 1;
 
 /// The words were refused, or the folders lie in one another, or it isn't known where they lie, or the destination is a storage root itself, or the

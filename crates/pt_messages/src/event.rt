@@ -13,7 +13,7 @@ use std::io::ErrorKind;
 use std::rt::Clock;
 
 /// The program's version, and the line of the toolchain that proves it.
-pub const VERSION: &str = "0.1.0\nrattle-kit-13f logic dac8208d650f15bf";
+pub const VERSION: &str = "0.2.0\nrattle-kit-13f logic dac8208d650f15bf";
 
 const PROGRAM: &str = "pairtree2ocfl";
 

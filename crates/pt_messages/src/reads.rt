@@ -1,12 +1,12 @@
 //! Files that are read beside a run.
-ghost use Rattle.std.specs.Prelude.{⊤, ℕ, List, Vec};
-ghost use Rattle.std.specs.Global.{Global};
+ghost use Rattle.std.specs.Prelude.{⊤, ℕ, List};
 ghost use Rattle.std.specs.declared.io.Error.{Error};
 ghost use Rattle.std.specs.declared.result.Result.{Result};
 
+use pt_folder::{HostFile, Input};
 use std::alloc::Global;
 use std::fs::OpenOptions;
-use std::io::{Read, Seek, SeekFrom};
+use std::io::{ErrorKind, Read, Seek, SeekFrom};
 use std::path::PathBuf;
 use std::rt::Files;
 use std::{fs, io};
@@ -18,19 +18,22 @@ const VERSION: &str = "pairtree_version0_1";
 /// What can be read of files beside a run. No call changes anything. An error is answered where the system gives one, as where nothing stands at
 /// the path, or where a growth was refused.
 pub trait Reads {
+    type Opened: Input + Drop;
+
     /// Reading the end of the file at a path may be answered so, and leave these bytes in the room for it.
     ghost ends: { Self → List ℕ → List ℕ → Result ℕ Error → Type 0 };
 
-    /// Reading the file at a path whole may be answered so.
-    ghost gives: { Self → List ℕ → Result (Vec ℕ Global) Error → Type 0 };
+    /// Opening the file at a path may be answered so.
+    ghost opens: { Self → List ℕ → Result Self.Opened Error → Type 0 };
 
-    /// Reads the last bytes of the file at a path, links followed, and gives how many there are: as many as there is room for, or all.
+    /// Reads the last bytes of the file at a path, links followed, and gives how many there are: as many as there is room for, or all. What is no
+    /// file isn't opened, and that is an error.
     fn read_end(&self, path: &str, end: &mut [u8]) -> io::Result<usize>
         ensures { ends self.now path.now end.new result };
 
-    /// What the file at a path holds, links followed.
-    fn read_whole(&self, path: &str) -> io::Result<Vec<u8>>
-        ensures { gives self.now path.now result };
+    /// The file at a path, links followed, opened to be read from its start on, piece by piece. It may be a pipe.
+    fn open(&self, path: &str) -> io::Result<Self::Opened>
+        ensures { opens self.now path.now result };
 
     /// What the file at a path holds, links not followed; none where it is no file, or has more bytes than `most`.
     fn read_small(&self, path: &str, most: u64) -> io::Result<Option<Vec<u8>>>;
@@ -44,21 +47,28 @@ pub trait Reads {
 }
 
 impl Reads for HostRuntime {
+    type Opened = HostFile<<HostRuntime as Files>::File>;
+
     ghost ends = { λ _ _ _ _. ⊤ };
 
-    ghost gives = { λ _ _ _. ⊤ };
+    ghost opens = { λ _ _ _. ⊤ };
 
     fn read_end(&self, path: &str, end: &mut [u8]) -> io::Result<usize> {
-        let length = self.metadata(path)?.len();
+        let found = self.metadata(path)?;
+        if !found.is_file() {
+            return Err(io::Error::from(ErrorKind::InvalidInput));
+        }
         let mut options = OpenOptions::new();
         options.read(true);
         let mut file = self.open_file(&options, path)?;
-        file.seek(SeekFrom::Start(length.saturating_sub(end.len() as u64)))?;
+        file.seek(SeekFrom::Start(found.len().saturating_sub(end.len() as u64)))?;
         file.read(end)
     }
 
-    fn read_whole(&self, path: &str) -> io::Result<Vec<u8>> {
-        fs::read(self, path)
+    fn open(&self, path: &str) -> io::Result<HostFile<<HostRuntime as Files>::File>> {
+        let mut options = OpenOptions::new();
+        options.read(true);
+        Ok(HostFile::new(self.open_file(&options, path)?))
     }
 
     fn read_small(&self, path: &str, most: u64) -> io::Result<Option<Vec<u8>>> {

@@ -39,6 +39,14 @@ impl FaultReason {
         }))
     }
 
+    /// Whether its path is that of this folder, or of what lies right in it.
+    pub fn is_right_in(&self, folder: &str) -> bool {
+        match self.path.strip_prefix(folder) {
+            Some(rest) => !rest.trim_matches('/').contains('/'),
+            None => false,
+        }
+    }
+
     /// Puts it into a record of the fault.
     pub(crate) fn put_into(&self, fault: &mut Members) -> Result<(), AllocError> {
         fault.put_text("path", self.path.as_str())?;

@@ -31,7 +31,7 @@ returns-clause-runs g c =
       ),
       rw (c.into_system-2.ensures)
           (leaves_at g.D.System.kept c.args.options.rehearse _ dest.syscalls.system (ap (λ f. f.path.now) made.dest) made.rehearsed),
-      λ s is. let unsynced = made.unsynced c.args.options.present_ok s is in (unsynced.0, λ none. c.status_of-status.ensures ∙ unsynced.1 none),
+      λ s is. let unsynced = made.unsynced c.args.options.allowed s is in (unsynced.0, λ none. c.status_of-status.ensures ∙ unsynced.1 none),
     )
 
 pub returns-clause-served : goal.returns-clause-served
@@ -43,5 +43,5 @@ returns-clause-logged g c =
     let ran = c.run_or_rehearse-ran.result.ran in
     let counts = log_counts c.args.options.job c.args.options.rehearse _ _ _ ran made.promises in
     λ none. rw (c.into_writer.ensures, c.into_log.ensures, c.status_of-status.ensures, ← c.new-log.ensures)
-    (logged g.F.SyncsOutput.puts c.args.options.present_ok c.new-log.result.log c.run_or_rehearse-ran.new.log.log ran made.log counts
+    (logged g.F.SyncsOutput.puts c.args.options.allowed c.new-log.result.log c.run_or_rehearse-ran.new.log.log ran made.log counts
     (ap (λ l. l.failures) c.new-log.ensures ∙ none))

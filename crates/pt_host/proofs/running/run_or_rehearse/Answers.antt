@@ -28,11 +28,11 @@ returns-clause-served g c = rw c.if-rehearse.false c.migrate_observed-ran-2.ensu
 pub returns-then-rehearse-clause-unsynced : goal.returns-then-rehearse-clause-unsynced
 returns-then-rehearse-clause-unsynced g c =
     let stays = c.migrate_observed-ran.ensures.dest_stays in
-    λ present_ok. none_unsynced_by _ _ _ _ (ap (λ d. d.unsynced) c.into_dest-dest.ensures ∙ stays.3 ∙ c.new-rehearsal.ensures.unsynced)
+    λ allowed. none_unsynced_by _ _ _ _ (ap (λ d. d.unsynced) c.into_dest-dest.ensures ∙ stays.3 ∙ c.new-rehearsal.ensures.unsynced)
 
 pub returns-clause-unsynced : goal.returns-clause-unsynced
 returns-clause-unsynced g c =
     let dest = c.migrate_observed-ran-2.new.dest in
     let stays = c.migrate_observed-ran-2.ensures.dest_stays in
-    λ present_ok. unsynced_by c.args.dest.synced present_ok c.args.dest.failures dest.failures c.migrate_observed-ran-2.result dest.unsynced
+    λ allowed. unsynced_by c.args.dest.synced allowed c.args.dest.failures dest.failures c.migrate_observed-ran-2.result dest.unsynced
     (λ s is. sym stays.0.1.1 ∙ dest.wanted s is) dest.risen c.migrate_observed-ran-2.ensures.promises.dest
