@@ -28,7 +28,7 @@ use Rattle.pt_object.specs.declared.algorithm.Algorithm.TheVariants.{Sha512, Sha
 use Rattle.pt_messages.specs.declared.watch.Progress.{Progress}
 use Rattle.pt_messages.specs.declared.watch.Progress.TheVariants.{Auto, Always, Never}
 use Rattle.pt_cli.specs.Grammar.{Spelled, SpellsAlgorithms, SpellsTimes, audit_app, check_app, migrate_app, names_app, program, u32_parser}
-use Rattle.pt_cli.specs.Arguments.{◌>>=◌, IsThere, algorithm_of, judged, number_of, progress_of}
+use Rattle.pt_cli.specs.Arguments.{◌>>=◌, IsThere, algorithm_of, judged, number_of, path_only, progress_of}
 use Rattle.pt_cli.specs.Ignore.{are_names, ignored_in, names_of, names_only}
 use Rattle.pt_cli.specs.Options.{answer_to, audit_in, audit_meta, audit_options_in, check_in, command_in, cut, described_by, feedback_in, folders_in, id_only, job_in, layout_in, meta_in, migration_in, names_in, run_options_in}
 use Rattle.pt_cli.specs.Share.{share_asked}
@@ -96,6 +96,9 @@ then_there (Err unread.Memory) f here on = tt
 then_there (Err unread.Tuples) f here on = tt
 then_there (Err unread.Share) f here on = tt
 then_there (Err unread.Ignored) f here on = tt
+then_there (Err unread.EmptyEvent) f here on = tt
+then_there (Err unread.EmptyList) f here on = tt
+then_there (Err unread.EmptyDest) f here on = tt
 
 -- what is judged is there
 described_there : (meta : MetaParts) (refusal : Option MetaFault) → IsThere (described_by meta refusal)
@@ -125,6 +128,21 @@ ignored_there (Some texts) = go (are_names texts)
     go true = tt
     go false = tt
 
+event_there : (path : Option Text) → IsThere (path_only unread.EmptyEvent path)
+event_there None = tt
+event_there (Some []) = tt
+event_there (Some (x ∷ xs)) = tt
+
+list_there : (path : Option Text) → IsThere (path_only unread.EmptyList path)
+list_there None = tt
+list_there (Some []) = tt
+list_there (Some (x ∷ xs)) = tt
+
+dest_there : (path : Option Text) → IsThere (path_only unread.EmptyDest path)
+dest_there None = tt
+dest_there (Some []) = tt
+dest_there (Some (x ∷ xs)) = tt
+
 id_there : (id : Text) → IsThere (id_only id)
 id_there [] = tt
 id_there (x ∷ xs) = tt
@@ -148,7 +166,8 @@ module _ (rows : List Row) where
 
   feedback_there : (when interval_text : Text) (progress : Progress) (interval : ℕ) → first_of (codes "progress") rows ≡ Some when → progress_of when ≡ Some progress
       → one_of (codes "interval") rows ≡ Some interval_text → number_of interval_text ≡ Some interval → IsThere (feedback_in rows)
-  feedback_there when interval_text progress interval e1 e2 e3 e4 = rw (e1, e2, e3, e4) tt
+  feedback_there when interval_text progress interval e1 e2 e3 e4 =
+      rw (e1, e2, e3, e4) (then_there (path_only unread.EmptyEvent (first_of (codes "event") rows)) _ (event_there _) (λ event. tt))
 
   folders_there : (source dest : Text) → first_of (codes "SOURCE") rows ≡ Some source → first_of (codes "DEST") rows ≡ Some dest → IsThere (folders_in rows)
   folders_there source dest e1 e2 = rw (e1, e2) tt
@@ -158,17 +177,18 @@ module _ (rows : List Row) where
   migration_there meta job feedback folders =
       then_there (run_options_in rows) _
       (then_there (meta_in rows) _ meta (λ m. then_there (job_in m rows) _ (job m) (λ j. then_there (ignored_in rows) _ (ignored_there (all_of (codes "ignore") rows)) (λ i. then_there (feedback_in rows) _ feedback (λ f. tt)))))
-      (λ o. then_there (folders_in rows) _ folders (λ f. tt))
+      (λ o. then_there (folders_in rows) _ folders (λ f. then_there (path_only unread.EmptyList (first_of (codes "list") rows)) _ (list_there _) (λ l. tt)))
 
   audit_there : ((meta : MetaParts) → IsThere (job_in meta rows)) → IsThere (feedback_in rows) → IsThere (folders_in rows) → IsThere (audit_in rows)
   audit_there job feedback folders =
       then_there (audit_options_in rows) _
       (then_there audit_meta _ audit_meta_there (λ m. then_there (job_in m rows) _ (job m) (λ j. then_there (ignored_in rows) _ (ignored_there (all_of (codes "ignore") rows)) (λ i. then_there (feedback_in rows) _ feedback (λ f. tt)))))
-      (λ o. then_there (folders_in rows) _ folders (λ f. tt))
+      (λ o. then_there (folders_in rows) _ folders (λ f. then_there (path_only unread.EmptyList (first_of (codes "list") rows)) _ (list_there _) (λ l. tt)))
 
   check_there : (source : Text) → first_of (codes "SOURCE") rows ≡ Some source → IsThere (layout_in rows) → IsThere (check_in rows)
   check_there source e1 cuts =
-      then_there (layout_in rows) _ cuts (λ l. then_there (ignored_in rows) _ (ignored_there (all_of (codes "ignore") rows)) (λ i. rw e1 tt))
+      then_there (layout_in rows) _ cuts (λ l. then_there (ignored_in rows) _ (ignored_there (all_of (codes "ignore") rows))
+      (λ i. then_there (path_only unread.EmptyDest (first_of (codes "dest") rows)) _ (dest_there _) (λ d. rw e1 tt)))
 
   names_there : (id : Text) → first_of (codes "ID") rows ≡ Some id → IsThere (layout_in rows) → IsThere (names_in rows)
   names_there id e1 cuts = rw e1 (then_there (id_only id) _ (id_there id) (λ x. then_there (layout_in rows) _ cuts (λ l. tt)))
@@ -248,7 +268,7 @@ module _ (spelled others : Spelled) where
   fit_names = ((refl, refl, refl), ((refl, refl, refl), ((refl, refl, refl), ((refl, refl, refl), ((refl, refl, refl), tt)))))
 
   fit_migrate : Every (Fits built_migrate.rules) built_migrate.rules
-  fit_migrate = ((refl, refl, refl), ((refl, refl, refl), ((refl, refl, refl), ((refl, refl, refl), ((refl, refl, refl), ((refl, refl, refl), ((refl, refl, refl), ((refl, refl, refl), ((refl, refl, refl), ((refl, refl, refl), ((refl, refl, refl), ((refl, refl, refl), ((refl, refl, refl), ((refl, refl, refl), ((refl, refl, refl), ((refl, refl, refl), ((refl, refl, refl), ((refl, refl, refl), ((refl, refl, refl), ((refl, refl, refl), ((refl, refl, refl), ((refl, refl, refl), ((refl, refl, refl), ((refl, refl, refl), tt))))))))))))))))))))))))
+  fit_migrate = ((refl, refl, refl), ((refl, refl, refl), ((refl, refl, refl), ((refl, refl, refl), ((refl, refl, refl), ((refl, refl, refl), ((refl, refl, refl), ((refl, refl, refl), ((refl, refl, refl), ((refl, refl, refl), ((refl, refl, refl), ((refl, refl, refl), ((refl, refl, refl), ((refl, refl, refl), ((refl, refl, refl), ((refl, refl, refl), ((refl, refl, refl), ((refl, refl, refl), ((refl, refl, refl), ((refl, refl, refl), ((refl, refl, refl), ((refl, refl, refl), ((refl, refl, refl), ((refl, refl, refl), ((refl, refl, refl), tt)))))))))))))))))))))))))
 
   fit_audit : Every (Fits built_audit.rules) built_audit.rules
   fit_audit = ((refl, refl, refl), ((refl, refl, refl), ((refl, refl, refl), ((refl, refl, refl), ((refl, refl, refl), ((refl, refl, refl), ((refl, refl, refl), ((refl, refl, refl), ((refl, refl, refl), ((refl, refl, refl), ((refl, refl, refl), ((refl, refl, refl), ((refl, refl, refl), ((refl, refl, refl), ((refl, refl, refl), ((refl, refl, refl), ((refl, refl, refl), ((refl, refl, refl), ((refl, refl, refl), tt)))))))))))))))))))

@@ -36,13 +36,13 @@ in_all (Ok at) = record { text = at.text; bad = None }
 in_all (Err stop) = record { text = stop.text; bad = Some stop.bad }
 
 -- a line of too many bytes is too long
-is_too_long : (line : List ℕ) → 65536 < length line → line_fault line ≡ Some TooLong
+pub is_too_long : (line : List ℕ) → 65536 < length line → line_fault line ≡ Some TooLong
 is_too_long line long =
     ap (λ (c : Bool). cond c (Some TooLong) (cond (length line == 0) (Some Empty) (cond (is_utf8 line) None (Some NotUtf8))))
     (lt-ltb 65536 (length line) long)
 
 -- it is so without a byte at its end too
-stripped_long : (line : List ℕ) → 65537 < length line → 65536 < length (strip_last 13 line)
+pub stripped_long : (line : List ℕ) → 65537 < length line → 65536 < length (strip_last 13 line)
 stripped_long line long = by (ends_with_byte 13 line)
   where
     by : (c : Bool) → 65536 < length (cond c (take (length line - 1) line) line)

@@ -57,6 +57,9 @@ answers_error kinds found e fault.Memory k h = tt
 answers_error kinds found e fault.Tuples k h = absurd h
 answers_error kinds found e fault.Share k h = absurd h
 answers_error kinds found e fault.Ignored k h = absurd h
+answers_error kinds found e fault.EmptyEvent k h = absurd h
+answers_error kinds found e fault.EmptyList k h = absurd h
+answers_error kinds found e fault.EmptyDest k h = absurd h
 
 -- what the parser accepts, answered
 pub answers_found : (kinds : Kinds) (here found : Option (Text × List Row)) (r : Result Command WordsFault) → kinds ≡ [] → here ≡ found

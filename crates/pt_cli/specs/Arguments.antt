@@ -1,5 +1,5 @@
 -- What is read of the arguments that a parser found.
-use Rattle.std.specs.Prelude.{ℕ, ◌≡◌, ◌⊎◌, ⊤, ◌^◌, ◌&&◌, nat_lt, Bool, false, List, Option, None, Some, Result, Ok, Err, if◌then◌else◌, codes, option_and_then}
+use Rattle.std.specs.Prelude.{ℕ, ◌≡◌, ◌⊎◌, ⊤, ◌^◌, ◌&&◌, nat_lt, Bool, false, List, [], ◌∷◌, Option, None, Some, Result, Ok, Err, if◌then◌else◌, codes, option_and_then}
 use Rattle.std.specs.Option.{option_map_or}
 use Rattle.std.specs.Str.{bytes_eq}
 use Rattle.std.specs.Str.Parse.{digits_value, without_leading_plus}
@@ -40,6 +40,12 @@ needed None = Err unread.Missing
 abbrev pub judged : {A : Type 0} → Unread → Option A → Result A Unread
 judged reason (Some value) = Ok value
 judged reason None = Err reason
+
+-- a path, where one is given: an empty one is refused so
+abbrev pub path_only : Unread → Option Text → Result (Option Text) Unread
+path_only refusal None = Ok None
+path_only refusal (Some []) = Err refusal
+path_only refusal (Some (x ∷ xs)) = Ok (Some (x ∷ xs))
 
 -- why there is no description of a version
 abbrev pub unread_of_meta : MetaFault → Unread

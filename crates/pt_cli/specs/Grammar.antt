@@ -170,7 +170,7 @@ migrate_rules words =
     created_rule ∷ name_rule ∷ address_rule ∷ message_rule ∷ digest_rule words.algorithms
     ∷ size_rule ∷ count_rule ∷ gather_rule
     ∷ share_rule ∷ only_rule ∷ list_rule ∷ ignore_rule ∷ sync_rule ∷ rehearse_rule ∷ present_rule
-    ∷ verbose_rule ∷ quiet_rule
+    ∷ skips_rule ∷ verbose_rule ∷ quiet_rule
     ∷ progress_rule words.times ∷ interval_rule ∷ expect_rule ∷ event_rule
     ∷ source_rule ∷ dest_rule ∷ []
 

@@ -19,6 +19,7 @@ abbrev pub line_fault_number : LineFault → ℕ
 line_fault_number line.TooLong = 1
 line_fault_number line.Empty = 2
 line_fault_number line.NotUtf8 = 3
+line_fault_number line.ByteOrderMark = 4
 
 -- the number of a refusal
 abbrev pub list_number : ListFault → ℕ

@@ -10,12 +10,13 @@ use Rattle.pt_name.specs.declared.layout.LayoutFault.{LayoutFault}
 use Rattle.pt_object.specs.Meta.{given_address, meta_refusal, parts_of}
 use Rattle.pt_object.specs.MetaParts.{MetaParts}
 use Rattle.pt_object.specs.declared.meta.MetaFault.{MetaFault}
+use Rattle.pt_host.specs.declared.options.AllowedLines.{AllowedLines}
 use Rattle.pt_host.specs.declared.options.AuditOptions.{AuditOptions}
 use Rattle.pt_host.specs.declared.options.Feedback.{Feedback}
 use Rattle.pt_host.specs.declared.options.RunOptions.{RunOptions}
 use Rattle.pt_state.specs.declared.job.Job.{Job}
 use Rattle.pt_walk.specs.Limits.{greatest_limits}
-use Rattle.pt_cli.specs.Arguments.{◌>>=◌, algorithm_in, is_set_in, judged, needed, number_in, progress_in, unread_of_meta}
+use Rattle.pt_cli.specs.Arguments.{◌>>=◌, algorithm_in, is_set_in, judged, needed, number_in, path_only, progress_in, unread_of_meta}
 use Rattle.pt_cli.specs.Ignore.{ignored_in}
 use Rattle.pt_cli.specs.Share.{share_asked, with_only}
 use Rattle.pt_cli.specs.declared.command.Command.{Command}
@@ -73,14 +74,22 @@ abbrev pub feedback_in : List Row → Result Feedback Unread
 feedback_in rows = do
   progress ← progress_in rows
   interval ← needed (number_in (codes "interval") rows)
+  event ← path_only unread.EmptyEvent (first_of (codes "event") rows)
   Ok (record {
     verbose = is_set_in (codes "verbose") rows;
     quiet = is_set_in (codes "quiet") rows;
     progress = progress;
     interval = interval;
     expected = first_of (codes "expect") rows;
-    event = first_of (codes "event") rows;
+    event = event;
   })
+
+-- which lines of a run's log leave its status at 0
+abbrev pub allowed_in : List Row → AllowedLines
+allowed_in rows = record {
+  present = is_set_in (codes "present-ok") rows;
+  skips = is_set_in (codes "skips-ok") rows;
+}
 
 -- the options of `migrate`
 abbrev pub run_options_in : List Row → Result RunOptions Unread
@@ -94,7 +103,7 @@ run_options_in rows = do
     ignored = ignored;
     sync = is_set_in (codes "sync") rows;
     rehearse = is_set_in (codes "dry-run") rows;
-    present_ok = is_set_in (codes "present-ok") rows;
+    allowed = allowed_in rows;
     feedback = feedback;
   })
 
@@ -129,11 +138,12 @@ abbrev pub migration_in : List Row → Result Command Unread
 migration_in rows = do
   options ← run_options_in rows
   folders ← folders_in rows
+  list ← path_only unread.EmptyList (first_of (codes "list") rows)
   Ok (Migrate (record {
     options = options;
     source = folders.0;
     dest = folders.1;
-    list = first_of (codes "list") rows;
+    list = list;
   }))
 
 -- what `audit` is asked for
@@ -141,11 +151,12 @@ abbrev pub audit_in : List Row → Result Command Unread
 audit_in rows = do
   options ← audit_options_in rows
   folders ← folders_in rows
+  list ← path_only unread.EmptyList (first_of (codes "list") rows)
   Ok (Audit (record {
     options = options;
     source = folders.0;
     dest = folders.1;
-    list = first_of (codes "list") rows;
+    list = list;
   }))
 
 -- what `check` is asked for
@@ -153,12 +164,13 @@ abbrev pub check_in : List Row → Result Command Unread
 check_in rows = do
   layout ← layout_in rows
   ignored ← ignored_in rows
+  dest ← path_only unread.EmptyDest (first_of (codes "dest") rows)
   source ← needed (first_of (codes "SOURCE") rows)
   Ok (Check (record {
     options = record {
       reads = is_set_in (codes "read") rows;
       ignored = ignored;
-      dest = first_of (codes "dest") rows;
+      dest = dest;
       layout = layout;
     };
     source = source;

@@ -1,6 +1,5 @@
 -- What the program does by its words, and its exit statuses: 0, 1, 2 and 3.
-use Rattle.std.specs.Prelude.{◌≡◌, ◌≢◌, ◌⊎◌, ℕ, List, Option, Result, Ok, Err, Vec}
-use Rattle.std.specs.Global.{Global}
+use Rattle.std.specs.Prelude.{◌≡◌, ◌≢◌, ◌⊎◌, ℕ, List, Option, Result, Ok, Err}
 use Rattle.std.specs.IoError.{error_kind}
 use Rattle.std.specs.declared.io.Error.{Error}
 use Rattle.std.specs.declared.io.ErrorKind.TheVariants.{OutOfMemory}
@@ -11,7 +10,7 @@ use Rattle.pt_host.specs.Machine.{MachineWords}
 use Rattle.pt_host.specs.Made.{Runs, run_call}
 use Rattle.pt_cli.specs.Calls.{TellsAsked, TellsText}
 use Rattle.pt_state.specs.declared.job.Job.{Job}
-use Rattle.pt_cli.specs.Inputs.{Beside}
+use Rattle.pt_cli.specs.Inputs.{Beside, FileWords}
 use Rattle.pt_cli.specs.Listing.{MakesListed, TakesList}
 use Rattle.pt_cli.specs.Words.{ReadsWords}
 use Rattle.pt_cli.specs.declared.command.Audit.{Audit as AuditArgs}
@@ -37,20 +36,21 @@ Declines machine words.Memory = Refuses 3
 Declines machine words.Tuples = Refuses 2
 Declines machine words.Share = Refuses 2
 Declines machine words.Ignored = Refuses 2
+Declines machine words.EmptyEvent = Refuses 2
+Declines machine words.EmptyList = Refuses 2
+Declines machine words.EmptyDest = Refuses 2
 
 -- what the list of a migration takes, where one is named, and the run with that; the machine before it and the one after it are a pair
-abbrev pub MakesRun : {H : Type 0} → MachineWords H → (Option Text → Type 0)
-    → (Text → Result (Vec ℕ Global) Error → Type 0) → MigrateArgs → H × H → ℕ → Type 0
-MakesRun machine asks gives asked hosts status =
-    (taken : Result Job ℕ) × TakesList gives asked.list asked.options.job taken
+abbrev pub MakesRun : {H : Type 0} → MachineWords H → (Option Text → Type 0) → FileWords → MigrateArgs → H × H → ℕ → Type 0
+MakesRun machine asks files asked hosts status =
+    (taken : Result Job ℕ) × TakesList files asked.list asked.options.job taken
     × MakesListed (λ job. Runs machine asks
     (run_call (record asked.options { job = job }) asked.source asked.dest)) taken hosts.0 hosts.1 status
 
 -- the same of an audit
-abbrev pub MakesAudit : {H : Type 0} → MachineWords H → (Option Text → Type 0)
-    → (Text → Result (Vec ℕ Global) Error → Type 0) → AuditArgs → H × H → ℕ → Type 0
-MakesAudit machine asks gives asked hosts status =
-    (taken : Result Job ℕ) × TakesList gives asked.list asked.options.job taken
+abbrev pub MakesAudit : {H : Type 0} → MachineWords H → (Option Text → Type 0) → FileWords → AuditArgs → H × H → ℕ → Type 0
+MakesAudit machine asks files asked hosts status =
+    (taken : Result Job ℕ) × TakesList files asked.list asked.options.job taken
     × MakesListed (λ job. Audits machine asks
     (audit_call (record asked.options { job = job }) asked.source asked.dest)) taken hosts.0 hosts.1 status
 
@@ -58,8 +58,8 @@ MakesAudit machine asks gives asked hosts status =
 abbrev pub Obeys : {H : Type 0} → MachineWords H → Beside H → Command
     → H → H → ℕ → Type 0
 Obeys machine beside (Names asked) old new = TellsAsked machine beside.input asked old new
-Obeys machine beside (Migrate asked) old new = MakesRun machine beside.asks beside.gives asked (old, new)
-Obeys machine beside (Audit asked) old new = MakesAudit machine beside.asks beside.gives asked (old, new)
+Obeys machine beside (Migrate asked) old new = MakesRun machine beside.asks beside.files asked (old, new)
+Obeys machine beside (Audit asked) old new = MakesAudit machine beside.asks beside.files asked (old, new)
 Obeys machine beside (Check asked) old new = ChecksStore machine (check_call asked.options asked.source) old new
 
 -- what is done where the words were answered so

@@ -38,6 +38,9 @@ Answers kinds found (Err fault.Memory) = ⊤
 Answers kinds found (Err fault.Tuples) = Accepted kinds found (Err unread.Tuples)
 Answers kinds found (Err fault.Share) = Accepted kinds found (Err unread.Share)
 Answers kinds found (Err fault.Ignored) = Accepted kinds found (Err unread.Ignored)
+Answers kinds found (Err fault.EmptyEvent) = Accepted kinds found (Err unread.EmptyEvent)
+Answers kinds found (Err fault.EmptyList) = Accepted kinds found (Err unread.EmptyList)
+Answers kinds found (Err fault.EmptyDest) = Accepted kinds found (Err unread.EmptyDest)
 
 -- how an error of the parser is refused: as Memory at any time, since its text takes memory
 abbrev pub RefusedAs : ErrorKind → WordsFault → Type 0
@@ -65,3 +68,6 @@ words_number fault.Tuples = 7
 words_number (fault.Version text) = 8
 words_number fault.Share = 9
 words_number fault.Ignored = 10
+words_number fault.EmptyEvent = 11
+words_number fault.EmptyList = 12
+words_number fault.EmptyDest = 13

@@ -5,7 +5,7 @@ ghost use Rattle.pt_cli.specs.Options.{audit_in, audit_meta, audit_options_in};
 
 use crate::arguments::{is_set, text};
 use crate::faults::Unread;
-use crate::feedback_words::{copy_of, feedback};
+use crate::feedback_words::{feedback, path_of};
 use crate::ids::{EXTRA, LIST, SKIPS_OK};
 use crate::ignore_words::ignored_names;
 use crate::job_words::{folders, job, meta_of};
@@ -18,13 +18,13 @@ use std::alloc::Global;
 // A moment for the inventories of the run that is compared; those that stand may give any.
 const MOMENT: &str = "1970-01-01T00:00:00Z";
 
-// The audit that is asked for: refused as its options are.
+// The audit that is asked for: refused as its options are, and then as `EmptyList`.
 pub(crate) fn audit_command(alloc: Global, matches: &ArgMatches<'_>) -> Result<Command, Unread>
     ensures { ReadsAs (audit_in (rows_of (found_of matches.now))) result }
 {
     let options = audit_options(alloc, matches)?;
     let (source, dest) = folders(alloc, matches)?;
-    let list = copy_of(alloc, text(matches, LIST))?;
+    let list = path_of(alloc, text(matches, LIST), Unread::EmptyList)?;
     Ok(Command::Audit(Audit {
         options,
         source,
@@ -33,7 +33,7 @@ pub(crate) fn audit_command(alloc: Global, matches: &ArgMatches<'_>) -> Result<C
     }))
 }
 
-// The options of an audit: refused as `Tuples`, `Share` and `Ignored`, in this order.
+// The options of an audit: refused as `Tuples`, `Share`, `Ignored` and `EmptyEvent`, in this order.
 fn audit_options(alloc: Global, matches: &ArgMatches<'_>) -> Result<AuditOptions, Unread>
     ensures { ReadsAs (audit_options_in (rows_of (found_of matches.now))) result }
 {

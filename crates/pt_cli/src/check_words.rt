@@ -5,7 +5,7 @@ ghost use Rattle.pt_cli.specs.Options.{check_in};
 
 use crate::arguments::{is_set, require, text};
 use crate::faults::Unread;
-use crate::feedback_words::copy_of;
+use crate::feedback_words::path_of;
 use crate::ids::{INTO, READ, SOURCE};
 use crate::ignore_words::ignored_names;
 use crate::job_words::layout;
@@ -14,17 +14,18 @@ use clap::ArgMatches;
 use pt_host::CheckOptions;
 use std::alloc::Global;
 
-// The check that is asked for: refused as `Tuples`, and then as `Ignored`.
+// The check that is asked for: refused as `Tuples`, `Ignored` and `EmptyDest`, in this order.
 pub(crate) fn check_command(alloc: Global, matches: &ArgMatches<'_>) -> Result<Command, Unread>
     ensures { ReadsAs (check_in (rows_of (found_of matches.now))) result }
 {
     let layout = layout(matches)?;
     let ignored = ignored_names(alloc, matches)?;
+    let dest = path_of(alloc, text(matches, INTO), Unread::EmptyDest)?;
     let source = require(text(matches, SOURCE))?;
     let options = CheckOptions {
         reads: is_set(matches, READ),
         ignored,
-        dest: copy_of(alloc, text(matches, INTO))?,
+        dest,
         layout,
     };
     let source = Text::of(alloc, source)?;

@@ -4,12 +4,14 @@ ghost use Rattle.clap.specs.Words.{kind_of};
 ghost use Rattle.pt_cli.specs.Words.{RefusedAs, words_number};
 
 use crate::Text;
+use crate::hints::mend_hint;
 use clap::Error;
 use clap::error::ErrorKind;
 use pt_name::LayoutFault;
 use pt_object::MetaFault;
 use pt_tree::MemoryFault;
 use std::alloc::{AllocError, Global};
+use std::convert::AsStr;
 
 /// Why the words of a command line are no command.
 #[derive(Debug, Drop, thiserror::Error)]
@@ -36,7 +38,7 @@ pub enum WordsFault {
     #[error("out of memory")]
     Memory,
     /// `--tuple-size` and `--tuples` are no layout.
-    #[error("the tuples are out of range")]
+    #[error("the tuples are out of range: --tuple-size and --tuples are each from 1 to 32, with a product of at most 64, or both 0")]
     Tuples,
     /// `--share` is no share.
     #[error("--share is not K/N with N from 1 to 4096 and K from 1 to N")]
@@ -44,11 +46,20 @@ pub enum WordsFault {
     /// A text of `--ignore` is no name that an entry may have.
     #[error("--ignore is not the name of a file or folder")]
     Ignored,
+    /// `--event` is empty.
+    #[error("--event is empty")]
+    EmptyEvent,
+    /// `--list` is empty.
+    #[error("--list is empty")]
+    EmptyList,
+    /// `--dest` is empty.
+    #[error("--dest is empty")]
+    EmptyDest,
 }
 
 impl WordsFault {
     /// The fault's number: 1 `Help`, 2 `Words`, 3 `Created`, 4 `EmptyName`, 5 `EmptyId`, 6 `Memory`, 7 `Tuples`,
-    /// 8 `Version`, 9 `Share`, 10 `Ignored`.
+    /// 8 `Version`, 9 `Share`, 10 `Ignored`, 11 `EmptyEvent`, 12 `EmptyList`, 13 `EmptyDest`.
     pub fn number(&self) -> u8
         ensures { result ≡ words_number self.now }
     {
@@ -63,6 +74,9 @@ impl WordsFault {
             WordsFault::Version(_) => 8,
             WordsFault::Share => 9,
             WordsFault::Ignored => 10,
+            WordsFault::EmptyEvent => 11,
+            WordsFault::EmptyList => 12,
+            WordsFault::EmptyDest => 13,
         }
     }
 }
@@ -78,15 +92,18 @@ impl From<AllocError> for WordsFault {
     }
 }
 
-// The parser's error as a refusal of the words.
-pub(crate) fn refusal(alloc: Global, error: &Error) -> WordsFault
+// The parser's error on these words as a refusal of them.
+pub(crate) fn refusal<S: AsStr>(alloc: Global, error: &Error, words: &[S]) -> WordsFault
     ensures { RefusedAs (kind_of error.now) result }
 {
     match (error.kind(), Text::of_display(alloc, error)) {
         (ErrorKind::OutOfMemory, _) | (_, Err(_)) => WordsFault::Memory,
         (ErrorKind::DisplayHelp, Ok(text)) => WordsFault::Help(text),
         (ErrorKind::DisplayVersion, Ok(text)) => WordsFault::Version(text),
-        (_, Ok(text)) => WordsFault::Words(text),
+        (_, Ok(text)) => match mend_hint(alloc, text.as_str(), words) {
+            Ok(mended) => WordsFault::Words(mended),
+            Err(_) => WordsFault::Memory,
+        },
     }
 }
 
@@ -102,6 +119,9 @@ pub(crate) enum Unread {
     Tuples,
     Share,
     Ignored,
+    EmptyEvent,
+    EmptyList,
+    EmptyDest,
 }
 
 impl From<MemoryFault> for Unread {

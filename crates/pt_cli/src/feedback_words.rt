@@ -1,7 +1,7 @@
 //! The words that say what is told beside the log: `--verbose`, `--quiet`, `--progress`, `--interval`, `--expect` and `--event`.
 ghost use Rattle.std.specs.Prelude.{◌≡◌, IfOk, option_map};
 ghost use Rattle.clap.specs.Words.{found_of, rows_of};
-ghost use Rattle.pt_cli.specs.Arguments.{ReadsAs, progress_in, progress_of};
+ghost use Rattle.pt_cli.specs.Arguments.{ReadsAs, path_only, progress_in, progress_of};
 ghost use Rattle.pt_cli.specs.Options.{feedback_in};
 
 use crate::Text;
@@ -13,7 +13,7 @@ use pt_host::{Feedback, Progress};
 use pt_tree::MemoryFault;
 use std::alloc::Global;
 
-// What standard error is to show, and the file of the event.
+// What standard error is to show, and the file of the event: refused as `EmptyEvent`.
 pub(crate) fn feedback(alloc: Global, matches: &ArgMatches<'_>) -> Result<Feedback, Unread>
     ensures { ReadsAs (feedback_in (rows_of (found_of matches.now))) result }
 {
@@ -25,7 +25,7 @@ pub(crate) fn feedback(alloc: Global, matches: &ArgMatches<'_>) -> Result<Feedba
         progress,
         interval,
         expected: copy_of(alloc, text(matches, EXPECT))?,
-        event: copy_of(alloc, text(matches, EVENT))?,
+        event: path_of(alloc, text(matches, EVENT), Unread::EmptyEvent)?,
     })
 }
 
@@ -47,8 +47,25 @@ fn progress_by_word(word: &str) -> Option<Progress>
     }
 }
 
+// A copy of a path, where one is given: an empty one is refused so.
+pub(crate) fn path_of(
+    alloc: Global,
+    path: Option<&str>,
+    refusal: Unread,
+) -> Result<Option<Text>, Unread>
+    ensures { ReadsAs (path_only refusal (option_map (λ t. t.now) path.entry)) result }
+{
+    let Some(path) = path else {
+        return Ok(None);
+    };
+    if path.is_empty() {
+        return Err(refusal);
+    }
+    Ok(Some(Text::of(alloc, path)?))
+}
+
 // A copy of a text, where there is one.
-pub(crate) fn copy_of(alloc: Global, text: Option<&str>) -> Result<Option<Text>, MemoryFault>
+fn copy_of(alloc: Global, text: Option<&str>) -> Result<Option<Text>, MemoryFault>
     ensures { IfOk result (λ copy. copy ≡ option_map (λ t. t.now) text.entry) }
 {
     match text {

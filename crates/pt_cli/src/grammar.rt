@@ -8,21 +8,20 @@ ghost use Rattle.pt_cli.specs.ArgSpec.{IsLocal, IsTaker, TakesToo, defaulted_rul
 ghost use Rattle.pt_cli.specs.ArgSpec.{repeated_rule, repeated_text_rule, rule_of_taken, word_rule};
 
 use crate::help::{AUDIT_AND_STATUS, LOG_AND_STATUS, TROUBLES_AND_STATUS};
-use crate::ids::{
-    ADDRESS, AUDIT, CHECK, CREATED, DEST, DIGEST, EVENT, EXPECT, EXTRA, GATHER, ID, IGNORE,
-    INTERVAL, INTO, LIST, MESSAGE, MIGRATE, NAME, NAMES, ONLY, PREFIX, PRESENT_OK, PROGRESS, QUIET,
-    READ, REHEARSE, SHARE, SKIPS_OK, SOURCE, SYNC, TUPLE_SIZE, TUPLES, VERBOSE,
-};
+use crate::ids::{AUDIT, CHECK, MIGRATE, NAMES};
+use crate::takes::{AUDIT_TAKES, CHECK_TAKES, MIGRATE_TAKES, NAMES_TAKES};
 use clap::builder::ValueParser;
 use clap::{Arg, ArgAction, Command as Parser, value_parser};
 use pt_host::VERSION;
 use std::alloc::{AllocError, Global};
 
-// An argument that a command takes: its id, how it is given, and its help.
+// An argument that a command takes: its id, how it is given, its line of `-h`, and what `--help` says where that is more. A line of help has at
+// most 100 characters: 71 of them are left for `help` with what `-h` puts behind it, and 90 for a line of `more`.
 pub(crate) struct ArgSpec {
-    id: &'static str,
-    form: Form,
-    help: &'static str,
+    pub id: &'static str,
+    pub form: Form,
+    pub help: &'static str,
+    pub more: Option<&'static str>,
 }
 
 // How an argument is given. An option or a flag goes by its id, as `--id`.
@@ -49,230 +48,20 @@ pub(crate) enum Form {
     Letter(char),
 }
 
-const TAKES_TUPLE_SIZE: ArgSpec = ArgSpec {
-    id: TUPLE_SIZE,
-    form: Form::Number("DIGITS", "3"),
-    help: "Digits in the name of each folder above an object",
-};
-
-const TAKES_TUPLES: ArgSpec = ArgSpec {
-    id: TUPLES,
-    form: Form::Number("NUMBER", "3"),
-    help: "Folders above each object",
-};
-
-const TAKES_DIGEST: ArgSpec = ArgSpec {
-    id: DIGEST,
-    form: Form::Word("ALGORITHM", &["sha512", "sha256"], "sha512"),
-    help: "The digest algorithm of the inventories",
-};
-
-const TAKES_ONLY: ArgSpec = ArgSpec {
-    id: ONLY,
-    form: Form::RepeatedText("TEXT"),
-    help: "Take the objects alone whose identifiers begin with TEXT, the prefix included; may be given again",
-};
-
-const TAKES_LIST: ArgSpec = ArgSpec {
-    id: LIST,
-    form: Form::Value("FILE"),
-    help: "Take the objects alone whose identifiers stand in FILE, one a line, beside those of --only",
-};
-
-const TAKES_IGNORE: ArgSpec = ArgSpec {
-    id: IGNORE,
-    form: Form::Repeated("NAME"),
-    help: "Leave out every file and folder of this name, as .DS_Store; may be given again",
-};
-
-const TAKES_VERBOSE: ArgSpec = ArgSpec {
-    id: VERBOSE,
-    form: Form::Letter('v'),
-    help: "Tell of a fault also the path and the reason, on one more line, and else a summary at the end",
-};
-
-const TAKES_QUIET: ArgSpec = ArgSpec {
-    id: QUIET,
-    form: Form::Letter('q'),
-    help: "Show neither how far it is nor a summary at the end",
-};
-
-const TAKES_INTERVAL: ArgSpec = ArgSpec {
-    id: INTERVAL,
-    form: Form::Number("SECONDS", "10"),
-    help: "Seconds between two such lines, where they don't go to a terminal",
-};
-
-const TAKES_EVENT: ArgSpec = ArgSpec {
-    id: EVENT,
-    form: Form::Value("FILE"),
-    help: "Record in FILE, which is made new, what was done, when and how it ended, as JSON",
-};
-
-const TAKES_SOURCE: ArgSpec = ArgSpec {
-    id: SOURCE,
-    form: Form::Place,
-    help: "The folder that holds pairtree_root",
-};
-
-// What `names` takes.
-const NAMES_TAKES: &[ArgSpec] = &[
-    ArgSpec {
-        id: PREFIX,
-        form: Form::Value("TEXT"),
-        help: "The prefix of the store, put before the identifier for its place",
-    },
-    TAKES_TUPLE_SIZE,
-    TAKES_TUPLES,
-    ArgSpec {
-        id: ID,
-        form: Form::Place,
-        help: "The identifier, or - for those on standard input, one a line",
-    },
-];
-
-// What `migrate` takes.
-const MIGRATE_TAKES: &[ArgSpec] = &[
-    ArgSpec {
-        id: CREATED,
-        form: Form::Needed("MOMENT"),
-        help: "The moment that the inventories give, as 2024-05-01T12:00:00Z",
-    },
-    ArgSpec {
-        id: NAME,
-        form: Form::Needed("NAME"),
-        help: "Who made the migration, as the inventories name them",
-    },
-    ArgSpec {
-        id: ADDRESS,
-        form: Form::Value("ADDRESS"),
-        help: "Where to reach them, as mailto:ada@example.org [default: none]",
-    },
-    ArgSpec {
-        id: MESSAGE,
-        form: Form::Default("TEXT", "Migrated from Pairtree"),
-        help: "What the inventories say of the migration",
-    },
-    TAKES_DIGEST,
-    TAKES_TUPLE_SIZE,
-    TAKES_TUPLES,
-    ArgSpec {
-        id: GATHER,
-        form: Form::Flag,
-        help: "Carry what lies directly in an identifier's folder too, as one object [default: skip it]",
-    },
-    ArgSpec {
-        id: SHARE,
-        form: Form::Value("K/N"),
-        help: "Carry the objects of share K of N shares alone, as 2/8 [default: all objects]",
-    },
-    TAKES_ONLY,
-    TAKES_LIST,
-    TAKES_IGNORE,
-    ArgSpec {
-        id: SYNC,
-        form: Form::Flag,
-        help: "Have each file, each object's folder and the log put onto the disk",
-    },
-    ArgSpec {
-        id: REHEARSE,
-        form: Form::Letter('n'),
-        help: "Rehearse: read all, write the log, and make or change nothing in DEST",
-    },
-    ArgSpec {
-        id: PRESENT_OK,
-        form: Form::Flag,
-        help: "Exit with 0 also where the log has present lines, as a second run's has",
-    },
-    TAKES_VERBOSE,
-    TAKES_QUIET,
-    ArgSpec {
-        id: PROGRESS,
-        form: Form::Word("WHEN", &["auto", "always", "never"], "auto"),
-        help: "When to show on standard error how far the run is",
-    },
-    TAKES_INTERVAL,
-    ArgSpec {
-        id: EXPECT,
-        form: Form::Value("LOG"),
-        help: "Show the share done and the time left too, by the log of a rehearsal",
-    },
-    TAKES_EVENT,
-    TAKES_SOURCE,
-    ArgSpec {
-        id: DEST,
-        form: Form::Place,
-        help: "A folder that stands already; ocfl and staging in it are the program's",
-    },
-];
-
-// What `audit` takes.
-const AUDIT_TAKES: &[ArgSpec] = &[
-    TAKES_DIGEST,
-    TAKES_TUPLE_SIZE,
-    TAKES_TUPLES,
-    ArgSpec {
-        id: GATHER,
-        form: Form::Flag,
-        help: "Audit what lies directly in an identifier's folder too, as one object [default: skip it]",
-    },
-    ArgSpec {
-        id: SHARE,
-        form: Form::Value("K/N"),
-        help: "Audit the objects of share K of N shares alone, as 2/8 [default: all objects]",
-    },
-    TAKES_ONLY,
-    TAKES_LIST,
-    TAKES_IGNORE,
-    ArgSpec {
-        id: SKIPS_OK,
-        form: Form::Flag,
-        help: "Exit with 0 also where the log has skip lines",
-    },
-    ArgSpec {
-        id: EXTRA,
-        form: Form::Flag,
-        help: "Tell too of what stands in ocfl and the store lacks [default: hold the store's objects against ocfl]",
-    },
-    TAKES_VERBOSE,
-    TAKES_QUIET,
-    ArgSpec {
-        id: PROGRESS,
-        form: Form::Word("WHEN", &["auto", "always", "never"], "auto"),
-        help: "When to show on standard error how far the audit is",
-    },
-    TAKES_INTERVAL,
-    ArgSpec {
-        id: EXPECT,
-        form: Form::Value("LOG"),
-        help: "Show the share done and the time left too, by the log of a run, a rehearsal or an audit",
-    },
-    TAKES_EVENT,
-    TAKES_SOURCE,
-    ArgSpec {
-        id: DEST,
-        form: Form::Place,
-        help: "The folder in which ocfl is",
-    },
-];
-
-// What `check` takes.
-const CHECK_TAKES: &[ArgSpec] = &[
-    ArgSpec {
-        id: READ,
-        form: Form::Flag,
-        help: "Read each file whole, and count its bytes [default: open it]",
-    },
-    ArgSpec {
-        id: INTO,
-        form: Form::Value("DEST"),
-        help: "Tell what would be too long for a run into this folder, which need not be there",
-    },
-    TAKES_TUPLE_SIZE,
-    TAKES_TUPLES,
-    TAKES_IGNORE,
-    TAKES_SOURCE,
-];
+// Whether a word is an option that has a value, as `--name`.
+pub(crate) fn takes_value(word: &str) -> bool {
+    let Some(id) = word.strip_prefix("--") else {
+        return false;
+    };
+    for takes in [NAMES_TAKES, MIGRATE_TAKES, AUDIT_TAKES, CHECK_TAKES] {
+        for taken in takes {
+            if taken.id == id {
+                return taken.form.has_value();
+            }
+        }
+    }
+    false
+}
 
 // The parser of the program's words.
 pub(crate) fn parser<'a>(alloc: Global) -> Result<Parser<'a>, AllocError>
@@ -339,7 +128,7 @@ fn check_parser<'a>(alloc: Global) -> Result<Parser<'a>, AllocError>
     with_help(alloc, CHECK, about, TROUBLES_AND_STATUS, CHECK_TAKES)
 }
 
-// The parser of a command that takes these, with what its help says before and after them.
+// The parser of a command that takes these, with what its help says before them, and `--help` also after them.
 fn with_help<'a>(
     alloc: Global,
     name: &'a str,
@@ -349,7 +138,9 @@ fn with_help<'a>(
 ) -> Result<Parser<'a>, AllocError>
     ensures { IfOk result (IsTaker name.entry.now (map rule_of_taken takes.now)) }
 {
-    let parser = Parser::new(alloc, name).about(before).after_help(after);
+    let parser = Parser::new(alloc, name)
+        .about(before)
+        .after_long_help(after);
     with_taken(alloc, parser, takes)
 }
 
@@ -363,13 +154,31 @@ fn with_taken<'a>(
 {
     let mut grown = parser;
     for taken in takes {
-        grown = grown.arg(taken.arg(alloc).help(taken.help))?;
+        grown = grown.arg(taken.told(alloc))?;
     }
     Ok(grown)
 }
 
+impl Form {
+    // Whether it is an option with a value.
+    fn has_value(&self) -> bool {
+        !matches!(self, Form::Place | Form::Flag | Form::Letter(_))
+    }
+}
+
 impl ArgSpec {
-    // What the parser is told of it, but for its help.
+    // What the parser is told of it.
+    fn told<'a>(&self, alloc: Global) -> Arg<'a>
+        ensures { IsLocal (rule_of_taken self.now) result }
+    {
+        let arg = self.arg(alloc).help(self.help);
+        match self.more {
+            Some(more) => arg.long_help(more),
+            None => arg,
+        }
+    }
+
+    // The same, but for its help.
     fn arg<'a>(&self, alloc: Global) -> Arg<'a>
         ensures { IsLocal (rule_of_taken self.now) result }
     {

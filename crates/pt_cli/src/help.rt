@@ -1,9 +1,10 @@
-//! What the help of a command says below its options: what its log tells, and what each exit status means.
+//! What `--help` of a command says below its options, in lines of at most 100 characters: what its log tells, and what each exit status
+//! means.
 
 // Of `migrate`.
 pub(crate) const LOG_AND_STATUS: &str =
-    r#"The log goes to standard output: a line of JSON for each object, and for each place that isn't carried.
-Each line says under "as" what became of it:
+    r#"The log goes to standard output: a line of JSON for each object, and for each place that isn't
+carried. Each line says under "as" what became of it:
   done     carried, from the folder "at" of the source to the folder "to" of ocfl
   present  left alone, since something stands at its place in ocfl already
   skip     not carried, for the cause below
@@ -22,17 +23,17 @@ The causes of a skip:
 
 Exit status:
   0  everything was carried
-  1  the run ended, but the log has a line of skip or present (with --present-ok, of skip),
-     or an identifier of --list was met nowhere
+  1  the run ended, but the log has a line of skip (unless --skips-ok is given) or of present
+     (unless --present-ok is given), or no object was met of an identifier of --list
   2  the words were refused, and nothing was done
   3  a fault ended the run, and standard error says which"#;
 
 // Of `audit`.
 pub(crate) const AUDIT_AND_STATUS: &str =
-    r#"What a run makes of each object is held against what stands at its place, path by path and byte by byte.
-Give the options that the run had. Nothing is made or changed.
-The log goes to standard output: a line of JSON for each object, and for each place that isn't carried.
-Each line says under "as" what was found:
+    r#"What a run makes of each object is held against what stands at its place, path by path and byte by
+byte. Give the options that the run had. Nothing is made or changed.
+The log goes to standard output: a line of JSON for each object, and for each place that isn't
+carried. Each line says under "as" what was found:
   same     exactly the object stands at "to"; its moment, user and message may be any
   absent   nothing stands there
   differs  the first difference is at "path" in it, by "why":
@@ -47,14 +48,15 @@ Each line says under "as" what was found:
 Exit status:
   0  all lines are same
   1  the log has other lines (with --skips-ok, lines that are neither same nor skip),
-     or an identifier of --list was met nowhere
+     or no object was met of an identifier of --list
   2  the words were refused, and nothing was done
   3  a fault ended the audit, and standard error says which"#;
 
 // Of `check`.
 pub(crate) const TROUBLES_AND_STATUS: &str =
-    r#"Below pairtree_root every folder is listed and every file opened, in one pass that goes on past what can't be read.
-Nothing is made or changed. Standard output gets a line of JSON for each trouble.
+    r#"Below pairtree_root every folder is listed and every file opened, in one pass that goes on past
+what can't be read. Nothing is made or changed.
+Standard output gets a line of JSON for each trouble.
 Each line says under "as" what is at "path" in the source:
   unreadable  it can't be listed, opened or read, for the "reason"
   missing     a store must have it, and it isn't there

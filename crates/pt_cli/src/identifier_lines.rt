@@ -1,16 +1,20 @@
-//! The identifiers in the lines of a file.
+//! The identifiers in the lines of a file, which is read block by block.
 #![tactic(auto, using(crate::proofs::IdentifierLines::lines))]
 
-ghost use Rattle.std.specs.Prelude.{◌≡◌, [], IfOk};
+ghost use Rattle.std.specs.Prelude.{◌≡◌, ◌∷◌, [], MatchResult, Err};
 ghost use Rattle.std.specs.Io.BufRead.{strip_last};
-ghost use Rattle.std.specs.String.{string_bytes};
-ghost use Rattle.pt_cli.specs.Listing.{EndsLine, TakesByte, come_to, identifiers_in, texts_of};
+ghost use Rattle.pt_cli.specs.Listing.{EndsLine, ReadsIdentifiers, TakesBytes, TakesEnd, listed_fault, texts_of};
+ghost use Rattle.pt_cli.specs.declared.list_fault.FileFault.TheVariants.{Line};
 
-use crate::name_list::identifier_in;
-use crate::{BadLine, LineFault};
-use pt_tree::MemoryFault;
+use crate::name_list::{LONGEST, identifier_in};
+use crate::{BadLine, FileFault, LineFault};
+use pt_folder::Input;
+use pt_tree::BLOCK;
 use std::alloc::Global;
 use std::marker::Model;
+
+// U+FEFF in UTF-8.
+const BYTE_ORDER_MARK: &[u8] = b"\xef\xbb\xbf";
 
 // Where the reading of lines stands: the number of the line at hand, what was read of it, and the identifiers before it.
 #[derive(Drop)]
@@ -35,21 +39,27 @@ impl Model for LineReader {
     } };
 }
 
-// The identifiers in the lines of a file, or the first line that is none. Lines end as those of `names -`, and the same is against one.
-// An error where a growth was refused.
-pub(crate) fn identifiers_in(
-    alloc: Global,
-    bytes: &[u8],
-) -> Result<Result<Vec<String>, BadLine>, MemoryFault>
-    ensures { IfOk result (λ read. texts_of read ≡ identifiers_in bytes.now) }
+/// The identifiers in the lines of a file, from where it stands to its end. Lines end as those of `names -`.
+///
+/// `Line` at the first line that is no identifier, with its number: as there, or else as `ByteOrderMark`, where it is line 1 and begins so.
+/// Nothing is read behind the block in which that shows: a line is too long as soon as it is so whatever comes. `Read` where a read answers an
+/// error, with that. `Memory` where a growth was refused.
+///
+/// Beside the identifiers, what is held doesn't grow with the file: it is a block, and of the line at hand at most 65,537 bytes.
+pub fn read_identifiers<F: Input>(alloc: Global, file: &mut F) -> Result<Vec<String>, FileFault>
+    ensures { ReadsIdentifiers F.reads file.old file.new (texts_of result) }
 {
     let mut reader = LineReader::new(alloc);
-    for byte in bytes {
-        if let Some(bad) = reader.take_byte(*byte)? {
-            return Ok(Err(bad));
+    let mut block = [0u8; BLOCK];
+    for _ in 0..u64::MAX {
+        match file.read_piece(&mut block) {
+            Ok(0) => return reader.finish(),
+            Ok(count) => reader.take_piece(&block[..count])?,
+            Err(error) => return Err(FileFault::Read(error)),
         }
     }
-    reader.finish()
+    // So many reads gave a byte each at least, and more identifiers than any memory holds.
+    Err(FileFault::Memory)
 }
 
 impl LineReader {
@@ -65,20 +75,33 @@ impl LineReader {
         }
     }
 
-    // Takes a byte: the line that ends with it, where it is no identifier.
-    fn take_byte(&mut self, byte: u8) -> Result<Option<BadLine>, MemoryFault>
-        ensures { IfOk result (TakesByte self.old byte self.new) }
+    // Takes the bytes of a piece, up to the end of a line that is no identifier.
+    fn take_piece(&mut self, piece: &[u8]) -> Result<(), FileFault>
+        ensures { TakesBytes self.old piece.now self.new result }
+    {
+        for byte in piece {
+            self.take_byte(*byte)?;
+        }
+        Ok(())
+    }
+
+    // Takes a byte. A line that is too long whatever comes is refused before its end is read.
+    fn take_byte(&mut self, byte: u8) -> Result<(), FileFault>
+        ensures { TakesBytes self.old (byte ∷ []) self.new result }
     {
         if byte == b'\n' {
             return self.take_line_end();
         }
+        if self.line.len() > LONGEST {
+            return Err(self.refuse_line(LineFault::TooLong));
+        }
         self.line.push(byte)?;
-        Ok(None)
+        Ok(())
     }
 
     // Takes a LF: a CR right before it belongs to the end of the line.
-    fn take_line_end(&mut self) -> Result<Option<BadLine>, MemoryFault>
-        ensures { IfOk result (EndsLine self.old (strip_last 13 self.old.line) self.new) }
+    fn take_line_end(&mut self) -> Result<(), FileFault>
+        ensures { EndsLine self.old (strip_last 13 self.old.line) self.new result }
     {
         if self.line.last() == Some(&b'\r') {
             self.line.truncate(self.line.len() - 1);
@@ -87,37 +110,48 @@ impl LineReader {
     }
 
     // Takes the end of the file: what stands behind its last LF is a line too, where it isn't empty.
-    fn finish(mut self) -> Result<Result<Vec<String>, BadLine>, MemoryFault>
-        ensures { IfOk result (λ read. texts_of read ≡ come_to self []) }
+    fn finish(mut self) -> Result<Vec<String>, FileFault>
+        ensures { TakesEnd self (texts_of result) }
     {
-        if !self.line.is_empty()
-            && let Some(bad) = self.end_line()?
-        {
-            return Ok(Err(bad));
+        if !self.line.is_empty() {
+            self.end_line()?;
         }
-        Ok(Ok(self.ids))
+        Ok(self.ids)
     }
 
-    // Adds the line at hand to the identifiers, and goes on to the next; or gives it, where it is none.
-    fn end_line(&mut self) -> Result<Option<BadLine>, MemoryFault>
-        ensures { IfOk result (EndsLine self.old self.old.line self.new) }
+    // Adds the line at hand to the identifiers, and goes on to the next; or refuses it, where it is none.
+    fn end_line(&mut self) -> Result<(), FileFault>
+        ensures { EndsLine self.old self.old.line self.new result }
     {
-        match identifier_in(&self.line) {
+        match listed_identifier(self.number, &self.line) {
             Ok(id) => self.ids.push(String::from_str(self.alloc, id)?)?,
-            Err(fault) => return Ok(Some(self.bad_line(fault))),
+            Err(fault) => return Err(self.refuse_line(fault)),
         }
         self.line.clear();
         self.number = self.number.saturating_add(1);
-        Ok(None)
+        Ok(())
     }
 
-    // The line at hand, with what is against it.
-    fn bad_line(&self, fault: LineFault) -> BadLine
-        ensures { result ≡ record { number = self.now.number; fault = fault } }
+    // The refusal of the line at hand.
+    fn refuse_line(&self, fault: LineFault) -> FileFault
+        ensures { result ≡ Line (record { number = self.now.number; fault = fault }) }
     {
-        BadLine {
+        FileFault::Line(BadLine {
             number: self.number,
             fault,
-        }
+        })
     }
+}
+
+// The identifier that the line of this number is, or why it is none.
+fn listed_identifier(number: u64, line: &[u8]) -> Result<&str, LineFault>
+    ensures { MatchResult result
+        (λ id. (None ≡ listed_fault number line.now) × (id.now ≡ line.now))
+        (λ fault. Some fault ≡ listed_fault number line.now) }
+{
+    let id = identifier_in(line)?;
+    if number == 1 && line.starts_with(BYTE_ORDER_MARK) {
+        return Err(LineFault::ByteOrderMark);
+    }
+    Ok(id)
 }

@@ -1,9 +1,10 @@
-//! Why the names of the lines of an input weren't all written.
+//! Why lines aren't taken: those of an input that are to be named, or those of a list.
 ghost use Rattle.std.specs.Prelude.{◌≡◌};
 ghost use Rattle.pt_cli.specs.NameList.{line_fault_number, list_number};
 
 use pt_tree::MemoryFault;
 use std::alloc::{AllocError, AllocFailed};
+use std::io;
 use thiserror::Error;
 
 /// Why a line is no identifier. They are asked in this order.
@@ -18,10 +19,13 @@ pub enum LineFault {
     /// It isn't UTF-8.
     #[error("the identifier is not UTF-8")]
     NotUtf8,
+    /// Of a list: it is the first, and begins with U+FEFF, by which some editors mark a text as UTF-8.
+    #[error("it begins with a byte order mark")]
+    ByteOrderMark,
 }
 
 impl LineFault {
-    /// The fault's number: 1 `TooLong`, 2 `Empty`, 3 `NotUtf8`.
+    /// The fault's number: 1 `TooLong`, 2 `Empty`, 3 `NotUtf8`, 4 `ByteOrderMark`.
     pub fn number(&self) -> u8
         ensures { result ≡ line_fault_number self.now }
     {
@@ -29,6 +33,7 @@ impl LineFault {
             LineFault::TooLong => 1,
             LineFault::Empty => 2,
             LineFault::NotUtf8 => 3,
+            LineFault::ByteOrderMark => 4,
         }
     }
 }
@@ -104,5 +109,67 @@ impl<T: Drop> From<AllocFailed<T>> for ListFault {
 
     fn from(_: AllocFailed<T>) -> Self {
         ListFault::Memory
+    }
+}
+
+/// Why the identifiers in the lines of a file can't be had.
+#[derive(Debug, Drop, Error)]
+pub enum FileFault {
+    /// A line is no identifier. Those before it are.
+    #[error("{0}")]
+    Line(BadLine),
+    /// The file can't be opened, or a read of it failed.
+    #[error("{0}")]
+    Read(io::Error),
+    /// A growth was refused.
+    #[error("out of memory")]
+    Memory,
+}
+
+impl FileFault {
+    ghost use Rattle.pt_cli.specs.Listing.{file_number};
+
+    /// The fault's number: 1 `Line`, 2 `Read`, 3 `Memory`.
+    pub fn number(&self) -> u8
+        ensures { result ≡ file_number self.now }
+    {
+        match self {
+            FileFault::Line(_) => 1,
+            FileFault::Read(_) => 2,
+            FileFault::Memory => 3,
+        }
+    }
+}
+
+impl From<MemoryFault> for FileFault {
+    ghost use Rattle.std.specs.Prelude.{◌≡◌};
+    ghost use Rattle.pt_cli.specs.declared.list_fault.FileFault.TheVariants.{Memory};
+
+    ghost from_gives = { λ _ e. e ≡ Memory };
+
+    fn from(_: MemoryFault) -> Self {
+        FileFault::Memory
+    }
+}
+
+impl From<AllocError> for FileFault {
+    ghost use Rattle.std.specs.Prelude.{◌≡◌};
+    ghost use Rattle.pt_cli.specs.declared.list_fault.FileFault.TheVariants.{Memory};
+
+    ghost from_gives = { λ _ e. e ≡ Memory };
+
+    fn from(_: AllocError) -> Self {
+        FileFault::Memory
+    }
+}
+
+impl<T: Drop> From<AllocFailed<T>> for FileFault {
+    ghost use Rattle.std.specs.Prelude.{◌≡◌};
+    ghost use Rattle.pt_cli.specs.declared.list_fault.FileFault.TheVariants.{Memory};
+
+    ghost from_gives = { λ _ e. e ≡ Memory };
+
+    fn from(_: AllocFailed<T>) -> Self {
+        FileFault::Memory
     }
 }

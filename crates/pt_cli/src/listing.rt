@@ -1,11 +1,11 @@
 //! The job that takes the identifiers of a list.
-ghost use Rattle.std.specs.Prelude.{◌≡◌, ◌≢◌, ◌⊎◌, IfOk};
-ghost use Rattle.std.specs.IoError.{error_kind};
-ghost use Rattle.std.specs.declared.io.ErrorKind.TheVariants.{OutOfMemory};
-ghost use Rattle.pt_cli.specs.Listing.{TakesIdentifiers, TakesLines, TakesList};
+ghost use Rattle.std.specs.Prelude.{◌≡◌, ◌⊎◌, IfOk, map};
+ghost use Rattle.std.specs.String.{string_bytes};
+ghost use Rattle.pt_cli.specs.Inputs.{file_words};
+ghost use Rattle.pt_cli.specs.Listing.{IsListing, IsUnread, ReadsList, TakesIdentifiers, TakesList, texts_of};
 
-use crate::identifier_lines::identifiers_in;
-use crate::{BadLine, Text};
+use crate::identifier_lines::read_identifiers;
+use crate::{FileFault, Text};
 use pt_host::status::REFUSED;
 use pt_host::{Reads, end_with_fault};
 use pt_messages::escape;
@@ -22,60 +22,67 @@ pub(crate) fn take_list<R: Reads + Eprint + AllocGlobal>(
     list: &Option<Text>,
     job: Job,
 ) -> Result<Job, u8>
-    ensures { TakesList (R.gives rt.now) list.now job result }
+    ensures { TakesList (file_words (R.opens rt.now) R.Opened.reads) list.now job result }
 {
     let Some(path) = list else {
         return Ok(job);
     };
     let path = path.as_str();
-    match rt.read_whole(path) {
-        Ok(bytes) => take_lines(rt, path, &bytes, job),
-        Err(error) => Err(end_unread(rt, path, &error)),
+    match read_list(rt, path) {
+        Ok(ids) => take_identifiers(rt, path, ids, job),
+        Err(fault) => Err(end_unread(rt, path, &fault)),
     }
 }
 
-// The job that takes the identifiers in the lines of a file, or the status of a line that is none.
-fn take_lines<R: Eprint + AllocGlobal>(
+// The identifiers in the lines of the file at a path.
+fn read_list<R: Reads + AllocGlobal>(rt: &R, path: &str) -> Result<Vec<String>, FileFault>
+    ensures { ReadsList (file_words (R.opens rt.now) R.Opened.reads) path.now (texts_of result) }
+{
+    match rt.open(path) {
+        Ok(mut file) => read_identifiers(rt.alloc(), &mut file),
+        Err(error) => Err(FileFault::Read(error)),
+    }
+}
+
+// The job that takes these identifiers too; or the status of want of memory, of which standard error is told.
+fn take_identifiers<R: Eprint + AllocGlobal>(
     rt: &R,
     path: &str,
-    bytes: &[u8],
+    ids: Vec<String>,
     job: Job,
 ) -> Result<Job, u8>
-    ensures { TakesLines bytes.now job result }
+    ensures { TakesIdentifiers (map string_bytes ids.items) job result }
 {
-    match share_of(rt.alloc(), path, bytes, job.share) {
-        Ok(Ok(share)) => Ok(Job { share, ..job }),
-        Ok(Err(bad)) => Err(end_refused(rt, path, &bad)),
+    match with_list(rt.alloc(), path, ids, job.share) {
+        Ok(share) => Ok(Job { share, ..job }),
         Err(_) => Err(end_with_fault(rt, &Fault::Memory)),
     }
 }
 
-// The share that takes the identifiers in the lines of a file, or the first line that is none. An error where a growth was refused.
-fn share_of(
+// The share that takes the identifiers of the list at a path. An error where a growth was refused.
+fn with_list(
     alloc: Global,
     path: &str,
-    bytes: &[u8],
+    ids: Vec<String>,
     share: Share,
-) -> Result<Result<Share, BadLine>, MemoryFault>
-    ensures { IfOk result (TakesIdentifiers bytes.now share) }
+) -> Result<Share, MemoryFault>
+    ensures { IfOk result (IsListing (map string_bytes ids.items) share) }
 {
-    match identifiers_in(alloc, bytes)? {
-        Ok(ids) => {
-            let name = String::from_str(alloc, path)?;
-            let list = IdentifierList::of(alloc, name, ids)?;
-            Ok(Ok(share.with_list(alloc, list)?))
-        }
-        Err(bad) => Ok(Err(bad)),
-    }
+    let name = String::from_str(alloc, path)?;
+    let list = IdentifierList::of(alloc, name, ids)?;
+    share.with_list(alloc, list)
 }
 
-// Says why a file can't be read, and gives the status of that.
-fn end_unread<R: Eprint + AllocGlobal>(rt: &R, path: &str, error: &io::Error) -> u8
-    ensures { ((error_kind error.now ≢ OutOfMemory) × (result ≡ 2)) ⊎ (result ≡ 3) }
+// Says why the identifiers of a list can't be had, and gives the status of that.
+fn end_unread<R: Eprint + AllocGlobal>(rt: &R, path: &str, fault: &FileFault) -> u8
+    ensures { IsUnread fault.now result }
 {
-    match error.kind() {
-        io::ErrorKind::OutOfMemory => end_with_fault(rt, &Fault::Memory),
-        _ => end_refused(rt, path, error),
+    match fault {
+        FileFault::Line(bad) => end_refused(rt, path, bad),
+        FileFault::Read(error) if error.kind() != io::ErrorKind::OutOfMemory => {
+            end_refused(rt, path, error)
+        }
+        _ => end_with_fault(rt, &Fault::Memory),
     }
 }
 

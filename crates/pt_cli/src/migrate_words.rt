@@ -1,27 +1,28 @@
 //! The words of the command `migrate`.
+ghost use Rattle.std.specs.Prelude.{◌≡◌};
 ghost use Rattle.clap.specs.Words.{found_of, rows_of};
 ghost use Rattle.pt_cli.specs.Arguments.{ReadsAs};
-ghost use Rattle.pt_cli.specs.Options.{meta_in, migration_in, run_options_in};
+ghost use Rattle.pt_cli.specs.Options.{allowed_in, meta_in, migration_in, run_options_in};
 
 use crate::arguments::{is_set, require, text};
 use crate::faults::Unread;
-use crate::feedback_words::{copy_of, feedback};
-use crate::ids::{ADDRESS, CREATED, LIST, MESSAGE, NAME, PRESENT_OK, REHEARSE, SYNC};
+use crate::feedback_words::{feedback, path_of};
+use crate::ids::{ADDRESS, CREATED, LIST, MESSAGE, NAME, PRESENT_OK, REHEARSE, SKIPS_OK, SYNC};
 use crate::ignore_words::ignored_names;
 use crate::job_words::{folders, job, meta_of};
 use crate::{Command, Migrate};
 use clap::ArgMatches;
-use pt_host::RunOptions;
+use pt_host::{AllowedLines, RunOptions};
 use pt_object::Meta;
 use std::alloc::Global;
 
-// The migration that is asked for: refused as its options are.
+// The migration that is asked for: refused as its options are, and then as `EmptyList`.
 pub(crate) fn migrate_command(alloc: Global, matches: &ArgMatches<'_>) -> Result<Command, Unread>
     ensures { ReadsAs (migration_in (rows_of (found_of matches.now))) result }
 {
     let options = run_options(alloc, matches)?;
     let (source, dest) = folders(alloc, matches)?;
-    let list = copy_of(alloc, text(matches, LIST))?;
+    let list = path_of(alloc, text(matches, LIST), Unread::EmptyList)?;
     Ok(Command::Migrate(Migrate {
         options,
         source,
@@ -30,7 +31,7 @@ pub(crate) fn migrate_command(alloc: Global, matches: &ArgMatches<'_>) -> Result
     }))
 }
 
-// The options of a run: refused as `Created`, `EmptyName`, `Tuples`, `Share` and `Ignored`, in this order.
+// The options of a run: refused as `Created`, `EmptyName`, `Tuples`, `Share`, `Ignored` and `EmptyEvent`, in this order.
 fn run_options(alloc: Global, matches: &ArgMatches<'_>) -> Result<RunOptions, Unread>
     ensures { ReadsAs (run_options_in (rows_of (found_of matches.now))) result }
 {
@@ -42,9 +43,19 @@ fn run_options(alloc: Global, matches: &ArgMatches<'_>) -> Result<RunOptions, Un
         ignored,
         sync: is_set(matches, SYNC),
         rehearse: is_set(matches, REHEARSE),
-        present_ok: is_set(matches, PRESENT_OK),
+        allowed: allowed_lines(matches),
         feedback,
     })
+}
+
+// Which lines of the log leave the status at 0.
+fn allowed_lines(matches: &ArgMatches<'_>) -> AllowedLines
+    ensures { result ≡ allowed_in (rows_of (found_of matches.now)) }
+{
+    AllowedLines {
+        present: is_set(matches, PRESENT_OK),
+        skips: is_set(matches, SKIPS_OK),
+    }
 }
 
 // What the inventories are to say of their versions.

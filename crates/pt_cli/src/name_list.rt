@@ -13,7 +13,7 @@ use std::io::{Read, Write};
 use std::marker::Model;
 
 // The most bytes of an identifier.
-const LONGEST: usize = 65_536;
+pub(crate) const LONGEST: usize = 65_536;
 
 // How many bytes are read at a time.
 const PIECE: usize = 65_536;

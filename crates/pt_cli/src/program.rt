@@ -2,7 +2,7 @@ ghost use Rattle.std.specs.Prelude.{◌≡◌, map, string_bytes};
 ghost use Rattle.std.specs.Process.{exit_status};
 ghost use Rattle.pt_messages.specs.Expected.{AsksEnd};
 ghost use Rattle.pt_cli.specs.Calls.{IsToldAs, TellsAsked, TellsNames, TellsText, names_status};
-ghost use Rattle.pt_cli.specs.Inputs.{beside};
+ghost use Rattle.pt_cli.specs.Inputs.{beside, file_words};
 ghost use Rattle.pt_cli.specs.Statuses.{Declines, Ends, EndsWith, IsWordless, MakesAudit, MakesRun, Obeys};
 ghost use Rattle.pt_host.specs.Checking.{ChecksStore, check_call};
 
@@ -37,7 +37,8 @@ pub fn run<R, H: Host + HasInput>(rt: &R, host: &mut H) -> ExitCode
 where
     R: Started + Reads + Clock + Eprint + AllocGlobal + Terminals,
     ensures { Ends (R.starts rt.now) (EndsWith ⟦<H as Machine>⟧.words
-        (beside (AsksEnd R.ends rt.now) (R.gives rt.now) ⟦<H as InputMachine>⟧.input_words))
+        (beside (AsksEnd R.ends rt.now) (file_words (R.opens rt.now) R.Opened.reads)
+        ⟦<H as InputMachine>⟧.input_words))
         host.old host.new (exit_status result) }
 {
     ExitCode::from(status_of(rt, host))
@@ -48,7 +49,8 @@ fn status_of<R, H: Host + HasInput>(rt: &R, host: &mut H) -> u8
 where
     R: Started + Reads + Clock + Eprint + AllocGlobal + Terminals,
     ensures { Ends (R.starts rt.now) (EndsWith ⟦<H as Machine>⟧.words
-        (beside (AsksEnd R.ends rt.now) (R.gives rt.now) ⟦<H as InputMachine>⟧.input_words))
+        (beside (AsksEnd R.ends rt.now) (file_words (R.opens rt.now) R.Opened.reads)
+        ⟦<H as InputMachine>⟧.input_words))
         host.old host.new result }
 {
     match rt.words(rt.alloc()) {
@@ -77,7 +79,8 @@ pub fn answer<R, H: Host + HasInput>(rt: &R, host: &mut H, words: &[String]) -> 
 where
     R: Reads + Clock + Eprint + AllocGlobal + Terminals,
     ensures { EndsWith ⟦<H as Machine>⟧.words
-        (beside (AsksEnd R.ends rt.now) (R.gives rt.now) ⟦<H as InputMachine>⟧.input_words)
+        (beside (AsksEnd R.ends rt.now) (file_words (R.opens rt.now) R.Opened.reads)
+        ⟦<H as InputMachine>⟧.input_words)
         (map string_bytes words.now) host.old host.new result }
 {
     match read_words(rt.alloc(), words) {
@@ -91,7 +94,8 @@ fn obey<R, H: Host + HasInput>(rt: &R, host: &mut H, command: Command) -> u8
 where
     R: Reads + Clock + Eprint + AllocGlobal + Terminals,
     ensures { Obeys ⟦<H as Machine>⟧.words
-        (beside (AsksEnd R.ends rt.now) (R.gives rt.now) ⟦<H as InputMachine>⟧.input_words)
+        (beside (AsksEnd R.ends rt.now) (file_words (R.opens rt.now) R.Opened.reads)
+        ⟦<H as InputMachine>⟧.input_words)
         command host.old host.new result }
 {
     match command {
@@ -146,8 +150,8 @@ fn report_text(rt: &impl Eprint, written: io::Result<()>) -> u8
 fn make_run<R, H: Host>(rt: &R, host: &mut H, asked: Migrate) -> u8
 where
     R: Reads + Clock + Eprint + AllocGlobal + Terminals,
-    ensures { MakesRun ⟦<H as Machine>⟧.words (AsksEnd R.ends rt.now) (R.gives rt.now)
-        asked (host.old, host.new) result }
+    ensures { MakesRun ⟦<H as Machine>⟧.words (AsksEnd R.ends rt.now)
+        (file_words (R.opens rt.now) R.Opened.reads) asked (host.old, host.new) result }
 {
     let Migrate {
         options,
@@ -168,8 +172,8 @@ where
 fn make_audit<R, H: Host>(rt: &R, host: &mut H, asked: Audit) -> u8
 where
     R: Reads + Clock + Eprint + AllocGlobal + Terminals,
-    ensures { MakesAudit ⟦<H as Machine>⟧.words (AsksEnd R.ends rt.now) (R.gives rt.now)
-        asked (host.old, host.new) result }
+    ensures { MakesAudit ⟦<H as Machine>⟧.words (AsksEnd R.ends rt.now)
+        (file_words (R.opens rt.now) R.Opened.reads) asked (host.old, host.new) result }
 {
     let Audit {
         options,

@@ -3,6 +3,8 @@
 #![tactic(auto)]
 
 #[cfg(test)]
+mod help;
+#[cfg(test)]
 mod lists;
 #[cfg(test)]
 mod names;

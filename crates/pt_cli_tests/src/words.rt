@@ -1,4 +1,4 @@
-//! Words of a command line: the commands that are read of them, the fault as which they are refused, and help.
+//! Words of a command line: the commands that are read of them, and the fault as which they are refused.
 use pt_cli::{Audit, CheckArgs, Command, Migrate, NamesArgs, Text, WordsFault, read_words};
 use pt_name::Layout;
 use pt_object::{Algorithm, Meta};
@@ -7,7 +7,7 @@ use std::test::Fail;
 
 // What words are read as.
 #[derive(Clone, Copy)]
-enum Reading {
+pub(crate) enum Reading {
     // The names of `abc`, with no prefix and the usual tuples.
     Names,
     // The migration that the row has.
@@ -20,9 +20,11 @@ enum Reading {
     Fault(u8),
     // Help with this part.
     Help(&'static str),
+    // A refusal of the parser with this part.
+    Told(&'static str),
 }
 
-fn are_read(alloc: Global, words: &[&str], reading: Reading) -> bool {
+pub(crate) fn are_read(alloc: Global, words: &[&str], reading: Reading) -> bool {
     match &read_words(alloc, words) {
         Ok(command) => is_command(command, reading),
         Err(fault) => is_fault(fault, reading),
@@ -43,6 +45,7 @@ fn is_command(command: &Command, reading: Reading) -> bool {
 fn is_fault(fault: &WordsFault, reading: Reading) -> bool {
     match (fault, reading) {
         (WordsFault::Help(text), Reading::Help(part)) => text.as_str().contains(part),
+        (WordsFault::Words(text), Reading::Told(part)) => text.as_str().contains(part),
         (_, Reading::Fault(number)) => fault.number() == number,
         _ => false,
     }
@@ -59,6 +62,7 @@ fn is_migration(asked: &Migrate, row: &Row) -> bool {
         && (job.algorithm, job.gather) == (row.algorithm, row.gather)
         && (asked.source.as_str(), asked.dest.as_str()) == row.folders
         && is_path(&asked.options.feedback.event, row.event)
+        && (asked.options.allowed.present, asked.options.allowed.skips) == row.allowed
 }
 
 // Whether this path is given, or none.
@@ -112,7 +116,7 @@ fn the_words_of_names_are_read(rt: HostRuntime) {
 }
 
 // Words of `migrate`, and what is read of them.
-struct Row {
+pub(crate) struct Row {
     what: &'static str,
     words: &'static [&'static str],
     created: &'static str,
@@ -124,6 +128,8 @@ struct Row {
     gather: bool,
     folders: (&'static str, &'static str),
     event: Option<&'static str>,
+    // Whether present lines and skip lines leave the status at 0.
+    allowed: (bool, bool),
 }
 
 const MIGRATIONS: &[Row] = &[
@@ -148,6 +154,7 @@ const MIGRATIONS: &[Row] = &[
         gather: false,
         folders: ("S", "D"),
         event: None,
+        allowed: (false, false),
     },
     Row {
         what: "every option",
@@ -161,6 +168,7 @@ const MIGRATIONS: &[Row] = &[
             "--message",
             "",
             "--gather",
+            "--skips-ok",
             "--event",
             "ev.json",
             "--tuple-size=2",
@@ -182,6 +190,7 @@ const MIGRATIONS: &[Row] = &[
         gather: true,
         folders: ("/in", "-out"),
         event: Some("ev.json"),
+        allowed: (false, true),
     },
     Row {
         what: "an empty address, which is none",
@@ -204,6 +213,7 @@ const MIGRATIONS: &[Row] = &[
         gather: false,
         folders: ("S", "D"),
         event: None,
+        allowed: (false, false),
     },
 ];
 
@@ -254,7 +264,7 @@ fn the_words_of_check_are_read(rt: HostRuntime) {
 // Words, each with the number of the fault that they are refused as; 0 of those of a migration.
 type Readings = &'static [(Words, u8)];
 
-type Words = &'static [&'static str];
+pub(crate) type Words = &'static [&'static str];
 
 const REFUSED: Readings = &[
     (&["pairtree2ocfl", "--help"], 1),
@@ -277,11 +287,18 @@ const REFUSED: Readings = &[
         &["pairtree2ocfl", "check", "--tuples=0", "--ignore=a/b", "S"],
         7,
     ),
+    (&["pairtree2ocfl", "check", "--dest=", "S"], 13),
+    (&["pairtree2ocfl", "check", "--dest=", "--ignore=", "S"], 10),
+    (
+        &["pairtree2ocfl", "audit", "--event=", "--list=", "S", "D"],
+        11,
+    ),
+    (&["pairtree2ocfl", "audit", "--list=", "S", "D"], 12),
     (&["pairtree2ocfl", "carry"], 2),
     (&["pairtree2ocfl", "names", ""], 5),
 ];
 
-const MIGRATE: Words = &["pairtree2ocfl", "migrate"];
+pub(crate) const MIGRATE: Words = &["pairtree2ocfl", "migrate"];
 
 const GOOD: &str = "--created=2024-05-01T12:00:00Z";
 
@@ -352,6 +369,11 @@ const PARTS: Readings = &[
     (&[GOOD, "--name=Ada", "--ignore=a/b"], 10),
     (&[GOOD, "--name=Ada", "--ignore=.."], 10),
     (&[GOOD, "--name=Ada", "--ignore="], 10),
+    (&[GOOD, "--name=Ada", "--event="], 11),
+    (&[GOOD, "--name=Ada", "--list="], 12),
+    (&[GOOD, "--name=Ada", "--expect="], 0),
+    (&["--list=", "--event=", GOOD, "--name=Ada"], 11),
+    (&["--event=", "--ignore=", GOOD, "--name=Ada"], 10),
 ];
 
 // Words before and behind those of each row.
@@ -379,7 +401,7 @@ fn find_misread(
     Ok(None)
 }
 
-fn join_words(
+pub(crate) fn join_words(
     alloc: Global,
     before: Words,
     words: Words,
@@ -407,12 +429,18 @@ const TEXTS: &[(u8, &str)] = &[
     (4, "--name is empty"),
     (5, "the identifier is empty"),
     (6, "out of memory"),
-    (7, "the tuples are out of range"),
+    (
+        7,
+        "the tuples are out of range: --tuple-size and --tuples are each from 1 to 32, with a product of at most 64, or both 0",
+    ),
     (
         9,
         "--share is not K/N with N from 1 to 4096 and K from 1 to N",
     ),
     (10, "--ignore is not the name of a file or folder"),
+    (11, "--event is empty"),
+    (12, "--list is empty"),
+    (13, "--dest is empty"),
 ];
 
 fn fault_of(number: u8) -> WordsFault {
@@ -423,7 +451,10 @@ fn fault_of(number: u8) -> WordsFault {
         6 => WordsFault::Memory,
         7 => WordsFault::Tuples,
         9 => WordsFault::Share,
-        _ => WordsFault::Ignored,
+        10 => WordsFault::Ignored,
+        11 => WordsFault::EmptyEvent,
+        12 => WordsFault::EmptyList,
+        _ => WordsFault::EmptyDest,
     }
 }
 
@@ -440,34 +471,4 @@ fn each_refusal_has_its_number_and_text(rt: HostRuntime) -> Result<(), Fail> {
         );
     }
     Ok(())
-}
-
-// Parts of the help of `migrate`.
-const HELP: &[&str] = &[
-    "Carries a Pairtree store into an OCFL storage root",
-    "--created <MOMENT>",
-    "2024-05-01T12:00:00Z",
-    "[default: none]",
-    "[default: \"Migrated from Pairtree\"]",
-    "[default: sha512]",
-    "[possible values: sha512, sha256]",
-    "--tuple-size <DIGITS>  Digits in the name of each folder above an object [default: 3]",
-    "Folders above each object [default: 3]",
-    "pairtree_root",
-    "  done  ",
-    "  present  ",
-    "  skip  ",
-    "  end  ",
-    "Exit status:\n  0 ",
-    "\n  1 ",
-    "\n  2 ",
-    "\n  3 ",
-];
-
-#[test]
-fn help_tells_how_to_migrate(rt: HostRuntime) {
-    for part in HELP {
-        let words = &["pairtree2ocfl", "migrate", "--help"];
-        assert!(rt; are_read(rt.alloc(), words, Reading::Help(part)), "{part}");
-    }
 }

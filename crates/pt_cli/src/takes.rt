@@ -1,0 +1,291 @@
+//! What each command takes: a row for each argument. `tools/fill.py` makes the man page and the completions of these rows.
+
+use crate::grammar::{ArgSpec, Form};
+use crate::ids::{
+    ADDRESS, CREATED, DEST, DIGEST, EVENT, EXPECT, EXTRA, GATHER, ID, IGNORE, INTERVAL, INTO, LIST,
+    MESSAGE, NAME, ONLY, PREFIX, PRESENT_OK, PROGRESS, QUIET, READ, REHEARSE, SHARE, SKIPS_OK,
+    SOURCE, SYNC, TUPLE_SIZE, TUPLES, VERBOSE,
+};
+
+const TAKES_TUPLE_SIZE: ArgSpec = ArgSpec {
+    id: TUPLE_SIZE,
+    form: Form::Number("DIGITS", "3"),
+    help: "Digits in the name of each folder above an object",
+    more: None,
+};
+
+const TAKES_TUPLES: ArgSpec = ArgSpec {
+    id: TUPLES,
+    form: Form::Number("NUMBER", "3"),
+    help: "Folders above each object",
+    more: None,
+};
+
+const TAKES_DIGEST: ArgSpec = ArgSpec {
+    id: DIGEST,
+    form: Form::Word("ALGORITHM", &["sha512", "sha256"], "sha512"),
+    help: "Digest algorithm",
+    more: Some("The digest algorithm of the inventories"),
+};
+
+const TAKES_ONLY: ArgSpec = ArgSpec {
+    id: ONLY,
+    form: Form::RepeatedText("TEXT"),
+    help: "Take only objects whose identifiers begin with TEXT; may be repeated",
+    more: Some(
+        "Take only objects whose identifiers begin with TEXT, the prefix included;\nmay be given again",
+    ),
+};
+
+const TAKES_LIST: ArgSpec = ArgSpec {
+    id: LIST,
+    form: Form::Value("FILE"),
+    help: "Take only objects whose identifiers stand in FILE, one a line",
+    more: Some(
+        "Take only objects whose identifiers stand in FILE, one a line;\nwith --only what either names",
+    ),
+};
+
+const TAKES_IGNORE: ArgSpec = ArgSpec {
+    id: IGNORE,
+    form: Form::Repeated("NAME"),
+    help: "Leave out what has this name, as .DS_Store; may be repeated",
+    more: Some("Leave out every file and folder of this name, as .DS_Store; may be given again"),
+};
+
+const TAKES_VERBOSE: ArgSpec = ArgSpec {
+    id: VERBOSE,
+    form: Form::Letter('v'),
+    help: "Tell the path and reason of a fault, or a summary at the end",
+    more: Some(
+        "Tell of a fault also the path and the reason, on one more line,\nand else a summary at the end",
+    ),
+};
+
+const TAKES_QUIET: ArgSpec = ArgSpec {
+    id: QUIET,
+    form: Form::Letter('q'),
+    help: "Show neither how far it is nor a summary at the end",
+    more: None,
+};
+
+const TAKES_INTERVAL: ArgSpec = ArgSpec {
+    id: INTERVAL,
+    form: Form::Number("SECONDS", "10"),
+    help: "Seconds between two lines of progress",
+    more: Some("Seconds between two lines of progress, where they don't go to a terminal"),
+};
+
+const TAKES_EVENT: ArgSpec = ArgSpec {
+    id: EVENT,
+    form: Form::Value("FILE"),
+    help: "Record in FILE, made new, what was done and how it ended",
+    more: Some("Record in FILE, which is made new, what was done, when and how it ended, as JSON"),
+};
+
+const TAKES_SOURCE: ArgSpec = ArgSpec {
+    id: SOURCE,
+    form: Form::Place,
+    help: "The folder that holds pairtree_root",
+    more: None,
+};
+
+// What `names` takes.
+pub(crate) const NAMES_TAKES: &[ArgSpec] = &[
+    ArgSpec {
+        id: PREFIX,
+        form: Form::Value("TEXT"),
+        help: "The prefix of the store, put before the identifier for its place",
+        more: None,
+    },
+    TAKES_TUPLE_SIZE,
+    TAKES_TUPLES,
+    ArgSpec {
+        id: ID,
+        form: Form::Place,
+        help: "The identifier, or - for those on standard input, one a line",
+        more: None,
+    },
+];
+
+// What `migrate` takes.
+pub(crate) const MIGRATE_TAKES: &[ArgSpec] = &[
+    ArgSpec {
+        id: CREATED,
+        form: Form::Needed("MOMENT"),
+        help: "The moment that the inventories give, as 2024-05-01T12:00:00Z",
+        more: None,
+    },
+    ArgSpec {
+        id: NAME,
+        form: Form::Needed("NAME"),
+        help: "Who made the migration, as the inventories name them",
+        more: None,
+    },
+    ArgSpec {
+        id: ADDRESS,
+        form: Form::Value("ADDRESS"),
+        help: "Where to reach them, as mailto:ada@example.org [default: none]",
+        more: None,
+    },
+    ArgSpec {
+        id: MESSAGE,
+        form: Form::Default("TEXT", "Migrated from Pairtree"),
+        help: "A message for the inventories",
+        more: Some("What the inventories say of the migration"),
+    },
+    TAKES_DIGEST,
+    TAKES_TUPLE_SIZE,
+    TAKES_TUPLES,
+    ArgSpec {
+        id: GATHER,
+        form: Form::Flag,
+        help: "Carry what lies directly in an identifier's folder too, as one object",
+        more: Some(
+            "Carry what lies directly in an identifier's folder too, as one object [default: skip it]",
+        ),
+    },
+    ArgSpec {
+        id: SHARE,
+        form: Form::Value("K/N"),
+        help: "Carry only the objects of share K of N, as 2/8 [default: all objects]",
+        more: Some("Carry only the objects of share K of N shares, as 2/8 [default: all objects]"),
+    },
+    TAKES_ONLY,
+    TAKES_LIST,
+    TAKES_IGNORE,
+    ArgSpec {
+        id: SYNC,
+        form: Form::Flag,
+        help: "Have each file, each object's folder and the log put onto the disk",
+        more: None,
+    },
+    ArgSpec {
+        id: REHEARSE,
+        form: Form::Letter('n'),
+        help: "Rehearse: read all, write the log, and make or change nothing in DEST",
+        more: None,
+    },
+    ArgSpec {
+        id: PRESENT_OK,
+        form: Form::Flag,
+        help: "Exit with 0 also where the log has present lines",
+        more: Some("Exit with 0 also where the log has present lines, as a second run's has"),
+    },
+    ArgSpec {
+        id: SKIPS_OK,
+        form: Form::Flag,
+        help: "Exit with 0 also where the log has skip lines",
+        more: Some(
+            "Exit with 0 also where the log has skip lines: what has no identifier has one,\nwhatever --only and --list choose",
+        ),
+    },
+    TAKES_VERBOSE,
+    TAKES_QUIET,
+    ArgSpec {
+        id: PROGRESS,
+        form: Form::Word("WHEN", &["auto", "always", "never"], "auto"),
+        help: "Show progress",
+        more: Some("When to show on standard error how far the run is"),
+    },
+    TAKES_INTERVAL,
+    ArgSpec {
+        id: EXPECT,
+        form: Form::Value("LOG"),
+        help: "Show the share done and the time left too, by the log of a rehearsal",
+        more: None,
+    },
+    TAKES_EVENT,
+    TAKES_SOURCE,
+    ArgSpec {
+        id: DEST,
+        form: Form::Place,
+        help: "A folder that stands already; ocfl and staging in it are the program's",
+        more: None,
+    },
+];
+
+// What `audit` takes.
+pub(crate) const AUDIT_TAKES: &[ArgSpec] = &[
+    TAKES_DIGEST,
+    TAKES_TUPLE_SIZE,
+    TAKES_TUPLES,
+    ArgSpec {
+        id: GATHER,
+        form: Form::Flag,
+        help: "Audit what lies directly in an identifier's folder too, as one object",
+        more: Some(
+            "Audit what lies directly in an identifier's folder too, as one object [default: skip it]",
+        ),
+    },
+    ArgSpec {
+        id: SHARE,
+        form: Form::Value("K/N"),
+        help: "Audit only the objects of share K of N, as 2/8 [default: all objects]",
+        more: Some("Audit only the objects of share K of N shares, as 2/8 [default: all objects]"),
+    },
+    TAKES_ONLY,
+    TAKES_LIST,
+    TAKES_IGNORE,
+    ArgSpec {
+        id: SKIPS_OK,
+        form: Form::Flag,
+        help: "Exit with 0 also where the log has skip lines",
+        more: None,
+    },
+    ArgSpec {
+        id: EXTRA,
+        form: Form::Flag,
+        help: "Tell too of what stands in ocfl and the store lacks",
+        more: Some(
+            "Tell too of what stands in ocfl and the store lacks\n[default: hold the store's objects against ocfl]",
+        ),
+    },
+    TAKES_VERBOSE,
+    TAKES_QUIET,
+    ArgSpec {
+        id: PROGRESS,
+        form: Form::Word("WHEN", &["auto", "always", "never"], "auto"),
+        help: "Show progress",
+        more: Some("When to show on standard error how far the audit is"),
+    },
+    TAKES_INTERVAL,
+    ArgSpec {
+        id: EXPECT,
+        form: Form::Value("LOG"),
+        help: "Show the share done and the time left too, by the log of a run",
+        more: Some(
+            "Show the share done and the time left too, by the log of a run, a rehearsal or an audit",
+        ),
+    },
+    TAKES_EVENT,
+    TAKES_SOURCE,
+    ArgSpec {
+        id: DEST,
+        form: Form::Place,
+        help: "The folder in which ocfl is",
+        more: None,
+    },
+];
+
+// What `check` takes.
+pub(crate) const CHECK_TAKES: &[ArgSpec] = &[
+    ArgSpec {
+        id: READ,
+        form: Form::Flag,
+        help: "Read each file whole, and count its bytes [default: open it]",
+        more: None,
+    },
+    ArgSpec {
+        id: INTO,
+        form: Form::Value("DEST"),
+        help: "Tell what would be too long for a run into this folder",
+        more: Some(
+            "Tell what would be too long for a run into this folder, which need not be there",
+        ),
+    },
+    TAKES_TUPLE_SIZE,
+    TAKES_TUPLES,
+    TAKES_IGNORE,
+    TAKES_SOURCE,
+];
