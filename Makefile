@@ -35,14 +35,17 @@ bench: build ## processor time of a run beside sha512sum, cp and, where rustc is
 	@$(PYTHON) bench/bench.py $(PROGRAM)
 
 # What the documents don't list, since the code has it.
-.PHONY: model wrong
+.PHONY: model wrong guarantees
 model: ## print each definition that contracts cite, with what it means (WORDS='..' of names that have one of these)
 	@$(PYTHON) tools/index.py model $(WORDS)
 
 wrong: ## print each wrong body that the prover has to refuse (WORDS='..')
 	@$(PYTHON) tools/index.py wrong $(WORDS)
 
-install: ## copy the program, its man page, completions and documents to PREFIX (/usr/local unless given), below DESTDIR
+guarantees: ## print which promises and guarantees rest on each crate (CRATES='..' of these)
+	@$(PYTHON) tools/guarantees.py $(CRATES)
+
+install: ## copy the program, its man page, completions, scripts and documents to PREFIX (/usr/local unless given), below DESTDIR
 	@test -n "$(PREFIX)" || { echo "pairtree2ocfl: PREFIX is empty: name the folder to install to, as PREFIX=/usr/local" >&2; exit 1; }
 	@test -x $(PROGRAM) || { echo "pairtree2ocfl: run make first, which builds $(PROGRAM)" >&2; exit 1; }
 	PYTHON=$(PYTHON) sh tools/install.sh $(PROGRAM) "$(DESTDIR)$(PREFIX)"

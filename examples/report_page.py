@@ -5,104 +5,14 @@ Whatever comes from a log or an event, or is the name of one, goes through `told
 import html
 import shlex
 
-MEANINGS = {
-    "done": "The object was carried.",
-    "present": "Something stood at its place already; it was left as it is, and not looked into.",
-    "same": "At its place stands just what a run makes of it.",
-    "absent": "Nothing stands at its place.",
-    "differs": "Something else stands at its place.",
-    "skip": "The folder was passed over.",
-    "extra": "The store has no such object.",
-    "stray": "It is no part of the root or of an object at its place.",
-}
-# Each is a heading of the guide too.
-ADVICE = {
-    "root": "<code>pairtree_root</code> itself holds a file, a link, or a folder with a name of three bytes or more. A README can stay. An object there has "
-    "to go to the folders that <code>pairtree2ocfl names ID</code> prints.",
-    "empty": "The folder of an identifier holds nothing: there is nothing to carry.",
-    "split": "The folder of an identifier holds something else than one folder. Remove what is waste, and put what belongs together into one folder. Or "
-    "use <code>--gather</code>, but read the guide before.",
-    "past": "It stands below a folder of one byte, where an identifier must end, and was not read. Where it is an object's own folder, give it a name of "
-    "three bytes or more.",
-    "name": "The names of the folders aren't a cleaned identifier. Rename them as the first line of <code>pairtree2ocfl names ID</code> has them.",
-    "utf8": "The names of the folders give bytes that aren't UTF-8. Find out in which encoding the identifier was, and rename them.",
-    "other": "The object holds a link or a special file. Put what a link leads to in its place, or remove it.",
-    "limit": "The object has too many files, too long a path or too large a file, or lies too deep. Divide it, or carry it by other means.",
-    "reserved": "Without tuples this identifier has no place. Use tuples.",
-}
-WHYS = {
-    "missing": "Nothing stands at the path.",
-    "kind": "A file stands for a folder, a folder for a file, or something else.",
-    "bytes": "The file has other bytes.",
-    "extra": "The object of the store has nothing there.",
-    "twin": "The folders of the store have other names than the identifier's own, which stand too: compare the two by hand.",
-}
-
-HEAD = """<!DOCTYPE html>
-<html lang="en">
-<head>
-<meta charset="utf-8">
-<meta name="viewport" content="width=device-width, initial-scale=1">
-<meta http-equiv="Content-Security-Policy" content="default-src 'none'; style-src 'unsafe-inline'">
-<title>Report of pairtree2ocfl</title>
-<style>
-:root { color-scheme: light dark; --ink: #1d2530; --soft: #596472; --rule: #d8dde4; --ground: #fff; --card: #f4f6f9; --link: #0b5cad;
-  --done: #2f8f5b; --present: #4f83bd; --skip: #d38b1c; --absent: #8e5bb5; --differs: #c4453a; --bar: #5f7fa3; }
-@media (prefers-color-scheme: dark) { :root { --ink: #e3e8ee; --soft: #9da8b6; --rule: #36404c; --ground: #13171c; --card: #1c222a;
-  --link: #7fb9f6; --done: #4fb47d; --present: #6fa3dc; --skip: #e0a23c; --absent: #b287d6; --differs: #e57468; --bar: #7d9cc0; } }
-body { margin: 0 auto; padding: 2rem 1.25rem 4rem; max-width: 72rem; font: 1rem/1.5 system-ui, sans-serif; color: var(--ink); background: var(--ground); }
-h1 { font-size: 1.7rem; line-height: 1.2; margin: 0 0 .3rem; }
-h2 { font-size: 1.2rem; margin: 2.4rem 0 .4rem; padding-top: .6rem; border-top: 1px solid var(--rule); }
-p { margin: .4rem 0; max-width: 52rem; }
-a { color: var(--link); }
-.soft, th, footer { color: var(--soft); }
-.tiles { display: flex; flex-wrap: wrap; gap: .75rem; padding: 0; margin: 1.2rem 0; list-style: none; }
-.tiles li { flex: 1 1 8.5rem; padding: .7rem .9rem; background: var(--card); border: 1px solid var(--rule); border-radius: .5rem; font-size: .92rem; }
-.tiles b { display: block; font-size: 1.4rem; line-height: 1.3; }
-.notes { margin: 1rem 0; padding: .6rem 1rem .6rem 2rem; border-left: .3rem solid var(--skip); background: var(--card); }
-.wide { overflow-x: auto; margin: .6rem 0 1rem; }
-table { border-collapse: collapse; width: 100%; font-size: .92rem; }
-th, td { padding: .32rem .9rem .32rem 0; text-align: left; vertical-align: top; border-bottom: 1px solid var(--rule); }
-th { font-weight: 600; vertical-align: bottom; }
-tfoot { font-weight: 600; }
-.n { text-align: right; white-space: nowrap; font-variant-numeric: tabular-nums; }
-#numbers td:first-child { min-width: 8rem; }
-#numbers .n, #kinds .n, #causes .n, #whys .n, #sizes .n { width: 1%; }
-#kinds td:first-child, #causes td:first-child, #whys td:first-child, #sizes td:first-child { width: 1%; white-space: nowrap; }
-@media screen { #events td { min-width: 6rem; } #events td:nth-child(5) { min-width: 22rem; } }
-.bar { width: 30%; min-width: 7rem; }
-#sizes .bar { width: 70%; }
-.bar i { display: block; height: .85rem; margin-top: .27rem; min-width: 1px; background: var(--bar); -webkit-print-color-adjust: exact; print-color-adjust: exact; }
-.done, .same { --bar: var(--done); } .present { --bar: var(--present); } .absent { --bar: var(--absent); }
-.skip, .extra, .stray, #causes { --bar: var(--skip); } .differs, #whys { --bar: var(--differs); }
-code, bdi { font-family: ui-monospace, monospace; font-size: .95em; white-space: pre-wrap; overflow-wrap: anywhere; }
-footer { margin-top: 3rem; font-size: .9rem; }
-@media print { body { max-width: none; padding: 0; font-size: 10pt; } table { font-size: 8.5pt; } .wide { overflow: visible; }
-  h2 { break-after: avoid; } tr, .tiles li { break-inside: avoid; } }
-</style>
-</head>
-<body>
-<h1>Report of pairtree2ocfl</h1>
-"""
-TAIL = r"""<footer>
-<p>Folders of objects are named from below <code>pairtree_root</code>. What can't be seen or turns the direction of a text is shown everywhere
-as <code>\u{..}</code> with its number in hex, and <code>\</code> is doubled.</p>
-</footer>
-</body>
-</html>
-"""
-
-
-def shown(text):
-    """A text for people: what can't be seen, or turns the direction of what is around it, as `\\u{..}`, and `\\` doubled."""
-    if text.isprintable() and "\\" not in text:
-        return text
-    return "".join("\\\\" if it == "\\" else it if it.isprintable() else "\\u{%x}" % ord(it) for it in text)
+from report_verdict import Verdict
+from report_words import ADVICE, HEAD, MEANINGS, OF_LIMIT, TAIL, TROUBLES, WHYS
+from shown import shown
 
 
 def told(text):
     """A text of a log, or the name of one, for the page. Letters that are written from right to left turn nothing but themselves."""
-    return f'<bdi dir="ltr">{html.escape(shown(text.decode() if isinstance(text, bytes) else text))}</bdi>'
+    return f'<bdi dir="ltr">{html.escape(shown(text))}</bdi>'
 
 
 def in_units(size):
@@ -177,50 +87,74 @@ def table(name, heads, rows, foot=()):
     yield f"</tbody>{''.join(['<tfoot><tr>', *foot, '</tr></tfoot>'] if foot else [])}</table></div>\n"
 
 
+def so_many(count, what):
+    """So many of these, as words."""
+    return f"{count:,} {what}{'s' * (count != 1)}"
+
+
+def how_ended(log):
+    return "end line" if log.is_whole() else "cut short"
+
+
 class Page:
     """The page of a report. Each section gives its text in pieces; `sections` has their order."""
 
     def __init__(self, report, guide):
         self.report, self.guide, self.several = report, guide, len(report.logs) > 1
-        self.kinds, self.causes, self.whys, self.sizes = map(report.total, ("kinds", "causes", "whys", "sizes"))
+        self.checks = [log for log in report.logs if log.is_check()]
+        self.runs = [log for log in report.logs if log not in self.checks]
+        self.kinds, self.causes, self.whys = map(report.total, ("kinds", "causes", "whys"))
 
     def pieces(self):
         paths = [log.path for log in self.report.logs] + self.report.recorded
         more = f" and {len(paths) - 10:,} more" if len(paths) > 10 else ""
         yield HEAD
+        yield from self.verdict()
         yield f'<p class="soft">Of {", ".join(map(told, paths[:10]))}{more}.</p>\n'
         for section in self.sections():
             yield from section
         yield TAIL
 
+    def verdict(self):
+        """How it stands, in a sentence or two; and the stores and the dates, where events give them."""
+        verdict = Verdict(self.report, self.runs, self.checks)
+        good = ' class="good"' if verdict.is_good() else ""
+        yield f'<p id="verdict"{good}>{verdict.text()}</p>\n'
+        for name, values in verdict.named():
+            yield f'<p class="named">{name}: {", ".join(map(told, values))}</p>\n'
+
     def sections(self):
-        yield from (self.tiles(), self.notes(), self.by_log()) if self.report.logs else ()
+        yield from (self.tiles(),) if self.runs else ()
+        yield from (self.notes(), self.by_log()) if self.report.logs else ()
         yield from (self.events(), self.missing(), self.by_kind(), self.by_cause(), self.by_why(), self.by_size())
         yield from (self.skipped(), self.unlike(), self.lacking(), self.twins(), self.lost())
+        yield from (self.by_check(), self.by_trouble(), self.troubles())
 
     def link(self, heading, text):
         """A link to a heading of the guide."""
         return f'<a href="{html.escape(self.guide)}#{heading}">{text}</a>'
 
     def word(self, word):
-        """A word of a log; a cause is a link to what the guide says of it."""
-        return self.link(word, word) if word in ADVICE else word
-
-    def sum_of(self, name):
-        return sum(getattr(log, name) for log in self.report.logs)
+        """A word of a log; a cause is a link to what the guide says of it, and so is a trouble of a check."""
+        heading = word if word in ADVICE else "limit" if word in OF_LIMIT else "before" if word in TROUBLES else None
+        return self.link(heading, word) if heading else word
 
     def tiles(self):
-        """The numbers that are looked at first."""
-        tiles = [(f"{self.report.missing.count:,}", "folders still missing")] * self.several + [
-            (f"{sum(self.sizes.values()):,}", "objects carried, or found the same"),
-            (in_units(self.sum_of("bytes")), f"in {self.sum_of('files'):,} files of these"),
-            (f"{self.report.skipped.count:,}", "folders skipped"),
-            (f"{self.report.twins.count:,}", "identifiers of several folders"),
-            (f"{self.sum_of('empty'):,}", "empty folders not carried"),
+        """The numbers that are looked at first: of each folder what the last line that names it says."""
+        state = self.report.state
+        tiles = [
+            (so_many(len(state.missing), "folder"), "still missing: skipped, or absent in the root"),
+            (so_many(state.objects, "object"), "in the root: carried, or found the same"),
+            (in_units(state.bytes), f"in {so_many(state.files, 'file')} of these objects"),
+            (so_many(state.unlike, "object"), "of the root other than in the store"),
+            (so_many(state.skipped, "folder"), "skipped, whatever the cause"),
+            (so_many(self.report.twins.count, "identifier"), "of several folders"),
+            (so_many(state.empty, "empty folder"), "of these objects not carried"),
         ]
         yield f'<ul class="tiles">\n{"".join(f"<li><b>{text}</b>{name}</li>" for text, name in tiles)}\n</ul>\n'
-        if self.several:
-            yield "<p>A folder that is still missing counts once. All other numbers are added up over the logs: what several name counts each time.</p>\n"
+        yield "<p>These are of the last state: of each folder the last line that names it counts, and a <code>present</code> line leaves what was known "
+        yield "of it. A skip of <code>root</code> or <code>empty</code> names no object, so nothing is missing there. What stands below is added up over "
+        yield "the logs.</p>\n"
 
     def notes(self):
         """What is odd about the logs."""
@@ -243,14 +177,41 @@ class Page:
         def sums(logs):
             return numbers(*(sum(getattr(log, name) for log in logs) for name in ("objects", "files", "bytes", "empty")))
 
+        if not self.runs:
+            return
         yield "<h2>Numbers</h2>\n<p>Objects are the lines that name one. Files, bytes and empty folders are those of done and same lines.</p>\n"
         heads = ["Log", "Of a", "Ends", "#Objects", "#Files", "#Bytes", "#Empty folders"]
-        rows = (cells(told(log.path), log.what(), "end line" if log.is_whole() else "cut short") + sums([log]) for log in self.report.logs)
-        yield from table("numbers", heads, rows, cells("added up", "", "") + sums(self.report.logs) if self.several else ())
-        for name, title, meanings in (("kinds", "Lines of", MEANINGS), ("causes", "Skips of", ADVICE)) if self.several else ():
+        rows = (cells(told(log.path), log.what(), how_ended(log)) + sums([log]) for log in self.runs)
+        several = len(self.runs) > 1
+        yield from table("numbers", heads, rows, cells("added up", "", "") + sums(self.runs) if several else ())
+        for name, title, meanings in (("kinds", "Lines of", MEANINGS), ("causes", "Skips of", ADVICE)) if several else ():
             words = [word for word in meanings if self.report.total(name)[word]]
-            rows = (cells(told(log.path)) + numbers(*(getattr(log, name)[word] for word in words)) for log in self.report.logs)
+            rows = (cells(told(log.path)) + numbers(*(getattr(log, name)[word] for word in words)) for log in self.runs)
             yield from table(f"{name}-by-log", [title, *("#" + word for word in words)], rows) if words else ()
+
+    def by_check(self):
+        """What each check met."""
+        if self.checks:
+            yield "<h2>Checks</h2>\n<p>What a check met, by its end line. Sites are the folders that identifiers lead to, with those on their way. Bytes are "
+            yield "counted with <code>--read</code> alone.</p>\n"
+            heads = ["Log", "Ends", "#Lines", "#Sites", "#Objects", "#Folders", "#Files", "#Bytes read", "#Largest object", "#Longest path"]
+            yield from table("checks", heads, map(self.check, self.checks))
+
+    @staticmethod
+    def check(log):
+        """The cells of a check; of one that was cut short what its lines tell."""
+        keys = ("sites", "objects", "folders", "files", "bytes", "largest", "longest")
+        met = numbers(*(log.met[key] for key in keys)) if log.is_whole() else ['<td class="n"></td>'] * len(keys)
+        return cells(told(log.path), how_ended(log)) + numbers(sum(log.kinds.values())) + met
+
+    def by_trouble(self):
+        found = self.kinds if self.report.troubles.count else {}
+        return self.counted("Troubles by kind", "troubles", ["Kind", "#Lines", "", "What to do"], {it: found[it] for it in TROUBLES if it in found}, TROUBLES)
+
+    def troubles(self):
+        title = "Told by a check: Paths are from the store's folder on; an empty one is that folder. The kind leads to what the guide says of it."
+        heads = ["Path", "Kind", "Reason"]
+        return self.listed("told", self.report.troubles, title, heads, lambda path, kind, why: cells(told(path), self.word(kind), told(why)))
 
     def events(self):
         """A row for each event: what was done, and how it ended."""
@@ -273,7 +234,7 @@ class Page:
 
     def counted(self, title, name, heads, of, meanings):
         """A section with a bar for each of these words that a log has."""
-        found = [word for word in meanings if of[word]]
+        found = [word for word in meanings if of.get(word)]
         if found:
             yield f"<h2>{title}</h2>\n"
             yield from table(name, heads, (cells(self.word(it)) + numbers(of[it]) + bar(of[it], of.values(), it) + cells(meanings[it]) for it in found))
@@ -289,9 +250,10 @@ class Page:
 
     def by_size(self):
         """A histogram by powers of ten: objects without bytes, those of one digit, of two, and so on."""
-        of = self.sizes
+        of = self.report.state.sizes
         if of:
-            yield "<h2>Sizes of objects</h2>\n<p>Of those of done and same lines, with the lengths of all files added up; the upper bound isn't in it.</p>\n"
+            yield "<h2>Sizes of objects</h2>\n<p>Of the objects in the root, each once, with the lengths of all files added up; "
+            yield "the upper bound isn't in it.</p>\n"
             names = ((it, f"{power_of_ten(it)} to {power_of_ten(it + 1)}" if it else "0 B") for it in range(min(of), max(of) + 1))
             yield from table("sizes", ["Size", "#Objects", ""], (cells(name) + numbers(of[it]) + bar(of[it], of.values(), "size") for it, name in names))
 
@@ -302,16 +264,20 @@ class Page:
             yield f"<h2>{head}: {found.count:,}</h2>\n<p>{text}</p>\n"
             yield from table(name, heads + ["Log"] * self.several, (row(*it[:-1]) + cells(told(it[-1].path)) * self.several for it in found.rows))
             left = found.count - (len(found.rows) if listed is None else listed)
-            yield f"<p>{left:,} more aren't listed: <code>--limit</code> lists more here, <code>--csv</code> all lines.</p>\n" if left else ""
+            isnt = "isn't" if left == 1 else "aren't"
+            yield f"<p>{left:,} more {isnt} listed: <code>--limit</code> lists more here, <code>--csv</code> all lines.</p>\n" if left else ""
 
     def skipped(self):
         title = "Skipped folders: The cause leads to what the guide says of it."
         return self.listed("skipped", self.report.skipped, title, ["Folder", "Cause"], self.site)
 
     def missing(self):
-        title = """Still missing: The last log that names the folder skipped it, and no log has it as done, present or same; or the last log that names it
-tells it to be absent. A folder that was renamed or removed since stands here too, by the log that named it last. The lines of a rehearsal are those of
-a run: what it alone has as done isn't told here, so leave its log out."""
+        if not self.several:
+            return ()
+        title = """Still missing: The last log that names the folder skipped it, and no log has it as done, present or same, or one has it as absent since; or
+the last log that names it tells it to be absent. Skips of <code>root</code> and <code>empty</code> name no object and aren't here. A folder that was renamed
+or removed since stands here too, by the log that named it last. The lines of a rehearsal are those of a run: what it alone has as done
+isn't told here, so leave its log out."""
         return self.listed("missing", self.report.missing, title, ["Folder", "Cause"], self.site)
 
     def site(self, at, cause):

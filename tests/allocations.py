@@ -26,9 +26,9 @@ from tally import Lacking, Skipped, Tally, faults_of
 
 OUT_OF_MEMORY = b"pairtree2ocfl: fault 4: out of memory\n"
 
-# How it is told that an identifier of a list was met nowhere, and what is told in its place where there is no memory for that.
-UNMET = b"pairtree2ocfl: met nowhere: "
-UNSHOWN = (UNMET + b"an identifier that there is no memory to show\n", b"pairtree2ocfl: it is not known which identifiers were met nowhere\n")
+# How it is told that no object was met of an identifier of a list, and what is told in its place where there is no memory for that.
+UNMET = b"pairtree2ocfl: no object was met: "
+UNSHOWN = (UNMET + b"an identifier that there is no memory to show\n", b"pairtree2ocfl: it is not known of which identifiers no object was met\n")
 
 # A name that is too long by a byte to be held in the value of a name, a longer one, and the longest that there is.
 LONGER, LONG, LONGEST = "b" * 22, "c" * 36, "d" * 255
@@ -109,7 +109,7 @@ class Case:
         return answer[:2] == self.whole[:2] and all(line in notices for line in answer[2].splitlines())
 
     def is_unshown(self, answer):
-        """Whether all is answered as where nothing is refused, but which identifier was met nowhere."""
+        """Whether all is answered as where nothing is refused, but of which identifier no object was met."""
         return answer[:2] == self.whole[:2] and self.whole[2].startswith(UNMET) and answer[2] in UNSHOWN
 
     def is_want(self, answer):

@@ -62,10 +62,42 @@ def is_help(text):
     return b"Usage: pairtree2ocfl" in text and b"names" in text
 
 
+LONGEST = 100
+
+
+def fits(text):
+    """No line of help has more than 100 characters."""
+    return all(len(line) <= LONGEST for line in text.decode().split("\n"))
+
+
+def options_of(text):
+    """What help says of options: all that is indented below their heading."""
+    return re.search(rb"(?m)^Options:\n((?: .*\n|\n)*)", text)[1]
+
+
+def is_short_help(text):
+    """Help by `-h`: an option a line, with what it is, and nothing behind the options; where it leads to more, it says so."""
+    lines = options_of(text).decode().splitlines()
+    told = [re.match(r" {2}(?:-\w, | {4})--[a-z-]+(?: <[A-Z/]+>)? {2,}\S", line) for line in lines]
+    return fits(text) and bool(lines) and all(told) and text.endswith("\n".join(lines).encode() + b"\n") and (b"[default: 3]" in text or b"Commands:" in text)
+
+
+def is_long_help(text):
+    """Help by `--help`: each option has lines of its own, and behind all stands what each exit status means."""
+    heads = re.findall(rb"(?m)^ +(?:-\w, )?--[a-z-]+(?: <[A-Z/]+>)?\n {10}\S", options_of(text))
+    return fits(text) and len(heads) == len(re.findall(rb"(?m)^ {2}(?:-\w, | {4})--", text)) > 5 and b"\n\nExit status:\n  0  " in text
+
+
+def says_more(text):
+    """Help of `migrate` by `--help` says what a line of `-h` has no room for."""
+    more = (b"the prefix included", b"\n          may be given again\n", b"where they don't go to a terminal", b"[possible values: auto, always, never]")
+    return is_long_help(text) and all(one in text for one in more) and b"\n  skip     not carried" in text
+
+
 def is_help_on_audit(text):
     """The help of `audit`, whose options say what it does, and nothing of what a run does."""
-    options = text.partition(b"Options:")[2].partition(b"\n\n")[0]
-    said = (b"Audit the objects of share K of N", b"Audit what lies directly", b"how far the audit is", b"a run, a rehearsal or an audit")
+    options = options_of(text)
+    said = (b"Audit only the objects of share K of N", b"Audit what lies directly", b"how far the audit is", b"a run, a rehearsal or an audit")
     return b"Usage: pairtree2ocfl audit" in text and all(one in options for one in said) and not re.search(rb"[Cc]arr|the run\b|staging", options)
 
 
@@ -73,7 +105,7 @@ def is_help_on_check(text):
     """The help of `check`, which takes a source alone, and whose line on each trouble says what it is."""
     words = (b"unreadable", b"missing", b"prefix", b"doubtful", b"spelling", b"deep", b"long", b"many", b"large", b"place", b"desktop", b"end")
     said = all(b"\n  %s  " % word in text for word in words) and b"\n  root, empty, split, past, name, utf8, reserved, other\n" in text
-    return said and b"Usage: pairtree2ocfl check [OPTIONS] <SOURCE>\n" in text and b"<DEST>  " not in text.partition(b"Options:")[0]
+    return is_long_help(text) and said and b"Usage: pairtree2ocfl check [OPTIONS] <SOURCE>\n" in text and b"<DEST>" not in text.partition(b"Options:")[0]
 
 
 def is_version(text):
@@ -84,6 +116,34 @@ def is_version(text):
 def is_refusal(text):
     """The parser's refusal: what is wrong, and how the program is used."""
     return text.startswith(b"error: ") and b"Usage: pairtree2ocfl" in text
+
+
+def hints(word, *behind):
+    """A judge of the parser's refusal of an unexpected word: it has one hint, and that is this."""
+    return lambda err: err.startswith(f"error: unexpected argument '{word}' found\n\n".encode()) and re.findall(r"(?m)^  tip: (.*)$", err.decode()) == [*behind]
+
+
+def helps():
+    """Help of each command, by a line an option and at length; and what is hinted at where a word isn't known."""
+    for command in ([], ["migrate"], ["audit"], ["check"], ["names"]):
+        yield Case(f"short help: {' '.join(command)}", [*command, "-h"], 0, is_short_help)
+        yield Case(f"help in lines of 100: {' '.join(command)}", [*command, "--help"], 0, fits)
+    for command in ("migrate", "audit", "check"):
+        yield Case(f"long help: {command}", [command, "--help"], 0, is_long_help)
+        yield Case(f"long help by help: {command}", ["help", command], 0, is_long_help)
+    yield Case("what long help says more", ["migrate", "--help"], 0, says_more)
+    for shown, words, tip in (
+        ("-5", ["--interval", "-5"], "to pass '-5' as the value of '--interval', use '--interval=-5'"),
+        ("-1", ["--gather", "--interval", "-15"], "to pass '-15' as the value of '--interval', use '--interval=-15'"),
+        ("-x", ["--message", "-x y"], "to pass '-x y' as the value of '--message', use '--message=-x y'"),
+        ("--zzz", ["--message", "--zzz"], "to pass '--zzz' as the value of '--message', use '--message=--zzz'"),
+        ("-5", ["--gather", "-5"], "to pass '-5' as a value, use '-- -5'"),
+    ):
+        yield Case(f"a hint: {' '.join(words)}", ["migrate", *words, "s", "d"], 2, b"", hints(shown, tip))
+    yield Case("a hint for an identifier", ["names", "-5"], 2, b"", hints("-5", "to pass '-5' as a value, use '-- -5'"))
+    yield Case("the hint taken", ["names", "--", "-5"], 0, f"-5\n{tuples(b'-5')}/-5\n".encode())
+    below = b"error: invalid value '-5' for '--interval <SECONDS>': -5 is not in 0..=4294967295\n"
+    yield Case("a number below 0", ["audit", "--interval=-5", "s", "d"], 2, b"", lambda err: err.startswith(below))
 
 
 def long_cases():
@@ -109,9 +169,12 @@ def of_layout(words, identifier, pairpath, place):
     return Case(name, ["names", *words, identifier], 0, f"{pairpath}\n{place}\n".encode())
 
 
+NO_LAYOUT = "the tuples are out of range: --tuple-size and --tuples are each from 1 to 32, with a product of at most 64, or both 0"
+
+
 def no_layout(*words):
     """The case of `names` with numbers that are no layout."""
-    return Case(f"names {' '.join(words)}", ["names", *words, "a"], 2, b"", b"pairtree2ocfl: the tuples are out of range\n")
+    return Case(f"names {' '.join(words)}", ["names", *words, "a"], 2, b"", f"pairtree2ocfl: {NO_LAYOUT}\n".encode())
 
 
 def layouts():
@@ -209,6 +272,7 @@ CASES = [
     *long_cases(),
     *layouts(),
     *of_input(),
+    *helps(),
     Case("help on standard output", ["--help"], 0, is_help),
     Case("help on one command", ["names", "--help"], 0, is_help),
     Case("help on audit", ["audit", "--help"], 0, is_help_on_audit),
@@ -217,6 +281,10 @@ CASES = [
     Case("a check of two stores", ["check", "s", "d"], 2, b"", is_refusal),
     Case("a check with an option of a run", ["check", "--gather", "s"], 2, b"", is_refusal),
     Case("a check that ignores what is no name", ["check", "--ignore", "a/b", "s"], 2, b"", NOT_A_NAME),
+    Case("a check into an empty word", ["check", "--dest", "", "s"], 2, b"", b"pairtree2ocfl: --dest is empty\n"),
+    Case("a check that ignores what is no name, into an empty word", ["check", "--dest=", "--ignore=", "s"], 2, b"", NOT_A_NAME),
+    Case("an audit with an empty event", ["audit", "--event", "", "s", "d"], 2, b"", b"pairtree2ocfl: --event is empty\n"),
+    Case("an audit of an empty list", ["audit", "--list", "", "s", "d"], 2, b"", b"pairtree2ocfl: --list is empty\n"),
     Case("a check of what isn't there", ["check", "/none"], 1, ABSENT),
     Case("a check to an output that is full", ["check", "/none"], 3, b"", FULL, "/dev/full"),
     Case("the empty identifier", ["names", ""], 2, b"", b"pairtree2ocfl: the identifier is empty\n"),

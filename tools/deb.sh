@@ -11,7 +11,8 @@ mkdir -p "$root/DEBIAN" "$doc"
 # lintian: statically-linked-binary: they are to run on any Linux; the object files are here to link them again.
 cp "$top/CHANGELOG.md" "$doc"
 sh "$top/tools/install.sh" "$programs" "$root/usr"
-gzip -9n "$root/usr/share/man/man1/pairtree2ocfl.1"
+rm -r "$doc/LICENSE-MIT" "$doc/LICENSE-APACHE" "$doc/LICENSES"
+gzip -9n "$root"/usr/share/man/man1/*.1
 {
     printf 'pairtree2ocfl (%s) unstable; urgency=medium\n\n  * What this version brought is in CHANGELOG.md.\n\n' "$version"
     printf ' -- the pairtree2ocfl authors <noreply@example.org>  %s\n' "$(LC_ALL=C date -u -R -d "$day")"

@@ -6,8 +6,7 @@ name=pairtree2ocfl-$version-$(uname -s | tr A-Z a-z)-$(uname -m)
 root=$work/$name
 
 mkdir "$root"
-cp "$top/CHANGELOG.md" "$top/LICENSE-MIT" "$top/LICENSE-APACHE" "$root"
-cp -R "$top/LICENSES" "$root"
+cp "$top/CHANGELOG.md" "$root"
 sh "$top/tools/install.sh" "$programs" "$root" .
 install -m 755 "$top/tools/unpacked.sh" "$root/install.sh"
 (cd "$root" && find . -type f | LC_ALL=C sort | sed 's|^\./||' | tr '\n' '\0' | xargs -0 sha256sum > ../SHA256SUMS)

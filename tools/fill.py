@@ -13,7 +13,7 @@ import sys
 from typing import NamedTuple
 
 TOP = os.path.dirname(os.path.dirname(os.path.abspath(__file__)))
-IDS, GRAMMAR = (f"crates/pt_cli/src/{name}.rt" for name in ("ids", "grammar"))
+IDS, ROWS, GRAMMAR = (f"crates/pt_cli/src/{name}.rt" for name in ("ids", "takes", "grammar"))
 PAGE = "man/pairtree2ocfl.1"
 BASH, ZSH, FISH = (f"completions/{name}" for name in ("pairtree2ocfl.bash", "_pairtree2ocfl", "pairtree2ocfl.fish"))
 
@@ -23,11 +23,13 @@ FOLDERS = ("SOURCE", "DEST")
 
 # A text of the grammar, and a row.
 STRING = r'"((?:[^"\\]|\\.)*)"'
-ROW = re.compile(rf"ArgSpec \{{\s*id: (\w+),\s*form: Form::(\w+)(\(.*?\))?,\s*help:\s*{STRING},\s*\}}", re.DOTALL)
+MORE = rf"(?:None|Some\(\s*{STRING},?\s*\))"
+ROW = re.compile(rf"ArgSpec \{{\s*id: (\w+),\s*form: Form::(\w+)(\(.*?\))?,\s*help:\s*{STRING},\s*more:\s*{MORE},\s*\}}", re.DOTALL)
 
 
 class Arg(NamedTuple):
-    """An argument: its name, its form, its letter, what help calls its value, which words that may be, what it is unless given, and its help."""
+    """An argument: its name, its form, its letter, what help calls its value, which words that may be, what it is unless given, its line of help, and
+    what help says at length."""
 
     name: str
     form: str
@@ -36,6 +38,7 @@ class Arg(NamedTuple):
     words: list
     default: str
     help: str
+    more: str
 
 
 class Command(NamedTuple):
@@ -58,16 +61,22 @@ def text_of(path):
 
 def grammar_text():
     """The text of the ids and of the rows that have them."""
-    return text_of(IDS) + text_of(GRAMMAR)
+    return text_of(IDS) + text_of(ROWS) + text_of(GRAMMAR)
+
+
+def said(text):
+    """What a text of help says, on one line, and, where it ends with that, what the argument is unless given."""
+    told = re.sub(r"\\(.)", lambda escaped: " " if escaped[1] == "n" else escaped[1], text)
+    return re.fullmatch(r"(.*?)(?: \[default: (.*)\])?", told).groups(default="")
 
 
 def arg_of(row, constants):
     """The argument of a row."""
-    name, form, given, told = row.groups(default="")
+    name, form, given, line, more = row.groups(default="")
     words = re.findall(STRING, "".join(re.findall(r"&\[.*?\]", given)))
     value, default = (re.findall(STRING, re.sub(r"&\[.*?\]", "", given)) + ["", ""])[:2]
-    told, by_help = re.fullmatch(r"(.*?)(?: \[default: (.*)\])?", re.sub(r"\\(.)", r"\1", told)).groups(default="")
-    return Arg(constants[name], form, "".join(re.findall("'(.)'", given)), value, words, default or by_help, told)
+    told, by_help = said(more or line)
+    return Arg(constants[name], form, "".join(re.findall("'(.)'", given)), value, words, default or by_help, said(line)[0], told)
 
 
 def args_of(table, shared, constants):
@@ -75,7 +84,7 @@ def args_of(table, shared, constants):
     item = re.compile(rf"({ROW.pattern}|TAKES_\w+),", re.DOTALL)
     left = item.sub("", table).strip()
     if left:
-        sys.exit(f"{GRAMMAR}: this is no row: {left}")
+        sys.exit(f"{ROWS}: this is no row: {left}")
     return [shared[found[1]] if found[1] in shared else arg_of(ROW.match(found[1]), constants) for found in item.finditer(table)]
 
 
@@ -231,10 +240,10 @@ def what_it_is(option):
 
 
 def page_entry(option, places, more):
-    """An option in the man page: its help, and what is said beside that. The names of its value and of places are in italics."""
+    """An option in the man page: its help at length, and what is said beside that. The names of its value and of places are in italics."""
     name, *letter = map(roff, flags(option))
     head = f'.BR {letter[0]} ", " {name}' if letter else f'.BI {name} " {option.value}"' if option.value else f".B {name}"
-    told = roff(option.help, [*places, *filter(None, [option.value])]) + what_it_is(option)
+    told = roff(option.more, [*places, *filter(None, [option.value])]) + what_it_is(option)
     return f".TP\n{head}\n{told}.\n" + "Required.\n" * (option.form == "Needed") + more
 
 

@@ -1,13 +1,15 @@
 #!/bin/sh
-# Installs the program given, with its man page, completions and documents, below a folder; `--remove` in place of the program takes them
-# away. The documents go to DOCUMENTS below it, share/doc/pairtree2ocfl unless given. Of a folder that tools/programs.py made both programs are
-# installed, as a package has them, with what links them again; the one for x86-64-v2 is to be run, until choose.sh chooses.
+# Installs the program given, with its man page, completions, scripts, documents and licences, below a folder; `--remove` in place of the program
+# takes them away. The documents and licences go to DOCUMENTS below it, share/doc/pairtree2ocfl unless given. Of a folder that tools/programs.py
+# made both programs are installed, as a package has them, with what links them again; the one for x86-64-v2 is to be run, until choose.sh chooses.
 #   install.sh PROGRAM|PROGRAMS|--remove PREFIX [DOCUMENTS]
 set -eu
 umask 022
 program=$1
 prefix=${2:?name the folder to install to}
-documents=$prefix/${3:-share/doc/pairtree2ocfl}
+below=${3:-share/doc/pairtree2ocfl}
+documents=$prefix/$below
+scripts=$prefix/share/pairtree2ocfl
 top=$(dirname "$0")/..
 made=
 trap 'rm -rf "$made"' EXIT
@@ -21,9 +23,19 @@ put() {
     fi
 }
 
+# A link in bin/, by which a script is on the PATH.
+link() {
+    rm -f "$prefix/bin/$2"
+    if [ "$program" != --remove ]; then
+        mkdir -p "$prefix/bin"
+        ln -s "../share/pairtree2ocfl/$1" "$prefix/bin/$2"
+    fi
+}
+
 if [ "$program" != --remove ]; then
     made=$(mktemp -d)
     "${PYTHON:-python3}" "$top/tools/fill.py" "$made"
+    echo '.so man1/pairtree2ocfl.1' > "$made/same.1"
 fi
 if [ -d "$program" ]; then
     for name in README libos_c.a liblibc_c.a x86-64-v2/pairtree2ocfl.o x86-64-v3/pairtree2ocfl.o; do
@@ -43,14 +55,28 @@ put 644 "$made/pairtree2ocfl.bash" share/bash-completion/completions/pairtree2oc
 put 644 "$made/_pairtree2ocfl" share/zsh/site-functions/_pairtree2ocfl
 put 644 "$made/pairtree2ocfl.fish" share/fish/vendor_completions.d/pairtree2ocfl.fish
 put 755 "$top/tools/roots.py" share/pairtree2ocfl/roots.py
-put 755 "$top/examples/shares.sh" share/pairtree2ocfl/shares.sh
+put 755 "$top/tools/shares.py" share/pairtree2ocfl/shares.py
+for name in roots_joining roots_objects roots_telling shown; do
+    put 644 "$top/tools/$name.py" "share/pairtree2ocfl/$name.py"
+done
 put 755 "$top/examples/report.py" share/pairtree2ocfl/report.py
-put 644 "$top/examples/report_page.py" share/pairtree2ocfl/report_page.py
+for name in report_log report_page report_sums report_verdict report_words; do
+    put 644 "$top/examples/$name.py" "share/pairtree2ocfl/$name.py"
+done
+for name in roots shares report; do
+    link "$name.py" "pairtree2ocfl-$name"
+    put 644 "$made/same.1" "share/man/man1/pairtree2ocfl-$name.1"
+done
+for path in "$top"/LICENSE-* "$top"/LICENSES/*/*; do
+    put 644 "$path" "$below/${path#"$top"/}"
+done
+# What an earlier version installed, and what Python leaves beside scripts.
+rm -rf "$scripts/shares.sh" "$scripts/__pycache__"
 if [ "$program" = --remove ]; then
     for path in "$top/README.md" "$top"/docs/*.md; do
         rm -f "$documents/${path#"$top"/}"
     done
-    rmdir "$documents/docs" "$documents" 2> /dev/null || :
+    rmdir "$scripts" "$documents/docs" "$documents/LICENSES"/* "$documents/LICENSES" "$documents" 2> /dev/null || :
 else
     "${PYTHON:-python3}" "$top/tools/shipped.py" "$top" "$documents"
 fi

@@ -6,14 +6,14 @@ root=$work/root
 licences=$root/usr/share/licenses/pairtree2ocfl
 
 mkdir -p "$licences"
-cp -R "$top/LICENSE-MIT" "$top/LICENSE-APACHE" "$top/LICENSES" "$licences"
 sh "$top/tools/install.sh" "$programs" "$root/usr"
+mv "$root/usr/share/doc/pairtree2ocfl/LICENSE"* "$licences"
 cp "$top/CHANGELOG.md" "$root/usr/share/doc/pairtree2ocfl"
-gzip -9n "$root/usr/share/man/man1/pairtree2ocfl.1"
+gzip -9n "$root"/usr/share/man/man1/*.1
 settle "$root"
 # All files and links, and the folders that are this package's own. Which program is linked is chosen where it is installed.
 (cd "$root" && find usr -path '*/pairtree2ocfl*' -type d | sed 's|.*|%dir "/&"|' && find usr ! -type d | sed 's|.*|"/&"|') |
-    sed 's|^"/usr/bin/|%verify(not link) &|' | LC_ALL=C sort > "$work/files"
+    sed 's|^"/usr/bin/pairtree2ocfl"|%verify(not link) &|' | LC_ALL=C sort > "$work/files"
 cat > "$work/pairtree2ocfl.spec" <<EOT
 Name: pairtree2ocfl
 Version: $version

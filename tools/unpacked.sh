@@ -9,5 +9,9 @@ documents=$prefix/share/doc/pairtree2ocfl
 
 mkdir -p "$prefix/bin" "$documents"
 cp -R "$top/lib" "$top/share" "$prefix"
+rm -f "$prefix/share/pairtree2ocfl/shares.sh"
+for name in roots shares report; do
+    ln -sfn "../share/pairtree2ocfl/$name.py" "$prefix/bin/pairtree2ocfl-$name"
+done
 cp -R "$top/README.md" "$top/docs" "$top/CHANGELOG.md" "$top/LICENSE-MIT" "$top/LICENSE-APACHE" "$top/LICENSES" "$documents"
 sh "$prefix/lib/pairtree2ocfl/choose.sh" --link "$prefix"

@@ -13,6 +13,7 @@ import carrying
 import options
 import program as words_alone
 import refusing
+import scripted
 import sharing
 import surroundings
 import twins
@@ -50,7 +51,7 @@ def over():
     """The cases of runs, audits, shares and what is around them, of each program that is shipped; none where these aren't built, which CASES tell.
     What takes long and asks nothing more of a program is left to the gate's: progress over many objects, and a cluster, which runs the same script."""
     files = (carrying, refusing, auditing, twins, options, surroundings, sharing)
-    cases = [case for file in files for case in file.CASES if case is not sharing.ON_A_CLUSTER] + watching.QUICK
+    cases = [case for file in files for case in file.CASES] + watching.QUICK + scripted.QUICK
     return [Over(cpu, case) for cpu in CPUS for case in cases] if os.path.isdir(FOLDER) else []
 
 

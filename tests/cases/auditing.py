@@ -269,7 +269,8 @@ def another_tool(program, folder):
 
 
 def no_root(program, folder):
-    """Without ocfl all is absent; a root of another layout is fault 8, and a folder that isn't there fault 2."""
+    """Without ocfl all is absent; a root of another layout is fault 8, and a folder that isn't there fault 2, whose reason comes once, with
+    --verbose too."""
     fresh(folder, ONE)
     build(folder, {"other": DIR})
     objects = [("ab/c/obj", "abc", ABC)]
@@ -286,12 +287,16 @@ def no_root(program, folder):
     build(f"{folder}/e", {"ocfl": b""})
     other = f"pairtree2ocfl: {folder}/e/ocfl: it is not what this program makes there with these tuples\n".encode()
     faults += differs(file=(audit(program, folder, "--verbose", dest="e"), (3, b"", target + other)))
-    unread = b"pairtree2ocfl: fault 2: cannot read the destination\n"
-    faults += differs(gone=(audit(program, folder, dest="absent"), (3, b"", unread)))
-    why = f"pairtree2ocfl: {folder}/absent/: No such file or directory (os error 2)\n".encode()
-    faults += differs(verbose=(audit(program, folder, "--verbose", dest="absent"), (3, b"", unread + why)))
-    source = b"pairtree2ocfl: fault 5: not a Pairtree 0.1 store\n"
-    faults += differs(store=(audit(program, folder, source="other"), (3, b"", source)))
+    os.mkfifo(f"{folder}/pipe")
+    for dest, reason in {"absent": "No such file or directory (os error 2)", "pipe": "Not a directory (os error 20)"}.items():
+        unread = f"pairtree2ocfl: fault 2: cannot read the destination\npairtree2ocfl: {folder}/{dest}/: {reason}\n".encode()
+        faults += differs(**{dest: (audit(program, folder, dest=dest), (3, b"", unread))})
+        unlocked = f"pairtree2ocfl: {folder}/pipe: it is not locked: not a directory\n".encode() if dest == "pipe" else b""
+        faults += differs(**{f"{dest}, verbose": (audit(program, folder, "--verbose", dest=dest), (3, b"", unlocked + unread))})
+    why = f"{folder}/other: it holds no file pairtree_version0_1 or no directory pairtree_root"
+    source = f"pairtree2ocfl: fault 5: not a Pairtree 0.1 store\npairtree2ocfl: {why}\n".encode()
+    for words in ((), ("--verbose",)):
+        faults += differs(**{f"store {words}": (audit(program, folder, *words, source="other"), (3, b"", source))})
     return faults
 
 

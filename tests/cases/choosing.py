@@ -1,10 +1,11 @@
-"""Cases of `--list`: which objects are carried, rehearsed and audited by a list of identifiers, what is told of those that were met
-nowhere, and which lists are refused; and what is asked of objects that neither it nor `--only` chooses."""
+"""Cases of `--list`: which objects are carried, rehearsed and audited by a list of identifiers, what is told of those of which no object
+was met, and which lists are refused; and what is asked of objects that neither it nor `--only` chooses."""
 
 import json
 import os
 import random
 import re
+import resource
 import shutil
 import subprocess
 import time
@@ -15,9 +16,11 @@ from sharing import audited, joined, random_store, share_number, told
 from stores import DIR, Link, build, differences, place, read_tree, store, with_folders
 from tally import needs
 
-STORE = store({"aa/obj/f": b"1", "ab/obj/f": b"2", "ac/obj/f": b"3", "xx": DIR}, b"ark:/1/")
-UNMET = "pairtree2ocfl: met nowhere: "
+STORE = store({"aa/obj/f": b"1", "ab/obj/f": b"2", "ac/obj/f": b"3", "xx": DIR, "xy/one/f": b"4", "xy/two/f": b"5"}, b"ark:/1/")
+UNMET = "pairtree2ocfl: no object was met: "
 TOO_LONG = "the identifier has more than 65536 bytes"
+MARKED = "it begins with a byte order mark"
+MARK = "\ufeff".encode()
 
 
 def made(program, folder, dest, *words, command="migrate"):
@@ -82,7 +85,7 @@ def lists_of(seed):
     return Alone(f"lists over a random store, {seed}", test)
 
 
-# Lists, other words, the objects that are carried, and what is met nowhere.
+# Lists, other words, the objects that are carried, and those identifiers of which no object is met, as they are shown.
 CHOSEN = [
     (b"", [], [], []),
     (b"ark:/1/aa\n", [], ["ark:/1/aa"], []),
@@ -93,9 +96,18 @@ CHOSEN = [
     (b"ark:/1/aa\n", ["--only", "ark:/1/ac"], ["ark:/1/aa", "ark:/1/ac"], []),
     (b"none\n", ["--only", "ark:/1/a"], ["ark:/1/aa", "ark:/1/ab", "ark:/1/ac"], ["none"]),
     (b"ark:/1/xx\n", [], [], ["ark:/1/xx"]),
+    (b"ark:/1/xy\n", [], [], ["ark:/1/xy"]),
     ("é\n".encode(), [], [], ["é"]),
     (b"a\\b\x07\n", ["--quiet"], [], ["a\\\\b\\u{7}"]),
-    (b" ark:/1/aa\n", [], [], [" ark:/1/aa"]),
+    (b" ark:/1/aa\n", [], [], ["\\u{20}ark:/1/aa"]),
+    (b"ark:/1/aa  \n", [], [], ["ark:/1/aa\\u{20}\\u{20}"]),
+    (b"  \n", [], [], ["\\u{20}\\u{20}"]),
+    (b"a  b\n", [], [], ["a  b"]),
+    ("a\xa0b\u3000\n".encode(), [], [], ["a\\u{a0}b\\u{3000}"]),
+    ("a\u061cb\u200ec\u200fd\n".encode(), [], [], ["a\\u{61c}b\\u{200e}c\\u{200f}d"]),
+    ("a\u2028b\u2029\n".encode(), [], [], ["a\\u{2028}b\\u{2029}"]),
+    (b"ark:/1/aa\n" + MARK + b"ark:/1/ab\n", [], ["ark:/1/aa"], ["\\u{feff}ark:/1/ab"]),
+    ("ark:/1/aa\n\u200b\n".encode(), [], ["ark:/1/aa"], ["\\u{200b}"]),
     (b"ark:/1/aa\r", [], [], ["ark:/1/aa\\u{d}"]),
     (b"n" * 65536 + b"\r\n", [], [], ["n" * 65536]),
 ]
@@ -103,19 +115,19 @@ CHOSEN = [
 
 def chosen(program, folder):
     """An identifier is compared as a whole, by its bytes, with the store's prefix. One that stands twice counts once; `--only` adds what
-    begins so. What was met nowhere is told, and the status is 1 where it would be 0."""
+    begins so. Of which no object was met is told, each character so that it is seen, and the status is 1 where it would be 0."""
     shutil.rmtree(f"{folder}/s")
     build(f"{folder}/s", STORE)
     faults = []
     for number, (content, words, ids, unmet) in enumerate(CHOSEN):
         status, lines, errors = made(program, folder, f"{number}", *words, *listed(folder, content))
         found = (status, carried(lines), errors)
-        faults += differs(**{repr(content[:20]): (found, (1, ids, "".join(f"{UNMET}{identifier}\n" for identifier in unmet)))})
+        faults += differs(**{repr(content[-20:]): (found, (1, ids, "".join(f"{UNMET}{identifier}\n" for identifier in unmet)))})
     return faults
 
 
 def statuses(program, folder):
-    """Where all else is well, 1 tells that an identifier was met nowhere: of a run, a rehearsal and an audit. A fault's status stays."""
+    """Where all else is well, 1 tells that no object was met of an identifier: of a run, a rehearsal and an audit. A fault's status stays."""
     both, alone, faults = listed(folder, b"abc\nnone\n", "both"), listed(folder, b"abc\n", "alone"), []
     for number, (words, wanted) in enumerate(((both, (1, f"{UNMET}none\n")), (alone, (0, "")))):
         found = {"rehearsal": made(program, folder, f"{number}", "-n", *words), "run": made(program, folder, f"{number}", *words)}
@@ -148,6 +160,17 @@ BAD = [
     (b"n" * 65537 + b"\n\n", 1, TOO_LONG),
     (b"n" * 65537 + b"\xff", 1, TOO_LONG),
     ("é".encode() * 32768 + b"n\n", 1, TOO_LONG),
+    (b"n" * 65537 + b"\r\n", 1, TOO_LONG),
+    (b"n" * 65536 + b"\r\r\n", 1, TOO_LONG),
+    (MARK, 1, MARKED),
+    (MARK + b"\r\nabc\n", 1, MARKED),
+    (MARK + b"abc\n\n", 1, MARKED),
+    (MARK + MARK + b"abc", 1, MARKED),
+    (MARK + b"n" * 65533 + b"\n", 1, MARKED),
+    (MARK + b"n" * 65534, 1, TOO_LONG),
+    (MARK + b"\xff\n", 1, "the identifier is not UTF-8"),
+    (MARK[:2] + b"\n", 1, "the identifier is not UTF-8"),
+    (b"abc\n" + MARK + b"\n\n", 3, "the identifier is empty"),
 ]
 
 
@@ -164,10 +187,12 @@ def bad_lines(program, folder):
 def unreadable(program, folder):
     """A list that can't be read is refused by its path and the reason; the other words are judged before."""
     build(folder, {"to nothing": Link("nothing"), "a\nb": DIR})
-    gone = "No such file or directory (os error 2)"
+    gone, failed = "No such file or directory (os error 2)", "Input/output error (os error 5)"
     of_words = "pairtree2ocfl: --ignore is not the name of a file or folder\n"
     faults = differs(order=(made(program, folder, "d", "--list", "nothing", "--ignore", "a/b"), (2, [], of_words)))
-    for name, shown, why in (("nothing", "nothing", gone), ("to nothing", "to nothing", gone), ("", "", gone), ("a\nb", "a\\u{a}b", "Is a directory (os error 21)")):
+    rows = [("nothing", "nothing", gone), ("to nothing", "to nothing", gone), ("a\nb", "a\\u{a}b", "Is a directory (os error 21)")]
+    rows += [(" a\u200e ", "\\u{20}a\\u{200e}\\u{20}", gone), ("/proc/self/mem", "/proc/self/mem", failed)]
+    for name, shown, why in rows:
         for command in ("migrate", "audit"):
             found = made(program, folder, "d", "--list", name, command=command)
             faults += differs(**{f"{command} {name!r}": (found, (2, [], f"pairtree2ocfl: {shown}: {why}\n"))})
@@ -184,6 +209,27 @@ def followed(program, folder):
     os.mkdir(f"{folder}/2")
     done = subprocess.run(command, cwd=folder, capture_output=True, input=b"abc\nnone", timeout=60)
     return faults + differs(pipe=((done.returncode, carried(done.stdout.splitlines()), done.stderr.decode()), (1, ["abc"], f"{UNMET}none\n")))
+
+
+def at_once(program, folder):
+    """A bad line ends the reading where it shows, also of a FILE that has no end or gives nothing more: by less memory than a whole FILE
+    would take, and without its end being waited for."""
+    few = {"preexec_fn": lambda: resource.setrlimit(resource.RLIMIT_AS, (256 << 20, 256 << 20))}
+    command, faults = [program, "migrate", *MEANT, "--list"], []
+    done = subprocess.run([*command, "/dev/zero", "s", "d"], cwd=folder, capture_output=True, timeout=60, **few)
+    faults += differs(endless=((done.returncode, done.stdout, done.stderr.decode()), (2, b"", f"pairtree2ocfl: /dev/zero: line 1: {TOO_LONG}\n")))
+    for number, content in ((2, b"abc\n\n"), (1, b"n" * 65538), (2, b"abc\n" + b"n" * 65538), (1, MARK + b"abc\n")):
+        with subprocess.Popen([*command, "/dev/stdin", "s", "d"], cwd=folder, stdin=subprocess.PIPE, stderr=subprocess.PIPE) as asked:
+            try:
+                asked.stdin.write(content)
+                asked.stdin.flush()
+                status = asked.wait(timeout=20)
+            except subprocess.TimeoutExpired:
+                status = "it waits"
+                asked.kill()
+            told = asked.stderr.read().decode()
+        faults += differs(**{f"{content[:9]!r}": ((status, told.startswith(f"pairtree2ocfl: /dev/stdin: line {number}: ")), (2, True))})
+    return faults + differs(made=(os.listdir(f"{folder}/d"), []))
 
 
 # A store by the identifiers of its objects: what lies in the site of each. One stands above another, and one is an object with `--gather` alone.
@@ -253,14 +299,45 @@ def large(program, folder):
     return differs(large=((status, carried(lines), errors == wanted), (1, ["abc"], True)), quick=(took < 60, True))
 
 
+# How a line may end.
+ENDS = ("\n", "\r\n")
+
+
+def over_blocks(program, folder):
+    """A list of more than 4 MiB is read as a small one, whatever its lines: none is torn where a block ends, as it comes from a file or, in
+    pieces of any length, from a pipe. A bad line behind all that is told by its number."""
+    chance = random.Random(71)
+    ids = {"n" * 65536, "r" * 65535 + "\r"} | {f"ark:/13030/{chance.randrange(10**9):x}{'é' * chance.randrange(40)}" for _ in range(90000)}
+    lines = chance.sample(sorted(ids), len(ids))
+    content = "".join(identifier + (ENDS[1] if "\r" in identifier else chance.choice(ENDS)) for identifier in lines).encode() + b"abc"
+    unmet = "".join(f"{UNMET}{identifier}\n" for identifier in sorted(ids, key=str.encode)).replace("\r", "\\u{d}")
+    faults = differs(large=(len(content) > 4 << 20, True))
+    status, found, errors = made(program, folder, "1", *listed(folder, content))
+    faults += differs(file=((status, carried(found), errors == unmet), (1, ["abc"], True)))
+    os.mkdir(f"{folder}/2")
+    with subprocess.Popen([program, "migrate", *MEANT, "--list", "/dev/stdin", "s", "2"], cwd=folder, stdin=subprocess.PIPE, stdout=subprocess.PIPE, stderr=subprocess.PIPE) as asked:
+        rest = memoryview(content)
+        while rest:
+            taken = chance.choice((1, 7, 4096, 8191, 8192, 8193, 65536))
+            asked.stdin.write(rest[:taken])
+            asked.stdin.flush()
+            rest = rest[taken:]
+        out, told = asked.communicate(timeout=120)
+    faults += differs(pipe=((asked.returncode, carried(out.splitlines()), told.decode() == unmet), (1, ["abc"], True)))
+    bad = made(program, folder, "d", *listed(folder, content + b"\n\n"))
+    return faults + differs(bad=(bad, (2, [], f"pairtree2ocfl: list: line {len(ids) + 2}: the identifier is empty\n")))
+
+
 CASES = [
     *(lists_of(seed) for seed in range(20)),
     Alone("objects chosen by a list", chosen),
-    Alone("the status where an identifier was met nowhere", statuses),
+    Alone("the status where no object was met of an identifier", statuses),
     Alone("a listed identifier whose place is reserved", reserved),
     Alone("lists with a bad line", bad_lines),
     Alone("lists that can't be read", unreadable),
     Alone("a list that is a link or a pipe", followed),
     Alone("nothing is opened of what isn't chosen", unopened),
+    Alone("a list is read as far as its first bad line", at_once),
+    Alone("a list of many blocks", over_blocks),
     Alone("a long list", large),
 ]

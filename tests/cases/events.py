@@ -1,6 +1,7 @@
 """Cases of --event: the record of a run, a rehearsal or an audit, where its file may lie, and what is left where it can't be written.
 """
 
+import itertools
 import json
 import os
 import re
@@ -12,21 +13,26 @@ from datetime import datetime, timezone
 
 from alone import Alone, differs, many, run
 from running import MEANT
-from stores import DIR, ONE_DONE, ONE_PRESENT, ONE_ROOT, Link
+from stores import DIR, FIFO, ONE_DONE, ONE_PRESENT, ONE_ROOT, Link
 from stores import build, place, read_tree, whole_log
 
 INSIDE = b"pairtree2ocfl: FILE of --event lies in SOURCE, DEST/ocfl or DEST/staging\n"
-STANDS = b"pairtree2ocfl: FILE of --event stands already, or FILE.part does\n"
-NO_FOLDER = b"pairtree2ocfl: cannot write FILE of --event: No such file or directory (os error 2)\n"
-NO_END = b"pairtree2ocfl: the event has no end: FILE of --event stands already, or FILE.part does\n"
+STANDS = "FILE of --event stands already, or FILE.part does"
+NO_FOLDER = "cannot write FILE of --event: %s: No such file or directory (os error 2)"
+NO_END = f"the event has no end: {STANDS}: ev.part"
 CAUSES = ("root", "empty", "split", "past", "name", "utf8", "other", "limit", "reserved")
 REASONS = ("missing", "extra", "kind", "bytes", "twin")
 
 # What the options say that both commands take, where none is given.
 BOTH = {"digest": "sha512", "tuple-size": 3, "tuples": 3, "gather": False, "share": "1/1", "only": [], "ignore": [], "verbose": False, "quiet": False}
 BOTH |= {"progress": "auto", "interval": 10}
-OF_RUN = {**BOTH, "created": MEANT[1], "name": MEANT[3], "message": "Migrated from Pairtree", "sync": False, "dry-run": False, "present-ok": False}
+OF_RUN = {**BOTH, "created": MEANT[1], "name": MEANT[3], "message": "Migrated from Pairtree", "sync": False, "dry-run": False, "present-ok": False, "skips-ok": False}
 OF_AUDIT = {**BOTH, "skips-ok": False, "extra": False}
+
+
+def line(text):
+    """A line of the program's on standard error."""
+    return f"pairtree2ocfl: {text}\n".encode()
 
 
 def counts(words, given):
@@ -94,11 +100,11 @@ def of_every_option(program, folder):
     """What each option says is recorded."""
     build(folder, {"old.log": b"", "ids": b"abc\n"})
     words = ["--address", "mailto:a@b", "--message", "M \u00e9\n\"", "--digest", "sha256", "--tuple-size", "2", "--tuples", "1", "--gather"]
-    words += ["--share", "2/2", "--only", "ab", "--only", "\u00e9", "--ignore", ".DS_Store", "--ignore", "Thumbs.db", "--sync", "-n", "--present-ok", "-v", "-q"]
+    words += ["--share", "2/2", "--only", "ab", "--only", "\u00e9", "--ignore", ".DS_Store", "--ignore", "Thumbs.db", "--sync", "-n", "--present-ok", "--skips-ok", "-v", "-q"]
     words += ["--list", "ids", "--progress", "never", "--interval", "7", "--expect", "old.log", "--event", "./ev"]
     done = answer(program, folder, "migrate", *MEANT, *words, "s", "d")
     options = {**OF_RUN, "address": "mailto:a@b", "message": "M \u00e9\n\"", "digest": "sha256", "tuple-size": 2, "tuples": 1, "gather": True}
-    options |= {"share": "2/2", "only": ["ab", "\u00e9"], "ignore": [".DS_Store", "Thumbs.db"], "sync": True, "dry-run": True, "present-ok": True, "verbose": True}
+    options |= {"share": "2/2", "only": ["ab", "\u00e9"], "ignore": [".DS_Store", "Thumbs.db"], "sync": True, "dry-run": True, "present-ok": True, "skips-ok": True, "verbose": True}
     options |= {"list": "ids", "quiet": True, "progress": "never", "interval": 7, "expect": "old.log", "event": "./ev"}
     found, _, faults = recorded(f"{folder}/ev")
     faults += differs(options=(found["options"], options), status=(done[0], 0))
@@ -170,7 +176,7 @@ def without_an_end(program, folder):
         build(folder, {"ev.part": b"another's"})
         log, err = begun.communicate(timeout=120)
     _, moments, faults = recorded(f"{folder}/ev")
-    faults += differs(status=(begun.returncode, 3), err=(err, NO_END), moments=(moments, 1), last=(json.loads(log.splitlines()[-1])["as"], "end"))
+    faults += differs(status=(begun.returncode, 3), err=(err, line(NO_END)), moments=(moments, 1), last=(json.loads(log.splitlines()[-1])["as"], "end"))
     with open(f"{folder}/ev.part", "rb") as file:
         return faults + differs(beside=(file.read(), b"another's"))
 
@@ -179,16 +185,40 @@ def that_stand(program, folder):
     """A file that stands is refused, whatever it is, also one at the path with .part behind it; nothing is made or changed."""
     faults = []
     build(folder, {"outside": DIR})
-    things = {"ev": b"mine", "ev.part": b"mine"}
-    for path, thing in [*things.items(), ("ev", DIR), ("ev", Link("nothing")), ("ev", Link("s")), ("ev.part", DIR)]:
+    for path, thing in itertools.product(("ev", "ev.part"), (b"mine", DIR, FIFO, Link("nothing"), Link("s"))):
         build(f"{folder}/outside", {path: thing})
         before = read_tree(folder)
         for words in (["migrate", *MEANT], ["migrate", *MEANT, "-n"], ["audit"]):
             done = answer(program, folder, *words, "--event", "outside/ev", "s", "d")
-            faults += differs(**{f"{path} {thing} {words}": (done, (2, b"", STANDS)), "changed": (read_tree(folder), before)})
+            stands = line(f"{STANDS}: outside/{path}")
+            faults += differs(**{f"{path} {thing} {words}": (done, (2, b"", stands)), "changed": (read_tree(folder), before)})
         shutil.rmtree(f"{folder}/outside")
         os.mkdir(f"{folder}/outside")
     return faults
+
+
+def with_long_names(program, folder):
+    """A file is refused at the start where the name of what is to replace it would be too long for the system, which takes 255 bytes; nothing is made."""
+    faults, before = [], read_tree(folder)
+    for length in (251, 255, 256):
+        name = "e" * length
+        why = line(f"FILE.part of --event cannot be looked at: {name}.part: File name too long (os error 36)")
+        for words in (["migrate", *MEANT], ["migrate", *MEANT, "-n"], ["audit"]):
+            done = answer(program, folder, *words, "--event", name, "s", "d")
+            faults += differs(**{f"{length} {words[0]}": (done, (2, b"", why)), "changed": (read_tree(folder), before)})
+    done = answer(program, folder, "migrate", *MEANT, "--event", "e" * 250, "s", "d")
+    _, moments, more = recorded(f"{folder}/{'e' * 250}")
+    return faults + more + differs(longest=((done[0], done[2], moments), (0, b"", 2)))
+
+
+def with_strange_names(program, folder):
+    """The path of an event's file is escaped as that of a fault."""
+    strange, shown = "x\n\x1b[31m\u202e\\", "x\\u{a}\\u{1b}[31m\\u{202e}\\\\"
+    build(folder, {strange: b"mine"})
+    done = answer(program, folder, "audit", "--event", strange, "s", "d")
+    faults = differs(stands=(done, (2, b"", line(f"{STANDS}: {shown}"))))
+    done = answer(program, folder, "audit", "--event", f"no{strange}/ev", "s", "d")
+    return faults + differs(absent=(done, (3, b"", line(NO_FOLDER % f"no{shown}/ev"))))
 
 
 def in_the_folders(program, folder):
@@ -253,10 +283,11 @@ def of_faults(program, folder):
 
 
 def fault_faults(path, done, number, text, where):
-    """What is wrong with the record of a fault."""
+    """What is wrong with the record of a fault, whose path and reason are told too, but for fault 7."""
     found, moments, faults = recorded(path)
     faults += differs(fault=(found.get("fault"), {"number": number, "text": text, **where}), status=((done[0], found["status"]), (3, 3)))
-    return faults + differs(err=(done[2], f"pairtree2ocfl: fault {number}: {text}\n".encode()), moments=(moments, 2))
+    why = b"" if number == 7 else line(f"{where['path']}: {where['reason']}")
+    return faults + differs(err=(done[2], line(f"fault {number}: {text}") + why), moments=(moments, 2))
 
 
 def of_a_log_that_fails(program, folder):
@@ -271,13 +302,17 @@ def of_a_log_that_fails(program, folder):
 
 
 def where_none_is_made(program, folder):
-    """No file is made where its folder isn't there, which is status 3 before the run; nor where the run may not begin."""
+    """No file is made where its folder isn't there, or is none, which is status 3 before the run; nor where FILE is empty, or the run may not
+    begin."""
     faults, command = [], ["migrate", *MEANT]
+    build(folder, {"d/file": b""})
     for words in (command, [*command, "-n"], ["audit"]):
         done = answer(program, folder, *words, "--event", "absent/ev", "s", "d")
-        faults += differs(absent=(done, (3, b"", NO_FOLDER)))
+        faults += differs(absent=(done, (3, b"", line(NO_FOLDER % "absent/ev"))))
+        done = answer(program, folder, *words, "--event", "d/file/ev", "s", "d")
+        faults += differs(file=(done, (3, b"", line("cannot write FILE of --event: d/file/ev: Not a directory (os error 20)"))))
         done = answer(program, folder, *words, "--event", "", "s", "d")
-        faults += differs(empty=(done, (3, b"", NO_FOLDER)))
+        faults += differs(empty=(done, (2, b"", b"pairtree2ocfl: --event is empty\n")))
     done = answer(program, folder, *command, "--event", "ev", "s", "s")
     faults += differs(overlap=(done, (2, b"", b"pairtree2ocfl: SOURCE and DEST lie in one another\n")))
     done = answer(program, folder, "migrate", "--created", "today", "--name", "Ada", "--event", "ev", "s", "d")
@@ -297,6 +332,8 @@ CASES = [
     Alone("the event of a killed run", of_a_killed_run),
     Alone("an event whose end can't be recorded", without_an_end),
     Alone("events whose file stands", that_stand),
+    Alone("events whose file has a long name", with_long_names),
+    Alone("events whose file has a strange name", with_strange_names),
     Alone("events in the store, in ocfl or in staging", in_the_folders),
     Alone("events in a tree that a link leads to", in_a_linked_tree),
     Alone("events beside the folders", beside_the_folders),

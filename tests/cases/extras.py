@@ -2,13 +2,16 @@
 
 import json
 import os
+import re
 import shutil
 import subprocess
+import sys
 
 from alone import Alone, differs
 from auditing import audit, fresh, migrate
 from running import as_nobody, timeless
 from stores import ABC, DIR, FIFO, ONE, Link, build, object_files, place, read_tree, store, stored, text_of
+from tally import needs
 
 OBJECT = "0=ocfl_object_1.1"
 ABD = place("abd")
@@ -63,18 +66,43 @@ PLANTED = {
     "an identifier that isn't a text": (with_id(ABD, text_of({"id": 1})), [stray(ABD)]),
     "an empty identifier": (with_id(ABD, text_of({"id": ""})), [stray(ABD)]),
     "an inventory without an identifier": (with_id(ABD, text_of({"head": "v1"})), [stray(ABD)]),
+    "an inventory that isn't an object": (with_id(ABD, b'["id","abd"]'), [stray(ABD)]),
+    "an identifier in another object": (with_id(ABD, b'{"of":{"id":"abd"}}'), [stray(ABD)]),
+    "an inventory with more behind it": (with_id(ABD, b'{"id":"abd"},'), [stray(ABD)]),
+    "an inventory that breaks off": (with_id(ABD, b'{"id":"abd","of":[1'), [stray(ABD)]),
+    "an inventory with a number that is too large": (with_id(ABD, b'{"id":"abd","of":[-1e999]}'), [stray(ABD)]),
+    "an inventory that is too deep": (with_id(ABD, b'{"id":"abd","of":' + b"[" * 127 + b"]" * 127 + b"}"), [stray(ABD)]),
+    "an inventory as deep as may be": (with_id(ABD, b'{"id":"abd","of":' + b"[" * 126 + b"]" * 126 + b"}"), [extra("abd")]),
+    "an inventory with much else": (
+        with_id(ABD, '{"at":[[{"id":"x"}],{},1e308,-0.5,18446744073709551616,null,true,"\\ud834\\udd1e é"], "id" : "abd" ,"of":{"id":1}}\n'.encode()),
+        [extra("abd")],
+    ),
+    "an identifier with escapes": (with_id(ABD, b'{"\\u0069d":"ab\\u0064"}'), [extra("abd")]),
+    "an identifier that comes twice": (with_id(ABD, b'{"id":"x","of":1,"id":"abd"}'), [extra("abd")]),
+    "an identifier that comes again as none": (with_id(ABD, b'{"id":"abd","id":1}'), [stray(ABD)]),
     "a folder for the inventory": ({f"ocfl/{ABD}/{OBJECT}": b"", f"ocfl/{ABD}/inventory.json": DIR}, [stray(ABD)]),
     "a folder for the declaration": ({f"ocfl/{ABD}/{OBJECT}": DIR, f"ocfl/{ABD}/f": b""}, [stray(ABD)]),
     "a link": ({"ocfl/a": Link("0=ocfl_1.1")}, [stray("a")]),
     "a link to an object": ({f"ocfl/{FIRST}/l": Link(f"../{place('abc')}")}, [stray(f"{FIRST}/l")]),
     "a named pipe": ({"ocfl/p": FIFO}, [stray("p")]),
     "what is the root's own": (
-        {"ocfl/ocfl_1.1.md": b"", "ocfl/ocfl_1.1.html": b"", "ocfl/extensions/a/b": b"", "ocfl/extensions/c": DIR, "staging": DIR, "more": b""},
+        {
+            **{f"ocfl/{name}": b"" for name in ("ocfl_1.1.md", "ocfl_1.1.html", "ocfl_extensions_1.0.md", "extensions/a/b")},
+            **{name: DIR for name in ("ocfl/extensions/c", "staging")},
+            "more": b"",
+        },
         [],
     ),
     "names of the root's own elsewhere": (
-        {"ocfl/ocfl_1.1.md": DIR, f"ocfl/{FIRST}/extensions/f": b"", f"ocfl/{FIRST}/ocfl_layout.json": b""},
-        [stray(f"{FIRST}/extensions/f"), stray(f"{FIRST}/ocfl_layout.json"), stray("ocfl_1.1.md")],
+        {
+            **{f"ocfl/{name}": DIR for name in ("ocfl_1.1.md", "ocfl_extensions_1.0.md")},
+            **{f"ocfl/{FIRST}/{name}": b"" for name in ("extensions/f", "ocfl_layout.json", "ocfl_extensions_1.0.md")},
+            "ocfl/ocfl_extensions_1.1.md": b"",
+        },
+        [
+            *(stray(f"{FIRST}/{name}") for name in ("extensions/f", "ocfl_layout.json", "ocfl_extensions_1.0.md")),
+            *(stray(name) for name in ("ocfl_1.1.md", "ocfl_extensions_1.0.md", "ocfl_extensions_1.1.md")),
+        ],
     ),
 }
 
@@ -229,6 +257,78 @@ def unreadable(program, folder):
     return differs(status=(status, 0), unreadable=((done.returncode, done.stdout, done.stderr), wanted))
 
 
+def asked(program, folder, *words):
+    """The calls by which an audit asked what stands at a path of the store, or read a folder of it, in any order."""
+    trace = ["strace", "-f", "-y", "-o", f"{folder}/trace", "-s", "4096", "-e", "trace=/stat|statx|getdents"]
+    done = subprocess.run([*trace, program, "audit", *words, "s", "d"], cwd=folder, capture_output=True, timeout=300, check=False)
+    if done.returncode not in (0, 1):
+        raise OSError(f"audit {words}: {done.returncode} {done.stderr!r}")
+    with open(f"{folder}/trace", encoding="utf-8", errors="replace") as file:
+        found = [re.search(rf'\b(\w*stat\w*|getdents64)\(.*?(?:"s/|<{re.escape(folder)}/s/?)([^">]*)[">]', line) for line in file]
+    return sorted((call.group(1), call.group(2)) for call in found if call)
+
+
+def looked_up(program, folder):
+    """Whether the store has an object of the root costs a look at each name of its pairpath and one listing, of its site, however many folders
+    stand beside these."""
+    needs("strace")
+    objects = {"ab/c": "abc", "ab/d": "abd", "cd/ef/g": "cdefg", "cd/ef/h": "cdefh"}
+    looks = [path for site in objects for path in above(f"pairtree_root/{site}")]
+    entries = [f"pairtree_root/{site}/obj" for site in objects]
+    costs = []
+    for beside in (0, 40):
+        empty = {f"{at}{number:02d}": DIR for number in range(beside) for at in ("", "ab/", "cd/", "cd/ef/")}
+        fresh(folder, store({**empty, **{f"{site}/obj/f": b"1" for site in objects}}))
+        migrate(program, folder)
+        more = asked(program, folder, "--extra")
+        for call in asked(program, folder):
+            more.remove(call)
+        costs.append(more)
+        stats = sorted(path for call, path in more if call != "getdents64")
+        faults = differs(**{f"looks, {beside} beside": (stats, sorted(looks + entries))})
+        if faults:
+            return faults
+    return differs(listings=({path for call, path in costs[0] if call == "getdents64"}, {f"pairtree_root/{site}" for site in objects}), more=(costs[1], costs[0]))
+
+
+def above(path):
+    """A path and those above it, from its first name on."""
+    names = path.split("/")
+    return ["/".join(names[: count + 1]) for count in range(len(names))]
+
+
+# Runs a command, and writes into a file what it took of memory at most, in kB. Where a large process begins one, the system counts its memory too.
+MEASURED = """import os, sys
+child = os.posix_spawn(sys.argv[2], sys.argv[2:], os.environ)
+_, ended, used = os.wait4(child, 0)
+with open(sys.argv[1], "w", encoding="utf-8") as file:
+    file.write(str(used.ru_maxrss))
+sys.exit(os.waitstatus_to_exitcode(ended))
+"""
+
+
+def has_checks(program):
+    """Whether the toolchain built the program with checks of its memory, which take much of it themselves."""
+    with open(program, "rb") as file:
+        return b"__asan_init" in file.read()
+
+
+def in_little_memory(program, folder):
+    """Of an inventory the identifier alone is kept, whatever else it holds: by one of 48 MB, whose values as a tree took 24 times as much, an audit
+    takes less than three times its length and 32 MB; less than 400 MB as the toolchain builds the program with checks."""
+    migrate(program, folder)
+    text = b'{"of":[' + b"0," * (24 << 20) + b'0],"id":"abd"}'
+    build(f"{folder}/d", with_id(ABD, text))
+    status, plain, _ = audit(program, folder)
+    command = [os.path.realpath(program), "audit", "--extra", f"{folder}/s", f"{folder}/d"]
+    done = subprocess.run([sys.executable, "-B", "-c", MEASURED, f"{folder}/peak", *command], capture_output=True, timeout=600)
+    with open(f"{folder}/peak", encoding="utf-8") as file:
+        peak = int(file.read()) << 10
+    most = 400 << 20 if has_checks(program) else 3 * len(text) + (32 << 20)
+    found = status, done.returncode, done.stdout, done.stderr
+    return differs(whole=(found, (0, 1, with_extras(plain, [extra("abd")]), b"")), small=(peak if peak >= most else "small", "small"))
+
+
 CASES = [
     *(Alone(f"audit: extra, {name}", of_planted(name)) for name in PLANTED),
     *(Alone(f"audit: extra, {name}", of_other(name)) for name in OTHERS),
@@ -238,4 +338,6 @@ CASES = [
     Alone("audit: extra, statuses", statuses),
     Alone("audit: extra, summary, event and --expect", beside_the_log),
     Alone("audit: extra, what can't be read", unreadable),
+    Alone("audit: extra, what it asks of the store", looked_up),
+    Alone("audit: extra, an inventory in little memory", in_little_memory),
 ]

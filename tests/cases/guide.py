@@ -1,5 +1,6 @@
-"""Tests of what the guide, and the README's quick start, do with the program: from the beginning, after a power cut, and with many stores."""
+"""Tests of what the guide, and the README's quick start, do with the program: from the beginning, after a power cut, and after a stop."""
 
+import contextlib
 import csv
 import json
 import os
@@ -11,13 +12,14 @@ import sys
 
 import stores
 from alone import Alone, differs
-from running import MEANT
+from running import MEANT, mount_below
 from stores import DIR, build, read_tree, store
 from tally import needs
 
 TOP = os.path.dirname(os.path.dirname(os.path.dirname(os.path.abspath(__file__))))
 ROOTS = [sys.executable, "-B", f"{TOP}/tools/roots.py"]
-ENVIRONMENT = {**os.environ, "roots": ROOTS[-1]}
+# The scripts that come with the program, by their names on the PATH.
+SCRIPTS = {"pairtree2ocfl-roots": "tools/roots.py", "pairtree2ocfl-shares": "tools/shares.py", "pairtree2ocfl-report": "examples/report.py"}
 TRICKY = {"blank ": b"1", "return\r": b"2", "back\\slash": b"3", "line\nfeed": b"4", "a/b/c": b"5", "same": b"5", "empty": b""}
 
 
@@ -122,10 +124,15 @@ def damaged_root(program, folder):
     return faults + differs(nothing=(roots(folder, "damaged", "d/ocfl"), (0, [])))
 
 
+def guide_text():
+    """The guide."""
+    with open(f"{TOP}/docs/GUIDE.md", encoding="utf-8") as file:
+        return file.read()
+
+
 def guide_block(heading, *parts):
     """The block of commands of the guide below a heading that has these texts."""
-    with open(f"{TOP}/docs/GUIDE.md", encoding="utf-8") as file:
-        below = file.read().split(f"## {heading}\n", 1)[1].split("\n## ", 1)[0]
+    below = guide_text().split(f"## {heading}\n", 1)[1].split("\n## ", 1)[0]
     blocks = re.findall(r"(?:^    .*\n?)+", below, re.MULTILINE)
     return next(block for block in blocks if all(part in block for part in parts))
 
@@ -151,69 +158,85 @@ def table(program, folder):
     return faults
 
 
-def many_stores(program, folder):
-    """Runs side by side into folders of their own, joined, make the root that runs one after another make in one."""
-    several = {"O'Brien": ["aa", "ab", "cc"], "two 2": ["ba", "bb", "cc"], "three": ["ca"], "none": []}
-    os.mkdir(f"{folder}/stores")
-    for name, names in several.items():
-        build(f"{folder}/stores", {name: DIR})
-        build(f"{folder}/stores/{name}", identifiers(*names))
-        build(f"{folder}/stores/{name}", {f"pairtree_root/{x}/obj/store": name.encode() for x in names})
-    environment = with_program(program, folder)
-    script = guide_block("Many stores, many machines", "xargs")
-    subprocess.run(["bash", "-eu", "-c", script], cwd=folder, env=environment, check=True, timeout=120)
-    script = guide_block("Many stores, many machines", "#SBATCH")
-    task = {**environment, "SLURM_ARRAY_TASK_ID": "2"}
-    os.mkdir(f"{folder}/slurm")
-    os.symlink("../stores", f"{folder}/slurm/stores")
-    subprocess.run(["bash", "-eu", "-c", script], cwd=f"{folder}/slurm", env=task, check=True, timeout=120)
-    one = read_tree(f"{folder}/slurm/out")
-    ordered = sorted(several)
-    statuses = [migrate(program, folder, f"stores/{name}", "d") for name in ordered]
-    faults = differs(statuses=(sorted(statuses), [0, 0, 0, 1]))
-    chosen = sorted(several)[1]
-    alike = {path: held for path, held in read_tree(f"{folder}/out").items() if path.split("/")[0] == chosen}
-    faults += [f"the task of an array: {text}" for text in stores.differences(one, alike)]
-    script = guide_block("Many stores, many machines", "join")
-    joined = subprocess.run(["bash", "-eu", "-c", script], cwd=folder, env=environment, capture_output=True, timeout=120)
-    faults += differs(status=(joined.returncode, 1), taken=(len(joined.stdout.splitlines()), 1))
-    place = f"ocfl/{stores.place('cc')}"
-    wanted = read_tree(f"{folder}/d")
-    found = {path: held for path, held in read_tree(f"{folder}/out/{ordered[0]}").items() if path != "staging"}
-    faults += list(stores.differences(found, wanted))
-    faults += differs(there=(place in found, True))
-    logs = sorted(os.listdir(f"{folder}/logs"))
-    return faults + differs(logs=(logs, sorted(f"{name}.log" for name in several)))
+def sums(program, folder):
+    """The guide's sums of a log hold a line at a time: a log of 60,000 lines takes no more memory than a short one."""
+    needs("jq", "bash")
+    block = guide_block("Reading the log", "bytes")
+    with open(f"{folder}/run-1.log", "w", encoding="utf-8") as log:
+        log.write(log_line("ab/obj", "ab") * 60000 + '{"as":"end","done":60000,"present":0,"skip":0}\n')
+    done = subprocess.run(["bash", "-c", f"ulimit -v 40000; {block}"], cwd=folder, capture_output=True, timeout=300)
+    found = done.stdout.decode()
+    return differs(sums=(found and json.loads(found), {"files": 60000, "bytes": 60000}), said=(done.stderr, b""))
 
 
-def audit_in_shares(program, folder):
-    """The guide's audit in shares, side by side: the lines are those of one audit, each in one share's log, and the status tells of a fault."""
+def quoted(program, folder):
+    """The guide's commands that look into a folder of the log take a path with blanks, `$` and `*` as it is."""
+    at = "$x/* /b"
+    build(f"{folder}/s/pairtree_root", {f"{at}/one/f": b"1", f"{at}/two/l": stores.Link("f"), "b/other": b"1"})
+    faults = []
+    for part, wanted in (("-maxdepth 1", ["one", "two"]), ("! -type f", ["two/l"])):
+        block = next(block for block in guide_blocks() if part in block and "/AT" in block)
+        script = block.replace("SOURCE", "s").replace("/AT", f"/{at}")
+        done = subprocess.run(["bash", "-u", "-c", script], cwd=folder, capture_output=True, timeout=60)
+        lines = sorted(done.stdout.decode().splitlines())
+        faults += differs(**{part: ((lines, done.stderr), ([f"s/pairtree_root/{at}/{name}" for name in wanted], b""))})
+    return faults
+
+
+def many_names(program, folder):
+    """The guide's list of names gives the pairpath and the place of each identifier, and by it what the root doesn't have."""
     needs("bash")
-    names = [f"{a}{b}" for a in "abcdefgh" for b in "abcdefgh"]
-    build(f"{folder}/s", {f"pairtree_root/{x}/{y}/obj/f": b"1" for x in names for y in names[:20]})
+    names = {"xt12t3": "xt/12/t3", "a b": "a^/20/b", "back\\slash": "ba/ck/^5/cs/la/sh", "blank ": "bl/an/k^/20", "ä": "^c/3^/a4"}
+    build(f"{folder}/s/pairtree_root", {f"{names[name]}/obj/f": b"1" for name in ("xt12t3", "blank ")})
     faults = differs(run=(migrate(program, folder, "s", "d"), 0))
-    whole = subprocess.run([program, "audit", "s", "d"], cwd=folder, capture_output=True, timeout=120)
-    script = guide_block("After", "audit --share").replace("SOURCE", "s").replace("DEST", "d")
-    done = subprocess.run(["bash", "-u", "-c", script], cwd=folder, env=with_program(program, folder), capture_output=True, timeout=120)
-    lines = []
-    for index in range(1, 5):
-        with open(f"{folder}/audit-{index}.log", "rb") as log:
-            lines += log.read().splitlines()
-    ends = sum(b'"as":"end"' in line for line in lines)
-    kept = sorted(line for line in lines if b'"as":"end"' not in line)
-    faults += differs(status=((done.returncode, done.stderr), (0, b"")), ends=(ends, 4))
-    faults += differs(lines=(kept == sorted(whole.stdout.splitlines()[:-1]), True))
-    os.remove(f"{folder}/d/ocfl/0=ocfl_1.1")
-    done = subprocess.run(["bash", "-u", "-c", script], cwd=folder, env=with_program(program, folder), capture_output=True, timeout=120)
-    return faults + differs(damaged=((done.returncode, done.stderr.count(b"fault 8")), (123, 4)))
+    with open(f"{folder}/identifiers.txt", "w", encoding="utf-8") as listed_names:
+        listed_names.write("".join(f"{name}\n" for name in names))
+    by_guide(program, folder, "Before", "names -")
+    with open(f"{folder}/places.txt", encoding="utf-8") as file:
+        found = [line.split("\t") for line in file.read().splitlines()]
+    faults += differs(places=(found, [[path, stores.place(name)] for name, path in names.items()]))
+    lacking = [stores.place(name) for name in ("a b", "back\\slash", "ä")]
+    return faults + differs(lacking=(by_guide(program, folder, "After", "places.txt"), lacking))
+
+
+def undone(program, folder):
+    """By the guide's commands one run of two is taken back, and then all of it, so that the migration begins anew with other tuples."""
+    needs("jq", "bash")
+    build(f"{folder}/s/pairtree_root", {"ab/cd/obj/f": b"1", "^4/1b/obj/f": b"2", "xy/obj/f": b"3"})
+    faults = differs(first=(migrate(program, folder, "s", "d", "--only", "ab"), 0))
+    first = read_tree(f"{folder}/d")
+    with open(f"{folder}/run-2.log", "wb") as log:
+        subprocess.run([program, "migrate", *MEANT, "s", "d"], cwd=folder, stdout=log, timeout=120)
+    faults += differs(grown=(read_tree(f"{folder}/d") != first, True))
+    build(f"{folder}/d", {"staging/left": b""})
+    by_guide(program, folder, "Undoing a migration", "run-2.log")
+    faults += list(stores.differences(read_tree(f"{folder}/d"), first))
+    build(f"{folder}/d", {"staging/left": b""})
+    by_guide(program, folder, "Undoing a migration", "DEST/staging DEST/ocfl")
+    faults += differs(empty=(os.listdir(f"{folder}/d"), []))
+    return faults + differs(anew=(migrate(program, folder, "s", "d", "--tuples", "1"), 0))
+
+
+def unseen_event(program, folder):
+    """The guide warns of a FILE of --event in a mount of a folder inside the store, which isn't seen: so it is, while one in that folder itself is refused."""
+    build(folder, {"m": DIR})
+    event, inside = f"{folder}/m/event.json", f"{folder}/s/pairtree_root/ab/event.json"
+    faults = differs(refused=(migrate(program, folder, "s", "d", "--event", inside), 2), none=(os.path.exists(inside), False))
+    with contextlib.ExitStack() as last:
+        mount_below(folder, ("--bind", f"{folder}/s/pairtree_root/ab", "m"), last)
+        status = migrate(program, folder, "s", "d", "--event", event)
+    warned = "a mount of a folder inside the store" in " ".join(guide_text().split())
+    return faults + differs(ended=(status in (0, 1), True), made=(os.path.exists(inside), True), warned=(warned, True))
 
 
 def with_program(program, folder):
-    """An environment in which the guide's commands find the program and roots.py."""
+    """An environment in which the guide's commands find the program and its scripts."""
     if not os.path.isdir(f"{folder}/bin"):
         os.mkdir(f"{folder}/bin")
         os.symlink(program, f"{folder}/bin/pairtree2ocfl")
-    return {**ENVIRONMENT, "PATH": f"{folder}/bin:{os.environ['PATH']}", "created": "2024-05-01T12:00:00Z"}
+        for name, path in SCRIPTS.items():
+            os.symlink(f"{TOP}/{path}", f"{folder}/bin/{name}")
+    return {**os.environ, "PATH": f"{folder}/bin:{os.environ['PATH']}", "created": "2024-05-01T12:00:00Z"}
 
 
 def log_line(at, identifier):
@@ -248,11 +271,10 @@ WALK = [
     ("od -c", None, sorted(["0000000   a   r   k   :   /  \\n", "0000006"])),
     ("created=", None, []),
     ("--dry-run", None, ['{"as":"skip","at":"","cause":"root"}']),
-    ("names - ", None, []),
     ("run-1.log\n    echo", None, ["1"]),
     ("tail -n 1", None, ['{"as":"end","done":2,"present":1,"skip":3}']),
     ("uniq -c", None, sorted([f"      1 {it.split(chr(9))[0]}" for it in SKIPS] + SKIPS)),
-    ("jq -s", None, sorted([f"{TWIN}\t^5/cx/obj".replace("\\", "\\\\"), "1\tab/ce/obj", "{", '  "files": 2,', '  "bytes": 2', "}"])),
+    ("jq -n 'reduce", None, sorted([f"{TWIN}\t^5/cx/obj".replace("\\", "\\\\"), "1\tab/ce/obj", "{", '  "files": 2,', '  "bytes": 2', "}"])),
     ("run-2.log", None, []),
     ("SOURCE/pairtree_root -mindepth 1", None, ["s/pairtree_root/README"]),
     ("-maxdepth 1", "sp/li", ["s/pairtree_root/sp/li/.DS_Store", "s/pairtree_root/sp/li/obj"]),
@@ -260,8 +282,8 @@ WALK = [
     ("! -type f", "ot/he", ["s/pairtree_root/ot/he/obj/link"]),
     ("-mindepth 5", None, ["2"]),
     ("audit SOURCE DEST > audit.log", None, []),
-    ("roots=", None, []),
     ("-empty -delete", None, []),
+    ("DEST/ocfl -type d -empty", None, []),
 ]
 
 
@@ -292,13 +314,15 @@ def walk(program, folder):
 SUMMARY = re.compile(rb"^pairtree2ocfl: \d+ done, \d+ present, \d+ skipped.*\n", re.MULTILINE)
 
 # The blocks that other cases run.
-ELSEWHERE = ("report.py run-1.log", "shares.sh here", "--share K/N", "damaged.txt", 'damaged DEST/ocfl', "audit-2.log", "@csv", "xargs", "#SBATCH", "join out", "rm -r DEST/staging")
+ELSEWHERE = (
+    "ocfl-report run-1.log", "names - ", "places.txt", "DEST/staging DEST/ocfl", "run-2.log | while", "ocfl-shares here", "--share K/N",
+    "damaged.txt", "damaged DEST/ocfl", "audit-2.log", "@csv", "xargs", "#SBATCH", "join out", "rm -r DEST/staging",
+)
 
 
 def guide_blocks():
     """The blocks of commands of the guide; a block that begins with the program's name and a colon shows what it says."""
-    with open(f"{TOP}/docs/GUIDE.md", encoding="utf-8") as file:
-        blocks = re.findall(r"(?:^    .*\n?)+", file.read(), re.MULTILINE)
+    blocks = re.findall(r"(?:^    .*\n?)+", guide_text(), re.MULTILINE)
     return [block for block in blocks if not block.startswith("    pairtree2ocfl: ")]
 
 
@@ -323,16 +347,6 @@ def stopped(program, folder):
         faults += differs(again=(again, 1))
         faults += list(stores.differences(read_tree(f"{folder}/d"), read_tree(f"{folder}/e")))[:3]
     return faults
-
-
-def other_tuples(program, folder):
-    """Roots of other tuples aren't joined, and nothing is moved."""
-    os.mkdir(f"{folder}/e")
-    faults = differs(one=(migrate(program, folder, "s", "d"), 0))
-    faults += differs(two=(migrate(program, folder, "s", "e", "--tuples", "2"), 0))
-    before = read_tree(folder)
-    faults += differs(refused=(roots(folder, "join", "d/ocfl", "e/ocfl"), (2, [])))
-    return faults + differs(same=(read_tree(folder) == before, True))
 
 
 def commands(program, folder):
@@ -378,10 +392,12 @@ CASES = [
     Alone("a log of its own for each run", own_logs),
     Alone("the guide after a power cut", after_power_cut),
     Alone("the guide at a root that is damaged itself", damaged_root),
-    Alone("the guide with many stores", many_stores),
-    Alone("roots of other tuples are not joined", other_tuples),
+    Alone("the guide's sums of a long log", sums),
+    Alone("the guide's paths of a log are quoted", quoted),
+    Alone("the guide's list of names", many_names),
+    Alone("the guide undoes a migration", undone),
+    Alone("the guide warns of an event in a mount", unseen_event),
     Alone("the guide from its beginning", walk),
-    Alone("the guide's audit in shares", audit_in_shares),
     Alone("the guide's table of the log", table),
     Alone("the guide after a stop by hand", stopped),
     Alone("the guide's commands", commands),

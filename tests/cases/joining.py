@@ -27,7 +27,7 @@ def roots(folder, *words, **options):
     said = (done.stderr or b"").decode(errors="replace")
     if "Traceback" in said:
         raise OSError(said)
-    return done.returncode, (done.stdout or b"").decode(errors="replace").splitlines(), said
+    return done.returncode, (done.stdout or b"").decode(errors="replace").split("\n")[:-1], said
 
 
 def an_object(identifier, mark=b"", **options):
@@ -161,18 +161,136 @@ def other_systems(program, folder):
 
 
 def outputs(program, folder):
-    """A closed or full output is an error and no traceback, and the same command goes on."""
-    three(folder)
-    reading, writing = os.pipe()
+    """Where the output is closed or full that is an error and no traceback, but nothing stays for it: all is moved that is free, and the same
+    command lists the rest."""
+    os.mkdir(f"{folder}/whole")
+    three(f"{folder}/whole")
+    roots(f"{folder}/whole", "join", "a/ocfl", "b/ocfl", "c/ocfl")
+    wanted, faults = read_tree(f"{folder}/whole"), []
+    reading, pipe = os.pipe()
     os.close(reading)
-    full = os.open("/dev/full", os.O_WRONLY)
-    faults = differs(pipe=(roots(folder, "join", "a/ocfl", "b/ocfl", stdout=writing)[0], 2))
-    faults += differs(full=(roots(folder, "join", "a/ocfl", "b/ocfl", stdout=full)[0], 2))
-    for fd in (writing, full):
-        os.close(fd)
-    taken = [f"b/ocfl/{place('cc')}"]
-    faults += differs(again=(roots(folder, "join", "a/ocfl", "b/ocfl")[:2], (1, taken)))
-    return faults + differs(moved=(os.path.isdir(f"{folder}/a/ocfl/{place(LONG)}"), True))
+    for name, output, why in (("pipe", pipe, "Broken pipe"), ("full", os.open("/dev/full", os.O_WRONLY), "No space left on device"), ("shut", None, "Bad file descriptor")):
+        os.mkdir(f"{folder}/{name}")
+        three(f"{folder}/{name}")
+        shut = {"preexec_fn": lambda: os.close(1)} if output is None else {"stdout": output}
+        status, _, said = roots(f"{folder}/{name}", "join", "a/ocfl", "b/ocfl", "c/ocfl", **shut)
+        told = f"roots.py: cannot write the output: {why}; all was moved that can be, and the same command lists what was taken\n"
+        faults += differs(**{name: ((status, said), (2, told)), f"moved {name}": (read_tree(f"{folder}/{name}") == wanted, True)})
+        again = roots(f"{folder}/{name}", "join", "a/ocfl", "b/ocfl", "c/ocfl")
+        faults += differs(again=(again, (1, [f"b/ocfl/{place('cc')}", f"c/ocfl/{place('ba')}"], "")))
+        build(f"{folder}/{name}/a/ocfl/{place('aa')}", {"v1/content/a.txt": b"other"})
+        status, _, said = roots(f"{folder}/{name}", "damaged", "a/ocfl", **shut)
+        faults += differs(damaged=((status, said), (2, f"roots.py: cannot write the output: {why}\n")))
+        if output is not None:
+            os.close(output)
+    return faults
+
+
+# Runs roots.py where a folder can't be made in a root, as where its file system is full; its second word is the number of the error.
+FULL = """
+import os, sys
+sys.path.insert(0, sys.argv[1])
+import roots
+number = int(sys.argv[2])
+def refused(path, *words, **options):
+    raise OSError(number, os.strerror(number), path)
+os.mkdir = refused
+del sys.argv[1:3]
+sys.exit(roots.main())
+"""
+
+
+def full(program, folder):
+    """Where the first root takes no more, both roots are named with the reason, and nothing is lost; with room the same command goes on."""
+    faults = []
+    for number, why in ((28, "No space left on device"), (30, "Read-only file system"), (122, "Disk quota exceeded")):
+        os.mkdir(f"{folder}/{number}")
+        three(f"{folder}/{number}")
+        before = read_tree(f"{folder}/{number}")
+        words = [sys.executable, "-B", "-c", FULL, f"{TOP}/tools", str(number), "join", "a/ocfl", "c/ocfl", "b/ocfl"]
+        done = subprocess.run(words, cwd=f"{folder}/{number}", capture_output=True, timeout=120)
+        said = f"roots.py: a/ocfl takes no more of c/ocfl: {why}\n".encode()
+        faults += differs(**{why: ((done.returncode, done.stdout, done.stderr), (2, b"", said))})
+        faults += differs(same=(read_tree(f"{folder}/{number}") == before, True))
+        faults += differs(again=(roots(f"{folder}/{number}", "join", "a/ocfl", "c/ocfl", "b/ocfl")[0], 1))
+    return faults
+
+
+# Names as bytes, and how they are shown: by hand, after docs/REFERENCE.md ("Reasons").
+NAMES = {
+    b"\x1b]0;title\x07": r"\u{1b}]0;title\u{7}",
+    b"x\nroots.py: y": r"x\u{a}roots.py: y",
+    b"\r\x7f\t": r"\u{d}\u{7f}\u{9}",
+    b"\xc2\x85\xc2\x9b": r"\u{85}\u{9b}",
+    b"\xe9t\xff": r"\xe9t\xff",
+    b"\xe2\x82": r"\xe2\x82",
+    b"\xed\xa0\x80": r"\xed\xa0\x80",
+    rb"\u{a} \xe9": r"\\u{a} \\xe9",
+    "\u202e\u202agnp.exe".encode(): r"\u{202e}\u{202a}gnp.exe",
+    "\u2066\u2069".encode(): r"\u{2066}\u{2069}",
+    "\u061c\u200e\u200f".encode(): r"\u{61c}\u{200e}\u{200f}",
+    "\u2028\u2029".encode(): r"\u{2028}\u{2029}",
+    "é שלום 中 '\"`$".encode(): "é שלום 中 '\"`$",
+    b"  blank ": r"\u{20}\u{20}blank\u{20}",
+}
+# How those that begin or end with a blank are shown within a line, and behind a blank at its end: blanks are escaped at the ends of a line alone.
+INSIDE = {**NAMES, b"  blank ": "  blank "}
+LAST = {**{name: f" {text}" for name, text in INSIDE.items()}, b"  blank ": r"   blank\u{20}", "\u2028\u2029".encode(): r"\u{20}\u{2028}\u{2029}"}
+
+
+def escapes(program, folder):
+    """A name of a root, and one on the command line, is told as the program tells a path: none writes on a terminal or looks like a line."""
+    three(folder)
+    for name in NAMES:
+        for path in (b"b/ocfl/", f"b/ocfl/{place('ba')}/v1/".encode()):
+            with open(folder.encode() + b"/" + path + name, "wb"):
+                pass
+    strays = [f"roots.py: b/ocfl/{text}: it isn't a place of the program's, and is left out" for text in INSIDE.values()]
+    unlike = f"no inventory has v1/{NAMES[min(NAMES, key=os.fsdecode)]}"
+    wanted = sorted([*strays, f"roots.py: b/ocfl/{place('ba')}: {unlike}"])
+    status, listed, said = roots(folder, "damaged", "b/ocfl")
+    faults = differs(damaged=((status, listed, sorted(said.split("\n")[:-1])), (2, [place("ba")], wanted)))
+    latin = {**os.environ, "LC_ALL": "C", "PYTHONUTF8": "0", "PYTHONCOERCECLOCALE": "0"}
+    faults += differs(elsewhere=(roots(folder, "damaged", "b/ocfl", env=latin), (status, listed, said)))
+    status, listed, said = roots(folder, "join", "a/ocfl", "b/ocfl")
+    wanted = sorted([*strays, f"roots.py: b/ocfl/{place('ba')}: it stays: {unlike}"])
+    faults += differs(join=((status, listed, sorted(said.split("\n")[:-1])), (2, [f"b/ocfl/{place('cc')}"], wanted)))
+    for name, text in INSIDE.items():
+        words = os.fsdecode(name)
+        faults += differs(**{text: (roots(folder, "damaged", words), (2, [], f"roots.py: {text}: No such file or directory\n"))})
+        said = roots(folder, "damaged", "a/ocfl", words)[2]
+        faults += differs(**{f"word {text}": ((len(said.split("\n")), f"arguments:{LAST[name]}\n" in said), (4, True))})
+    os.rename(f"{folder}/c", f"{folder}/c\x1b\n\\")
+    build(folder, {f"a/{path}": held for path, held in an_object("ca", b"a").items()})
+    status, listed, said = roots(folder, "join", "a/ocfl", "c\x1b\n\\/ocfl")
+    return faults + differs(listed=((status, listed, said), (1, [rf"c\u{{1b}}\u{{a}}\\/ocfl/{place('ca')}"], "")))
+
+
+def shows(program, folder):
+    """A name, as bytes and as Python has it, is shown as it must be; a text with half a character, as JSON may give one, is too."""
+    sys.path.append(f"{TOP}/tools")
+    from shown import shown
+
+    faults = []
+    for name, text in {**NAMES, b"": "", b"ab/c": "ab/c"}.items():
+        faults += differs(**{text: ((shown(name), shown(name.decode(errors="surrogateescape"))), (text, text))})
+    return faults + differs(half=(shown("\ud83d\udcff"), r"\u{d83d}\xff"))
+
+
+def own_texts(program, folder):
+    """The specifications that a root may hold are its own, to `damaged` and to `join`, as files at its top; by another name or as anything else
+    they are strays."""
+    three(folder)
+    own = ("ocfl_1.1.md", "ocfl_1.1.html", "ocfl_1.1.txt", "ocfl_extensions_1.0.md")
+    build(folder, {f"{name}/ocfl/{path}": b"text" for name in "ab" for path in own})
+    build(folder, {f"b/ocfl/{place('cc')}": GONE})
+    faults = differs(damaged=(roots(folder, "damaged", "b/ocfl"), (0, [], "")), join=(roots(folder, "join", "a/ocfl", "b/ocfl"), (0, [], "")))
+    build(folder, {f"b/ocfl/{path}": GONE for path in own})
+    others = {"ocfl_1.1.md": DIR, "ocfl_extensions_1.0.md": Link("ocfl_layout.json"), "ocfl_1.1": b"", "ocfl_extensions_1.1.md": b"", "abc/ocfl_1.1.md": b""}
+    build(f"{folder}/b/ocfl", others)
+    status, listed, said = roots(folder, "damaged", "b/ocfl")
+    left = [f"roots.py: b/ocfl/{path}: it isn't a place of the program's, and is left out" for path in others]
+    return faults + differs(others=((status, listed, sorted(said.splitlines())), (2, [], sorted(left))))
 
 
 def killed(program, folder):
@@ -281,7 +399,7 @@ def on_a_terminal(program, folder):
         while piece := os.read(ours, 65536):
             said += piece
     os.close(ours)
-    faults = differs(listed=(done[:2], (1, [place("aa")])), one=(re.match(rb"\rroots.py: 1 objects, \d+ % of a/ocfl\x1b\[K", said) is not None, True))
+    faults = differs(listed=(done[:2], (1, [place("aa")])), one=(re.match(rb"\rroots.py: 1 object, \d+ % of a/ocfl\x1b\[K", said) is not None, True))
     told = re.search(rb"\r\x1b\[Kroots.py: a/ocfl/[^\r\n]* isn't whole\r\n", said) is not None
     return faults + differs(told=(told, True), elsewhere=("objects" in roots(folder, "damaged", "a/ocfl")[2], False))
 
@@ -296,9 +414,21 @@ def many_roots(program, folder):
     return faults + list(stores.differences(read_tree(f"{folder}/000"), stores.with_folders(root(*map(an_object, names)))))
 
 
+def installed(program, folder):
+    """Installed, and called by a link elsewhere, it finds what stands beside it, and leaves nothing there."""
+    three(folder)
+    subprocess.run(["sh", f"{TOP}/tools/install.sh", program, f"{folder}/usr"], check=True, capture_output=True, timeout=120)
+    os.symlink("usr/share/pairtree2ocfl/roots.py", f"{folder}/linked")
+    before = sorted(os.listdir(f"{folder}/usr/share/pairtree2ocfl"))
+    done = subprocess.run([sys.executable, "linked", "damaged", "a/ocfl"], cwd=folder, capture_output=True, timeout=120)
+    after = sorted(os.listdir(f"{folder}/usr/share/pairtree2ocfl"))
+    return differs(done=((done.returncode, done.stdout, done.stderr), (0, b"", b"")), left=(after, before))
+
+
 CASES = [
     Alone("roots are joined", joins),
     Alone("help of roots.py", helps),
+    Alone("roots.py where it is installed", installed),
     Alone("all damaged files of a root are named", all_named),
     Alone("what a join leaves out", strays),
     Alone("roots.py on a terminal", on_a_terminal),
@@ -307,6 +437,10 @@ CASES = [
     Alone("what stays when roots are joined", leaves),
     Alone("roots on several file systems", other_systems),
     Alone("joining with an output that fails", outputs),
+    Alone("joining where the first root takes no more", full),
+    Alone("roots.py escapes", escapes),
+    Alone("tools/shown.py", shows),
+    Alone("the specifications in a root", own_texts),
     Alone("joining, killed at 200 moments", killed),
     Alone("what damaged tells apart", tells),
 ]

@@ -74,16 +74,17 @@ def roots_themselves():
 
 
 def reasons():
-    """With --verbose a line more tells the path and the reason of a fault; without it there is none."""
+    """With --verbose a line more tells the path and the reason of a fault; without it there is one of fault 1, 2 and 5 alone, at the top of a folder."""
     none = "No such file or directory (os error 2)"
-    yield from told("no store", {}, 1, f"s/absent/: {none}", source="s/absent")
-    yield from told("no destination", ONE, 2, f"d/absent/staging: {none}", dest_name="d/absent")
-    yield from told("no words for the source", ONE, 1, ": the path is empty", source="")
-    yield from told("no words for the destination", ONE, 2, ": the path is empty", dest_name="")
+    yield from told_always("no store", {}, 1, f"s/absent/: {none}", source="s/absent")
+    yield from told_always("no store, with a slash", {}, 1, f"s/absent//: {none}", source="s/absent/")
+    yield from told_always("no destination", ONE, 2, f"d/absent/staging: {none}", dest_name="d/absent")
+    yield from told_always("no words for the source", ONE, 1, ": the path is empty", source="")
+    yield from told_always("no words for the destination", ONE, 2, ": the path is empty", dest_name="")
     neither = "it holds no file pairtree_version0_1 or no directory pairtree_root"
-    yield from told("no Pairtree", {"x": b""}, 5, f"s: {neither}")
-    yield from told("a pairtree_root alone", {"pairtree_root/x": b""}, 5, f"s/pairtree_root: {neither}", source="s/pairtree_root")
-    yield from told("a folder beside pairtree_root", {**ONE, "x/y": b""}, 5, f"s/x: {neither}", source="s/x")
+    yield from told_always("no Pairtree", {"x": b""}, 5, f"s: {neither}")
+    yield from told_always("a pairtree_root alone", {"pairtree_root/x": b""}, 5, f"s/pairtree_root: {neither}", source="s/pairtree_root")
+    yield from told_always("a folder beside pairtree_root", {**ONE, "x/y": b""}, 5, f"s/x: {neither}", source="s/x")
     prefix = "pairtree_prefix in it is no file, has more than 1024 bytes, or is not UTF-8"
     yield from told("no prefix", store({}, DIR), 6, f"s: {prefix}")
     yield from told("a left staging", ONE, 7, "d/staging: it stands there already", dest={"staging": DIR})
@@ -105,11 +106,18 @@ def reasons():
     strange = "x\n\x1b[31m\x7f\u0085\\"
     shown = "x\\u{a}\\u{1b}[31m\\u{7f}\\u{85}\\\\"
     text = f"{shown}/staging: {none}"
-    yield from told("control characters of a path", ONE, 2, text, dest_name=strange)
+    yield from told_always("control characters of a path", ONE, 2, text, dest_name=strange)
     yield Case("no reason without a fault", ONE, ends([ONE_DONE], ONE_ROOT, words=["-v"], err=summary(ONE_DONE)))
     no_output = b"pairtree2ocfl: fault 3: cannot write the output\n"
     run = Run(b"", ONE_ROOT, 3, no_output, words=["-v"], output="/dev/full")
     yield Case("no reason where a fault has no path", ONE, run)
+
+
+def told_always(name, held, number, reason, **options):
+    """The case of a fault at the top of a folder, whose reason is told, whatever the words. Folders are given as they are here."""
+    err = f"pairtree2ocfl: fault {number}: {TEXTS[number]}\npairtree2ocfl: {reason}\n".encode()
+    for words in ((), ("--verbose",), ("--quiet",)):
+        yield Case(f"{name}: {' '.join(words) or 'no more'}", held, Run(b"", {}, 3, err, relative=True, words=words, **options))
 
 
 def told(name, held, number, reason, dest=None, left=None, **options):
@@ -237,11 +245,40 @@ def present_lines():
     yield Case("a run where all is carried and present lines are well", ONE, ends([ONE_DONE], ONE_ROOT, words=["--present-ok"]))
 
 
+def skip_lines():
+    """With --skips-ok a run has status 0 whose log has done and skip lines alone; a present line makes it 1 unless --present-ok is given too. A
+    rehearsal has the status of its run, and an identifier of --list of which no object was met makes it 1 as ever."""
+    with_skip = {**ONE, "pairtree_root/ab/d": DIR, "pairtree_root/notes": b"1"}
+    skips = [skip("", "root"), skip("ab/d", "empty")]
+    first, second = lines(skips[0], ONE_DONE, skips[1], counted(1, 0, 2)), lines(skips[0], ONE_PRESENT, skips[1], counted(0, 1, 2))
+    both, alone = ("--present-ok", "--skips-ok"), ("--skips-ok",)
+    for words, statuses in {(): (1, 1), ("--present-ok",): (1, 1), alone: (0, 1), both: (0, 0)}.items():
+        for at_first in ((), ("-n",)):
+            made = Run(first, {} if at_first else ONE_ROOT, statuses[0], words=[*words, *at_first])
+            again = Run(second, ONE_ROOT, statuses[1], words=[*words, *at_first])
+            yield Case(f"skip lines: {' '.join([*words, *at_first]) or 'no more'}", with_skip, made, *([Run(first, ONE_ROOT, 1), again] if at_first else [again]))
+    none = b"pairtree2ocfl: no object was met: none\n"
+    for words, status, err, ids in ((("--only", "abc"), 0, b"", None), (("--list", "s/ids"), 0, b"", b"abc\n"), (("--list", "s/ids"), 1, none, b"abc\nnone\n")):
+        pilot = Run(first, ONE_ROOT, status, err, words=["--skips-ok", *words], relative=True)
+        named = {"ids": ids} if ids else {}
+        yield Case(f"a pilot's status: {' '.join(words)}, {status}", {**with_skip, **MORE, **named}, pilot)
+
+
+def counted(done, present, skipped):
+    """The end line of a run with so many lines of each kind."""
+    return {"as": "end", "done": done, "present": present, "skip": skipped}
+
+
 def rehearsals():
     """Every run of the other tests, rehearsed before it."""
     for case in (*carrying.CASES, *refusing.CASES):
         if not any(mount[-1] == "d" for mount in case.mounts):
             yield Rehearsed(f"rehearsed: {case.name}", case.source, *case.runs, dest=case.dest, mounts=case.mounts, unsteady=case.unsteady)
+
+
+def at_dest(said):
+    """What standard error was told, where DEST is no folder: a run finds that as it makes `staging` in it, a rehearsal as it looks at DEST itself."""
+    return re.sub(rb"/staging(: (?:No such file or directory|Not a directory) )", rb"/\1", said)
 
 
 class Rehearsed(Case):
@@ -259,7 +296,7 @@ class Rehearsed(Case):
         ran = running.started(words, folder, run.output)
         if before != after:
             yield f"changed: {sorted(before.items() ^ after.items())[:4]}"
-        rehearsed, ran = ((*answer[:2], timeless(answer[2])) for answer in (rehearsed, ran))
+        rehearsed, ran = ((*answer[:2], at_dest(timeless(answer[2]))) for answer in (rehearsed, ran))
         by_parser = ran[0] == 2 and ran[2].startswith(b"error: ")
         if rehearsed != ran and not (by_parser and rehearsed[:2] == ran[:2]):
             yield f"the rehearsal gave {rehearsed!r:.600}, and the run {ran!r:.600}"
@@ -290,6 +327,8 @@ def short_words():
 
 
 END_OF_ONE = {"as": "end", "done": 1, "present": 0, "skip": 0}
+# An object that a pilot doesn't choose.
+MORE = {"pairtree_root/xy/z/obj/a.txt": b"abc"}
 ALONE = [
     Alone("the folder of a pairtree_root is named", store_to_name),
     Alone("one run at a time", locked),
@@ -297,5 +336,5 @@ ALONE = [
     Alone("files, folders and the log put onto the disk", synced),
     Alone("an error that comes late", late),
 ]
-PARTS = (apart, roots_themselves, reasons, short_words, left_out, present_lines, rehearsals)
+PARTS = (apart, roots_themselves, reasons, short_words, left_out, present_lines, skip_lines, rehearsals)
 CASES = [*ALONE, *(case for part in PARTS for case in part())]

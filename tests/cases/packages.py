@@ -2,6 +2,7 @@
 """
 
 import glob
+import gzip
 import hashlib
 import os
 import re
@@ -28,14 +29,18 @@ INSTALLED = {
     "share/zsh/site-functions/_pairtree2ocfl",
     "share/fish/vendor_completions.d/pairtree2ocfl.fish",
     "share/pairtree2ocfl/roots.py",
-    "share/pairtree2ocfl/shares.sh",
+    "share/pairtree2ocfl/shares.py",
+    *(f"share/pairtree2ocfl/{name}.py" for name in ("roots_joining", "roots_objects", "roots_telling", "shown")),
     "share/pairtree2ocfl/report.py",
-    "share/pairtree2ocfl/report_page.py",
+    *(f"share/pairtree2ocfl/report_{name}.py" for name in ("log", "page", "sums", "verdict", "words")),
 }
+SCRIPTS = ("roots", "shares", "report")
+INSTALLED |= {f"{place}pairtree2ocfl-{name}{end}" for name in SCRIPTS for place, end in (("bin/", ""), ("share/man/man1/", ".1"))}
 # What is installed of the programs that are shipped, beside what is installed of any.
 OF_PROGRAMS = {f"lib/pairtree2ocfl/{name}" for name in ("README", "choose.sh", "libos_c.a", "liblibc_c.a")}
 OF_PROGRAMS |= {f"lib/pairtree2ocfl/{cpu}/pairtree2ocfl{end}" for cpu in static.CPUS for end in ("", ".o")}
 DOCUMENTS = {"README.md", *(f"docs/{os.path.basename(path)}" for path in glob.glob(f"{TOP}/docs/*.md"))}
+LICENCES = {os.path.relpath(path, TOP) for path in (*glob.glob(f"{TOP}/LICENSE-*"), *glob.glob(f"{TOP}/LICENSES/*/*"))}
 IN_DOC = "share/doc/pairtree2ocfl"
 
 
@@ -53,12 +58,13 @@ def statuses(program, folder):
 
 
 def versions(program, folder):
-    """The version stands in the changelog first and in the man page, and the toolchain's line has the toolchain's logic."""
+    """The version stands in the changelog first, in the man page with the changelog's day and in README; the toolchain's line has the toolchain's logic."""
     first, toolchain = done(program, "--version").splitlines()
     number = first.removeprefix("pairtree2ocfl ")
-    newest = re.search(r"^## \[([^]]*)\]", text_of("CHANGELOG.md"), re.MULTILINE)[1]
-    faults = differs(changelog=(newest, number), page=(f"pairtree2ocfl {number}" in made_of(fill.PAGE), True))
-    faults += differs(readme=(f"`{toolchain}`" in text_of("README.md"), True))
+    newest, day = re.search(r"^## \[([^]]*)\] - ([\d-]+)$", text_of("CHANGELOG.md"), re.MULTILINE).groups()
+    faults = differs(changelog=(newest, number), page=(f'{day} "pairtree2ocfl {number}"' in made_of(fill.PAGE), True))
+    told = re.findall(r"^Version ([\d.]+\d)\.", text_of("README.md"), re.MULTILINE)
+    faults += differs(readme=((f"`{toolchain}`" in text_of("README.md"), told), (True, [number])))
     rt = shutil.which(os.environ.get("RT", "rt"))
     return faults + (differs(logic=(logic_of(done(rt, "version")), logic_of(toolchain))) if rt else [])
 
@@ -91,14 +97,55 @@ def text_files(top):
 
 
 def installed(program, folder):
-    """What is installed runs, with the documents, whose links lead to what is there; and what is uninstalled leaves no file, nor folder of documents."""
+    """What is installed runs, with the documents, whose links lead to what is there, and the licences; and what is uninstalled leaves no file, nor a
+    folder of its own, whatever its scripts and an earlier version left there."""
     root = f"{folder}/root/usr"
     done("sh", f"{TOP}/tools/install.sh", program, root)
-    faults = differs(files=(text_files(root), INSTALLED | {f"{IN_DOC}/{name}" for name in DOCUMENTS}))
-    faults += dead_links(f"{root}/{IN_DOC}") + wrong_modes(root)
-    faults += differs(runs=(done(f"{root}/bin/pairtree2ocfl", "names", "abc"), "ab/c\nba7/816/bf8/abc\n"))
+    faults = differs(files=(text_files(root), INSTALLED | {f"{IN_DOC}/{name}" for name in DOCUMENTS | LICENCES}))
+    faults += dead_links(f"{root}/{IN_DOC}") + wrong_modes(root) + untold_licences(f"{root}/{IN_DOC}", f"{root}/{IN_DOC}", *sorted(LICENCES))
+    faults += differs(runs=(done(f"{root}/bin/pairtree2ocfl", "names", "abc"), "ab/c\nba7/816/bf8/abc\n")) + not_on_path(root, folder)
+    os.makedirs(f"{root}/share/pairtree2ocfl/__pycache__")
+    for name in ("shares.sh", "__pycache__/shown.cpython-311.pyc"):
+        open(f"{root}/share/pairtree2ocfl/{name}", "w", encoding="ascii").close()
     done("sh", f"{TOP}/tools/install.sh", "--remove", root)
-    return faults + differs(left=(text_files(root), set()), folder=(os.path.exists(f"{root}/{IN_DOC}"), False))
+    folders = [os.path.relpath(above, root) for above, _, _ in os.walk(root) if os.path.basename(above) == "pairtree2ocfl"]
+    return faults + differs(left=(text_files(root), set()), folders=(folders, []))
+
+
+def not_on_path(prefix, folder):
+    """What is wrong with the scripts below a folder, called by their names: they carry a store in shares, look at its root and make a page of its logs."""
+    told = {"STORE": f"{folder}/s", "OUT": f"{folder}/shares", "CREATED": "2024-05-01T12:00:00Z", "NAME": "Ada"}
+    told["PATH"] = f"{prefix}/bin:{os.environ['PATH']}"
+    environment, faults = {**{name: text for name, text in os.environ.items() if not name.startswith("PYTHON")}, **told}, []
+    shutil.rmtree(f"{folder}/shares", ignore_errors=True)
+    out = f"{folder}/shares"
+    for name, *rest in (("shares", "here", "2"), ("roots", "damaged", f"{out}/1/ocfl"), ("report", f"{out}/1.log", "-o", f"{out}/page.html")):
+        ended = subprocess.run([f"pairtree2ocfl-{name}", *rest], env=environment, cwd=folder, capture_output=True, timeout=120)
+        faults += differs(**{name: ((ended.returncode, ended.stdout), (0, b""))})
+        helped = subprocess.run([f"pairtree2ocfl-{name}", "--help"], env=environment, cwd=folder, capture_output=True, timeout=120)
+        faults += differs(**{f"help of {name}": ((helped.returncode, b"Python 3." in helped.stdout), (0, True))})
+        faults += differs(**{f"page of {name}": (pages(prefix, name), [".so man1/pairtree2ocfl.1\n"])})
+    texts = {"the man page": made_of(fill.PAGE).replace("\\-", "-"), "README.md": text_of("README.md"), "docs/GUIDE.md": text_of("docs/GUIDE.md")}
+    for where, text in texts.items():
+        faults += [f"{where} doesn't tell pairtree2ocfl-{name}" for name in SCRIPTS if f"pairtree2ocfl-{name}" not in text]
+    return faults + differs(page=(os.path.isfile(f"{folder}/shares/page.html"), True), shares=(os.path.isdir(f"{folder}/shares/2/ocfl"), True))
+
+
+def pages(prefix, name):
+    """The man pages of a script below a folder."""
+    texts = []
+    for path in glob.glob(f"{prefix}/share/man/man1/pairtree2ocfl-{name}.1*"):
+        with (gzip.open if path.endswith(".gz") else open)(path, "rb") as file:
+            texts.append(file.read().decode())
+    return texts
+
+
+def untold_licences(documents, place, *names):
+    """What README among these documents says of licences that isn't so: each name is told there, by itself or by its folder, and is in the place."""
+    with open(f"{documents}/README.md", encoding="utf-8") as file:
+        text = file.read()
+    faults = [f"README.md doesn't tell {name}" for name in names if name not in text and f"{name.split('/')[0]}/" not in text]
+    return faults + [f"{name} isn't in {place}" for name in names if not os.path.isfile(f"{place}/{name}")]
 
 
 def no_prefix(program, folder):
@@ -161,14 +208,14 @@ def archived(program, folder):
         archive.extractall(folder)
     top = f"{folder}/{os.path.basename(path).removesuffix('.tar.gz')}"
     faults = summed(top) + dead_links(top) + wrong_modes(top)
-    licences = {"LICENSE-MIT", "LICENSE-APACHE", "LICENSES/clap/LICENSE-MIT", "LICENSES/glibc/LGPL-2.1"}
-    wanted = INSTALLED | OF_PROGRAMS | DOCUMENTS | licences | {"CHANGELOG.md", "install.sh"}
+    wanted = INSTALLED | OF_PROGRAMS | DOCUMENTS | LICENCES | {"CHANGELOG.md", "install.sh"}
     faults += differs(missing=(wanted - text_files(top), set()), runs=(done(f"{top}/bin/pairtree2ocfl", "-V"), done(program, "-V")))
     root = f"{folder}/root"
     for _ in range(2):
         done("sh", f"{top}/install.sh", root)
-        faults += chosen(root) + dead_links(f"{root}/{IN_DOC}") + wrong_modes(root)
-    wanted = INSTALLED | OF_PROGRAMS | {f"{IN_DOC}/{name}" for name in (*DOCUMENTS, *licences, "CHANGELOG.md")}
+        faults += chosen(root) + dead_links(f"{root}/{IN_DOC}") + wrong_modes(root) + not_on_path(root, folder) + not_on_path(top, folder)
+    wanted = INSTALLED | OF_PROGRAMS | {f"{IN_DOC}/{name}" for name in (*DOCUMENTS, *LICENCES, "CHANGELOG.md")}
+    faults += untold_licences(f"{root}/{IN_DOC}", f"{root}/{IN_DOC}", *sorted(LICENCES))
     return faults + differs(not_installed=(wanted - text_files(root), set()))
 
 
@@ -190,10 +237,11 @@ def packaged(program, folder):
     command = ["dpkg", f"--root={root}", "--force-not-root", "--force-depends", "--force-script-chrootless", "--log=/dev/null"]
     if os.geteuid() == 0:
         done(*command, "-i", path, env={**os.environ, "PATH": f"{os.environ['PATH']}:/usr/sbin:/sbin"})
-    faults += chosen(f"{root}/usr") + missing_of_package(f"{root}/usr")
+    faults += chosen(f"{root}/usr") + missing_of_package(f"{root}/usr") + not_on_path(f"{root}/usr", folder)
+    faults += untold_licences(f"{root}/usr/{IN_DOC}", f"{root}/usr/{IN_DOC}", "copyright")
     if os.geteuid() == 0:
         done(*command, "-r", "pairtree2ocfl", env={**os.environ, "PATH": f"{os.environ['PATH']}:/usr/sbin:/sbin"})
-        faults += differs(left=(text_files(f"{root}/usr"), set()))
+        faults += differs(left=(text_files(f"{root}/usr"), set()), folder=(os.path.exists(f"{root}/usr/share/pairtree2ocfl"), False))
     return faults
 
 
@@ -216,11 +264,11 @@ def packaged_rpm(program, folder):
         raise Skipped("only root can install an RPM package")
     database = ("--dbpath", f"{folder}/database")
     done("rpm", *database, "--prefix", f"{folder}/usr", "--nodeps", "-i", path)
-    faults += chosen(f"{folder}/usr") + missing_of_package(f"{folder}/usr")
-    licences = {f"share/licenses/pairtree2ocfl/{name}" for name in ("LICENSE-MIT", "LICENSE-APACHE", "LICENSES/glibc/LGPL-2.1")}
-    faults += differs(licences=(licences - text_files(f"{folder}/usr"), set()), whole=(done("rpm", *database, "-V", "pairtree2ocfl"), ""))
+    faults += chosen(f"{folder}/usr") + missing_of_package(f"{folder}/usr") + not_on_path(f"{folder}/usr", folder)
+    faults += untold_licences(f"{folder}/usr/{IN_DOC}", f"{folder}/usr/share/licenses/pairtree2ocfl", *sorted(LICENCES))
+    faults += differs(told=("share/licenses/pairtree2ocfl" in text_of("README.md"), True), whole=(done("rpm", *database, "-V", "pairtree2ocfl"), ""))
     done("rpm", *database, "-e", "pairtree2ocfl")
-    return faults + differs(left=(text_files(f"{folder}/usr"), set()))
+    return faults + differs(left=(text_files(f"{folder}/usr"), set()), folder=(os.path.exists(f"{folder}/usr/share/pairtree2ocfl"), False))
 
 
 def twice(kind, *programs):

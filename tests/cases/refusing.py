@@ -70,6 +70,13 @@ def unusable_roots():
     kinds = {"a file": {"ocfl": b""}, "a link": {**away, "ocfl": Link("away")}, "empty": {"ocfl": DIR}}
     for name, dest in kinds.items():
         yield Case(f"an ocfl that is {name}", ONE, fault(8, dest), dest=dest)
+    for folder in ("extensions", f"extensions/{LAYOUT_NAME}"):
+        place = f"ocfl/{folder}"
+        kept = {path: content for path, content in files.items() if not path.startswith(f"{place}/")}
+        moved = {path.replace(f"{place}/", "away/", 1): content for path, content in files.items() if path.startswith(f"{place}/")}
+        up = "/".join([".."] * (place.count("/")))
+        dest = {**kept, **moved, place: Link(f"{up}/away")}
+        yield Case(f"a link to a folder in the stead of {folder}", ONE, fault(8, dest), dest=dest)
 
 
 def taken_places():
@@ -102,16 +109,22 @@ def taken_places():
 
 def folders():
     """Folders that aren't there, or can't be read or written."""
-    yield Case("a source that isn't there", {}, fault(1, {}, source="absent"))
-    yield Case("a source that is a file", {"file": b""}, fault(1, {}, source="s/file"))
-    yield Case("an empty word for the source", ONE, fault(1, {}, source="", relative=True))
-    yield Case("a destination that isn't there", ONE, fault(2, {}, dest_name="absent"))
-    yield Case("a destination that is a file", ONE, fault(2, {"file": b"1"}, dest_name="d/file"), dest={"file": b"1"})
-    yield Case("an empty word for the destination", ONE, fault(2, {}, dest_name="", relative=True))
+    none, no_folder = "No such file or directory (os error 2)", "Not a directory (os error 20)"
+    yield Case("a source that isn't there", {}, fault(1, {}, source="absent", top=("absent/", none)))
+    yield Case("a source that is a file", {"file": b""}, fault(1, {}, source="s/file", top=("s/file/", no_folder)))
+    yield Case("a source that is a pipe", {"pipe": FIFO}, fault(1, {}, source="s/pipe", top=("s/pipe/", no_folder)))
+    yield Case("an empty word for the source", ONE, fault(1, {}, source="", relative=True, top=("", "the path is empty")))
+    yield Case("a destination that isn't there", ONE, fault(2, {}, dest_name="absent", top=("absent/staging", none)))
+    for name, kind in {"file": b"1", "pipe": FIFO}.items():
+        run = fault(2, {name: kind}, dest_name=f"d/{name}", top=(f"d/{name}/staging", no_folder))
+        yield Case(f"a destination that is a {name}", ONE, run, dest={name: kind})
+    yield Case("an empty word for the destination", ONE, fault(2, {}, dest_name="", relative=True, top=("", "the path is empty")))
     yield Case("no store, and no destination", {}, fault(5, {}, dest_name="absent"))
     bad = b"\xff".decode(errors="surrogateescape")
-    yield Case("a name that isn't UTF-8 at the top", {**ONE, bad: b""}, fault(1, {}))
-    yield Case("a name that isn't UTF-8 in the root", {**ONE, f"pairtree_root/{bad}/x": b""}, fault(1, root()))
+    reason = "a name in it is not UTF-8"
+    yield Case("a name that isn't UTF-8 at the top", {**ONE, bad: b""}, fault(1, {}, top=("s/", reason)))
+    below = {**ONE, f"pairtree_root/{bad}/x": b""}
+    yield Case("a name that isn't UTF-8 in the root", below, fault(1, root(), top=("s/pairtree_root", reason)))
     two = {**ONE, "pairtree_root/ab/d/obj/a.txt": b"abc", f"pairtree_root/ab/d/obj/{bad}": b"1"}
     dest = root(stored("abc", ABC), stored("abd", ABC))
     gone = {f"pairtree_root/ab/d/obj/{bad}": GONE}
@@ -159,7 +172,8 @@ def devices():
     run = fault(1, ONE_ROOT, ONE_DONE)
     yield Case("a file that can't be read", two, run, mounts=[mount], unsteady=[unreadable])
     closed = ("-t", "tmpfs", "-o", "ro", "none", "d")
-    yield Case("a destination that may not be written", ONE, fault(2, {}), mounts=[closed])
+    run = fault(2, {}, top=("d/staging", "Read-only file system (os error 30)"))
+    yield Case("a destination that may not be written", ONE, run, mounts=[closed])
 
 
 def scripts():
@@ -181,7 +195,9 @@ def scripts():
         room = [["mount", "-o", "remount,nr_inodes=1000", "d"]]
         again = ends([ONE_DONE], ONE_ROOT, plant=away, commands=room)
         mount = ("-t", "tmpfs", "-o", f"nr_inodes={count + 1}", "none", "d")
-        yield Case(f"a destination of {count} entries", ONE, fault(2, left), again, mounts=[mount])
+        # what fails right in the destination is told: `staging`, as the root's is made and the object's
+        top = ("d/staging", "No space left on device (os error 28)") if rest in (-len(of_root), 0) else None
+        yield Case(f"a destination of {count} entries", ONE, fault(2, left, top=top), again, mounts=[mount])
 
 
 def meant(created="2024-05-01T12:00:00Z", name="Ada"):
@@ -248,6 +264,7 @@ FOR_THE_PARSER = (
 )
 
 
+NO_LAYOUT = "the tuples are out of range: --tuple-size and --tuples are each from 1 to 32, with a product of at most 64, or both 0"
 NO_SHARE = "--share is not K/N with N from 1 to 4096 and K from 1 to N"
 NO_ENTRY = "--ignore is not the name of a file or folder"
 
@@ -261,17 +278,21 @@ def words_refused():
     yield Case("an empty name before the tuples", ONE, refused("--name is empty", meant(name=""), "--tuples", "33"))
     yield Case("the moment before the tuples", ONE, refused(NO_MOMENT, meant("today"), "--tuple-size", "0"))
     for given in (["--tuple-size", "0"], ["--tuples", "0"], ["--tuples", "33"], ["--tuple-size", "22"]):
-        yield Case(f"the tuples of {' '.join(given)}", ONE, refused("the tuples are out of range", MEANT, *given))
+        yield Case(f"the tuples of {' '.join(given)}", ONE, refused(NO_LAYOUT, MEANT, *given))
     for size, count in ((32, 3), (33, 1), (1, 33), (33, 0), (4294967295, 4294967295)):
         given = ["--tuple-size", str(size), "--tuples", str(count)]
-        yield Case(f"the tuples of {' '.join(given)}", ONE, refused("the tuples are out of range", MEANT, *given))
+        yield Case(f"the tuples of {' '.join(given)}", ONE, refused(NO_LAYOUT, MEANT, *given))
     for share in ("", "/", "1", "1/", "/1", "0/1", "1/0", "2/1", "1/4097", "4097/4097", "1/2/3", " 1/2", "1/2 ", "-1/2", "a/b", "1/4294967296"):
         yield Case(f"--share {share!r}", ONE, refused(NO_SHARE, MEANT, f"--share={share}"))
     yield Case("an empty --only", ONE, refused_by_parser(MEANT, "--only", "x", "--only="), refused_by_parser(MEANT, "--only", ""))
     for name in ("", ".", "..", "a/b", "/", "n" * 256):
         yield Case(f"--ignore {name[:9]!r}", ONE, refused(NO_ENTRY, MEANT, "--ignore", "x", f"--ignore={name}"))
-    yield Case("the tuples before the share", ONE, refused("the tuples are out of range", MEANT, "--share", "x", "--tuples", "33"))
+    yield Case("the tuples before the share", ONE, refused(NO_LAYOUT, MEANT, "--share", "x", "--tuples", "33"))
     yield Case("the share before the names", ONE, refused(NO_SHARE, MEANT, "--ignore", "a/b", "--share", "x"))
+    yield Case("an empty --event", ONE, refused("--event is empty", MEANT, "--event", ""), refused("--event is empty", MEANT, "--list=", "--event="))
+    yield Case("an empty --list", ONE, refused("--list is empty", MEANT, "--list", ""), refused("--list is empty", MEANT, "--sync", "--list="))
+    yield Case("the names before an empty --event", ONE, refused(NO_ENTRY, MEANT, "--event=", "--ignore=", "--list="))
+    yield Case("an empty --event before a list that can't be read", ONE, refused("--event is empty", MEANT, "--list", "none", "--event="))
     for given in FOR_THE_PARSER:
         yield Case(f"refused by the parser: {' '.join(given)}", ONE, refused_by_parser(MEANT, *given))
     yield Case("no moment", ONE, refused_by_parser(MEANT[2:]))

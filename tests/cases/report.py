@@ -1,5 +1,5 @@
-"""Tests of examples/report.py: its page and its table, over logs and events that the tests write and over those of the program, held against values
-worked out by hand."""
+"""Tests of examples/report.py: its page and its table, over logs that the tests write and over those of the program, held against values worked out
+by hand."""
 
 import ast
 import collections
@@ -8,13 +8,13 @@ import html.parser
 import io
 import json
 import os
+import re
 import subprocess
 import sys
 
 import documents
 import stores
 from alone import Alone, differs, run
-from running import MEANT
 from stores import DIR, Link, build, done, lines, present, skip, whole_log
 
 TOP = os.path.dirname(os.path.dirname(os.path.dirname(os.path.abspath(__file__))))
@@ -120,6 +120,10 @@ RUN = (
 TWINS = [["ae", "ae/obj", "done"], ["ae", "a^65/obj", "present"]]
 
 
+# The least event that there is.
+EVENT = {"as": "run", "begin": "2024-05-01T12:00:00Z", "dest": {"given": "d"}, "options": {}, "source": {"given": "s"}}
+
+
 def one_run(program, folder):
     """The numbers of one log, by kind, by cause and by size; its skipped folders, twins and lost folders; and nothing that isn't asked of one."""
     found, said = page(folder, *logs(folder, run=whole_log(*RUN)))
@@ -138,7 +142,7 @@ def one_run(program, folder):
         lost=(found.table("lost"), [["aa", "aa/obj", "1"], ["ad", "ad/obj", "2"]]),
         tables=(sorted(found.tables), sorted(["numbers", "kinds", "causes", "sizes", "skipped", "twins", "lost"])),
         headings=(found.headings[-3:], ["Skipped folders: 4", "Twins: 1", "Objects with empty folders: 2"]),
-        tiles=([text for text in found.tiles if text][1], "1.2 MBin 1,024 files of these"),
+        tiles=([text for text in found.tiles if text][2], "1.2 MBin 1,024 files of these objects"),
         notes=(found.notes, ["Each log has its end line, and as many lines of each kind as that counts."]),
         widths=(widths(found, "i"), ["100.00%", "20.00%", "80.00%", "50.00%", "100.00%", "50.00%", "50.00%", "50.00%", "100.00%", "50.00%"]),
     )
@@ -173,8 +177,8 @@ def one_audit_with_extras(program, folder):
     lacking = [["ab", stores.place("ab"), "extra"], ["", "a b", "stray"]]
     faults = differs(said=(said, (0, "")), numbers=(found.table("numbers"), [["audit.log", "audit", "end line", "1", "1", "5", "0"]]))
     faults += differs(lacking=(found.table("lacking"), lacking), notes=(found.notes, ["Each log has its end line, and as many lines of each kind as that counts."]))
-    again, _ = page(folder, *names, *logs(folder, run=whole_log(skip("ab", "empty"))))
-    faults += differs(missing=(again.table("missing"), [["ab", "empty", "run.log"]]))
+    again, _ = page(folder, *names, *logs(folder, run=whole_log(skip("ab", "split"))))
+    faults += differs(missing=(again.table("missing"), [["ab", "split", "run.log"]]))
     made = list(csv.DictReader(io.StringIO(report(folder, "--csv", *names)[1].decode())))
     rows = [(row["as"], row["id"], row["to"], row["at"]) for row in made[1:]]
     return faults + differs(table=(rows, [("extra", "ab", stores.place("ab"), ""), ("stray", "", "a b", "")]))
@@ -190,109 +194,13 @@ def of_the_program(program, folder):
     found, said = page(folder, *names)
     ends = [json.loads(text.splitlines()[-1]) for text in texts.values()]
     told = [row[1:] for row in found.table("kinds-by-log")]
-    missing = [["pairtree_root itself", "root", "audit.log"], ["ot/he", "other", "audit.log"]]
+    missing = [["ot/he", "other", "audit.log"]]
     folders = sorted(row[1] for row in found.table("twins"))
     faults = differs(said=(said, (0, "")), missing=(found.table("missing"), missing), twins=(folders, ["^5/Cx/obj", "^5/cx/obj"]))
     heads = found.tables["kinds-by-log"][0][1:]
     faults += differs(kinds=(told, [[str(end.get(kind, 0)) for kind in heads] for end in ends]), heads=(heads, ["done", "present", "same", "skip"]))
     causes = [["rehearsal.log", "1", "1", "1"], ["first.log", "1", "1", "1"], ["second.log", "1", "0", "1"], ["audit.log", "1", "0", "1"]]
     return faults + differs(causes=(found.table("causes-by-log"), causes))
-
-
-def recorded(program, folder, name, *words, dest="d"):
-    """The log of a command, with its event in a file beside it; gives the event."""
-    done = subprocess.run([program, *words, "--event", f"{name}.json", "s", dest], cwd=folder, capture_output=True, timeout=120)
-    build(folder, {f"{name}.log": done.stdout})
-    with open(f"{folder}/{name}.json", "rb") as file:
-        return json.load(file)
-
-
-OF_AUDIT = "0 absent, 0 differs, 0 extra, 1 same, 0 skip, 0 stray"
-
-
-def row_of(name, event, words, *ends):
-    """The row of an event over the folder s: its options as words, and how it ended."""
-    return [name, event["as"], "s", event["dest"]["given"], words, event["begin"], event.get("end", "no end"), *ends]
-
-
-def of_events(program, folder):
-    """Events stand among logs in any order, whatever their names, a row each; the logs are told as without them, and so is the table."""
-    build(folder, {"left/staging": DIR})
-    chosen = ("migrate", *MEANT[:2], "--name", "Ada <b>", "--only", "ab", "--only", "it's")
-    begun = ["--created 2024-05-01T12:00:00Z --digest sha512", "--interval 10 --message 'Migrated from Pairtree' --name"]
-    ended = "--progress auto --share 1/1 --tuple-size 3 --tuples 3"
-    named = f"""{begun[1]} 'Ada <b>' --only ab --only 'it'"'"'s' {ended}"""
-    rehearsal, made = recorded(program, folder, "rehearsal", *chosen, "--dry-run"), recorded(program, folder, "run", *chosen)
-    audit, fault = recorded(program, folder, "audit", "audit", "--extra"), recorded(program, folder, "fault", "migrate", *MEANT, dest="left")
-    killed = {key: it for key, it in made.items() if key not in ("bytes", "end", "files", "lines", "skips", "status")}
-    build(folder, {"killed.log": stores.text_of(killed) + b"\n"})
-    found, said = page(folder, "killed.log", "rehearsal.log", "audit.json", "run.log", "run.json", "audit.log", "fault.json", "rehearsal.json")
-    plain, _ = page(folder, "rehearsal.log", "run.log", "audit.log")
-    staging = "fault 7: a staging directory is left in the destination; left/staging: it stands there already"
-    rows = [
-        row_of("killed.log", killed, f"{begun[0]} --event run.json {named}", "", "", "", "", ""),
-        row_of("audit.json", audit, f"--digest sha512 --event audit.json --extra --interval 10 {ended}", "0", OF_AUDIT, "1", "3", ""),
-        row_of("run.json", made, f"{begun[0]} --event run.json {named}", "0", "1 done, 0 present, 0 skip", "1", "3", ""),
-        row_of("fault.json", fault, f"{begun[0]} --event fault.json {begun[1]} Ada {ended}", "3", "0 done, 0 present, 0 skip", "0", "0", staging),
-        row_of("rehearsal.json", rehearsal, f"{begun[0]} --dry-run --event rehearsal.json {named}", "0", "1 done, 0 present, 0 skip", "1", "3", ""),
-    ]
-    faults = differs(said=(said, (0, "")), events=(found.table("events"), rows), heading=("Events: 5" in found.headings, True))
-    faults += differs(rest=({**found.tables, "events": None}, {**plain.tables, "events": None}), tops=((found.tiles, found.notes), (plain.tiles, plain.notes)))
-    tables = [report(folder, "--csv", "run.log", *names, "audit.log") for names in (["run.json", "killed.log"], [])]
-    faults += differs(table=(tables[0], tables[1]), status=(tables[0][0], 0))
-    single, said = page(folder, "run.json")
-    return faults + differs(single=((said, list(single.tables), single.headings, single.tiles, single.notes), ((0, ""), ["events"], ["Events: 1"], [], [])))
-
-
-EVENT = {"as": "run", "begin": "2024-05-01T12:00:00Z", "dest": {"given": "d"}, "options": {}, "source": {"given": "s"}}
-
-# What an event has otherwise than the least one, and its cells from the second on: what is unknown is empty.
-EVENTS = [
-    ({}, ["run", "s", "d", "", "2024-05-01T12:00:00Z", "no end", "", "", "", "", ""]),
-    (
-        {"as": 1, "begin": None, "dest": "d", "options": [], "source": {"given": 1}}
-        | {"end": 5, "status": True, "lines": [], "files": -1, "bytes": 1.5, "fault": "x"},
-        [""] * 11,
-    ),
-    (
-        {"as": "more", "dest": {}, "end": "", "status": 9, "lines": {"done": 1000, "skip": "2", "new": 3}, "files": 1234, "bytes": 10**20, "fault": {}},
-        ["more", "s", "", "", "2024-05-01T12:00:00Z", "", "9", "1,000 done, 3 new", "1,234", "100,000,000,000,000,000,000", ""],
-    ),
-    (
-        {"options": {"a": None, "b": {"x": 1}, "c": [], "d": "", "e": ["x y", 2], "f": False, "g": True}, "fault": {"number": 4, "text": "out of memory"}},
-        ["run", "s", "d", "--d '' --e 'x y' --e 2 --g", "2024-05-01T12:00:00Z", "no end", "", "", "", "", "fault 4: out of memory"],
-    ),
-    (
-        {"as": "<b>", "begin": "\u202e", "source": {"given": "\ud800\n"}, "lines": {"<i>": 1}, "options": {"<p>": "\\"}}
-        | {"fault": {"path": "<s>", "reason": "é"}, "more": 1},
-        ["<b>", "\\u{d800}\\u{a}", "d", "--<p> '\\\\'", "\\u{202e}", "no end", "", "1 <i>", "", "", "<s>: é"],
-    ),
-]
-
-
-def unknown_in_events(program, folder):
-    """What an event doesn't tell, or tells otherwise, is an empty cell; and its texts are texts on the page. Its JSON may be set in any form."""
-    faults = []
-    for change, cells in EVENTS:
-        texts = [json.dumps({**EVENT, **change}, indent=indent).encode() + end for indent, end in ((None, b""), (1, b"\n"), (None, b"\r\n\n"))]
-        names = logs(folder, **{f"e{number}": text for number, text in enumerate([*texts, b"\n" + texts[0]])})
-        found, said = page(folder, *names)
-        raw = {it for it in report(folder, *names)[1].decode() if not it.isprintable() and it != "\n"}
-        faults += differs(**{f"{change}": ((said, found.table("events"), raw), ((0, ""), [[name, *cells] for name in names], set()))})
-        faults += differs(tags=({tag for tag, _ in found.tags} & {"s", "script"}, set()))
-    return faults
-
-
-def no_events(program, folder):
-    """What lacks a key of an event, isn't one object or has more behind it is none: its lines are those of a log, or are named."""
-    text, faults = json.dumps(EVENT).encode(), []
-    others = [json.dumps({key: it for key, it in EVENT.items() if key != left}).encode() for left in EVENT]
-    others += [text + behind for behind in (b"\n" + text, b"\n" + whole_log(*RUN), b" x", b",")] + [b"[" + text + b"]", b"[" * 5000, b"\xff" + text]
-    for other in others:
-        found, said = page(folder, *logs(folder, no=other))
-        faults += differs(**{f"{other[:90]}": ((said[0], "no.log:1: it is no line of a log" in said[1], "events" in found.tables), (1, True, False))})
-    found, said = page(folder, *logs(folder, behind=whole_log(*RUN) + text + b"\n"))
-    return faults + differs(behind=((said, "events" in found.tables), ((1, f"report.py: behind.log:{len(RUN) + 2}: it is no line of a log\n"), False)))
 
 
 def cut_short(program, folder):
@@ -369,45 +277,6 @@ def by_json(program, folder):
     return differs(status=(texts[0][0], 0))
 
 
-# What three logs say of a site, and what is told to be missing: its cause and the log that named it last.
-HISTORIES = {
-    "mended": ([skip("aa", "split"), None, done("aa/obj", "1", {})], None),
-    "gathered": ([skip("ab", "split"), done("ab", "2", {}), None], None),
-    "there": ([skip("ac", "split"), present("ac/obj", "3"), None], None),
-    "before": ([done("ad/obj", "4", {}), skip("ad", "split"), skip("ad", "split")], None),
-    "another cause": ([skip("ae", "split"), skip("ae", "other"), skip("ae", "limit")], ["limit", "third.log"]),
-    "named once": ([skip("af", "name"), None, None], ["name", "first.log"]),
-    "never": ([None, skip("ag", "other"), None], ["other", "second.log"]),
-    "taken away": ([done("ah/obj", "5", {}), None, absent("ah/obj", "5")], ["absent", "third.log"]),
-    "absent, then carried": ([None, absent("ai/obj", "6"), present("ai/obj", "6")], None),
-    "absent, then skipped": ([absent("aj/obj", "7"), skip("aj", "empty"), None], ["empty", "second.log"]),
-    "another stands": ([skip("ak", "split"), unlike("ak/obj", "8", "v1", "kind"), None], None),
-    "three bytes": ([skip("al", "split"), done("al/€", "9", {}), None], None),
-    "below it": ([skip("am", "split"), done("am/a/obj", "10", {}), None], ["split", "first.log"]),
-    "the root": ([skip("", "root"), skip("", "root"), None], ["root", "second.log"]),
-    "the same": ([skip("an", "split"), {**done("an/obj", "11", {}), "as": "same"}, None], None),
-}
-
-
-def still_missing(program, folder):
-    """Over several logs, in their order: what the last log that names it skipped, and none has carried, or what it has as absent."""
-    texts = [lines(*(said[number] for said, _ in HISTORIES.values() if said[number])) for number in range(3)]
-    found, said = page(folder, *logs(folder, first=texts[0], second=texts[1], third=texts[2]))
-    wanted = {}
-    for entries, told in HISTORIES.values():
-        at = next(entry for entry in entries if entry)["at"]
-        wanted.update({at.split("/")[0]: told} if told else {})
-    wanted["pairtree_root itself"] = wanted.pop("")
-    faults = differs(said=(said, (0, "")), missing=({row[0].split("/")[0]: row[1:] for row in found.table("missing")}, wanted))
-    rows = [row for row in found.table("missing") if row[1] == "absent"]
-    faults += differs(absent=(rows, [["ah/obj", "absent", "third.log"]]), heading=(found.headings[1], f"Still missing: {len(wanted)}"))
-    few, _ = page(folder, "first.log", "second.log", "third.log", "--limit", "5")
-    faults += differs(few=((len(few.table("missing")), few.table("missing")[0]), (5, ["ae", "limit", "third.log"])))
-    other, _ = page(folder, "third.log", "second.log", "first.log")
-    order = {row[0]: row[1] for row in other.table("missing")}
-    return faults + differs(order=((order.get("ae"), "ah/obj" in order), ("split", False)), alone=(page(folder, "first.log")[0].table("missing"), []))
-
-
 def twins(program, folder):
     """Twins are identifiers of several folders of one log: neither a line that was written twice, nor one that another log has, nor a folder renamed since."""
     first = lines(present("a/obj", "one"), done("b/obj", "two", {}), present("b^/obj", "two"), done("c/obj", 'th"ree', {}), present("d/obj", "four"))
@@ -435,20 +304,22 @@ def escaped(program, folder):
         "\ufeff\xa0\u2028\u200b\U000e0041": "\\u{feff}\\u{a0}\\u{2028}\\u{200b}\\u{e0041}",
         "\\u{a}": "\\\\u{a}",
         "שלום é 中": "שלום é 中",
-        " two  blanks ": " two  blanks ",
+        " two  blanks ": "\\u{20}two  blanks\\u{20}",
     }
     entries = [sized(f"{number:02}/obj", name, 1, empty=1) for number, name in enumerate(names)]
     entries += [present(f"{number:02}^/obj{name}", name) for number, name in enumerate(names)] + [skip(name, "split") for name in names]
     build(folder, {"<b>\u202e.log": lines(*entries)})
     status, text, said = report(folder, "<b>\u202e.log")
     found, shown = Page(text), list(names.values())
+    # Behind other letters a blank is seen.
+    inside = [f"{number:02}^/obj{name}".replace("obj\\u{20}", "obj ") for number, name in enumerate(shown)]
     tags = set("html head meta title style body h1 h2 p ul li b div table thead tbody tr th td i a bdi code footer".split())
     raw = [it for it in text.decode() if not it.isprintable() and it != "\n"]
     return differs(
         said=((status, said), (0, "")),
         lost=([row[0] for row in found.table("lost")], shown),
         skipped=([row[0] for row in found.table("skipped")], shown),
-        twins=([row[1] for row in found.table("twins")][1::2], [f"{number:02}^/obj{name}" for number, name in enumerate(shown)]),
+        twins=([row[1] for row in found.table("twins")][1::2], inside),
         log=(found.table("numbers")[0][0], "<b>\\u{202e}.log"),
         tags=({tag for tag, _ in found.tags} - tags, set()),
         raw=(raw, []),
@@ -492,7 +363,7 @@ def as_table(program, folder):
     status, text, said = report(folder, "--csv", *names)
     heads, *rows = csv.reader(io.StringIO(text.decode(), newline=""), strict=True)
     wanted = [("run.log", entry) for entry in entries] + [("audit.log", entry) for entry in audited]
-    faults = differs(heads=(heads, ["log", "as", "at", "id", "to", "files", "bytes", "empty", "cause", "path", "why"]), said=((status, said), (0, "")))
+    faults = differs(heads=(heads, ["log", "as", "at", "id", "to", "files", "bytes", "empty", "cause", "path", "why", "reason"]), said=((status, said), (0, "")))
     faults += differs(rows=(rows, [[name, *(str(entry.get(head, "")) for head in heads[1:])] for name, entry in wanted]))
     faults += differs(ends=(text.replace(b'"a""b,c\r\nd"', b"").count(b"\r\n"), len(rows) + 1), feeds=(text.count(b"\n"), text.count(b"\r\n")))
     return faults + differs(file=((report(folder, "--csv", *names, "-o", "run.csv"), open(f"{folder}/run.csv", "rb").read()), ((0, b"", ""), text)))
@@ -524,6 +395,9 @@ def refused(program, folder):
         ("--limit", "-1", "run.log"): "usage: report.py",
         ("--limit", "x", "run.log"): "usage: report.py",
         ("--guid", "x", "run.log"): "usage: report.py",
+        ("--limit", "\u202e9", "run.log"): r"report.py: error: argument --limit: '\u{202e}9' is no number" + "\n",
+        ("--\x1b[2J\udce9", "run.log"): r"report.py: error: unrecognized arguments: --\u{1b}[2J\xe9" + "\n",
+        ("--guide", "a\\b ", "-o", "\x9b.html", "run\r.log"): r"report.py: run\u{d}.log: No such file",
         ("none.log",): "report.py: none.log: No such file",
         ("run.log", "folder"): "report.py: folder: it is no file",
         ("run.log", "fifo"): "report.py: fifo: it is no file",
@@ -545,8 +419,9 @@ def helps(program, folder):
     status, text, said = report(folder, "--help")
     words = ("--output", "--csv", "--guide", "--limit", "--event", "The status is 0", "12 bytes")
     faults = differs(help=((status, said, [it for it in words if it not in text.decode()]), (0, "", [])))
-    for name in ("report.py", "report_page.py"):
-        with open(f"{TOP}/examples/{name}", encoding="utf-8") as file:
+    parts = (f"examples/report_{part}.py" for part in ("log", "page", "sums", "verdict", "words"))
+    for name in ("examples/report.py", *parts, "tools/shown.py"):
+        with open(f"{TOP}/{name}", encoding="utf-8") as file:
             ast.parse(file.read(), feature_version=(3, 6))
     return faults
 
@@ -574,9 +449,9 @@ def in_little_memory(program, folder):
 
 
 def documented(program, folder):
-    """The README, the guide, the man page, the changelog and CONTRIBUTING name report.py, and the guide its options."""
+    """The README, the guide, the man page, the changelog and CONTRIBUTING name report.py, or its name on the PATH, and the guide its options."""
     texts = {path: documents.text_of(path) for path in ("README.md", "docs/GUIDE.md", "man/pairtree2ocfl.1.in", "CHANGELOG.md", "CONTRIBUTING.md")}
-    faults = [f"{path} doesn't name report.py" for path, text in texts.items() if "report.py" not in text]
+    faults = [f"{path} doesn't name report.py" for path, text in texts.items() if not re.search(r"report\.py|pairtree2ocfl\\?-report", text)]
     guide = next((part for part in texts["docs/GUIDE.md"].split("\n\n") if "report.py" in part), "")
     return faults + [f"GUIDE doesn't tell of {word}" for word in ("--csv", "what is still missing", "--event") if word not in guide]
 
@@ -586,13 +461,9 @@ CASES = [
     Alone("the report of an audit", one_audit),
     Alone("the report of an audit with extras", one_audit_with_extras),
     Alone("the report of the program's logs", of_the_program),
-    Alone("the report of events", of_events),
-    Alone("what is unknown in the report's events", unknown_in_events),
-    Alone("the report takes nothing else for an event", no_events),
     Alone("the report of logs that are cut short", cut_short),
     Alone("the report names lines that are none", bad_lines),
     Alone("the report of other forms of JSON", by_json),
-    Alone("what the report has as missing", still_missing),
     Alone("what the report has as twins", twins),
     Alone("the report escapes", escaped),
     Alone("the report stands by itself", alone),

@@ -151,6 +151,23 @@ def no_lock(program, folder):
     return faults
 
 
+def no_folder(program, folder):
+    """A destination that is no folder isn't opened, so that a pipe doesn't hold up what is made: that it isn't locked is told with --verbose."""
+    build(folder, {"pipe": FIFO, "file": b"1"})
+    os.symlink("pipe", f"{folder}/link")
+    before, faults = read_tree(folder), []
+    for dest in ("pipe", "file", "link"):
+        unlocked = f"pairtree2ocfl: {dest}: it is not locked: not a directory\n"
+        for words, what, path in ((["migrate", *MEANT], "write", f"{dest}/staging"), (["migrate", *MEANT, "-n"], "write", f"{dest}/"),
+                                  (["audit"], "read", f"{dest}/")):
+            told = f"pairtree2ocfl: fault 2: cannot {what} the destination\npairtree2ocfl: {path}: Not a directory (os error 20)\n"
+            for more, said in (((), told), (("-v",), unlocked + told)):
+                done = subprocess.run([program, *words, *more, "s", dest], cwd=folder, capture_output=True, timeout=60)
+                found = (done.returncode, done.stdout, done.stderr.decode())
+                faults += differs(**{" ".join([dest, *words, *more]): (found, (3, b"", said))})
+    return faults + differs(changed=(read_tree(folder), before))
+
+
 def another_users_log(program, folder):
     """With --sync a log that is open, and that the program can't open again, is written, and told before the run as one that isn't synced."""
     nobody = as_nobody()
@@ -306,6 +323,7 @@ CASES = [
     Alone("second mounts of folders", second_mounts),
     Alone("a working folder that is too deep", deep_folder),
     Alone("a lock that can't be had", no_lock),
+    Alone("a destination that is no folder", no_folder),
     Alone("calls that a signal interrupts", interrupted),
     Alone("a log of another user, with --sync", another_users_log),
     Alone("a pipe, with --sync", sync_to_pipes),

@@ -195,16 +195,20 @@ def summed_of_audit(program, folder):
 
 
 def expected(program, folder):
-    """By a rehearsal's log the share done and the time left are shown too; a log without an end line is told, and the run goes on."""
+    """By a rehearsal's log the share done and the time left are shown too; a log without an end line is told, also where it is no file, and the run goes
+    on."""
     many(folder)
     with open(f"{folder}/log", "wb") as log:
         log.write(run(program, folder, "--dry-run").stdout)
     faults = ahead(program, folder, ["migrate", *MEANT], "log")
     none = run(program, folder, "--expect", "s/pairtree_version0_1")
     said = b"pairtree2ocfl: s/pairtree_version0_1: it has no end line of a log\n"
-    absent = run(program, folder, "--expect", "none")
     faults += differs(none=((none.returncode, none.stderr), (1, said)))
-    return faults + differs(absent=((absent.returncode, absent.stderr), (1, said.replace(b"s/pairtree_version0_1", b"none"))))
+    os.mkfifo(f"{folder}/pipe")
+    for name in ("none", "pipe", "d"):
+        other = run(program, folder, "--expect", name)
+        faults += differs(**{name: ((other.returncode, other.stderr), (1, said.replace(b"s/pairtree_version0_1", name.encode())))})
+    return faults
 
 
 def expected_of_audit(program, folder):

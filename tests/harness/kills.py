@@ -21,6 +21,7 @@ WORDS = ["join", "a/ocfl", "b/ocfl", "c/ocfl"]
 
 def loaded(path):
     """The script as a module."""
+    sys.path.insert(0, os.path.dirname(path))
     spec = importlib.util.spec_from_file_location("roots", path)
     module = importlib.util.module_from_spec(spec)
     spec.loader.exec_module(module)

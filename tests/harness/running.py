@@ -25,6 +25,7 @@ TEXTS = {
     8: "the ocfl directory of the destination cannot be used",
     9: "a source file changed during the run",
 }
+NO_STORE = "it holds no file pairtree_version0_1 or no directory pairtree_root"
 MEANT = ("--created", "2024-05-01T12:00:00Z", "--name", "Ada")
 CAUSES = ("root", "empty", "split", "past", "name", "utf8", "other", "limit", "reserved")
 # The time at the end of a summary: a test asks for none.
@@ -36,7 +37,8 @@ class Run:
 
     `grow` and `plant` are changed in the source and in the destination before it; `words` stand before the two folders;
     `source` and `dest` name the folders, from the folder of the case, which is put before them unless `relative`;
-    `output` is where standard output goes; `commands` are run before it.
+    `output` is where standard output goes; `commands` are run before it. `top` is the path of a fault at the top of a folder, given as the folders
+    are, and its reason: these are told too.
     """
 
     def __init__(self, out, dest, status, err=b"", **options):
@@ -53,6 +55,7 @@ class Run:
         self.relative = options.pop("relative", False)
         self.output = options.pop("output", "pipe")
         self.commands = options.pop("commands", ())
+        self.top = options.pop("top", None)
         if options:
             raise TypeError(f"no such option of a run: {options}")
 
@@ -61,6 +64,13 @@ class Run:
         names = (self.source, self.dest_name)
         folders = names if self.relative else [f"{folder}/{name}" for name in names]
         return [program, "migrate", *self.meant, *self.words, *folders]
+
+    def said(self, folder):
+        """What standard error must get."""
+        if self.top is None:
+            return self.err
+        path, reason = self.top
+        return self.err + f"pairtree2ocfl: {path if self.relative else f'{folder}/{path}'}: {reason}\n".encode()
 
 
 class Case:
@@ -109,7 +119,7 @@ class Case:
         status, out, err = started(run.command(program, folder), folder, run.output)
         if status != run.status:
             yield f"the status is {status}, not {run.status}"
-        for stream, found, right in (("standard output", out, run.out), ("standard error", timeless(err), run.err)):
+        for stream, found, right in (("standard output", out, run.out), ("standard error", timeless(err), run.said(folder))):
             if not (right(found) if callable(right) else found == right):
                 yield f"{stream} is {stores.shown(found)}" + ("" if callable(right) else f", not {stores.shown(right)}")
         yield from stores.differences(self.steady(stores.read_tree(folder)), wanted)
@@ -195,7 +205,9 @@ def sized(length):
 
 
 def fault(number, dest, *entries, **options):
-    """A run that a fault ends, after these lines."""
+    """A run that a fault ends, after these lines. Fault 5 is one of SOURCE itself."""
+    if number == 5:
+        options.setdefault("top", (options.get("source", "s"), NO_STORE))
     text = f"pairtree2ocfl: fault {number}: {TEXTS[number]}\n".encode()
     return Run(stores.lines(*entries), dest, 3, text, **options)
 

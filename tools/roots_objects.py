@@ -1,0 +1,236 @@
+"""A storage root that pairtree2ocfl made, as roots.py sees it: its own files, the places of its objects, and whether an object is whole.
+
+Everything is opened from the folder above it, so no link is followed."""
+
+import contextlib
+import errno
+import hashlib
+import json
+import os
+import re
+import stat
+import urllib.parse
+
+from roots_telling import PROGRESS, Refused, say
+
+EXTENSION = "0003-hash-and-id-n-tuple-storage-layout"
+LAYOUT = (
+    '{"description":"SHA-256 of the identifier in tuples, then the encoded identifier",'
+    f'"extension":"{EXTENSION}"}}'
+).encode()
+DECLARATION = "0=ocfl_object_1.1"
+NAME = re.compile("(?=.{1,100}$)(?:[A-Za-z0-9_-]|%[0-9a-f]{2})+")
+LONG_NAME = re.compile("[A-Za-z0-9_%-]{100}-([0-9a-f]{64})")
+FOLDER = os.O_RDONLY | os.O_DIRECTORY | os.O_NOFOLLOW | os.O_CLOEXEC
+FILE = os.O_RDONLY | os.O_NOFOLLOW | os.O_NONBLOCK | os.O_CLOEXEC
+
+
+class Unlike(Exception):
+    """Why an object isn't whole."""
+
+
+class Foreign(Exception):
+    """Why an object isn't one that this script can judge."""
+
+
+@contextlib.contextmanager
+def folder(path, above=None):
+    """A folder, open. No link is followed at the end of its path."""
+    fd = os.open(path, FOLDER, dir_fd=above)
+    try:
+        yield fd
+    finally:
+        os.close(fd)
+
+
+def pieces(path, above):
+    """The bytes of a file in pieces; `Unlike` where there is no file."""
+    try:
+        fd = os.open(path, FILE, dir_fd=above)
+    except OSError as error:
+        if error.errno in (errno.ENOENT, errno.ENOTDIR, errno.ELOOP, errno.ENXIO):
+            raise Unlike(f"{path} isn't there") from error
+        raise
+    try:
+        if not stat.S_ISREG(os.fstat(fd).st_mode):
+            raise Unlike(f"{path} is no file")
+        while piece := os.read(fd, 1 << 20):
+            yield piece
+    finally:
+        os.close(fd)
+
+
+def content(path, above):
+    """The bytes of a file."""
+    return b"".join(pieces(path, above))
+
+
+def digest_of(path, above, algorithm):
+    """The digest of a file, in hex."""
+    digest = hashlib.new(algorithm)
+    for piece in pieces(path, above):
+        digest.update(piece)
+    return digest.hexdigest()
+
+
+class Root:
+    """A storage root that the program made: where it is, how its places are cut, and the folder, open."""
+
+    def __init__(self, path, last):
+        self.path = path.rstrip("/") or "/"
+        try:
+            self.fd = last.enter_context(folder(self.path))
+        except NotADirectoryError as error:
+            raise Refused(f"{path} is no folder, or a link: name the folder itself") from error
+        found = os.fstat(self.fd)
+        self.device, self.key = found.st_dev, (found.st_dev, found.st_ino)
+        self.size, self.count = self.tuples()
+        self.unjudged = self.strays = 0
+
+    def tuples(self):
+        """The layout's two numbers, by the root's own three files, which have to be the program's; refused with all that aren't."""
+        config = f"extensions/{EXTENSION}/config.json"
+        texts, faults = {}, []
+        for name, wanted in (("0=ocfl_1.1", b"ocfl_1.1\n"), ("ocfl_layout.json", LAYOUT), (config, None)):
+            try:
+                for above in ("extensions", f"extensions/{EXTENSION}") if name == config else ():
+                    with folder(above, self.fd):
+                        pass
+                texts[name] = content(name, self.fd)
+                if wanted not in (None, texts[name]):
+                    faults.append(f"{self.path}/{name} isn't the program's")
+            except (Unlike, FileNotFoundError, NotADirectoryError) as error:
+                why = error if isinstance(error, Unlike) else f"{name} isn't there"
+                faults.append(f"{self.path} isn't a storage root of the program: {why}")
+        found = re.fullmatch(rb'.*"numberOfTuples":(\d{1,2}),"tupleSize":(\d{1,2})}', texts.get(config, b""))
+        if config in texts and not (found and texts[config] == config_of(*map(int, found.groups()))):
+            faults.append(f"{self.path}/{config} isn't the program's")
+        if faults:
+            raise Refused(*faults)
+        return int(found[2]), int(found[1])
+
+    def __str__(self):
+        return self.path
+
+    def places(self, names=(), above=None):
+        """The folders at objects' places, by place, last name and the tuple folder, open. What can't be listed is told and counted."""
+        above = self.fd if above is None else above
+        for name in sorted(os.listdir(above)):
+            whole = "/".join((*names, name))
+            if not names and is_own(name, above):
+                continue
+            if not self.belongs(names, name) or not is_folder(name, above):
+                self.strays += 1
+                say(f"{self}/{whole}: it isn't a place of the program's, and is left out")
+            elif len(names) == self.count:
+                PROGRESS.count_one(self, whole)
+                yield whole, name, above
+            else:
+                yield from self.entered(names, name, above)
+
+    def entered(self, names, name, above):
+        """The same below a tuple folder."""
+        try:
+            with folder(name, above) as fd:
+                yield from self.places((*names, name), fd)
+        except OSError as error:
+            self.unjudged += 1
+            say(f"{self}/{'/'.join((*names, name))}: {error.strerror}")
+
+    def belongs(self, names, name):
+        """Whether a name belongs below these: a tuple, or the last name of an object with these tuples."""
+        if len(names) < self.count:
+            return re.fullmatch(f"[0-9a-f]{{{self.size}}}", name) is not None
+        long = LONG_NAME.fullmatch(name)
+        if not long and not NAME.fullmatch(name):
+            return False
+        digest = long[1] if long else hashlib.sha256(urllib.parse.unquote_to_bytes(name)).hexdigest()
+        return digest.startswith("".join(names))
+
+
+def is_own(name, above):
+    """Whether an entry of a root's top is the root's own (OCFL 1.1, "Root Structure"): its declaration, its layout, the specifications that it may
+    hold, and the folder of extensions. The first two have been read."""
+    kind = os.stat(name, dir_fd=above, follow_symlinks=False).st_mode
+    if name == "extensions":
+        return stat.S_ISDIR(kind)
+    texts = ("0=ocfl_1.1", "ocfl_layout.json", "ocfl_extensions_1.0.md")
+    return stat.S_ISREG(kind) and (name in texts or name.startswith("ocfl_1.1."))
+
+
+def config_of(count, size):
+    """The configuration of a layout as the program writes it."""
+    return (
+        f'{{"digestAlgorithm":"sha256","extensionName":"{EXTENSION}","numberOfTuples":{count},"tupleSize":{size}}}'
+    ).encode()
+
+
+def is_folder(name, above):
+    """Whether a name is that of a folder, and no link."""
+    return stat.S_ISDIR(os.stat(name, dir_fd=above, follow_symlinks=False).st_mode)
+
+
+def last_name_of(identifier):
+    """The last name of an identifier's place."""
+    plain = re.compile("[A-Za-z0-9_-]")
+    encoded = "".join(chr(byte) if plain.match(chr(byte)) else f"%{byte:02x}" for byte in identifier)
+    return encoded if len(encoded) <= 100 else f"{encoded[:100]}-{hashlib.sha256(identifier).hexdigest()}"
+
+
+def files_below(top):
+    """The paths of all that stands below a folder and is no folder, and of folders with nothing in them."""
+    found, waiting = set(), [""]
+    while waiting:
+        above = waiting.pop()
+        with folder(above or ".", top) as fd:
+            names = os.listdir(fd)
+            if not names:
+                found.add(above.rstrip("/"))
+            for name in names:
+                (waiting.append(f"{above}{name}/") if is_folder(name, fd) else found.add(above + name))
+    return found
+
+
+def inventory_of(top, name):
+    """The digest algorithm and the manifest of an object, by its inventory, which has to be the program's with its sidecar."""
+    names = os.listdir(top)
+    other = [it for it in names if it.startswith("0=ocfl_object_") and it != DECLARATION]
+    if other or any(re.fullmatch("v0*([2-9]|[1-9][0-9]+)", it) for it in names):
+        raise Foreign("it is of another version of OCFL, or has later versions")
+    if {"logs", "extensions"} & set(names):
+        raise Foreign("another program has written in it")
+    if content(DECLARATION, top) != b"ocfl_object_1.1\n":
+        raise Unlike("its declaration isn't whole")
+    text = content("inventory.json", top)
+    try:
+        inventory = json.loads(text)
+        if inventory["head"] != "v1" or list(inventory["versions"]) != ["v1"]:
+            raise Foreign("it has later versions, or isn't the program's")
+        if last_name_of(inventory["id"].encode()) != name:
+            raise Unlike("its inventory has the identifier of another place")
+        algorithm, manifest = inventory["digestAlgorithm"], inventory["manifest"]
+        if algorithm not in ("sha512", "sha256"):
+            raise Foreign("its digests aren't the program's")
+        stored = {path: digest for digest, paths in manifest.items() for path in paths}
+        sidecar = f"{hashlib.new(algorithm, text).hexdigest()} inventory.json\n".encode()
+    except (ValueError, KeyError, TypeError, AttributeError, RecursionError) as error:
+        raise Unlike("its inventory isn't whole") from error
+    for above in ("", "v1/"):
+        if content(f"{above}inventory.json", top) != text:
+            raise Unlike(f"{above}inventory.json isn't the inventory")
+        if content(f"{above}inventory.json.{algorithm}", top) != sidecar:
+            raise Unlike(f"{above}inventory.json.{algorithm} isn't that of the inventory")
+    return algorithm, stored
+
+
+def look_at(name, above, reads):
+    """Looks at an object: `Unlike` where it isn't whole, `Foreign` where it isn't one of the program's. Contents are read if asked."""
+    with folder(name, above) as top:
+        found = files_below(top)
+        algorithm, stored = inventory_of(top, name)
+        own = {DECLARATION, *(f"{it}inventory.json{end}" for it in ("", "v1/") for end in ("", f".{algorithm}"))}
+        for path in sorted(found ^ (own | stored.keys()), key=str):
+            raise Unlike(f"{path} isn't there" if path in stored else f"no inventory has {path}")
+        for path, digest in stored.items() if reads else ():
+            if digest_of(path, top, algorithm) != digest:
+                raise Unlike(f"{path} isn't whole")
