@@ -52,6 +52,12 @@ def constructors(lines):
     return [match[1] for line in lines[1:] if (match := re.match(r"^ {2}(\w+) :", line))]
 
 
+def uses(path):
+    """The `use` lines of a file of specs, each as one line."""
+    text = "\n".join(index.lines_of(path))
+    return [" ".join(found.split()) for found in re.findall(r"^ *use [^{\n]*(?:\{[^}]*\})?[^{\n]*$", text, re.MULTILINE)]
+
+
 class Definitions:
     """All definitions of the crates' specs, and what each names."""
 
@@ -70,8 +76,8 @@ class Definitions:
             for word in [name, *constructors(lines)]:
                 self.local[place][word] = name
         self.imported[place] = {}
-        for line in index.lines_of(path):
-            if match := USE.match(line.strip()):
+        for line in uses(path):
+            if match := USE.match(line):
                 for taken in (match[3] or "").split(","):
                     name, _, new = taken.strip().partition(" as ")
                     self.imported[place][new or name] = (match[1], match[2], name)
@@ -167,6 +173,19 @@ def said(crate, definitions):
     return [f"{name} of {of}" for (of, _, name), _ in counts.most_common(4)]
 
 
+def resting(of_crate):
+    """The guarantees that rest on these promises, by their names."""
+    return [name for name, words, item in guarantees() if any(is_of(item, words, *promise) for promise in of_crate)]
+
+
+def head(of_crate):
+    """What the head of a crate's lib.rt says of the guarantees, where these promises rest on its definitions."""
+    rest, every = resting(of_crate), [name for name, _, _ in guarantees()]
+    if rest == every:
+        return "All guarantees of README rest on its definitions."
+    return f"Guarantees of README that rest on its definitions: {', '.join(rest)}." if rest else "No guarantee of README rests on its definitions."
+
+
 def told(crate, of_crate, promised, definitions):
     """The lines that tell of a crate."""
     yield f"\n{crate}"
@@ -178,7 +197,7 @@ def told(crate, of_crate, promised, definitions):
         names = [name for kind, name in of_crate if kind == what]
         every = [name for kind, name in promised if kind == what]
         yield f"  {what}: {'all' if names == every and len(every) > 1 else ', '.join(names)}"
-    rest = [name for name, words, item in guarantees() if any(is_of(item, words, *promise) for promise in of_crate)]
+    rest = resting(of_crate)
     if rest:
         yield f"  guarantees: {', '.join(rest)}"
     yield from (f"  tested, not proved: {said}" for said in tested_alone(crate))

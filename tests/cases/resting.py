@@ -4,6 +4,7 @@ What is told is held against rows that were found by reading the definitions.
 """
 
 import os
+import re
 import subprocess
 import sys
 
@@ -85,8 +86,21 @@ def some(program, folder):
     return differs(crates=(list(blocks), ["pt_object", "pt_audit"]), alone=(len(alone), 1))
 
 
+def heads(program, folder):
+    """The head of each crate that has definitions names at its end the guarantees that rest on these."""
+    every, faults = list(guarantees.promises(guarantees.Definitions())), []
+    for crate in index.crates():
+        if index.specs(crate):
+            with open(f"{TOP}/crates/{crate}/src/lib.rt", encoding="utf-8") as file:
+                head = " ".join(re.findall(r"^//! ?(.*)$", file.read(), re.MULTILINE))
+            wanted = guarantees.head([(what, name) for what, name, crates in every if crate in crates])
+            faults += [] if head.endswith(f" {wanted}") else [f"the head of {crate} doesn't end with: {wanted}"]
+    return faults
+
+
 CASES = [
     Alone("what promises rest on", rests),
     Alone("the crates' promises and guarantees", told),
     Alone("what rests on some crates", some),
+    Alone("the guarantees that the crates' heads name", heads),
 ]

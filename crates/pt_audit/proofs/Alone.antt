@@ -8,7 +8,23 @@ use Rattle.pt_plan.specs.Job.{Job}
 use Rattle.pt_plan.specs.Lines.{Line}
 use Rattle.pt_plan.specs.Run.{Kept}
 use Rattle.pt_plan.specs.Turn.{Did, FailsAtFirst, FailsLater, GoesOn, IsRefused, FailsPartway, FailsUnchanged, Turn}
-use Rattle.pt_plan.specs.DeviceStates.{Adds, Change, Changes, ChangesNothing, Creates, Finds, FindsNoneAndMakes, Finishes, LeavesFront, Makes, Peeks, Puts, Renames, Untouched, WasFound}
+use Rattle.pt_plan.specs.DeviceStates.{
+  Adds,
+  Change,
+  Changes,
+  ChangesNothing,
+  Creates,
+  Finds,
+  FindsNoneAndMakes,
+  Finishes,
+  LeavesFront,
+  Makes,
+  Peeks,
+  Puts,
+  Renames,
+  Untouched,
+  WasFound,
+}
 use Rattle.pt_plan.specs.declared.phase.Phase.{Phase}
 use Rattle.pt_state.specs.Outside.{states}
 use Rattle.pt_state.specs.declared.state.State.{State}
@@ -50,7 +66,8 @@ none_found (Some _) Finishes = tt
 none_found (Some _) (Renames _ _) = tt
 
 module _ {job : Job} {here : Phase} {before after : Kept} (told new : Option Reading) (w v : Option Writing) (l k : Option (List ℕ)) (a b c a' b' c' : ℕ) where
-  pub alone_turn : {answer : Answer} → Turn job here before after (states told w l a b c) (states new v k a' b' c') answer → Turn job here before after (states told None None a b c) (states new None None a' b' c') answer
+  pub alone_turn : {answer : Answer} → Turn job here before after (states told w l a b c) (states new v k a' b' c') answer
+      → Turn job here before after (states told None None a b c) (states new None None a' b' c') answer
   unfolding Did FailsUnchanged FailsPartway
   alone_turn (GoesOn calls next follows did counts) =
       GoesOn calls next follows (record { source = did.0.source; dest = no_change calls.change; log = no_line calls.line }, did.1) counts
@@ -70,7 +87,8 @@ module _ {job : Job} {here : Phase} {before after : Kept} (told new : Option Rea
         left.2,
       ) which halted
 
-pub counted_alone : (here : Phase) (s s' : State) (told new : Option Reading) (w v : Option Writing) (l k : Option (List ℕ)) (a b c a' b' c' : ℕ) (answer : Answer) → CountedTurn here s s' (states told w l a b c) (states new v k a' b' c') answer
+pub counted_alone : (here : Phase) (s s' : State) (told new : Option Reading) (w v : Option Writing) (l k : Option (List ℕ)) (a b c a' b' c' : ℕ)
+    (answer : Answer) → CountedTurn here s s' (states told w l a b c) (states new v k a' b' c') answer
     → CountedTurn here s s' (states told None None a b c) (states new None None a' b' c') answer
 unfolding CountedTurn
 counted_alone here s s' told new w v l k a b c a' b' c' answer turned = (

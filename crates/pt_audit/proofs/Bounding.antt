@@ -35,7 +35,8 @@ module _ {source : Option Forest} {first : Running} where
       let within = subst (λ (j : own.Job). after.state.counts.turns ≤ j.limits.turns) (same_job steps ∙ new.job_is) one.within in
       omega (arith, counted, within)
 
-  work_steps : {job : own.Job} {n : ℕ} {last : Running} → IsNew job first → Surveyed source first n last → ForSome source (λ s. n ≤ work_of_survey (job_of job) s)
+  work_steps : {job : own.Job} {n : ℕ} {last : Running} → IsNew job first → Surveyed source first n last
+      → ForSome source (λ s. n ≤ work_of_survey (job_of job) s)
   work_steps new NoStep = λ s is. omega arith
   work_steps {job} new (OneMore {after = after} steps one) = λ s is.
       let counted = counted_new new (OneMore steps one) in
@@ -43,18 +44,29 @@ module _ {source : Option Forest} {first : Running} where
       omega (arith, counted, within)
 
 -- an audit that goes on from a survey that is to begin
-pub made_within : {job : own.Job} {source : Option Forest} {first : Running} {result : Result Counts Fault} → IsNew job first → IsMadeFrom source first result → IsMade job source result
+pub made_within : {job : own.Job} {source : Option Forest} {first : Running} {result : Result Counts Fault} → IsNew job first → IsMadeFrom source first result
+    → IsMade job source result
 made_within {first = first} new made = record { first = first; new = new; made = made; within = few_steps new made.steps; work = work_steps new made.steps }
 
 -- whatever comes behind it, if that tells its counts
-pub made_by : {job : own.Job} {source : Option Forest} {result : Result Counts Fault} (last : Result Counts Fault) → IfOk last (λ counts. result ≡ Ok counts) → IsMade job source result → IsMade job source last
+pub made_by : {job : own.Job} {source : Option Forest} {result : Result Counts Fault} (last : Result Counts Fault) → IfOk last (λ counts. result ≡ Ok counts)
+    → IsMade job source result → IsMade job source last
 made_by {job} {source} (Ok counts) is it = subst (IsMade job source) is it
-made_by (Err why) is it = record { first = it.first; new = it.new; made = record { count = it.made.count; last = it.made.last; steps = it.made.steps; ended = tt }; within = it.within; work = it.work }
+made_by (Err why) is it = record {
+  first = it.first;
+  new = it.new;
+  made = record
+      { count = it.made.count; last = it.made.last; steps = it.made.steps; ended = tt };
+  within = it.within;
+  work = it.work;
+}
 
-pub made_stopped : {job : own.Job} {source : Option Forest} {result : Result Counts Fault} (last : Result Audited Fault) (why : Fault) → last ≡ Err why → IsMade job source result → IsMade job source (counts_in last)
+pub made_stopped : {job : own.Job} {source : Option Forest} {result : Result Counts Fault} (last : Result Audited Fault) (why : Fault) → last ≡ Err why
+    → IsMade job source result → IsMade job source (counts_in last)
 made_stopped {job} {source} last why is it = subst (λ (r : Result Audited Fault). IsMade job source (counts_in r)) (sym is) (made_by (Err why) tt it)
 
 -- by the end line, which gives the counts again
-pub made_end : {job : own.Job} {source : Option Forest} {counts : Counts} (Told : Type 0) (last : Result Counts Fault) → IfOk last (λ told. (told ≡ counts) × Told) → IsMade job source (Ok counts) → IsMade job source last
+pub made_end : {job : own.Job} {source : Option Forest} {counts : Counts} (Told : Type 0) (last : Result Counts Fault)
+    → IfOk last (λ told. (told ≡ counts) × Told) → IsMade job source (Ok counts) → IsMade job source last
 made_end Told (Ok told) puts it = made_by (Ok told) (ap (λ (c : Counts). Ok c) (sym puts.0)) it
 made_end Told (Err why) puts it = made_by (Err why) tt it

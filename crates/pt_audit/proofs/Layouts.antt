@@ -40,7 +40,8 @@ IsSame o bytes false = o ≢ Some (Bytes bytes)
 free_top : (standing : Forest) → kind_at standing storage_root ≡ None → IsFree (root_of standing) []
 free_top standing none path = by (find standing (codes "ocfl")) none
   where
-    by : (o : Option Node) → option_map kind_of (option_and_then (λ node. node_at node []) o) ≡ None → option_map entry_of (option_and_then (λ node. node_at node path) o) ≡ None
+    by : (o : Option Node) → option_map kind_of (option_and_then (λ node. node_at node []) o) ≡ None
+        → option_map entry_of (option_and_then (λ node. node_at node path) o) ≡ None
     by None is = refl
     by (Some node) is = absurd (cc)
 
@@ -53,10 +54,12 @@ folder_top standing is = by (node_at (Dir standing) storage_root) is
     by (Some (Dir _)) is = refl
     by (Some Other) is = absurd (cc)
 
-no_folder : (standing : Forest) (here : Option Kind) → kind_at standing storage_root ≡ here → is_some here ≡ true → is_dir_kind here ≡ false → is_folder_or_free (root_of standing []) ≡ false
+no_folder : (standing : Forest) (here : Option Kind) → kind_at standing storage_root ≡ here → is_some here ≡ true → is_dir_kind here ≡ false
+    → is_folder_or_free (root_of standing []) ≡ false
 no_folder standing here is some other = by (node_at (Dir standing) storage_root) (ap is_some is ∙ some) (ap is_dir_kind is ∙ other)
   where
-    by : (o : Option Node) → is_some (option_map kind_of o) ≡ true → is_dir_kind (option_map kind_of o) ≡ false → is_folder_or_free (option_map entry_of o) ≡ false
+    by : (o : Option Node) → is_some (option_map kind_of o) ≡ true → is_dir_kind (option_map kind_of o) ≡ false
+        → is_folder_or_free (option_map entry_of o) ≡ false
     by None some other = absurd (true≢false (sym some))
     by (Some (File _)) some other = refl
     by (Some (Dir _)) some other = absurd (true≢false other)
@@ -101,20 +104,24 @@ kind_there (Some (Dir _)) bytes is = absurd (cc)
 kind_there (Some Other) bytes is = absurd (cc)
 
 -- what isn't one has no bytes
-pub no_file : (told : Option Forest) (whole path : Path) (bytes : List ℕ) (here : Option Kind) → whole ≡ in_root path → is_file_kind here ≡ false → IsSeen told whole here → ForSome told (TellsFile path bytes false)
+pub no_file : (told : Option Forest) (whole path : Path) (bytes : List ℕ) (here : Option Kind) → whole ≡ in_root path → is_file_kind here ≡ false
+    → IsSeen told whole here → ForSome told (TellsFile path bytes false)
 no_file told whole path bytes here at other seen = λ f e is.
     let there = subst (λ (p : Path). kind_at f p ≡ here) at (seen f e) in
     true≢false (sym (kind_there (node_at (Dir f) (in_root path)) bytes is) ∙ ap is_file_kind there ∙ other)
 
 -- what is read of it tells whether it has these
-block_tells : (o : Option Entry) (bytes block : List ℕ) (same : Bool) → length bytes < 8192 → option_map (take 8192) (bytes_of o) ≡ Some block → bytes_eq block bytes ≡ same → IsSame o bytes same
+block_tells : (o : Option Entry) (bytes block : List ℕ) (same : Bool) → length bytes < 8192 → option_map (take 8192) (bytes_of o) ≡ Some block
+    → bytes_eq block bytes ≡ same → IsSame o bytes same
 block_tells o bytes block true short read is = peeked_whole o (read ∙ ap (λ (b : List ℕ). Some b) (same_text block bytes (sym is))) short
 block_tells o bytes block false short read is = λ stands.
     let all : take 8192 bytes ≡ bytes = take_all 8192 bytes (omega (arith, short)) in
-    let found : bytes ≡ block = some_same bytes block (ap (λ (b : List ℕ). Some b) (sym all) ∙ sym (ap (λ (e : Option Entry). option_map (take 8192) (bytes_of e)) stands) ∙ read) in
+    let found : bytes ≡ block = some_same bytes block (ap (λ (b : List ℕ). Some b) (sym all)
+    ∙ sym (ap (λ (e : Option Entry). option_map (take 8192) (bytes_of e)) stands) ∙ read) in
     other_text block bytes (sym is) (sym found)
 
-pub file_told : (told after : Option Reading) (whole path : Path) (bytes block x : List ℕ) (same : Bool) → length bytes < 8192 → whole ≡ in_root path → after ≡ option_map (after_open whole) told → IsRead after block → x ≡ block → same ≡ bytes_eq x bytes
+pub file_told : (told after : Option Reading) (whole path : Path) (bytes block x : List ℕ) (same : Bool) → length bytes < 8192 → whole ≡ in_root path
+    → after ≡ option_map (after_open whole) told → IsRead after block → x ≡ block → same ≡ bytes_eq x bytes
     → ForSome (tree_in told) (TellsFile path bytes same)
 unfolding IsRead
 file_told told after whole path bytes block x same short at opened read is test = λ f e. by f (reading_of told e)
@@ -124,7 +131,8 @@ file_told told after whole path bytes block x same short at opened read is test 
         let there = read (after_open whole s) (opened ∙ ap (option_map (after_open whole)) told_is) in
         let here = subst (λ (p : Path). option_map (take 8192) (file_at s.tree p) ≡ Some block) at there in
         let now = subst (λ (g : Forest). option_map (take 8192) (file_at g (in_root path)) ≡ Some block) tree here in
-        tells same (block_tells (root_of f path) bytes block same short (ap (option_map (take 8192)) (bytes_there (node_at (Dir f) (in_root path))) ∙ now) (ap (λ (b : List ℕ). bytes_eq b bytes) (sym is) ∙ sym test))
+        tells same (block_tells (root_of f path) bytes block same short (ap (option_map (take 8192)) (bytes_there (node_at (Dir f) (in_root path))) ∙ now)
+        (ap (λ (b : List ℕ). bytes_eq b bytes) (sym is) ∙ sym test))
       where
         tells : (same : Bool) → IsSame (root_of f path) bytes same → TellsFile path bytes same f
         tells true it = it
@@ -139,27 +147,37 @@ module _ (told : Option Forest) (job : Job) where
   pub none_yet : ForSome told (Has 0)
   none_yet = λ f e. All-nil (λ (file : RootFile). root_of f file.0 ≡ Some (Bytes file.1))
 
-  pub one_more : (n : ℕ) (path : Path) (bytes : List ℕ) → slice_get (root_files_of job.tuples) n ≡ Some (path, bytes) → ForSome told (TellsFile path bytes true) → ForSome told (Has n) → ForSome told (Has (n + 1))
+  pub one_more : (n : ℕ) (path : Path) (bytes : List ℕ) → slice_get (root_files_of job.tuples) n ≡ Some (path, bytes) → ForSome told (TellsFile path bytes true)
+      → ForSome told (Has n) → ForSome told (Has (n + 1))
   one_more n path bytes is there files = λ f e.
       let next : n + 1 ≡ suc n = omega arith in
       subst (λ (k : ℕ). HasRootFiles job (root_of f) k) (sym next)
-      (subst (λ (l : List RootFile). All (λ (file : RootFile). root_of f file.0 ≡ Some (Bytes file.1)) l) (sym (take_one n (root_files_of job.tuples) (path, bytes) is))
+      (subst (λ (l : List RootFile). All (λ (file : RootFile). root_of f file.0 ≡ Some (Bytes file.1)) l)
+      (sym (take_one n (root_files_of job.tuples) (path, bytes) is))
       (All-push (λ (file : RootFile). root_of f file.0 ≡ Some (Bytes file.1)) (take n (root_files_of job.tuples)) (path, bytes) (files f e) (there f e)))
 
   pub all_there : (n : ℕ) → 3 ≤ n → n ≤ 3 → ForSome told IsFolder → ForSome told (Has n) → ForSome told (IsOfLayout job)
-  all_there n least most folder files = λ f e. inr (folder f e, subst (λ (k : ℕ). HasRootFiles job (root_of f) k) (let same : n ≡ 3 = omega (arith, least, most) in same) (files f e))
+  all_there n least most folder files = λ f e. inr (
+    folder f e,
+    subst (λ (k : ℕ). HasRootFiles job (root_of f) k) (let same : n
+        ≡ 3 = omega (arith, least, most) in same) (files f e),
+  )
 
-  pub another : (n : ℕ) (path : Path) (bytes : List ℕ) → slice_get (root_files_of job.tuples) n ≡ Some (path, bytes) → ForSome told IsFolder → ForSome told (TellsFile path bytes false) → ForSome told (IsOfAnother job)
+  pub another : (n : ℕ) (path : Path) (bytes : List ℕ) → slice_get (root_files_of job.tuples) n ≡ Some (path, bytes) → ForSome told IsFolder
+      → ForSome told (TellsFile path bytes false) → ForSome told (IsOfAnother job)
   another n path bytes is folder other = λ f e. HasOtherFile n (path, bytes) (folder f e) is (other f e)
 
 -- over the same tree
-pub told_so : (told now : Option Forest) (path : Path) (bytes : List ℕ) (same so : Bool) → now ≡ told → same ≡ so → ForSome now (TellsFile path bytes same) → ForSome told (TellsFile path bytes so)
+pub told_so : (told now : Option Forest) (path : Path) (bytes : List ℕ) (same so : Bool) → now ≡ told → same ≡ so → ForSome now (TellsFile path bytes same)
+    → ForSome told (TellsFile path bytes so)
 told_so told now path bytes same so tree is there =
     subst (λ (t : Option Forest). ForSome t (TellsFile path bytes so)) tree (subst (λ (b : Bool). ForSome now (TellsFile path bytes b)) is there)
 
 -- what an answer says of the layout
-pub layout_told : (told : Option Forest) (job : Job) (answer : Result Bool TreeFault) (same so : Bool) → answer ≡ Ok same → same ≡ so → IfOk answer (λ same. ForSome told (IsSo job same)) → ForSome told (IsSo job so)
-layout_told told job answer same so is so_is it = subst (λ (b : Bool). ForSome told (IsSo job b)) so_is (subst (λ (r : Result Bool TreeFault). IfOk r (λ same. ForSome told (IsSo job same))) is it)
+pub layout_told : (told : Option Forest) (job : Job) (answer : Result Bool TreeFault) (same so : Bool) → answer ≡ Ok same → same ≡ so
+    → IfOk answer (λ same. ForSome told (IsSo job same)) → ForSome told (IsSo job so)
+layout_told told job answer same so is so_is it = subst (λ (b : Bool). ForSome told (IsSo job b)) so_is
+    (subst (λ (r : Result Bool TreeFault). IfOk r (λ same. ForSome told (IsSo job same))) is it)
 
 -- there are three
 pub no_fourth : (job : Job) (n : ℕ) → n < 3 → slice_get (root_files_of job.tuples) n ≡ None → ⊥

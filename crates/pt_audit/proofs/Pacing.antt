@@ -1,5 +1,35 @@
 -- The root is read as far as the survey has seen: what a step of the survey leaves to be read.
-use Rattle.std.proofs.Common.{◌≡◌, ◌<◌, ◌≤◌, ◌+◌, ◌-◌, ℕ, zero, suc, Bool, true, false, List, [], ◌∷◌, ◌++◌, refl, ap, sym, ◌∙◌, subst, arith, inl, inr, ◌⊎◌, append-nil, cond, drop, length, take}
+use Rattle.std.proofs.Common.{
+  ◌≡◌,
+  ◌<◌,
+  ◌≤◌,
+  ◌+◌,
+  ◌-◌,
+  ℕ,
+  zero,
+  suc,
+  Bool,
+  true,
+  false,
+  List,
+  [],
+  ◌∷◌,
+  ◌++◌,
+  refl,
+  ap,
+  sym,
+  ◌∙◌,
+  subst,
+  arith,
+  inl,
+  inr,
+  ◌⊎◌,
+  append-nil,
+  cond,
+  drop,
+  length,
+  take,
+}
 use Rattle.std.specs.Prelude.{All, Option, None, Some, Ok, is_some, unwrap_or}
 use Rattle.std.specs.Bool.{MatchBool, OnTrue}
 use Rattle.std.specs.Option.{option_map}
@@ -7,7 +37,26 @@ use Rattle.std.proofs.lemmas.Bool.{true≢false}
 use Rattle.std.proofs.lemmas.List.{length-append, length-drop, take-append-drop, take-append-le, take_all}
 use Rattle.std.proofs.lemmas.List.Elements.{All-nil}
 use Rattle.pt_audit.specs.Auditing.{IsAt, is_told}
-use Rattle.pt_audit.specs.RootReader.{AreAlike, AreAlikeAtHand, AreFew, BehindAt, Follows, HasBegun, HoldsItsFields, HasEnded, HaveRead, IsAlikeAt, IsBehind, IsClosed, IsOpened, IsPaced, PacedAt, ReadBehind, ReadBeside, Saw}
+use Rattle.pt_audit.specs.RootReader.{
+  AreAlike,
+  AreAlikeAtHand,
+  AreFew,
+  BehindAt,
+  Follows,
+  HasBegun,
+  HoldsItsFields,
+  HasEnded,
+  HaveRead,
+  IsAlikeAt,
+  IsBehind,
+  IsClosed,
+  IsOpened,
+  IsPaced,
+  PacedAt,
+  ReadBehind,
+  ReadBeside,
+  Saw,
+}
 use Rattle.pt_audit.specs.declared.root_reader.RootReader.{RootReader}
 use Rattle.pt_invariant.proofs.source.InPairtree.{file_in_pairtree}
 use Rattle.pt_invariant.specs.HeldInvariant.{RowsAt}
@@ -24,7 +73,25 @@ use Rattle.pt_object.specs.Contents.{content_of, is_noted, noted}
 use Rattle.pt_object.specs.declared.table.contents.Content.{Content}
 use Rattle.pt_plan.specs.Job.{Job}
 use Rattle.pt_plan.specs.Run.{Held}
-use Rattle.pt_plan.specs.TurnScan.{EndsFile, EndsObject, EndsSite, EntersDirectory, EntersObject, IsTooDeep, IsTooLong, LeavesDirectory, MeetsDeep, MeetsLimit, MeetsOther, OpensFile, PassesShorty, ReadsOn, ScanStep, StartsInSite, logical_path}
+use Rattle.pt_plan.specs.TurnScan.{
+  EndsFile,
+  EndsObject,
+  EndsSite,
+  EntersDirectory,
+  EntersObject,
+  IsTooDeep,
+  IsTooLong,
+  LeavesDirectory,
+  MeetsDeep,
+  MeetsLimit,
+  MeetsOther,
+  OpensFile,
+  PassesShorty,
+  ReadsOn,
+  ScanStep,
+  StartsInSite,
+  logical_path,
+}
 use Rattle.pt_plan.specs.TurnWalk.{in_pairtree, in_root}
 use Rattle.pt_plan.specs.DeviceStates.{Answers, Calls}
 use Rattle.pt_plan.specs.declared.object.Object.{Object}
@@ -54,7 +121,8 @@ use Rattle.pt_walk.specs.declared.frame.Frame.{Frame}
 
 -- ---- a file that was opened
 
-pub opened : {told : Option Reading} {object : Object} {s : State} → Surveys told (record { phase = phase.Carrying object (stage.Read zero); state = s }) → IsOpened told object s
+pub opened : {told : Option Reading} {object : Object} {s : State} → Surveys told (record { phase = phase.Carrying object (stage.Read zero); state = s })
+    → IsOpened told object s
 unfolding Surveys
 opened {told} {object} {s} (count, it) =
     let there = stands_so told (phase.Carrying object (stage.Read zero)) s refl (count, it) in
@@ -73,20 +141,24 @@ opened {told} {object} {s} (count, it) =
 
 -- ---- contents that stay
 
-alike_on : (told told' root : Option Reading) (b : RootReader) (contents contents' : List Content) → tree_in told' ≡ tree_in told → contents' ≡ contents → AreAlike told root b contents → AreAlike told' root b contents'
+alike_on : (told told' root : Option Reading) (b : RootReader) (contents contents' : List Content) → tree_in told' ≡ tree_in told → contents' ≡ contents
+    → AreAlike told root b contents → AreAlike told' root b contents'
 unfolding AreAlike
 alike_on told told' root b contents contents' tree same alike =
-    let P : Option Forest → Content → Type 0 = λ t content. StandsAlike t (tree_in root) (in_root b.place) (in_content content.path) (in_pairtree (b.from ++ content.path)) in
+    let P : Option Forest → Content → Type 0 = λ t content. StandsAlike t (tree_in root) (in_root b.place) (in_content content.path)
+    (in_pairtree (b.from ++ content.path)) in
     subst (λ t. All (P t) (take b.alike contents')) (sym tree) (subst (λ (c : List Content). All (P (tree_in told)) (take b.alike c)) (sym same) alike)
 
 few_on : (b : RootReader) (contents contents' : List Content) → contents' ≡ contents → AreFew b contents → AreFew b contents'
 few_on b contents contents' same few = subst (AreFew b) (sym same) few
 
 -- with others at the end
-alike_more : (told told' root : Option Reading) (b : RootReader) (contents contents' more : List Content) → tree_in told' ≡ tree_in told → contents' ≡ contents ++ more → b.alike ≤ length contents → AreAlike told root b contents → AreAlike told' root b contents'
+alike_more : (told told' root : Option Reading) (b : RootReader) (contents contents' more : List Content) → tree_in told' ≡ tree_in told
+    → contents' ≡ contents ++ more → b.alike ≤ length contents → AreAlike told root b contents → AreAlike told' root b contents'
 unfolding AreAlike
 alike_more told told' root b contents contents' more tree same few alike =
-    let P : Option Forest → Content → Type 0 = λ t content. StandsAlike t (tree_in root) (in_root b.place) (in_content content.path) (in_pairtree (b.from ++ content.path)) in
+    let P : Option Forest → Content → Type 0 = λ t content. StandsAlike t (tree_in root) (in_root b.place) (in_content content.path)
+    (in_pairtree (b.from ++ content.path)) in
     subst (λ t. All (P t) (take b.alike contents')) (sym tree)
     (subst (λ (c : List Content). All (P (tree_in told)) c) (sym (ap (take b.alike) same ∙ take-append-le b.alike contents more few)) alike)
 
@@ -113,7 +185,8 @@ was_read None read is = absurd (cc)
 was_read (Some r) read is = record { was = r; told_is = refl; read_is = (let same : after_next r ≡ read = cc in sym same) }
 
 -- so the file of the source goes on behind the block
-have_read : {r read t : Reading} {b : RootReader} {path : Path} {block : List ℕ} → HaveRead r t b path [] → read ≡ after_next r → IsRead (Some r) block → HaveRead read t b path block
+have_read : {r read t : Reading} {b : RootReader} {path : Path} {block : List ℕ} → HaveRead r t b path [] → read ≡ after_next r → IsRead (Some r) block
+    → HaveRead read t b path block
 have_read {r} {read} {t} {b} {path} {block} it is next =
     let front : take 8192 it.rest ≡ block = block_is (Some r) it.rest block next it.unread in
     let goes : it.rest ≡ block ++ drop 8192 it.rest = sym (take-append-drop 8192 it.rest) ∙ ap (λ (x : List ℕ). x ++ drop 8192 it.rest) front in
@@ -127,7 +200,8 @@ have_read {r} {read} {t} {b} {path} {block} it is next =
       beside = it.beside;
     }
 
-read_on : {told told' root : Option Reading} {b : RootReader} {object : Object} {s s' : State} {block : List ℕ} → told' ≡ option_map after_next told → IsRead told block → s'.trail ≡ s.trail → s'.contents ≡ s.contents → ReadBeside told root b object s [] → ReadBeside told' root b object s' block
+read_on : {told told' root : Option Reading} {b : RootReader} {object : Object} {s s' : State} {block : List ℕ} → told' ≡ option_map after_next told
+    → IsRead told block → s'.trail ≡ s.trail → s'.contents ≡ s.contents → ReadBeside told root b object s [] → ReadBeside told' root b object s' block
 unfolding IsRead
 read_on {told} {told'} {root} {b} {object} {s} {s'} {block} moved next trail contents it = record {
   all = it.all ∙ ap length (sym contents);
@@ -148,11 +222,14 @@ noted_so : (contents : List Content) (digest : List ℕ) (path : Path) (n : ℕ)
     → (length after ≡ n) ⊎ ((front : List Content) × (last : Content) × (after ≡ front ++ last ∷ []) × (length front ≡ n) × (last.path ≡ path))
 noted_so contents digest path n all after is = by (is_noted contents digest) refl
   where
-    by : (x : Bool) → is_noted contents digest ≡ x → (length after ≡ n) ⊎ ((front : List Content) × (last : Content) × (after ≡ front ++ last ∷ []) × (length front ≡ n) × (last.path ≡ path))
+    by : (x : Bool) → is_noted contents digest ≡ x → (length after ≡ n) ⊎ ((front : List Content) × (last : Content) × (after ≡ front ++ last ∷ [])
+        × (length front ≡ n) × (last.path ≡ path))
     by true same = inl (ap length (is ∙ ap (λ x. cond x contents (contents ++ content_of digest path ∷ [])) same) ∙ sym all)
     by false other = inr (contents, content_of digest path, is ∙ ap (λ x. cond x contents (contents ++ content_of digest path ∷ [])) other, sym all, refl)
 
-ended : {told told' root : Option Reading} {b : RootReader} {object : Object} {s : State} {after : List Content} (digest : List ℕ) → told' ≡ option_map after_next told → IsRead told [] → after ≡ noted s.contents digest (logical_path object s.trail) → ReadBeside told root b object s [] → HasEnded told' root b after
+ended : {told told' root : Option Reading} {b : RootReader} {object : Object} {s : State} {after : List Content} (digest : List ℕ)
+    → told' ≡ option_map after_next told → IsRead told [] → after ≡ noted s.contents digest (logical_path object s.trail) → ReadBeside told root b object s []
+    → HasEnded told' root b after
 unfolding IsRead
 ended {told} {told'} {root} {b} {object} {s} {after} digest moved next is it = record {
   path = logical_path object s.trail;
@@ -186,12 +263,16 @@ none_taken (suc n) (content ∷ contents) is = absurd (cc)
 alike_none : (told root : Option Reading) (b : RootReader) (contents : List Content) → contents ≡ [] → AreAlike told root b contents
 unfolding AreAlike
 alike_none told root b contents none =
-    let P : Content → Type 0 = λ content. StandsAlike (tree_in told) (tree_in root) (in_root b.place) (in_content content.path) (in_pairtree (b.from ++ content.path)) in
+    let P : Content → Type 0 = λ content. StandsAlike (tree_in told) (tree_in root) (in_root b.place) (in_content content.path)
+    (in_pairtree (b.from ++ content.path)) in
     subst (All P) (sym (none_taken b.alike contents none)) (All-nil P)
 
 module _ (told told' root : Option Reading) (b : RootReader) (s s' : State) (tree : tree_in told' ≡ tree_in told) where
-  scanned : {job : Job} {here next : Phase} {held after : Held} {calls : Calls} (fed later : List ℕ) → ScanStep job here held after calls (Ok next) → held ≡ held_of s fed → after ≡ held_of s' later → Answers calls.asked told told' → OnTrue (is_reading here) (IsNextBlock told s'.block.items next)
-      → ((object : Object) → here ≡ phase.Carrying object stage.Open → s.contents ≡ []) → ((object : Object) → next ≡ phase.Carrying object (stage.Read zero) → IsOpened told' object s') → PacedAt told root b here s → BehindAt told' root b (passed next) s'
+  scanned : {job : Job} {here next : Phase} {held after : Held} {calls : Calls} (fed later : List ℕ) → ScanStep job here held after calls (Ok next)
+      → held ≡ held_of s fed → after ≡ held_of s' later → Answers calls.asked told told' → OnTrue (is_reading here) (IsNextBlock told s'.block.items next)
+      → ((object : Object) → here ≡ phase.Carrying object stage.Open → s.contents ≡ [])
+      → ((object : Object) → next ≡ phase.Carrying object (stage.Read zero) → IsOpened told' object s') → PacedAt told root b here s
+      → BehindAt told' root b (passed next) s'
   unfolding Answers AreFew
   scanned fed later (StartsInSite h object _) held after answers block none here_opened paced =
       let empty : s'.contents ≡ [] = sym (ap (λ (x : Held). x.contents) after) ∙ ap (λ (x : Held). x.contents) held ∙ none object refl in
@@ -201,11 +282,19 @@ module _ (told told' root : Option Reading) (b : RootReader) (s s' : State) (tre
       (alike_none told' root b s'.contents empty, inr empty, closed_behind told' root b s'.contents paced)
   scanned fed later (IsTooDeep h object _ _) held after answers block none here_opened paced = tt
   scanned fed later (PassesShorty h object item _ _) held after answers block none here_opened paced =
-      let same : s'.contents ≡ s.contents = sym (ap (λ (x : Held). x.contents) after) ∙ ap (λ (x : Held). x.contents) held in
-      (alike_on told told' root b s.contents s'.contents tree same paced.1, few_on b s.contents s'.contents same paced.2, closed_behind told' root b s'.contents paced.0)
+      let same : s'.contents ≡ s.contents = sym (ap (λ (x : Held). x.contents) after) ∙ ap (λ (x : Held). x.contents) held in (
+        alike_on told told' root b s.contents s'.contents tree same paced.1,
+        few_on b s.contents s'.contents same paced.2,
+        closed_behind told' root b s'.contents
+            paced.0,
+      )
   scanned fed later (EntersDirectory h object name items _ _ _) held after answers block none here_opened paced =
-      let same : s'.contents ≡ s.contents = sym (ap (λ (x : Held). x.contents) after) ∙ ap (λ (x : Held). x.contents) held in
-      (alike_on told told' root b s.contents s'.contents tree same paced.1, few_on b s.contents s'.contents same paced.2, closed_behind told' root b s'.contents paced.0)
+      let same : s'.contents ≡ s.contents = sym (ap (λ (x : Held). x.contents) after) ∙ ap (λ (x : Held). x.contents) held in (
+        alike_on told told' root b s.contents s'.contents tree same paced.1,
+        few_on b s.contents s'.contents same paced.2,
+        closed_behind told' root b s'.contents
+            paced.0,
+      )
   scanned fed later (MeetsDeep h object name _ _ _) held after answers block none here_opened paced = tt
   scanned fed later (OpensFile h object name _ _) held after answers block none here_opened paced =
       let same : s'.contents ≡ s.contents = sym (ap (λ (x : Held). x.contents) after) ∙ ap (λ (x : Held). x.contents) held in
@@ -219,28 +308,42 @@ module _ (told told' root : Option Reading) (b : RootReader) (s s' : State) (tre
       let same : s'.contents ≡ s.contents = sym (ap (λ (x : Held). x.contents) after) ∙ ap (λ (x : Held). x.contents) held in
       alike_on told told' root b s.contents s'.contents tree same paced.1
   scanned fed later (LeavesDirectory h object _ _ _) held after answers block none here_opened paced =
-      let same : s'.contents ≡ s.contents = sym (ap (λ (x : Held). x.contents) after) ∙ ap (λ (x : Held). x.contents) held in
-      (alike_on told told' root b s.contents s'.contents tree same paced.1, few_on b s.contents s'.contents same paced.2, closed_behind told' root b s'.contents paced.0)
+      let same : s'.contents ≡ s.contents = sym (ap (λ (x : Held). x.contents) after) ∙ ap (λ (x : Held). x.contents) held in (
+        alike_on told told' root b s.contents s'.contents tree same paced.1,
+        few_on b s.contents s'.contents same paced.2,
+        closed_behind told' root b s'.contents
+            paced.0,
+      )
   scanned fed later (ReadsOn h object bytes byte more _) held after answers block none here_opened paced =
       let same : s'.contents ≡ s.contents = sym (ap (λ (x : Held). x.contents) after) ∙ ap (λ (x : Held). x.contents) held in
       let trail : s'.trail ≡ s.trail = sym (ap (λ (x : Held). x.trail) after) ∙ ap (λ (x : Held). x.trail) held in
       let longer : suc (bytes + length more) ≡ bytes + length (byte ∷ more) = omega arith in
-      subst (λ n. ReadBehind told' root b object n s') longer
-      (alike_on told told' root b s.contents s'.contents tree same paced.0, subst (λ (c : List Content). b.alike ≤ length c) (sym same) paced.1, on_true b.reads (ReadBeside told root b object s []) (ReadBeside told' root b object s' s'.block.items) (read_on answers.1 block trail same) paced.2)
+      subst (λ n. ReadBehind told' root b object n s') longer (
+        alike_on told told' root b s.contents s'.contents tree same paced.0,
+        subst (λ (c : List Content). b.alike ≤ length c) (sym same) paced.1,
+        on_true b.reads
+            (ReadBeside told root b object s []) (ReadBeside told' root b object s' s'.block.items) (read_on answers.1 block trail same) paced.2,
+      )
   scanned fed later (IsTooLong h object bytes byte more _) held after answers block none here_opened paced = tt
   scanned {job} fed later (EndsFile h object bytes) held after answers block none here_opened paced =
       let is : s'.contents ≡ noted s.contents (digest_of job.algorithm h.fed) (logical_path object s.trail) =
       sym (ap (λ (x : Held). x.contents) after) ∙ ap (λ (x : Held). noted x.contents (digest_of job.algorithm h.fed) (logical_path object x.trail)) held in
       let more = noted_more s.contents (digest_of job.algorithm h.fed) (logical_path object s.trail) in
       let whole : s'.contents ≡ s.contents ++ more.0 = is ∙ more.1 in
-      let long : length s'.contents ≡ length s.contents + length more.0 = ap length whole ∙ length-append s.contents more.0 in
-      (alike_more told told' root b s.contents s'.contents more.0 tree whole paced.1 paced.0, inl (omega (arith, long, paced.1)), on_true b.reads (ReadBeside told root b object s []) (HasEnded told' root b s'.contents) (ended (digest_of job.algorithm h.fed) answers.1 answers.0 is) paced.2)
+      let long : length s'.contents ≡ length s.contents + length more.0 = ap length whole ∙ length-append s.contents more.0 in (
+        alike_more told told' root b s.contents s'.contents more.0 tree whole paced.1 paced.0,
+        inl (omega (arith, long, paced.1)),
+        on_true b.reads
+            (ReadBeside told root b object s []) (HasEnded told' root b s'.contents) (ended (digest_of job.algorithm h.fed) answers.1 answers.0 is) paced.2,
+      )
 
 none_yet : (told : Option Reading) (r : Running) (object : Object) → r.phase ≡ phase.Carrying object stage.Open → Surveys told r → r.state.contents ≡ []
 unfolding Surveys
-none_yet told r object is (count, it) = (subst (λ (p : Phase). RowsAt (job_of r.state.job) it.past.bytes p (held_of r.state it.fed)) is it.is.held.rows).contents
+none_yet told r object is (count, it) = (subst (λ (p : Phase). RowsAt (job_of r.state.job) it.past.bytes p (held_of r.state it.fed)) is
+    it.is.held.rows).contents
 
-pub behind : (told told' root : Option Reading) (b : RootReader) (r r' : Running) → Surveys told r → Surveys told' r' → ScansOn told told' r r' → tree_in told' ≡ tree_in told → IsPaced told root b r → IsBehind told' root b r'
+pub behind : (told told' root : Option Reading) (b : RootReader) (r r' : Running) → Surveys told r → Surveys told' r' → ScansOn told told' r r'
+    → tree_in told' ≡ tree_in told → IsPaced told root b r → IsBehind told' root b r'
 behind told told' root b r r' was now step tree paced = by (is_scanning r.phase) refl
   where
     in_object : Scanned told told' r r' → IsBehind told' root b r'
@@ -256,9 +359,13 @@ behind told told' root b r r' was now step tree paced = by (is_scanning r.phase)
 -- ---- an audit that is to begin
 
 pub holds_its_fields : (b : RootReader) → HoldsItsFields b
-holds_its_fields b = (record { alloc = b.alloc; from = b.from; place = b.place; folder = b.folder; alike = b.alike; reads = b.reads; block = b.block.items }, refl)
+holds_its_fields b = (
+  record { alloc = b.alloc; from = b.from; place = b.place; folder = b.folder; alike = b.alike; reads = b.reads; block = b.block.items },
+  refl,
+)
 
-pub follows_first : (source root : Option Reading) (b : RootReader) (r : Running) → HasBegun b → r.phase ≡ phase.Opening opening.Begin → Surveys source r → Follows source root b r
+pub follows_first : (source root : Option Reading) (b : RootReader) (r : Running) → HasBegun b → r.phase ≡ phase.Opening opening.Begin → Surveys source r
+    → Follows source root b r
 follows_first source root b r new begin under_way = record {
   holds = holds_its_fields b;
   under_way = under_way;
@@ -272,13 +379,18 @@ follows_first source root b r new begin under_way = record {
 -- ---- after what isn't of an object, nothing is read beside
 
 -- the trees stay, and nothing is read beside
-pub still_alike : (source source' root root' : Option Reading) (b : RootReader) (contents : List Content) → tree_in source' ≡ tree_in source → tree_in root' ≡ tree_in root → AreAlike source root b contents → AreAlike source' root' b contents
+pub still_alike : (source source' root root' : Option Reading) (b : RootReader) (contents : List Content) → tree_in source' ≡ tree_in source
+    → tree_in root' ≡ tree_in root → AreAlike source root b contents → AreAlike source' root' b contents
 unfolding AreAlike
 still_alike source source' root root' b contents same stays alike =
-    let P : Option Forest → Option Forest → Content → Type 0 = λ s t content. StandsAlike s t (in_root b.place) (in_content content.path) (in_pairtree (b.from ++ content.path)) in
-    subst (λ t. All (P (tree_in source') t) (take b.alike contents)) (sym stays) (subst (λ s. All (P s (tree_in root)) (take b.alike contents)) (sym same) alike)
+    let P : Option Forest → Option Forest → Content → Type 0 = λ s t content. StandsAlike s t (in_root b.place) (in_content content.path)
+    (in_pairtree (b.from ++ content.path)) in
+    subst (λ t. All (P (tree_in source') t) (take b.alike contents)) (sym stays)
+    (subst (λ s. All (P s (tree_in root)) (take b.alike contents)) (sym same) alike)
 
-pub follows_told : (source source' root root' : Option Reading) (b : RootReader) (r : Running) (what : SurveyEvent) → what ≡ sight_at r.phase → is_told what ≡ true → tree_in source' ≡ tree_in source → tree_in root' ≡ tree_in root → Surveys source' r → Follows source root b r → Follows source' root' b r
+pub follows_told : (source source' root root' : Option Reading) (b : RootReader) (r : Running) (what : SurveyEvent) → what ≡ sight_at r.phase
+    → is_told what ≡ true → tree_in source' ≡ tree_in source → tree_in root' ≡ tree_in root → Surveys source' r → Follows source root b r
+    → Follows source' root' b r
 follows_told source source' root root' b r what saw told same stays under_way it =
     let stood = there r.phase (ap is_told (sym saw) ∙ told) it.paced in record {
       holds = it.holds;
@@ -304,7 +416,9 @@ at_sight it = record { under_way = it.follows.under_way; saw = it.saw }
 
 -- ---- the object at hand
 
-pub alike_at_hand : (source root : Option Reading) (b : RootReader) (r : Running) (hand : ObjectAtHand) (alike : ℕ) → sight_at r.phase ≡ sight.Object → IsHand r (Some hand) → Follows source root b r → IsAlikeAt b hand.told.at hand.told.to.now alike → AreAlikeAtHand (tree_in source) (tree_in root) hand alike
+pub alike_at_hand : (source root : Option Reading) (b : RootReader) (r : Running) (hand : ObjectAtHand) (alike : ℕ) → sight_at r.phase ≡ sight.Object
+    → IsHand r (Some hand) → Follows source root b r → IsAlikeAt b hand.told.at hand.told.to.now alike
+    → AreAlikeAtHand (tree_in source) (tree_in root) hand alike
 unfolding AreAlike
 alike_at_hand source root b r hand alike is at it so = by r.phase is at it.paced
   where
@@ -314,27 +428,34 @@ alike_at_hand source root b r hand alike is at it so = by r.phase is at it.paced
     Places : Path → Path → Content → Type 0
     Places f t content = StandsAlike (tree_in source) (tree_in root) (in_root t) (in_content content.path) (in_pairtree (f ++ content.path))
 
-    same_place : hand.contents.now ≡ r.state.contents → AreAlike source root b r.state.contents → (alike ≡ b.alike) × (b.from ≡ hand.told.at) × (b.place ≡ hand.told.to.now) → AreAlikeAtHand (tree_in source) (tree_in root) hand alike
+    same_place : hand.contents.now ≡ r.state.contents → AreAlike source root b r.state.contents
+        → (alike ≡ b.alike) × (b.from ≡ hand.told.at) × (b.place ≡ hand.told.to.now) → AreAlikeAtHand (tree_in source) (tree_in root) hand alike
     same_place same alike_is (many, from, place) =
         subst (λ n. All (Places hand.told.at hand.told.to.now) (take n hand.contents.now)) (sym many)
         (subst (λ (c : List Content). All (Places hand.told.at hand.told.to.now) (take b.alike c)) (sym same)
-        (subst (λ f. All (Places f hand.told.to.now) (take b.alike r.state.contents)) from (subst (λ t. All (Places b.from t) (take b.alike r.state.contents)) place alike_is)))
+        (subst (λ f. All (Places f hand.told.to.now) (take b.alike r.state.contents)) from
+        (subst (λ t. All (Places b.from t) (take b.alike r.state.contents)) place alike_is)))
 
-    by : (p : Phase) → sight_at p ≡ sight.Object → IsHandAt p r.state (Some hand) → PacedAt source root b p r.state → AreAlikeAtHand (tree_in source) (tree_in root) hand alike
+    by : (p : Phase) → sight_at p ≡ sight.Object → IsHandAt p r.state (Some hand) → PacedAt source root b p r.state
+        → AreAlikeAtHand (tree_in source) (tree_in root) hand alike
     by (phase.Carrying object stage.Line) is at paced = elim so.kept [ inl zero_is ↦ none zero_is | inr all ↦ same_place at.contents paced.1 all ]
     by (phase.Carrying object (stage.Read zero)) is at paced = absurd (cc)
     by (phase.Carrying object (stage.Read (suc bytes))) is at paced = absurd (cc)
     by _ is at paced = absurd (cc)
 
 -- so they are from where the two sides are read
-pub alike_there : (source root : Option Forest) (hand : ObjectAtHand) (alike : ℕ) (from to : Path) → from ≡ in_pairtree hand.told.at → to ≡ in_root hand.told.to.now → AreAlikeAtHand source root hand alike
+pub alike_there : (source root : Option Forest) (hand : ObjectAtHand) (alike : ℕ) (from to : Path) → from ≡ in_pairtree hand.told.at
+    → to ≡ in_root hand.told.to.now → AreAlikeAtHand source root hand alike
     → All (λ (content : Content). StandsAlike source root to (in_content content.path) (from ++ content.path)) (take alike hand.contents.now)
 alike_there source root hand alike from to from_is to_is it =
-    subst (λ (f : Path). All (λ (content : Content). StandsAlike source root to (in_content content.path) (f ++ content.path)) (take alike hand.contents.now)) (sym from_is)
-    (subst (λ (t : Path). All (λ (content : Content). StandsAlike source root t (in_content content.path) (in_pairtree hand.told.at ++ content.path)) (take alike hand.contents.now)) (sym to_is) it)
+    subst (λ (f : Path). All (λ (content : Content). StandsAlike source root to (in_content content.path) (f ++ content.path)) (take alike hand.contents.now))
+    (sym from_is)
+    (subst (λ (t : Path). All (λ (content : Content). StandsAlike source root t (in_content content.path) (in_pairtree hand.told.at ++ content.path))
+    (take alike hand.contents.now)) (sym to_is) it)
 
 -- a folder that is known to stand has those above it
-pub folder_stands : (tree : Option Forest) (path folder : Path) (known : Bool) → Stands tree (folder, kind.Dir) → known ≡ is_some (rest_below path folder) → known ≡ true → Stands tree (path, kind.Dir)
+pub folder_stands : (tree : Option Forest) (path folder : Path) (known : Bool) → Stands tree (folder, kind.Dir) → known ≡ is_some (rest_below path folder)
+    → known ≡ true → Stands tree (path, kind.Dir)
 folder_stands tree path folder known stands is so = by (rest_below path folder) refl (sym is ∙ so)
   where
     by : (o : Option Path) → rest_below path folder ≡ o → is_some o ≡ true → Stands tree (path, kind.Dir)

@@ -36,21 +36,48 @@ use Rattle.pt_tree.specs.Source.{Reading, tree_in}
 -- a device's fault and want of memory say nothing of source and root
 pub says_failed : (job : own.Job) (source root : Option Forest) (why : Fault) (old new : Failures) → HasFailed why old new → AuditSays job source root why
 unfolding SaysRightly
-says_failed job source root fault.Source old new it = record { rightly = (λ s e. tt, λ t e. absurd (cc), λ s t e f. absurd (cc)); target = λ is. absurd (cc); staging = λ is. absurd (cc); turns = λ is. absurd (cc); ended = λ is. absurd (cc) }
-says_failed job source root fault.Dest old new it = record { rightly = (λ s e. tt, λ t e. absurd (cc), λ s t e f. absurd (cc)); target = λ is. absurd (cc); staging = λ is. absurd (cc); turns = λ is. absurd (cc); ended = λ is. absurd (cc) }
-says_failed job source root fault.Log old new it = record { rightly = (λ s e. tt, λ t e. absurd (cc), λ s t e f. absurd (cc)); target = λ is. absurd (cc); staging = λ is. absurd (cc); turns = λ is. absurd (cc); ended = λ is. absurd (cc) }
-says_failed job source root fault.Memory old new it = record { rightly = (λ s e. tt, λ t e. absurd (cc), λ s t e f. absurd (cc)); target = λ is. absurd (cc); staging = λ is. absurd (cc); turns = λ is. absurd (cc); ended = λ is. absurd (cc) }
+says_failed job source root fault.Source old new it = record {
+  rightly = (λ s e. tt, λ t e. absurd (cc), λ s t e f. absurd (cc));
+  target = λ is. absurd (cc);
+  staging = λ is. absurd (cc);
+  turns = λ is. absurd (cc);
+  ended = λ is. absurd (cc);
+}
+says_failed job source root fault.Dest old new it = record {
+  rightly = (λ s e. tt, λ t e. absurd (cc), λ s t e f. absurd (cc));
+  target = λ is. absurd (cc);
+  staging = λ is. absurd (cc);
+  turns = λ is. absurd (cc);
+  ended = λ is. absurd (cc);
+}
+says_failed job source root fault.Log old new it = record {
+  rightly = (λ s e. tt, λ t e. absurd (cc), λ s t e f. absurd (cc));
+  target = λ is. absurd (cc);
+  staging = λ is. absurd (cc);
+  turns = λ is. absurd (cc);
+  ended = λ is. absurd (cc);
+}
+says_failed job source root fault.Memory old new it = record {
+  rightly = (λ s e. tt, λ t e. absurd (cc), λ s t e f. absurd (cc));
+  target = λ is. absurd (cc);
+  staging = λ is. absurd (cc);
+  turns = λ is. absurd (cc);
+  ended = λ is. absurd (cc);
+}
 says_failed job source root _ old new it = absurd it
 
 -- so an answer with it says
-pub says_err : {T : Type 0} (answer : Result T Fault) (why : Fault) (job : own.Job) (source root : Option Forest) → answer ≡ Err why → AuditSays job source root why → IfErr answer (λ w. AuditSays job source root w)
+pub says_err : {T : Type 0} (answer : Result T Fault) (why : Fault) (job : own.Job) (source root : Option Forest) → answer ≡ Err why
+    → AuditSays job source root why → IfErr answer (λ w. AuditSays job source root w)
 says_err {T} answer why job source root is says = subst (λ (r : Result T Fault). IfErr r (λ w. AuditSays job source root w)) (sym is) says
 
-pub says_fault : {T : Type 0} (answer : Result T Fault) (f : Fault) (job : own.Job) (source root : Option Forest) → answer ≡ Err f → AuditSays job source root f → IfErr answer (AuditSays job source root)
+pub says_fault : {T : Type 0} (answer : Result T Fault) (f : Fault) (job : own.Job) (source root : Option Forest) → answer ≡ Err f → AuditSays job source root f
+    → IfErr answer (AuditSays job source root)
 says_fault {T} answer f job source root is says = subst (λ (r : Result T Fault). IfErr r (AuditSays job source root)) (sym is) says
 
 -- what a survey says
-pub says_survey : (job : own.Job) (here : Phase) (source root : Option Forest) (f : Fault) → here ≢ phase.End → SurveySays job here source f → AuditSays job source root f
+pub says_survey : (job : own.Job) (here : Phase) (source root : Option Forest) (f : Fault) → here ≢ phase.End → SurveySays job here source f
+    → AuditSays job source root f
 says_survey job here source root f more says = record {
   rightly = says.rightly;
   target = λ is. absurd (true≢false (sym (ap is_of_dest is) ∙ says.no_dest));
@@ -77,7 +104,8 @@ store_is_not_over r saw is = not_over r saw is refl
 pub object_is_not_over : {what : SurveyEvent} (r : Running) → what ≡ sight_at r.phase → what ≡ sight.Object → r.phase ≢ phase.End
 object_is_not_over r saw is = not_over r saw is refl
 
-pub more_is_not_over : {what : SurveyEvent} (r : Running) → what ≡ sight_at r.phase → (what ≡ sight.More) ⊎ ((what ≡ sight.Scan) ⊎ ((what ≡ sight.Opened) ⊎ (what ≡ sight.Block))) → r.phase ≢ phase.End
+pub more_is_not_over : {what : SurveyEvent} (r : Running) → what ≡ sight_at r.phase
+    → (what ≡ sight.More) ⊎ ((what ≡ sight.Scan) ⊎ ((what ≡ sight.Opened) ⊎ (what ≡ sight.Block))) → r.phase ≢ phase.End
 more_is_not_over r saw (inl is) = not_over r saw is refl
 more_is_not_over r saw (inr (inl is)) = not_over r saw is refl
 more_is_not_over r saw (inr (inr (inl is))) = not_over r saw is refl
@@ -95,10 +123,14 @@ store_at (phase.Carrying object (stage.Read zero)) is = absurd (cc)
 store_at (phase.Carrying object (stage.Read (suc bytes))) is = absurd (cc)
 store_at _ is = absurd (cc)
 
-pub says_layout : (told : Option Reading) (root : Option Forest) (r : Running) (why : Fault) (old new : ℕ) → (job : own.Job) → job ≡ r.state.job → IsAt told sight.Store r → ForSome root (TellsLayout {T = Unit {0}} (job_of job) (Err why)) → RootFailsAs {T = Unit {0}} (Err why) old new → AuditSays r.state.job (tree_in told) root why
+pub says_layout : (told : Option Reading) (root : Option Forest) (r : Running) (why : Fault) (old new : ℕ) → (job : own.Job) → job ≡ r.state.job
+    → IsAt told sight.Store r → ForSome root (TellsLayout {T = Unit {0}} (job_of job) (Err why)) → RootFailsAs {T = Unit {0}} (Err why) old new
+    → AuditSays r.state.job (tree_in told) root why
 unfolding SaysRightly Surveys
-says_layout told root r fault.Dest old new job same at layout it = says_failed r.state.job (tree_in told) root fault.Dest (failures 0 old 0) (failures 0 new 0) (refl, it, refl)
-says_layout told root r fault.Memory old new job same at layout it = says_failed r.state.job (tree_in told) root fault.Memory (failures 0 old 0) (failures 0 old 0) refl
+says_layout told root r fault.Dest old new job same at layout it = says_failed r.state.job (tree_in told) root fault.Dest (failures 0 old 0) (failures 0 new 0)
+    (refl, it, refl)
+says_layout told root r fault.Memory old new job same at layout it = says_failed r.state.job (tree_in told) root fault.Memory (failures 0 old 0)
+    (failures 0 old 0) refl
 says_layout told root r fault.Target old new job same at layout it = record {
   rightly = (λ s e. started s e at.under_way, λ t e. absurd (cc), λ s t e f. absurd (cc));
   target = λ is. subst (λ (j : own.Job). ForSome root (IsOfAnother (job_of j))) same layout;
@@ -110,29 +142,34 @@ says_layout told root r fault.Target old new job same at layout it = record {
     started : (s : Forest) → tree_in told ≡ Some s → (count : ℕ) × IsSurvey told count r → (is_store s ≡ true) × (has_prefix s ≡ true)
     started s e (count, it) =
         let had = reading_of told e in
-        let part = subst (λ (p : Phase). SourcePart (job_of r.state.job) it.past p (string_bytes r.state.prefix) (held_of r.state it.fed) had.0) (store_at r.phase (sym at.saw)) (it.is.source had.0 had.1) in
+        let part = subst (λ (p : Phase). SourcePart (job_of r.state.job) it.past p (string_bytes r.state.prefix) (held_of r.state it.fed) had.0)
+        (store_at r.phase (sym at.saw)) (it.is.source had.0 had.1) in
         subst (λ (t : Forest). (is_store t ≡ true) × (has_prefix t ≡ true)) had.2 (part.at.2.store, part.at.2.good)
 says_layout told root r _ old new job same at layout it = absurd it
 
-pub layout_fails : (why : Fault) (a b c old new : ℕ) → RootFailsAs {T = Unit {0}} (Err why) old new → TellFails {T = StepTold} (Err why) (failures a old c) (failures a new c)
+pub layout_fails : (why : Fault) (a b c old new : ℕ) → RootFailsAs {T = Unit {0}} (Err why) old new
+    → TellFails {T = StepTold} (Err why) (failures a old c) (failures a new c)
 layout_fails fault.Dest a b c old new it = inl (refl, it, refl)
 layout_fails fault.Memory a b c old new it = inl (ap (λ (n : ℕ). failures a n c) it)
 layout_fails fault.Target a b c old new it = inr (refl, ap (λ (n : ℕ). failures a n c) it)
 layout_fails _ a b c old new it = absurd it
 
 -- what is read beside alone
-pub read_fails : (why : Fault) (a b c a' c' new : ℕ) → a' ≡ a → c' ≡ c → ReadFailsAs {T = Unit {0}} (Err why) b new → BlamesRightly {T = SurveyEvent} (failures a b c) (failures a' new c') (Err why)
+pub read_fails : (why : Fault) (a b c a' c' new : ℕ) → a' ≡ a → c' ≡ c → ReadFailsAs {T = Unit {0}} (Err why) b new
+    → BlamesRightly {T = SurveyEvent} (failures a b c) (failures a' new c') (Err why)
 read_fails fault.Dest a b c a' c' new sa sc it = record { source = sa; root = it; log = sc }
 read_fails fault.Memory a b c a' c' new sa sc it = record { source = sa; root = it; log = sc }
 read_fails _ a b c a' c' new sa sc it = absurd it
 
-pub says_read : (job : own.Job) (source root : Option Forest) (why : Fault) (old new : ℕ) → ReadFailsAs {T = Unit {0}} (Err why) old new → AuditSays job source root why
+pub says_read : (job : own.Job) (source root : Option Forest) (why : Fault) (old new : ℕ) → ReadFailsAs {T = Unit {0}} (Err why) old new
+    → AuditSays job source root why
 says_read job source root fault.Dest old new it = says_failed job source root fault.Dest (failures 0 old 0) (failures 0 new 0) (refl, it, refl)
 says_read job source root fault.Memory old new it = says_failed job source root fault.Memory (failures 0 0 0) (failures 0 0 0) refl
 says_read job source root _ old new it = absurd it
 
 -- the log's calls alone
-pub log_fails : (why : Fault) (a b old new : ℕ) → FailsAs {T = Unit {0}} (Err why) (failures 0 0 old) (failures 0 0 new) → HasFailed why (failures a b old) (failures a b new)
+pub log_fails : (why : Fault) (a b old new : ℕ) → FailsAs {T = Unit {0}} (Err why) (failures 0 0 old) (failures 0 0 new)
+    → HasFailed why (failures a b old) (failures a b new)
 log_fails fault.Source a b old new it = (rose it.0, refl, it.2)
   where
     rose : HasRisen 0 0 → HasRisen a a
@@ -152,35 +189,55 @@ same_failures it = λ i. failures (it.source i) (it.root i) (it.log i)
 
 -- whom an answer blames whose calls fail so
 pub blames_by : {T : Type 0} (result : Result T Fault) (old new : Failures) → FailsAs result old new → BlamesRightly old new result
-blames_by (Ok x) old new it = record { source = ap (λ (f : Failures). f.source) it; root = ap (λ (f : Failures). f.dest) it; log = ap (λ (f : Failures). f.log) it }
+blames_by (Ok x) old new it = record {
+  source = ap (λ (f : Failures). f.source) it;
+  root = ap (λ (f : Failures). f.dest) it;
+  log = ap (λ (f : Failures). f.log)
+      it;
+}
 blames_by (Err fault.Source) old new it = record { source = it.0; root = it.1; log = it.2 }
 blames_by (Err fault.Dest) old new it = record { source = it.0; root = it.1; log = it.2 }
 blames_by (Err fault.Log) old new it = record { source = it.0; root = it.1; log = it.2 }
-blames_by (Err fault.Memory) old new it = record { source = ap (λ (f : Failures). f.source) it; root = ap (λ (f : Failures). f.dest) it; log = ap (λ (f : Failures). f.log) it }
+blames_by (Err fault.Memory) old new it = record {
+  source = ap (λ (f : Failures). f.source) it;
+  root = ap (λ (f : Failures). f.dest) it;
+  log = ap
+      (λ (f : Failures). f.log) it;
+}
 blames_by (Err _) old new it = absurd it
 
 -- the end line's alone
-pub end_fails : {T : Type 0} (result : Result T Fault) (a b old new : ℕ) → FailsAs result (failures 0 0 old) (failures 0 0 new) → FailsAs result (failures a b old) (failures a b new)
+pub end_fails : {T : Type 0} (result : Result T Fault) (a b old new : ℕ) → FailsAs result (failures 0 0 old) (failures 0 0 new)
+    → FailsAs result (failures a b old) (failures a b new)
 end_fails (Ok x) a b old new it = ap (λ (f : Failures). failures a b f.log) it
 end_fails (Err why) a b old new it = log_fails why a b old new it
 
 -- and what they say
-pub says_by : {T : Type 0} (result : Result T Fault) (job : own.Job) (source root : Option Forest) (old new : Failures) → FailsAs result old new → IfErr result (AuditSays job source root)
+pub says_by : {T : Type 0} (result : Result T Fault) (job : own.Job) (source root : Option Forest) (old new : Failures) → FailsAs result old new
+    → IfErr result (AuditSays job source root)
 says_by (Ok x) job source root old new it = tt
 says_by (Err why) job source root old new it = says_failed job source root why old new it
 
 -- whom both blame
-pub blames_told : (why : Fault) (a b c a' b' c' a'' b'' c'' : ℕ) → a' ≡ a → b' ≡ b → c' ≡ c → TellFails {T = StepTold} (Err why) (failures a' b' c') (failures a'' b'' c'') → BlamesRightly {T = Bool} (failures a b c) (failures a'' b'' c'') (Err why)
+pub blames_told : (why : Fault) (a b c a' b' c' a'' b'' c'' : ℕ) → a' ≡ a → b' ≡ b → c' ≡ c
+    → TellFails {T = StepTold} (Err why) (failures a' b' c') (failures a'' b'' c'') → BlamesRightly {T = Bool} (failures a b c) (failures a'' b'' c'') (Err why)
 blames_told why a b c a' b' c' a'' b'' c'' sa sb sc it =
     subst (λ (n : ℕ). BlamesRightly {T = Bool} (failures n b c) (failures a'' b'' c'') (Err why)) sa
     (subst (λ (n : ℕ). BlamesRightly {T = Bool} (failures a' n c) (failures a'' b'' c'') (Err why)) sb
-    (subst (λ (n : ℕ). BlamesRightly {T = Bool} (failures a' b' n) (failures a'' b'' c'') (Err why)) sc (elim it [ inl failed ↦ by why failed | inr target ↦ not_of target ])))
+    (subst (λ (n : ℕ). BlamesRightly {T = Bool} (failures a' b' n) (failures a'' b'' c'') (Err why)) sc
+    (elim it [ inl failed ↦ by why failed | inr target ↦ not_of target ])))
   where
-    by : (why : Fault) → HasFailed why (failures a' b' c') (failures a'' b'' c'') → BlamesRightly {T = Bool} (failures a' b' c') (failures a'' b'' c'') (Err why)
+    by : (why : Fault) → HasFailed why (failures a' b' c') (failures a'' b'' c'')
+        → BlamesRightly {T = Bool} (failures a' b' c') (failures a'' b'' c'') (Err why)
     by fault.Source failed = record { source = failed.0; root = failed.1; log = failed.2 }
     by fault.Dest failed = record { source = failed.0; root = failed.1; log = failed.2 }
     by fault.Log failed = record { source = failed.0; root = failed.1; log = failed.2 }
-    by fault.Memory failed = record { source = ap (λ (f : Failures). f.source) failed; root = ap (λ (f : Failures). f.dest) failed; log = ap (λ (f : Failures). f.log) failed }
+    by fault.Memory failed = record {
+      source = ap (λ (f : Failures). f.source) failed;
+      root = ap (λ (f : Failures). f.dest) failed;
+      log = ap
+          (λ (f : Failures). f.log) failed;
+    }
     by _ failed = absurd failed
 
     not_of : (why ≡ fault.Target) × (failures a'' b'' c'' ≡ failures a' b' c') → BlamesRightly {T = Bool} (failures a' b' c') (failures a'' b'' c'') (Err why)

@@ -33,7 +33,8 @@ some_more : (n : ℕ) → one_more n ≡ 0 → ⊥
 some_more n is = absurd (omega (arith, is))
 
 -- where none is counted as absent or as differing, none was before, and of an object it was found that it stands
-nothing_wrong : {job : Job} {source root : Forest} {item : Item} {lines : List Line} {more : List ℕ} {counts later : Counts} → TellsOf job source root item lines more counts later → later.absent ≡ 0 → later.differs ≡ 0
+nothing_wrong : {job : Job} {source root : Forest} {item : Item} {lines : List Line} {more : List ℕ} {counts later : Counts}
+    → TellsOf job source root item lines more counts later → later.absent ≡ 0 → later.differs ≡ 0
     → (counts.absent ≡ 0) × (counts.differs ≡ 0) × IfDone lines (IsFoundOf job source root item found.Same)
 nothing_wrong Leads absent differs = (absent, differs, tt)
 nothing_wrong (Passes at why) absent differs = (absent, differs, tt)
@@ -42,7 +43,8 @@ nothing_wrong {counts = counts} (Finds found.Absent it) absent differs = absurd 
 nothing_wrong {counts = counts} (Finds (found.Differs difference) it) absent differs = absurd (some_more counts.differs differs)
 
 -- so an item with an object stands
-item_stands : (job : Job) (source root : Forest) (item : Item) (id : List ℕ) (object : PairtreeObject) (files : List File) → item.verdict ≡ Named id object → outcome job.limits object ≡ Holds files → IfDone (line_by_verdict job item.path false item.verdict) (IsFoundOf job source root item found.Same)
+item_stands : (job : Job) (source root : Forest) (item : Item) (id : List ℕ) (object : PairtreeObject) (files : List File) → item.verdict ≡ Named id object
+    → outcome job.limits object ≡ Holds files → IfDone (line_by_verdict job item.path false item.verdict) (IsFoundOf job source root item found.Same)
     → IsObject (sought job id files) (inside root (in_root (place_of job.tuples id)))
 item_stands job source root item id object files named whole it = by found_is
   where
@@ -65,7 +67,8 @@ item_stands job source root item id object files named whole it = by found_is
 
 -- ---- all items
 
-stand : {job : Job} {source root : Forest} {n : ℕ} {text : List ℕ} {counts : Counts} → Told job source root n text counts → counts.absent ≡ 0 → counts.differs ≡ 0 → StandAmong job source root (λ k. k < n)
+stand : {job : Job} {source root : Forest} {n : ℕ} {text : List ℕ} {counts : Counts} → Told job source root n text counts → counts.absent ≡ 0
+    → counts.differs ≡ 0 → StandAmong job source root (λ k. k < n)
 stand Nothing absent differs k item id object files less is named whole = absurd (omega (arith, less))
 stand {job} {source} {root} (Next {n = n} item told there tells) absent differs k item' id object files less is named whole =
     let fine = nothing_wrong tells absent differs in

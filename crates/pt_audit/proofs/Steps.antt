@@ -23,7 +23,8 @@ use Rattle.pt_audit.proofs.Working.{is_left}
 use Rattle.pt_audit.proofs.Stepping.{bound_of_turn, going, leaves_of_turn}
 
 -- the store is seen before its sites
-opens : {job : Job} {counts : Counts} (here : Phase) {next : Phase} {prefix read : List ℕ} {held after : Held} {calls : Calls} → is_before_store here ≡ true → Next job counts here prefix held read after calls (Ok next) → is_before_sites (passed next) ≡ true
+opens : {job : Job} {counts : Counts} (here : Phase) {next : Phase} {prefix read : List ℕ} {held after : Held} {calls : Calls} → is_before_store here ≡ true
+    → Next job counts here prefix held read after calls (Ok next) → is_before_sites (passed next) ≡ true
 opens (phase.Opening opening.Begin) is (Start (start.IsStore _ _ _)) = refl
 opens (phase.Opening opening.Begin) is (Walk turn) = elim turn [ ]
 opens (phase.Opening opening.Begin) is (Scan turn) = elim turn [ ]
@@ -38,7 +39,8 @@ opens (phase.Opening (opening.Prefix _)) is (Place turn) = elim turn [ ]
 opens _ is _ = absurd (true≢false (sym is))
 
 module _ (here next : Phase) (s s' : State) (told told' : Option Reading) (w v : Option Writing) (l l' : Option (List ℕ)) (a b c a' b' c' : ℕ) where
-  steps_there : Surveys told (record { phase = here; state = s }) → s.counts.turns < s.job.limits.turns → CountedTurn here s s' (states told w l a b c) (states told' v l' a' b' c') (Ok next)
+  steps_there : Surveys told (record { phase = here; state = s }) → s.counts.turns < s.job.limits.turns
+      → CountedTurn here s s' (states told w l a b c) (states told' v l' a' b' c') (Ok next)
       → Steps (tree_in told) (record { phase = here; state = s }) (record { phase = passed next; state = s' })
   unfolding Surveys CountedTurn
   steps_there (count, it) more counted =
@@ -54,9 +56,11 @@ module _ (here next : Phase) (s s' : State) (told told' : Option Reading) (w v :
         order = by (counted.1 it.fed (fed_going s.job.algorithm s.hasher it.fed (going here it.stands) it.was)).1.1;
       }
     where
-      by : {before after : Kept} → Turn (job_of s.job) here before after (states told w l a b c) (states told' v l' a' b' c') (Ok next) → is_before_store here ≡ true → is_before_sites (passed next) ≡ true
+      by : {before after : Kept} → Turn (job_of s.job) here before after (states told w l a b c) (states told' v l' a' b' c') (Ok next)
+          → is_before_store here ≡ true → is_before_sites (passed next) ≡ true
       by (TurnGoesOn calls _ follows did counts) is = opens here is follows
 
   pub step_steps : (at : Phase) → at ≡ passed next → IsReady told here s → CountedTurn here s s' (states told w l a b c) (states told' v l' a' b' c') (Ok next)
       → Steps (tree_in told) (record { phase = here; state = s }) (record { phase = at; state = s' })
-  step_steps at is ready counted = subst (λ (p : Phase). Steps (tree_in told) (record { phase = here; state = s }) (record { phase = p; state = s' })) (sym is) (steps_there ready.under_way ready.within counted)
+  step_steps at is ready counted = subst (λ (p : Phase). Steps (tree_in told) (record { phase = here; state = s }) (record { phase = p; state = s' })) (sym is)
+      (steps_there ready.under_way ready.within counted)

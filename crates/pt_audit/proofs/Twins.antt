@@ -1,5 +1,38 @@
 -- Where an identifier belongs, and whether an object stands there.
-use Rattle.std.proofs.Common.{◌≡◌, ◌<◌, ◌≤◌, ◌+◌, ◌==◌, ℕ, zero, suc, Bool, true, false, List, [], ◌∷◌, ◌++◌, refl, sym, ap, ◌∙◌, subst, arith, cond, drop, take, length, append-nil, append_assoc, get_or, nat_lt, min, inl, inr}
+use Rattle.std.proofs.Common.{
+  ◌≡◌,
+  ◌<◌,
+  ◌≤◌,
+  ◌+◌,
+  ◌==◌,
+  ℕ,
+  zero,
+  suc,
+  Bool,
+  true,
+  false,
+  List,
+  [],
+  ◌∷◌,
+  ◌++◌,
+  refl,
+  sym,
+  ap,
+  ◌∙◌,
+  subst,
+  arith,
+  cond,
+  drop,
+  take,
+  length,
+  append-nil,
+  append_assoc,
+  get_or,
+  nat_lt,
+  min,
+  inl,
+  inr,
+}
 use Rattle.std.specs.Prelude.{All, IfOk, IsSome, Option, None, Some, Result, Ok, Err, not, ◌&&◌, ◌||◌, is_none, slice_get}
 use Rattle.std.specs.Option.{ForSome, option_and_then, option_map, option_map_or}
 use Rattle.std.specs.List.{list_any}
@@ -94,19 +127,25 @@ stays_plain byte slash dot plain =
 spelling_plain : (byte : ℕ) → byte < 256 → All IsPlain (clean_spelling byte)
 spelling_plain byte small = slash (byte == 47) refl
   where
-    caret : (t : Bool) → (nat_lt byte 33 || nat_lt 126 byte || is_reserved byte) ≡ t → (byte == 47) ≡ false → (byte == 46) ≡ false → All IsPlain (cond t (caret_spelling byte) (byte ∷ []))
+    caret : (t : Bool) → (nat_lt byte 33 || nat_lt 126 byte || is_reserved byte) ≡ t → (byte == 47) ≡ false → (byte == 46) ≡ false
+        → All IsPlain (cond t (caret_spelling byte) (byte ∷ []))
     caret true e s d = All-cons IsPlain 94 (hex_pair byte) refl (All-weaker IsPlaceByte IsPlain place_plain (hex_pair byte) (All-hex_pair byte small))
     caret false e s d = All-cons IsPlain byte [] (stays_plain byte s d e) (All-nil IsPlain)
 
-    dot : (t : Bool) → (byte == 46) ≡ t → (byte == 47) ≡ false → All IsPlain (cond t (44 ∷ []) (cond (nat_lt byte 33 || nat_lt 126 byte || is_reserved byte) (caret_spelling byte) (byte ∷ [])))
+    dot : (t : Bool) → (byte == 46) ≡ t → (byte == 47) ≡ false → All IsPlain
+        (cond t (44 ∷ []) (cond (nat_lt byte 33 || nat_lt 126 byte || is_reserved byte) (caret_spelling byte) (byte ∷ [])))
     dot true e s = All-cons IsPlain 44 [] refl (All-nil IsPlain)
     dot false e s = caret (nat_lt byte 33 || nat_lt 126 byte || is_reserved byte) refl s e
 
-    colon : (t : Bool) → (byte == 47) ≡ false → All IsPlain (cond t (43 ∷ []) (cond (byte == 46) (44 ∷ []) (cond (nat_lt byte 33 || nat_lt 126 byte || is_reserved byte) (caret_spelling byte) (byte ∷ []))))
+    colon : (t : Bool) → (byte == 47) ≡ false
+        → All IsPlain (cond t (43 ∷ []) (cond (byte == 46) (44 ∷ []) (cond (nat_lt byte 33 || nat_lt 126 byte || is_reserved byte) (caret_spelling byte)
+        (byte ∷ []))))
     colon true s = All-cons IsPlain 43 [] refl (All-nil IsPlain)
     colon false s = dot (byte == 46) refl s
 
-    slash : (t : Bool) → (byte == 47) ≡ t → All IsPlain (cond t (61 ∷ []) (cond (byte == 58) (43 ∷ []) (cond (byte == 46) (44 ∷ []) (cond (nat_lt byte 33 || nat_lt 126 byte || is_reserved byte) (caret_spelling byte) (byte ∷ [])))))
+    slash : (t : Bool) → (byte == 47) ≡ t
+        → All IsPlain (cond t (61 ∷ []) (cond (byte == 58) (43 ∷ []) (cond (byte == 46) (44 ∷ [])
+        (cond (nat_lt byte 33 || nat_lt 126 byte || is_reserved byte) (caret_spelling byte) (byte ∷ [])))))
     slash true e = All-cons IsPlain 61 [] refl (All-nil IsPlain)
     slash false e = colon (byte == 58) e
 
@@ -143,7 +182,8 @@ pieces_named (a ∷ b ∷ rest) h =
     let one = All-head IsPlain a (b ∷ rest) h in
     let more = All-tail IsPlain a (b ∷ rest) h in
     let two = All-head IsPlain b rest more in
-    All-cons IsName (a ∷ b ∷ []) (pieces_of_two rest) (plain_name a (b ∷ []) (omega arith) (All-cons IsPlain a (b ∷ []) one (All-cons IsPlain b [] two (All-nil IsPlain))))
+    All-cons IsName (a ∷ b ∷ []) (pieces_of_two rest) (plain_name a (b ∷ []) (omega arith)
+    (All-cons IsPlain a (b ∷ []) one (All-cons IsPlain b [] two (All-nil IsPlain))))
     (pieces_named rest (All-tail IsPlain b rest more))
 
 proper_named : (id : List ℕ) → All (λ b. b < 256) id → AreNames (proper_site id)
@@ -165,7 +205,8 @@ none_refused (n ∷ p) h = by (name_refusal n) (All-head IsName n p h) (none_ref
 pub proper_refused : (id text : List ℕ) (why : NameFault) → All (λ b. b < 256) id → text ≡ pairpath_of id → IsRefusal (names_in text) why → why ≡ name.Memory
 proper_refused id text why h is refused = elim (subst (λ (t : List ℕ). IsRefusal (names_in t) why) is refused) [
   | inl memory ↦ memory
-  | inr why_not ↦ absurd (let no_why : first_refusal (names_in (pairpath_of id)) ≡ None = ap first_refusal (names_back (proper_site id) (proper_named id h)) ∙ none_refused (proper_site id) (proper_named id h) in cc)
+  | inr why_not ↦ absurd (let no_why : first_refusal (names_in (pairpath_of id)) ≡ None = ap first_refusal (names_back (proper_site id) (proper_named id h))
+      ∙ none_refused (proper_site id) (proper_named id h) in cc)
 ]
 
 -- ---- where a path stands as a site
@@ -198,23 +239,28 @@ no_dir f p [] lacks = ap (λ (x : Path). is_dir_kind (kind_at f x)) (append-nil 
 no_dir f p (n ∷ q) lacks = ap (λ (o : Option Node). is_dir_kind (option_map kind_of o)) (below (Dir f) p n q lacks)
 
 -- below what is seen as no directory none stands
-pub seen_lacks : (tree : Option Forest) (longer path rest : Path) (i : ℕ) (here : Option Kind) → IsSeen tree longer here → is_dir_kind here ≡ false → longer ++ drop (i + 1) rest ≡ in_pairtree path
+pub seen_lacks : (tree : Option Forest) (longer path rest : Path) (i : ℕ) (here : Option Kind) → IsSeen tree longer here → is_dir_kind here ≡ false
+    → longer ++ drop (i + 1) rest ≡ in_pairtree path
     → ForSome tree (λ f. false ≡ is_dir_kind (kind_at f (in_pairtree path)))
 seen_lacks tree longer path rest i here seen is whole = λ f told.
     sym (ap (λ (p : Path). is_dir_kind (kind_at f p)) (sym whole) ∙ no_dir f longer (drop (i + 1) rest) (ap is_dir_kind (seen f told) ∙ is))
 
 -- the front that a path has in common with one that stands stands
-pub front_stands : (tree : Option Forest) (path standing first : Path) (n : ℕ) → Stands tree (in_pairtree standing, kind.Dir) → n ≡ common_names path standing → first ≡ take n path → Stands tree (in_pairtree first, kind.Dir)
+pub front_stands : (tree : Option Forest) (path standing first : Path) (n : ℕ) → Stands tree (in_pairtree standing, kind.Dir) → n ≡ common_names path standing
+    → first ≡ take n path → Stands tree (in_pairtree first, kind.Dir)
 front_stands tree path standing first n stands is begin =
     let front : first ≡ take n standing = begin ∙ (rw is (take_alike path standing)) in
     subst (λ (p : Path). Stands tree (in_pairtree p, kind.Dir)) (sym front)
-    (dir_above tree (in_pairtree (take n standing)) (drop n standing) (subst (λ (p : Path). Stands tree (in_pairtree p, kind.Dir)) (sym (take-append-drop n standing)) stands))
+    (dir_above tree (in_pairtree (take n standing)) (drop n standing) (subst (λ (p : Path). Stands tree (in_pairtree p, kind.Dir))
+    (sym (take-append-drop n standing)) stands))
 
-pub stands_there : (tree : Option Forest) (way path : Path) → way ≡ in_pairtree path → Stands tree (way, kind.Dir) → ForSome tree (λ f. true ≡ is_dir_kind (kind_at f (in_pairtree path)))
+pub stands_there : (tree : Option Forest) (way path : Path) → way ≡ in_pairtree path → Stands tree (way, kind.Dir)
+    → ForSome tree (λ f. true ≡ is_dir_kind (kind_at f (in_pairtree path)))
 stands_there None way path is stands = λ f told. absurd (cc)
 stands_there (Some s) way path is stands = λ f told.
     let same : s ≡ f = cc in
-    subst (λ (f : Forest). true ≡ is_dir_kind (kind_at f (in_pairtree path))) same (sym (ap (λ (p : Path). is_dir_kind (kind_at s p)) (sym is) ∙ sym (standing_dir (kind_at s way)) ∙ stands))
+    subst (λ (f : Forest). true ≡ is_dir_kind (kind_at f (in_pairtree path))) same
+    (sym (ap (λ (p : Path). is_dir_kind (kind_at s p)) (sym is) ∙ sym (standing_dir (kind_at s way)) ∙ stands))
 
 -- ---- whether an object stands there
 
@@ -229,7 +275,8 @@ no_forest (Some (Dir d)) is = absurd (cc)
 no_forest (Some Other) is = refl
 
 -- a site where the identifier doesn't belong is the second one where an object stands at the proper one
-pub second_of : (job : Job) (site p : Path) (id : List ℕ) (tree : Option Forest) (b : Bool) → p ≡ proper_site id → same_path site p ≡ false → ForSome tree (λ s. b ≡ object_stands job s p) → ForSome tree (λ s. b ≡ is_second job s site id)
+pub second_of : (job : Job) (site p : Path) (id : List ℕ) (tree : Option Forest) (b : Bool) → p ≡ proper_site id → same_path site p ≡ false
+    → ForSome tree (λ s. b ≡ object_stands job s p) → ForSome tree (λ s. b ≡ is_second job s site id)
 second_of job site p id tree b is apart stands = λ s told.
     stands s told
     ∙ ap (λ (x : Bool). x && object_stands job s p) (ap not (sym apart))
@@ -247,7 +294,8 @@ module _ (job : Job) (p : Path) where
       none_of is_shallow ∙ ap (λ (o : Option Forest). is_shallow && has_object_in job p o) (no_forest (node_at (Dir s) (in_pairtree p)) (lacks s told))
 
   -- what is listed there is judged
-  pub judged_there : (told : Option Reading) (listing : List Item) (b : Bool) → nat_lt job.limits.depth (length p) ≡ false → IsListed told (in_pairtree p) listing → b ≡ has_object (found listing (at_of p) (form_of job)) → ForSome (tree_in told) (Tells b)
+  pub judged_there : (told : Option Reading) (listing : List Item) (b : Bool) → nat_lt job.limits.depth (length p) ≡ false
+      → IsListed told (in_pairtree p) listing → b ≡ has_object (found listing (at_of p) (form_of job)) → ForSome (tree_in told) (Tells b)
   unfolding IsListed
   judged_there None listing b shallow listed judged = λ s told. absurd (cc)
   judged_there (Some r) listing b shallow listed judged = λ s told.
@@ -280,7 +328,8 @@ at_site (Some s) r at (count, it) = record {
     here = object_at_hand r.phase at
 
     known : SourcePart (job_of r.state.job) it.past (phase.Carrying here.0 stage.Line) (string_bytes r.state.prefix) (held_of r.state it.fed) s
-    known = subst (λ (p : Phase). SourcePart (job_of r.state.job) it.past p (string_bytes r.state.prefix) (held_of r.state it.fed) s) here.1 (it.is.source s refl)
+    known = subst (λ (p : Phase). SourcePart (job_of r.state.job) it.past p (string_bytes r.state.prefix) (held_of r.state it.fed) s) here.1
+        (it.is.source s refl)
 
     some_dir : (o : Option Node) (l : List Item) → option_map listing_of (option_and_then as_dir o) ≡ Some l → is_dir_kind (option_map kind_of o) ≡ true
     some_dir None l is = absurd (cc)
@@ -288,14 +337,16 @@ at_site (Some s) r at (count, it) = record {
     some_dir (Some (Dir d)) l is = refl
     some_dir (Some Other) l is = absurd (cc)
 
-    there : (trail : List Frame) → Fits (pairtree_of s.tree) trail → 0 < here.0.site → length trail ≡ here.0.site → Stands (Some s.tree) (in_pairtree (trail_path trail), kind.Dir)
+    there : (trail : List Frame) → Fits (pairtree_of s.tree) trail → 0 < here.0.site → length trail ≡ here.0.site
+        → Stands (Some s.tree) (in_pairtree (trail_path trail), kind.Dir)
     there [] fits some long = absurd (omega (arith, some, long))
     there (frame ∷ frames) fits some long =
         standing_dir (kind_at s.tree (in_pairtree (names_to frames)))
         ∙ some_dir (node_at (Dir s.tree) (in_pairtree (names_to frames))) frame.listing (listing_in s.tree (names_to frames) known.at.0.store ∙ fits.0)
 
 -- what was looked at is what is asked of it
-pub twin_at_hand : (tree : Option Forest) (r : Running) (id rest : List ℕ) (prefix : List ℕ) (job : own.Job) (site : Path) (twin : Bool) → IsAtSite tree r → job ≡ r.state.job → site ≡ trail_path r.state.trail → prefix ≡ string_bytes r.state.prefix → rest ≡ drop (length prefix) id
+pub twin_at_hand : (tree : Option Forest) (r : Running) (id rest : List ℕ) (prefix : List ℕ) (job : own.Job) (site : Path) (twin : Bool) → IsAtSite tree r
+    → job ≡ r.state.job → site ≡ trail_path r.state.trail → prefix ≡ string_bytes r.state.prefix → rest ≡ drop (length prefix) id
     → ForSome tree (λ s. twin ≡ is_second (job_of job) s site rest) → ForSome tree (λ s. twin ≡ is_twin (job_of r.state.job) s (trail_path r.state.trail) id)
 twin_at_hand tree r id rest prefix job site twin it job_is site_is prefix_is rest_is second = λ s told.
     second s told
@@ -303,8 +354,10 @@ twin_at_hand tree r id rest prefix job site twin it job_is site_is prefix_is res
     ∙ ap (λ (p : List ℕ). is_second (job_of r.state.job) s (trail_path r.state.trail) (drop (length p) id)) (prefix_is ∙ it.prefix s told)
 
 -- of what differs that is told
-pub told_as_twin : (tree : Option Forest) (r : Running) (id : List ℕ) (finding : Comparison) (twin : Bool) → is_differing finding ≡ true → ForSome tree (λ s. twin ≡ is_twin (job_of r.state.job) s (trail_path r.state.trail) id) → IsTwinAtHand tree r id finding twin
-told_as_twin tree r id finding twin differs it = λ s told. it s told ∙ ap (λ (b : Bool). b && is_twin (job_of r.state.job) s (trail_path r.state.trail) id) (sym differs)
+pub told_as_twin : (tree : Option Forest) (r : Running) (id : List ℕ) (finding : Comparison) (twin : Bool) → is_differing finding ≡ true
+    → ForSome tree (λ s. twin ≡ is_twin (job_of r.state.job) s (trail_path r.state.trail) id) → IsTwinAtHand tree r id finding twin
+told_as_twin tree r id finding twin differs it = λ s told. it s told ∙ ap (λ (b : Bool). b && is_twin (job_of r.state.job) s (trail_path r.state.trail) id)
+    (sym differs)
 
 drop_nil : (k : ℕ) → drop {A = ℕ} k [] ≡ []
 drop_nil zero = refl

@@ -49,7 +49,8 @@ enters_free items _ count = tt
 -- ---- a step
 
 -- where a run would make something no more is left
-passed_left : (job : Job) (source : Forest) (marks : List Marked) (count : ℕ) (next : Phase) (held : Held) → rank job source marks count (passed next) held ≤ rank job source marks count next held
+passed_left : (job : Job) (source : Forest) (marks : List Marked) (count : ℕ) (next : Phase) (held : Held)
+    → rank job source marks count (passed next) held ≤ rank job source marks count next held
 passed_left job source marks count (phase.Opening opening.Staging) held = omega arith
 passed_left job source marks count (phase.Carrying object (stage.Make part.Staging)) held = omega arith
 passed_left job source marks count (phase.Carrying object (stage.Make _)) held = omega arith
@@ -62,8 +63,11 @@ module _ (here next : Phase) (s s' : State) (told told' : Option Reading) where
   abbrev later_of : History → List ℕ → History
   later_of past fed = history_after here next (held_of s fed) past
 
-  pub within_on : {fed fed' : List ℕ} {past : History} {calls : Calls} → Next (job_of s.job) (turning (kept_of s fed)).counts here (kept_of s fed).prefix (held_of s fed) (kept_of s' fed').prefix (held_of s' fed') calls (Ok next)
-      → Answers calls.asked told told' → (kept_of s' fed').counts ≡ counted_with calls.line (turning (kept_of s fed)).counts → IsHistory (job_of s.job) no_start (source_alone told) (run_of Before fed) past
+  pub within_on : {fed fed' : List ℕ} {past : History} {calls : Calls}
+      → Next (job_of s.job) (turning (kept_of s fed)).counts here (kept_of s fed).prefix (held_of s fed) (kept_of s' fed').prefix (held_of s' fed') calls
+      (Ok next)
+      → Answers calls.asked told told' → (kept_of s' fed').counts ≡ counted_with calls.line (turning (kept_of s fed)).counts
+      → IsHistory (job_of s.job) no_start (source_alone told) (run_of Before fed) past
       → ForSome told (λ r. IsWithinWork (job_of s.job) r.tree past.count (run_of Before fed))
       → ForSome told' (λ r. IsWithinWork (job_of s.job) r.tree (later_of past fed).count (record { phase = passed next; kept = kept_of s' fed' }))
   within_on {fed} {fed'} {past} {calls} follows answers counts it within = λ v same.
@@ -79,7 +83,8 @@ module _ (here next : Phase) (s s' : State) (told told' : Option Reading) where
       let was = within r was_told.1 in
       let one = ap (λ (c : Counts). c.turns) counts ∙ same_turns calls.line (turning (kept_of s fed)).counts in
       let less = passed_left job r.tree (all_free all) later.count next (held_of s' fed') in
-      subst (λ (f : Forest). IsWithinWork job f later.count (record { phase = passed next; kept = kept_of s' fed' })) (sym tree) (omega (arith, lowers, was, one, less))
+      subst (λ (f : Forest). IsWithinWork job f later.count (record { phase = passed next; kept = kept_of s' fed' })) (sym tree)
+      (omega (arith, lowers, was, one, less))
 
 -- ---- what it comes to
 
@@ -98,5 +103,6 @@ module _ {told : Option Reading} {count : ℕ} {r : Running} (it : IsSurvey told
   is_left going = λ s is.
       let reading = reading_of told is in
       let within = it.within reading.0 reading.1 in
-      let more = some_left Job_of reading.0.tree (all_free (items Job_of reading.0.tree)) it.past.count r.phase (held_of r.state it.fed) (is_going r.phase going) in
+      let more = some_left Job_of reading.0.tree (all_free (items Job_of reading.0.tree)) it.past.count r.phase (held_of r.state it.fed)
+      (is_going r.phase going) in
       subst (λ (f : Forest). r.state.counts.turns < work_of_survey Job_of f) reading.2 (omega (arith, within, more))

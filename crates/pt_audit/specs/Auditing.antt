@@ -1,5 +1,29 @@
 -- An audit: what it tells of the objects of a store and a storage root, and an audit under way.
-use Rattle.std.specs.Prelude.{◌≡◌, ℕ, suc, ◌+◌, ◌&&◌, All, Bool, true, false, List, [], ◌∷◌, ◌++◌, drop, map, min, Option, Some, Result, Ok, Err, slice_get, take}
+use Rattle.std.specs.Prelude.{
+  ◌≡◌,
+  ℕ,
+  suc,
+  ◌+◌,
+  ◌&&◌,
+  All,
+  Bool,
+  true,
+  false,
+  List,
+  [],
+  ◌∷◌,
+  ◌++◌,
+  drop,
+  map,
+  min,
+  Option,
+  Some,
+  Result,
+  Ok,
+  Err,
+  slice_get,
+  take,
+}
 use Rattle.std.specs.Option.{ForSome}
 use Rattle.std.specs.String.{string_bytes}
 use Rattle.pt_audit.specs.Counting.{counts_with, no_counts}

@@ -1,6 +1,29 @@
 -- A survey under way: the turns of a run that look at a store, over a destination in which nothing stands.
 -- Its neighbours are the source's, since nothing is made.
-use Rattle.std.specs.Prelude.{◌≡◌, ◌<◌, ◌≤◌, ℕ, zero, suc, Bool, true, false, List, [], ◌∷◌, ◌++◌, ◌+◌, count_by, map, sum_by, Option, None, Some, option_to_list, slice_get}
+use Rattle.std.specs.Prelude.{
+  ◌≡◌,
+  ◌<◌,
+  ◌≤◌,
+  ℕ,
+  zero,
+  suc,
+  Bool,
+  true,
+  false,
+  List,
+  [],
+  ◌∷◌,
+  ◌++◌,
+  ◌+◌,
+  count_by,
+  map,
+  sum_by,
+  Option,
+  None,
+  Some,
+  option_to_list,
+  slice_get,
+}
 use Rattle.std.specs.Option.{ForSome}
 use Rattle.pt_invariant.specs.RunInvariant.{IsHistory, Start}
 use Rattle.pt_invariant.specs.History.{History}

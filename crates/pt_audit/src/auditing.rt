@@ -33,20 +33,24 @@ use pt_state::paths::{in_pairtree, in_storage_root};
 use pt_tree::{Log, Source};
 use std::alloc::Global;
 
-/// Holds the storage root that stands against the objects of a Pairtree store: each is compared, path by path and byte by byte,
-/// with what stands at its place, and the log tells of each what was found.
+/// Holds the storage root that stands against the objects of a Pairtree store: each is compared,
+/// path by path and byte by byte, with what stands at its place, and the log tells of each what was
+/// found.
 ///
-/// The store is seen as a run with this job sees it; but each object is compared, also a second one of an identifier. Of the
-/// job's description of the version nothing is compared: moment, user and message may be whatever the inventory that stands
-/// gives. `Dest` is answered where the root can't be read, `Target` where it isn't one of this layout, once the store was found
-/// to be one with a good prefix, `Turns` only where the limit is less than a survey's work, and the other faults as by
-/// `migrate`; `StagingLeft` and `Ended` never. Nothing is made or changed, but that the log gets its lines: after a fault a front of what
-/// is told of the first items, or of all with the end line. How many there are is told after each step.
+/// The store is seen as a run with this job sees it; but each object is compared, also a second one
+/// of an identifier. Of the job's description of the version nothing is compared: moment, user and
+/// message may be whatever the inventory that stands gives. `Dest` is answered where the root can't
+/// be read, `Target` where it isn't one of this layout, once the store was found to be one with a
+/// good prefix, `Turns` only where the limit is less than a survey's work, and the other faults as
+/// by `migrate`; `StagingLeft` and `Ended` never. Nothing is made or changed, but that the log gets
+/// its lines: after a fault a front of what is told of the first items, or of all with the end
+/// line. How many there are is told after each step.
 ///
-/// It is made by steps of a survey (`made`), of which there are no more than the limit of turns, nor than a survey's work; after
-/// each of them the survey holds no more than a run's bound, and nothing but a run's fields. While a file of the store is read
-/// for its digest, what stands in the root is read beside it; of a content that isn't alike both are read once more. A step calls
-/// the store at most once or twice; no clause counts what the comparison reads.
+/// It is made by steps of a survey (`made`), of which there are no more than the limit of turns,
+/// nor than a survey's work; after each of them the survey holds no more than a run's bound, and
+/// nothing but a run's fields. While a file of the store is read for its digest, what stands in the
+/// root is read beside it; of a content that isn't alike both are read once more. A step calls the
+/// store at most once or twice; no clause counts what the comparison reads.
 pub fn audit<S: Source, R: Source, L: Log, O: Observer<Counts>>(
     alloc: Global,
     source: &mut S,
@@ -83,8 +87,9 @@ pub struct Audited {
     pub prefix: String,
 }
 
-/// The same as `audit`, but for the end line, which is left to the caller: after a fault the log has a front of what is told of the first
-/// items. It answers the faults of `audit`, and gives what the caller may go on with.
+/// The same as `audit`, but for the end line, which is left to the caller: after a fault the log
+/// has a front of what is told of the first items. It answers the faults of `audit`, and gives what
+/// the caller may go on with.
 pub fn audit_objects<S: Source, R: Source, L: Log, O: Observer<Counts>>(
     alloc: Global,
     source: &mut S,
@@ -150,7 +155,8 @@ struct AuditFinding {
 }
 
 impl Auditor {
-    // Makes the steps of a survey that has just begun, to its end. After each it is told how many lines there are.
+    // Makes the steps of a survey that has just begun, to its end. After each it is told how many
+    // lines there are.
     fn go_through<S: Source, R: Source, L: Log, O: Observer<Counts>>(
         &mut self,
         source: &mut S,
@@ -411,8 +417,8 @@ fn see<S: Source, R: Source, L: Log>(
     Ok(sight)
 }
 
-// Whether what was found of the object at hand, which has this identifier, is told as the difference of a twin. Where it doesn't
-// differ, nothing is looked at.
+// Whether what was found of the object at hand, which has this identifier, is told as the
+// difference of a twin. Where it doesn't differ, nothing is looked at.
 fn finds_twin<S: Source>(
     source: &mut S,
     survey: &Survey,

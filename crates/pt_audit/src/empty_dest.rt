@@ -6,7 +6,8 @@ ghost use Rattle.pt_audit.specs.EmptyDest.{bare, bare_is_tree, no_log};
 
 use pt_tree::{Block, Dest, Kind, Log, NamePath, TreeFault};
 
-/// A destination in which nothing stands. Nothing is made in it either: each call that would is refused for want of memory.
+/// A destination in which nothing stands. Nothing is made in it either: each call that would is
+/// refused for want of memory.
 #[derive(Drop)]
 pub(crate) struct EmptyDest;
 

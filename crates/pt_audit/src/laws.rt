@@ -1,20 +1,21 @@
 //! Laws on what an audit tells. Each is the contract of a function that does nothing.
 ghost use Rattle.pt_audit.specs.AuditLaws.{AuditAfterRunIsSound, SoundAuditMeansAllStand, WhatWasCarriedIsTheSame};
 
-/// Where an audit's log has no object that is absent or differs, each object of the store that a run would carry stands in the
-/// root, byte for byte, but for what its inventory says of its version, and nothing else stands at its place.
+/// Where an audit's log has no object that is absent or differs, each object of the store that a
+/// run would carry stands in the root, byte for byte, but for what its inventory says of its
+/// version, and nothing else stands at its place.
 pub fn sound_audit_means_all_stand()
     ensures { SoundAuditMeansAllStand }
 {}
 
-/// Where a run from the same store ended well, and the storage root is as it left it, of each object that it carried nothing is
-/// found but that it stands.
+/// Where a run from the same store ended well, and the storage root is as it left it, of each
+/// object that it carried nothing is found but that it stands.
 pub fn what_was_carried_is_the_same()
     ensures { WhatWasCarriedIsTheSame }
 {}
 
-/// So an audit after it has no object that is absent or differs, if the run found no place taken: neither by what stood in the
-/// root before, nor by an earlier object of the same identifier.
+/// So an audit after it has no object that is absent or differs, if the run found no place taken:
+/// neither by what stood in the root before, nor by an earlier object of the same identifier.
 pub fn audit_after_run_is_sound()
     ensures { AuditAfterRunIsSound }
 {}

@@ -18,9 +18,10 @@ use pt_state::paths::in_storage_root;
 use pt_tree::{Block, NamePath, Source, TreeFault};
 use std::alloc::Global;
 
-/// Whether a run could go on with the root that stands: nothing stands at `ocfl`, or a directory with the three files of this
-/// layout (OCFL 1.1, "Root Structure"; extension 0003). `Target` where something else does; `Dest` where the root can't be
-/// read, or there is no folder for it; `Memory` where a growth was refused.
+/// Whether a run could go on with the root that stands: nothing stands at `ocfl`, or a directory
+/// with the three files of this layout (OCFL 1.1, "Root Structure"; extension 0003). `Target` where
+/// something else does; `Dest` where the root can't be read, or there is no folder for it; `Memory`
+/// where a growth was refused.
 pub(crate) fn check_layout<R: Source>(alloc: Global, root: &mut R, job: &Job) -> Result<(), Fault>
     requires { IsLayout job.now.layout }
     ensures layout { ForSome (tree_in (R.told root.old)) (TellsLayout (job_of job.now) result) }
@@ -74,7 +75,8 @@ fn has_files<R: Source>(alloc: Global, root: &mut R, job: &Job) -> Result<bool, 
     Ok(true)
 }
 
-// Whether a file of these bytes, of which there are fewer than a block holds, stands at a path of the root.
+// Whether a file of these bytes, of which there are fewer than a block holds, stands at a path of
+// the root.
 fn has_file<R: Source>(
     alloc: Global,
     root: &mut R,

@@ -1,5 +1,5 @@
-//! The files of the root that are read beside those of an object, while these are read for their digests: so what is alike needn't
-//! be read again when the object is compared.
+//! The files of the root that are read beside those of an object, while these are read for their
+//! digests: so what is alike needn't be read again when the object is compared.
 ghost use Rattle.std.specs.Prelude.{◌≡◌, ◌++◌, IfOk, OnOk, Option, is_some};
 ghost use Rattle.pt_audit.specs.RootReader.{CanFollow, HasBegun, IsAlikeAt, IsAtObject, IsBehind, IsPaced};
 ghost use Rattle.pt_audit.specs.Failing.{ReadFailsAs};
@@ -22,7 +22,8 @@ use std::alloc::Global;
 #[derive(Drop)]
 pub(crate) struct RootReader {
     alloc: Global,
-    // Where the object stands in the source, from below `pairtree_root` on, and its place in a storage root.
+    // Where the object stands in the source, from below `pairtree_root` on, and its place in a
+    // storage root.
     from: NamePath,
     place: NamePath,
     // How many of its contents, from the first on, are alike.
@@ -51,8 +52,9 @@ impl RootReader {
         }
     }
 
-    /// Reads on beside a survey, after each of its steps: the file that it opened, the block that it read, or the end of that
-    /// file. `Dest` where the root can't be read, and `Memory` where a growth was refused.
+    /// Reads on beside a survey, after each of its steps: the file that it opened, the block that
+    /// it read, or the end of that file. `Dest` where the root can't be read, and `Memory` where a
+    /// growth was refused.
     pub(crate) fn follow<R: Source>(
         &mut self,
         root: &mut R,
@@ -79,7 +81,8 @@ impl RootReader {
         }
     }
 
-    // Opens the file of the root beside the one that was opened, where all contents before it are alike.
+    // Opens the file of the root beside the one that was opened, where all contents before it are
+    // alike.
     fn open<R: Source>(&mut self, root: &mut R, survey: &Survey) -> Result<(), Fault>
         requires ready { CanFollow (R.told root.old) self.old }
         requires saw { sight_at survey.now.phase ≡ sight.Opened }
@@ -108,7 +111,8 @@ impl RootReader {
         Ok(())
     }
 
-    // Begins with an object that stands at these names in the source, and at this place in a storage root, unless it is at it.
+    // Begins with an object that stands at these names in the source, and at this place in a
+    // storage root, unless it is at it.
     fn begin(&mut self, from: &[Name], place: &NamePath) -> Result<(), MemoryFault>
         ensures { OnOk result (IsAtObject from.now place.now self.old self.new) }
     {
@@ -139,7 +143,8 @@ impl RootReader {
         Ok(())
     }
 
-    // Ends the root's file with that of the source: where both end here and it is stored, one content more is alike.
+    // Ends the root's file with that of the source: where both end here and it is stored, one
+    // content more is alike.
     fn end<R: Source>(&mut self, root: &mut R, survey: &Survey) -> Result<(), Fault>
         requires ready { CanFollow (R.told root.old) self.old }
         requires saw { sight_at survey.now.phase ≡ sight.Scan }
@@ -167,7 +172,8 @@ impl RootReader {
         self.folder.is_within(path)
     }
 
-    /// How many contents of an object are alike, from the first on: none where it isn't the one that was read beside.
+    /// How many contents of an object are alike, from the first on: none where it isn't the one
+    /// that was read beside.
     pub(crate) fn alike_at(&self, from: &NamePath, place: &NamePath) -> usize
         ensures { IsAlikeAt self.now from.now place.now result }
     {

@@ -1,5 +1,5 @@
-//! A survey of a store under way, made step by step: its sites and objects are looked at as a run does, and nothing is made of
-//! them.
+//! A survey of a store under way, made step by step: its sites and objects are looked at as a run
+//! does, and nothing is made of them.
 #![tactic(auto, using(crate::proofs::SurveyRules::survey_rules))]
 
 ghost use Rattle.std.specs.Option.{ForSome};
@@ -72,7 +72,8 @@ pub struct OpenedFile<'s> {
     pub place: &'s NamePath,
     /// The path of the file in the source, from below `pairtree_root` on.
     pub path: NamePath,
-    /// How many names of the path lead to the object; the others are the logical path (OCFL 1.1, "Manifest").
+    /// How many names of the path lead to the object; the others are the logical path (OCFL 1.1,
+    /// "Manifest").
     pub before: usize,
 }
 
@@ -118,12 +119,14 @@ impl Survey {
         }
     }
 
-    /// Makes one step, which is a turn of a run over a destination in which nothing stands, and calls the source no more often
-    /// than that. What is passed over is told in the log as a run tells it; of an object nothing is told. A step that breaks off leaves
-    /// no more of the log than a front of the line of what it passes over.
+    /// Makes one step, which is a turn of a run over a destination in which nothing stands, and
+    /// calls the source no more often than that. What is passed over is told in the log as a run
+    /// tells it; of an object nothing is told. A step that breaks off leaves no more of the log
+    /// than a front of the line of what it passes over.
     ///
-    /// It breaks off for `Source`, `Log`, `Memory`, `NotPairtree` and `Prefix` where a run halts for these. `Turns` is answered where the limit of
-    /// turns has been made, and `Ended` where all was seen before or an earlier step broke off.
+    /// It breaks off for `Source`, `Log`, `Memory`, `NotPairtree` and `Prefix` where a run halts
+    /// for these. `Turns` is answered where the limit of turns has been made, and `Ended` where all
+    /// was seen before or an earlier step broke off.
     pub fn step<S: Source, L: Log>(
         &mut self,
         source: &mut S,
@@ -201,8 +204,8 @@ impl Survey {
         self.state.contents.len()
     }
 
-    /// The path of the directory that was listed last of those on the way, from below `pairtree_root` on: the site of the object at hand;
-    /// `Memory` where a growth was refused.
+    /// The path of the directory that was listed last of those on the way, from below
+    /// `pairtree_root` on: the site of the object at hand; `Memory` where a growth was refused.
     pub(crate) fn site(&self) -> Result<NamePath, MemoryFault>
         ensures { IfOk result (λ site. site ≡ trail_path self.now.state.trail) }
     {
@@ -231,7 +234,8 @@ impl Survey {
         &self.state.job
     }
 
-    /// The lines of each kind whose `put` was answered Ok, the objects that were at hand, and the steps made.
+    /// The lines of each kind whose `put` was answered Ok, the objects that were at hand, and the
+    /// steps made.
     pub fn report(&self) -> Report
         ensures { result ≡ self.now.state.counts }
     {

@@ -1,4 +1,5 @@
-//! Whether an object is a twin: its site isn't where its identifier belongs, and an object stands there.
+//! Whether an object is a twin: its site isn't where its identifier belongs, and an object stands
+//! there.
 #![tactic(auto, using(crate::proofs::Twins::twins))]
 
 ghost use Rattle.std.specs.Prelude.{◌≡◌, IfOk, drop, length};
@@ -25,8 +26,9 @@ use pt_tree::{MemoryFault, NameFault, NamePath, Source, TreeFault};
 use pt_walk::{At, Finding, judge};
 use std::alloc::Global;
 
-/// Whether a site isn't where an identifier belongs, which is given without the store's prefix, and an object stands there, as a
-/// run judges a site. `Device` where a look fails or that site can't be listed, `Memory` where a growth was refused.
+/// Whether a site isn't where an identifier belongs, which is given without the store's prefix, and
+/// an object stands there, as a run judges a site. `Device` where a look fails or that site can't
+/// be listed, `Memory` where a growth was refused.
 pub(crate) fn is_second<S: Source>(
     source: &mut S,
     job: &Job,
@@ -47,12 +49,12 @@ pub(crate) fn is_second<S: Source>(
     object_stands(source, job, site, proper)
 }
 
-/// Whether an object stands at a site, as a run judges a site. Both paths are from below `pairtree_root` on; at the first a
-/// directory stands.
+/// Whether an object stands at a site, as a run judges a site. Both paths are from below
+/// `pairtree_root` on; at the first a directory stands.
 ///
-/// Of what leads there each name is looked at, one after another, behind those that lead to the first path too, up to the first at which
-/// no folder stands; the site alone is listed. `Device` where a look fails or the site can't be listed, `Memory` where a growth was
-/// refused.
+/// Of what leads there each name is looked at, one after another, behind those that lead to the
+/// first path too, up to the first at which no folder stands; the site alone is listed. `Device`
+/// where a look fails or the site can't be listed, `Memory` where a growth was refused.
 pub fn object_stands<S: Source>(
     source: &mut S,
     job: &Job,
@@ -79,8 +81,9 @@ pub fn object_stands<S: Source>(
     Ok(has_object(judge(&listing, at, form_of(job.gather))))
 }
 
-/// The site where an identifier belongs, which is given without the store's prefix: its pairpath (Pairtree 0.1), from below
-/// `pairtree_root` on. Takes any bytes. `Memory` where a growth was refused.
+/// The site where an identifier belongs, which is given without the store's prefix: its pairpath
+/// (Pairtree 0.1), from below `pairtree_root` on. Takes any bytes. `Memory` where a growth was
+/// refused.
 pub fn proper_site(alloc: Global, id: &[u8]) -> Result<NamePath, MemoryFault>
     ensures { IfOk result (λ site. site ≡ proper_site_of id.now) }
 {
@@ -102,7 +105,8 @@ pub fn skip_prefix<'a>(text: &'a [u8], prefix: &[u8]) -> &'a [u8]
     rest
 }
 
-// Whether a directory stands at a path of the pairtree. It is looked for from where a directory that stands has another name.
+// Whether a directory stands at a path of the pairtree. It is looked for from where a directory
+// that stands has another name.
 fn leads_to<S: Source>(
     source: &mut S,
     standing: &NamePath,

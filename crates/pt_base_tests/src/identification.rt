@@ -15,7 +15,8 @@ enum Said {
     Object(&'static str, &'static str),
 }
 
-// The names of a site's path, the store's prefix, a share of two, and what is said in the layout without tuples.
+// The names of a site's path, the store's prefix, a share of two, and what is said in the layout
+// without tuples.
 struct Row(&'static str, &'static str, u32, Said);
 
 impl Holds for Row {

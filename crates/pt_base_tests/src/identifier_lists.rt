@@ -1,4 +1,4 @@
-//! Lists of identifiers: what stands in one, and what of it was met nowhere.
+//! Lists of identifiers: what stands in one, and of what in it no object was met.
 use crate::identifiers::owned;
 use crate::tables::{Holds, all_hold};
 use pt_name::{IdentifierList, Share};
@@ -8,7 +8,8 @@ use std::alloc::{AllocError, Global};
 enum Row {
     // The identifiers of a list, one, and whether the whole holds it of which only these are taken.
     Stands(&'static [&'static str], &'static [u8], bool),
-    // The identifiers of a list, one that was met, and those that were met nowhere, by their places in the list.
+    // The identifiers of a list, one that was met, and those of which no object was met, by their places
+    // in the list.
     Unmet(&'static [&'static str], &'static [u8], &'static [Option<&'static str>]),
 }
 
@@ -35,7 +36,7 @@ fn listed(alloc: Global, ids: &[&str]) -> Result<Share, MemoryFault> {
     Share::whole().with_list(alloc, list_of(alloc, ids)?)
 }
 
-// Whether just these were met nowhere, once this one was met.
+// Whether of just these no object was met, once this one was met.
 fn tells_unmet(list: &IdentifierList, met: &[u8], unmet: &[Option<&str>]) -> bool {
     list.note_met(met);
     list.len() == unmet.len()

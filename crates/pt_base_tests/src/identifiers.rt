@@ -1,4 +1,5 @@
-//! Identifiers: how they are cleaned, placed, shortened and read back, the prefix, layouts and shares.
+//! Identifiers: how they are cleaned, placed, shortened and read back, the prefix, layouts and
+//! shares.
 use crate::tables::{Holds, all_hold, gives_bytes, gives_text, refuses};
 use pt_memory::texts::path;
 use pt_name::*;
@@ -22,7 +23,8 @@ enum Row {
     Unread(&'static [u8], UncleanFault),
     // The names of a path, and the same with nothing between them.
     Joined(&'static str, &'static [u8]),
-    // The bytes of a file `pairtree_prefix`, and the prefix; bytes that are the prefix, all of them; and why there is none.
+    // The bytes of a file `pairtree_prefix`, and the prefix; bytes that are the prefix, all of
+    // them; and why there is none.
     Prefix(&'static [u8], &'static str),
     WholePrefix(&'static [u8]),
     NoPrefix(&'static [u8], PrefixFault),
@@ -153,13 +155,15 @@ enum Form {
     // The number of a share, and how many there are; or why there is no such share.
     Share(u32, u32),
     NoShare(u32, u32, ShareFault),
-    // An identifier, and the numbers of the shares that it is of where there are so many as in `COUNTS`.
+    // An identifier, and the numbers of the shares that it is of where there are so many as in
+    // `COUNTS`.
     Shares(&'static [u8], &'static [u32; 7]),
     // The same as of a share, and an identifier that it doesn't hold.
     NotHeld(u32, u32, &'static [u8]),
     // The share that is the whole is the first one.
     WholeIsFirst,
-    // Texts, an identifier, and whether the whole holds it of which only what begins with the texts is taken.
+    // Texts, an identifier, and whether the whole holds it of which only what begins with the texts
+    // is taken.
     Begins(&'static [&'static str], &'static [u8], bool),
 }
 

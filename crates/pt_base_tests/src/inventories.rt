@@ -17,7 +17,8 @@ struct Case {
     // The paths of the files and their bytes.
     files: &'static [(&'static str, &'static str)],
     address: Option<&'static str>,
-    // Of each digest the paths that the manifest has, and those that the state has, as they are written in JSON.
+    // Of each digest the paths that the manifest has, and those that the state has, as they are
+    // written in JSON.
     manifest: &'static [(&'static str, &'static str)],
     state: &'static [(&'static str, &'static str)],
     user: &'static str,

@@ -1,6 +1,6 @@
-//! Tests of the libraries below a run by their public calls: names and paths, trees and logs in memory, sites and trails,
-//! identifiers and places, digests, inventories and the other texts of an object. No code of the program stands on this
-//! crate.
+//! Tests of the libraries below a run by their public calls: names and paths, trees and logs in
+//! memory, sites and trails, identifiers and places, digests, inventories and the other texts of an
+//! object. No code of the program stands on this crate.
 #![tactic(auto)]
 
 #[cfg(test)]

@@ -43,8 +43,8 @@ fn a_log_takes_what_fits_its_fuse(rt: HostRuntime) {
     assert!(rt; takes_what_fits(&mut MemLog::new(rt.alloc())));
 }
 
-// A writer that takes so many bytes at a time, and may fail when it is flushed. What it took is one number: its bytes are
-// the digits.
+// A writer that takes so many bytes at a time, and may fail when it is flushed. What it took is one
+// number: its bytes are the digits.
 #[derive(Drop)]
 struct Taker<'a> {
     taken: &'a Cell<u64>,
@@ -77,8 +77,8 @@ impl<'a> Write for Taker<'a> {
     }
 }
 
-// How many bytes a writer takes at a time, whether it is flushed, how often a log over it fails, and what it took of the pieces
-// `ab` and `cde`.
+// How many bytes a writer takes at a time, whether it is flushed, how often a log over it fails,
+// and what it took of the pieces `ab` and `cde`.
 #[derive(Clone, Copy)]
 struct Writer(usize, bool, u64, &'static [u8]);
 

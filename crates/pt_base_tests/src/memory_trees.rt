@@ -98,7 +98,8 @@ pub(crate) fn plants(source: &mut MemSource, file: &NamePath, bytes: &[u8]) -> b
     source.plant_file(file, bytes).is_ok()
 }
 
-/// Reads the file at a path to its end, and answers how many bytes it has and how many calls of `next` that took.
+/// Reads the file at a path to its end, and answers how many bytes it has and how many calls of
+/// `next` that took.
 #[tactic(auto, using(pt_tree::proofs::Held::reading))]
 pub(crate) fn read_file<S: Source>(
     source: &mut S,
@@ -189,7 +190,8 @@ const THREE_KINDS: &[(&str, InSource)] = &[
     ("", InSource::FailsToList),
 ];
 
-// A look shows what stands; below what is no directory nothing does. It is a call as any other, also for the fuse.
+// A look shows what stands; below what is no directory nothing does. It is a call as any other,
+// also for the fuse.
 const LOOKS: &[(&str, InSource)] = &[
     ("a", InSource::Plant(Kind::Dir, Ok(()))),
     ("a/b", InSource::Plant(Kind::File, Ok(()))),

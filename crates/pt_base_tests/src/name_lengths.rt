@@ -1,5 +1,5 @@
-//! Names of all lengths, alone, in paths and in a listing. One of up to 21 bytes is held otherwise than a longer one,
-//! which shows nowhere.
+//! Names of all lengths, alone, in paths and in a listing. One of up to 21 bytes is held otherwise
+//! than a longer one, which shows nowhere.
 use crate::tables::{Holds, all_hold, gives_bytes};
 use pt_tree::{Kind, Listing, MemoryFault, Name, NamePath};
 use std::alloc::{AllocError, Global};

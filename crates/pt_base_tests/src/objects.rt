@@ -1,4 +1,5 @@
-//! Digests of blocks, the moments and names that an inventory may have, sidecars, and the files of a root.
+//! Digests of blocks, the moments and names that an inventory may have, sidecars, and the files of
+//! a root.
 use crate::tables::{Holds, all_hold, gives_text, is_path, refuses};
 use pt_name::Layout;
 use pt_object::{

@@ -1,4 +1,5 @@
-//! The two tables of an object's files: rows keep their order, and each content is noted once, at its first path.
+//! The two tables of an object's files: rows keep their order, and each content is noted once, at
+//! its first path.
 use crate::objects::{ABC, digest_of_blocks, digest_of_letters};
 use crate::tables::is_path;
 use pt_memory::texts::path;
@@ -145,8 +146,8 @@ fn find_missing(contents: &Contents, path: &NamePath, digests: &[Digest]) -> Opt
     None
 }
 
-// Notes each digest twice over: it is new the first time, and the order is kept. The first digest of which that isn't
-// so, and how.
+// Notes each digest twice over: it is new the first time, and the order is kept. The first digest
+// of which that isn't so, and how.
 fn find_out_of_order(
     contents: &mut Contents,
     path: &NamePath,

@@ -1,4 +1,5 @@
-//! What a site is by what its directory holds, what a shorty is, the causes, and the limits at their ends.
+//! What a site is by what its directory holds, what a shorty is, the causes, and the limits at
+//! their ends.
 use crate::names::is_added;
 use crate::tables::{Holds, all_hold, refuses};
 use pt_tree::{Kind, Listing, Name};
@@ -6,7 +7,8 @@ use pt_walk::{At, Cause, Finding, Form, Limits, LimitsFault, is_shorty, judge};
 use std::alloc::Global;
 
 enum Row {
-    // What a directory holds; what it is as the top, as another site, and as another site where objects are gathered.
+    // What a directory holds; what it is as the top, as another site, and as another site where
+    // objects are gathered.
     Site(&'static [(&'static str, Kind)], Finding, Finding, Finding),
     // A cause with its number and its word.
     Cause(Cause, u8, &'static str),

@@ -1,4 +1,5 @@
-//! A source in memory of which something can't be read: what is read beside it, and what fails and is counted.
+//! A source in memory of which something can't be read: what is read beside it, and what fails and
+//! is counted.
 ghost use Rattle.std.specs.Prelude.{◌≡◌};
 ghost use Rattle.pt_memory.specs.MemSourceTells.{source_told};
 ghost use Rattle.pt_tree.specs.Source.{CanOpen, CanRead};
@@ -18,12 +19,14 @@ enum Spoiled {
     Shows(Result<Option<Kind>, TreeFault>),
     // Opening the file is answered so.
     Opens(Result<(), TreeFault>),
-    // The file is opened, and each of its next blocks has so many bytes; or reading that block fails.
+    // The file is opened, and each of its next blocks has so many bytes; or reading that block
+    // fails.
     Gives(&'static [Result<usize, TreeFault>]),
-    // The file is opened and read to its end: it has so many bytes, which takes so many calls of `next`; or that fails.
+    // The file is opened and read to its end: it has so many bytes, which takes so many calls of
+    // `next`; or that fails.
     IsRead(Result<(usize, usize), TreeFault>),
-    // The file of 8,193 bytes is opened; behind its first block the directory at this path can't be listed; then the
-    // last byte is read.
+    // The file of 8,193 bytes is opened; behind its first block the directory at this path can't be
+    // listed; then the last byte is read.
     IsReadOnPast(&'static str),
     // The source failed so often.
     Failed(u64),
@@ -205,7 +208,8 @@ const ONE_BY_ONE: &[(&str, Spoiled)] = &[
     ("", Spoiled::Failed(3)),
 ];
 
-// Entries of a directory that can't be listed can't be looked at, whatever stands there; what itself can't be read can.
+// Entries of a directory that can't be listed can't be looked at, whatever stands there; what
+// itself can't be read can.
 const LOOKED_AT: &[(&str, Spoiled)] = &[
     ("e/h", Spoiled::Shows(Err(TreeFault::Device))),
     ("e/i", Spoiled::Shows(Err(TreeFault::Device))),

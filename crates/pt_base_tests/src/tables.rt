@@ -1,5 +1,5 @@
-//! Tables of rows that hold, and what a call answered, held against what it should have: a row is one `bool`, and the
-//! values that are dropped stay in here.
+//! Tables of rows that hold, and what a call answered, held against what it should have: a row is
+//! one `bool`, and the values that are dropped stay in here.
 use pt_tree::NamePath;
 use std::alloc::Global;
 use std::process::Abort;

@@ -1,4 +1,5 @@
-//! A source without the entries of some names, and one that is watched: what a look shows, what fails, and what is counted.
+//! A source without the entries of some names, and one that is watched: what a look shows, what
+//! fails, and what is counted.
 use crate::memory_trees::{Goes, find_wrong_row};
 use crate::tables::none_goes_wrong;
 use pt_memory::texts::add;

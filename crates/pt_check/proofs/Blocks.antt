@@ -1,5 +1,31 @@
 -- Opening a file, and reading it to its end.
-use Rattle.std.proofs.Common.{◌≡◌, ◌<◌, ◌≤◌, ◌+◌, ◌^◌, ℕ, Bool, true, false, cond, nat_lt, inl, List, [], ◌∷◌, refl, sym, ap, ◌∙◌, subst, arith, length, take, drop, min}
+use Rattle.std.proofs.Common.{
+  ◌≡◌,
+  ◌<◌,
+  ◌≤◌,
+  ◌+◌,
+  ◌^◌,
+  ℕ,
+  Bool,
+  true,
+  false,
+  cond,
+  nat_lt,
+  inl,
+  List,
+  [],
+  ◌∷◌,
+  refl,
+  sym,
+  ap,
+  ◌∙◌,
+  subst,
+  arith,
+  length,
+  take,
+  drop,
+  min,
+}
 use Rattle.std.proofs.lemmas.Bool.{le-ltb, lt-ltb, ltb-false, ltb-true}
 use Rattle.std.proofs.lemmas.List.{length-append, take-append-drop}
 use Rattle.std.specs.Option.{ForSome, option_map}
@@ -30,7 +56,8 @@ next_stays None new is = ap tree_in is
 next_stays (Some s) new is = ap tree_in is
 
 -- and the file is open
-pub is_opened : (old new : Option Reading) (path : Path) → ForSome (tree_in old) (λ tree. IsSome (file_at tree path)) → new ≡ option_map (after_open path) old → CanRead new
+pub is_opened : (old new : Option Reading) (path : Path) → ForSome (tree_in old) (λ tree. IsSome (file_at tree path)) → new ≡ option_map (after_open path) old
+    → CanRead new
 unfolding CanRead
 is_opened None new path there is s told = absurd (cc)
 is_opened (Some old) new path there is s told =
@@ -125,7 +152,8 @@ read_most total old now to most s told bytes has =
     omega (arith, whole, counted, most)
 
 -- the first block of a file that was just opened is its front
-pub front_read : (old opened : Option Reading) (path : Path) (block : List ℕ) → ForSome (tree_in old) (λ tree. IsSome (file_at tree path)) → opened ≡ option_map (after_open path) old
+pub front_read : (old opened : Option Reading) (path : Path) (block : List ℕ) → ForSome (tree_in old) (λ tree. IsSome (file_at tree path))
+    → opened ≡ option_map (after_open path) old
     → IsRead opened block → ForSome (tree_in old) (λ tree. block ≡ take 8192 (bytes_at tree path))
 unfolding IsRead
 front_read None opened path block there is read tree told = absurd (cc)
@@ -133,7 +161,8 @@ front_read (Some s) opened path block there is read tree told =
     let same : s.tree ≡ tree = cc in
     by (file_at tree path) refl (ap (λ (t : Forest). option_map (take 8192) (file_at t path)) (sym same) ∙ read (after_open path s) is) (there tree told)
   where
-    by : (found : Option (List ℕ)) → file_at tree path ≡ found → option_map (take 8192) (file_at tree path) ≡ Some block → IsSome (file_at tree path) → block ≡ take 8192 (bytes_at tree path)
+    by : (found : Option (List ℕ)) → file_at tree path ≡ found → option_map (take 8192) (file_at tree path) ≡ Some block → IsSome (file_at tree path)
+        → block ≡ take 8192 (bytes_at tree path)
     by None none front some =
         let bad : IsSome {T = List ℕ} None = subst (λ (o : Option (List ℕ)). IsSome o) none some in
         absurd (cc)
@@ -163,13 +192,15 @@ pub opens_step : (here : Option Forest) (reads : Bool) (path : Path) (n : ℕ) (
     → TellsIf path told m b → (reads ≡ true → n < greatest_count → GoesAt path a) → ForSome here (λ tree. Opens reads path (bytes_at tree path) a b)
 opens_step here reads path n told a m b bytes told_is counted tells goes tree is =
     let start : TellsIf path told (counting (with_bytes n) a) b = subst (λ (s : Seen). TellsIf path told s b) counted tells in
-    let named : TellsIf path (size_trouble n) (counting (with_bytes n) a) b = subst (λ (o : Option Trouble). TellsIf path o (counting (with_bytes n) a) b) told_is start in
+    let named : TellsIf path (size_trouble n) (counting (with_bytes n) a) b = subst (λ (o : Option Trouble). TellsIf path o (counting (with_bytes n) a) b)
+    told_is start in
     by reads goes (bytes tree is) named
   where
     all : ℕ
     all = length (bytes_at tree path)
 
-    by : (r : Bool) → (r ≡ true → n < greatest_count → GoesAt path a) → n ≡ cond r (min all greatest_count) 0 → TellsIf path (size_trouble n) (counting (with_bytes n) a) b → Opens r path (bytes_at tree path) a b
+    by : (r : Bool) → (r ≡ true → n < greatest_count → GoesAt path a) → n ≡ cond r (min all greatest_count) 0
+        → TellsIf path (size_trouble n) (counting (with_bytes n) a) b → Opens r path (bytes_at tree path) a b
     by true goes e it =
         let read : TellsIf path (size_trouble (min all greatest_count)) (counting (with_bytes (min all greatest_count)) a) b =
         subst (λ (k : ℕ). TellsIf path (size_trouble k) (counting (with_bytes k) a) b) e it in

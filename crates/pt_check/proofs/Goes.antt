@@ -35,7 +35,8 @@ unfolding ReadsAs
 fails_still old now new block x still reads f is = (reads f (still f is)).0
 
 -- at its end it was read whole
-pub read_goes : {T : Type 0} (old now new : Option Failing) (block : List ℕ) (x : T) → FailsStill old now → ReadsAs now new block (Ok x) → length block < 8192 → GoesOn old
+pub read_goes : {T : Type 0} (old now new : Option Failing) (block : List ℕ) (x : T) → FailsStill old now → ReadsAs now new block (Ok x) → length block < 8192
+    → GoesOn old
 unfolding ReadsAs
 read_goes old now new block x still reads few f is = (reads f (still f is)).1 few
 
@@ -50,7 +51,8 @@ GoesIn w path (dir name inside after) = GoesBy w (path ++ name ∷ []) × GoesIn
 
 -- a directory or a file stands at a path from what stands at a name
 abbrev pub StandsFrom : Option Node → Path → Type 0
-StandsFrom o q = IsSome (option_and_then as_dir (option_and_then (λ n. node_at n q) o)) ⊎ IsSome (option_and_then as_file (option_and_then (λ n. node_at n q) o))
+StandsFrom o q = IsSome (option_and_then as_dir (option_and_then (λ n. node_at n q) o))
+    ⊎ IsSome (option_and_then as_file (option_and_then (λ n. node_at n q) o))
 
 -- nothing stands below nothing
 pub none_stands : (q : Path) → StandsFrom None q → ⊥
@@ -78,19 +80,22 @@ first_or_later n name node later q Q stands first on = by (bytes_eq n name) (byt
     by true is stands = first (is.0 refl) stands
     by false is stands = on stands
 
-at_file : (w : Option (Path → Bool)) (path : Path) (n name bytes : List ℕ) (q : Path) → GoesBy w (path ++ n ∷ []) → n ≡ name → StandsFrom (Some (File bytes)) q → GoesBy w (path ++ name ∷ q)
+at_file : (w : Option (Path → Bool)) (path : Path) (n name bytes : List ℕ) (q : Path) → GoesBy w (path ++ n ∷ []) → n ≡ name → StandsFrom (Some (File bytes)) q
+    → GoesBy w (path ++ name ∷ q)
 at_file w path n name bytes [] goes same stands = subst (λ (m : List ℕ). GoesBy w (path ++ m ∷ [])) same goes
 at_file w path n name bytes (x ∷ q) goes same stands = absurd (file_ends bytes x q stands)
 
 at_dir : (w : Option (Path → Bool)) (path : Path) (n name : List ℕ) (inside : Forest) (q : Path) → GoesBy w (path ++ n ∷ []) → n ≡ name
-    → ((x : List ℕ) (r : Path) → StandsFrom (find inside x) r → GoesBy w (path ++ n ∷ [] ++ x ∷ r)) → StandsFrom (Some (Dir inside)) q → GoesBy w (path ++ name ∷ q)
+    → ((x : List ℕ) (r : Path) → StandsFrom (find inside x) r → GoesBy w (path ++ n ∷ [] ++ x ∷ r)) → StandsFrom (Some (Dir inside)) q
+    → GoesBy w (path ++ name ∷ q)
 at_dir w path n name inside [] goes same on stands = subst (λ (m : List ℕ). GoesBy w (path ++ m ∷ [])) same goes
 at_dir w path n name inside (x ∷ q) goes same on stands =
     let whole : GoesBy w (path ++ (n ∷ x ∷ q)) = subst (GoesBy w) (append_assoc path (n ∷ []) (x ∷ q)) (on x q stands) in
     subst (λ (m : List ℕ). GoesBy w (path ++ m ∷ x ∷ q)) same whole
 
 -- so at none that stands there
-pub goes_there : (w : Option (Path → Bool)) (path : Path) (tree : Forest) → GoesIn w path tree → (name : List ℕ) (q : Path) → StandsFrom (find tree name) q → GoesBy w (path ++ name ∷ q)
+pub goes_there : (w : Option (Path → Bool)) (path : Path) (tree : Forest) → GoesIn w path tree → (name : List ℕ) (q : Path) → StandsFrom (find tree name) q
+    → GoesBy w (path ++ name ∷ q)
 goes_there w path none goes name q stands = absurd (none_stands q stands)
 goes_there w path (file n bytes after) goes name q stands =
     first_or_later n name (File bytes) (find after name) q _ stands (at_file w path n name bytes q goes.0) (goes_there w path after goes.1 name q)

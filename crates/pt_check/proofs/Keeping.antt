@@ -12,7 +12,8 @@ use Rattle.pt_tree.specs.declared.source.Source.{Ghosts as OfSource}
 
 -- and what is kept twice is kept
 pub keeps_on : {S L E : Type 0} (told : S → Option Reading) (keeps : S → S → Type 0) (held : L → Option (List ℕ))
-    → ((a b c : S) → keeps a b → keeps b c → keeps a c) → (a b c : Check S L E) → Keeps told keeps held a b → Keeps told keeps held b c → Keeps told keeps held a c
+    → ((a b c : S) → keeps a b → keeps b c → keeps a c) → (a b c : Check S L E) → Keeps told keeps held a b → Keeps told keeps held b c
+    → Keeps told keeps held a c
 keeps_on told keeps held on a b c first second = record {
   tree = second.tree ∙ first.tree;
   source = on a.source b.source c.source first.source second.source;

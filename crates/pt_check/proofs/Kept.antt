@@ -1,5 +1,31 @@
 -- No run passes an object of a clean store over for `reserved`.
-use Rattle.std.proofs.Common.{◌≡◌, ◌∙◌, ◌+◌, ◌-◌, ℕ, Bool, true, false, cond, length, List, [], ◌∷◌, ◌++◌, Option, None, Some, Result, Ok, Err, refl, sym, ap, subst, nat_lt}
+use Rattle.std.proofs.Common.{
+  ◌≡◌,
+  ◌∙◌,
+  ◌+◌,
+  ◌-◌,
+  ℕ,
+  Bool,
+  true,
+  false,
+  cond,
+  length,
+  List,
+  [],
+  ◌∷◌,
+  ◌++◌,
+  Option,
+  None,
+  Some,
+  Result,
+  Ok,
+  Err,
+  refl,
+  sym,
+  ap,
+  subst,
+  nat_lt,
+}
 use Rattle.std.specs.List.{concat}
 use Rattle.std.specs.Prelude.{◌≢◌, ◌&&◌, ◌==◌, ⊤, codes, map, unwrap_or}
 use Rattle.std.specs.Str.{is_utf8}
@@ -18,7 +44,21 @@ use Rattle.pt_name.specs.Share.{whole}
 use Rattle.pt_name.specs.Tuples.{Tuples}
 use Rattle.pt_name.specs.declared.identifying.Refusal.{Refusal}
 use Rattle.pt_name.specs.declared.identifying.Refusal.TheVariants as refusal
-use Rattle.pt_plan.specs.Items.{Interior, Named, PairtreeObject, Skip, Verdict, encapsulated, is_ours, item_of, verdict_by_finding, verdict_by_identifier, verdict_by_visit, verdict_of, verdict_on_candidate}
+use Rattle.pt_plan.specs.Items.{
+  Interior,
+  Named,
+  PairtreeObject,
+  Skip,
+  Verdict,
+  encapsulated,
+  is_ours,
+  item_of,
+  verdict_by_finding,
+  verdict_by_identifier,
+  verdict_by_visit,
+  verdict_of,
+  verdict_on_candidate,
+}
 use Rattle.pt_plan.specs.Job.{Job, form_of}
 use Rattle.pt_plan.specs.Store.{pairtree_root, prefix_of, sites_in_root}
 use Rattle.pt_tree.specs.Forest.{Forest, none, file, other, dir, dir_at, listing_of}
@@ -64,7 +104,8 @@ module _ (wants : Wants) (prefix top : List ℕ) where
   free_shorty depth path left name inside met on = by (is_last (at_of path)) (nat_lt depth (length path + 1)) refl
     where
       by : (a b : Bool) → is_last (at_of path) ≡ a
-          → Each FreeSite ((path ++ name ∷ [], cond a Past (cond b Deep (Listed inside))) ∷ walked (cond a Past (cond b Deep (Listed inside))) (sites_in depth (path ++ name ∷ []) inside))
+          → Each FreeSite ((path ++ name ∷ [], cond a Past (cond b Deep (Listed inside))) ∷ walked (cond a Past (cond b Deep (Listed inside)))
+          (sites_in depth (path ++ name ∷ []) inside))
       by true b last = (tt, tt)
       by false true last = (tt, tt)
       by false false last =
@@ -77,14 +118,16 @@ module _ (wants : Wants) (prefix top : List ℕ) where
   abbrev in_site : At → Bool → ℕ → List ℕ → Bool → Within
   in_site w holds bytes name short = cond short (below_site w name) (beside_shorties holds bytes)
 
-  free_sites : (depth : ℕ) (path : Path) (left : ℕ) (holds : Bool) (tree : Forest) → IsClean wants (site_folder path left) holds tree → Each FreeSite (sites_in depth path tree)
+  free_sites : (depth : ℕ) (path : Path) (left : ℕ) (holds : Bool) (tree : Forest) → IsClean wants (site_folder path left) holds tree
+      → Each FreeSite (sites_in depth path tree)
   free_sites depth path left holds none clean = tt
   free_sites depth path left holds (file name bytes after) clean = free_sites depth path left holds after clean.2
   free_sites depth path left holds (other name after) clean = free_sites depth path left holds after clean.1
   free_sites depth path left holds (dir name inside after) clean =
       each_both FreeSite (here (is_short name)) (sites_in depth path after)
       (by (is_short name) refl (clean.1, clean.3)
-      (λ met. free_sites depth (path ++ name ∷ []) (left - 1) (has_object (finding_of (within.Site (at_of (path ++ name ∷ []))) (listing_of inside))) inside met.1))
+      (λ met. free_sites depth (path ++ name ∷ []) (left - 1) (has_object (finding_of (within.Site (at_of (path ++ name ∷ []))) (listing_of inside))) inside
+      met.1))
       (free_sites depth path left holds after clean.4)
     where
       here : Bool → List Site
@@ -94,10 +137,12 @@ module _ (wants : Wants) (prefix top : List ℕ) where
       bytes = length (joined (top ∷ (path ++ name ∷ [])))
 
       by : (b : Bool) → is_short name ≡ b → Met (path ++ name ∷ []) (left - 1) inside (in_site (at_of path) holds bytes name (is_short name))
-          → (Met (path ++ name ∷ []) (left - 1) inside (within.Site (at_of (path ++ name ∷ []))) → Each FreeSite (sites_in depth (path ++ name ∷ []) inside)) → Each FreeSite (here b)
+          → (Met (path ++ name ∷ []) (left - 1) inside (within.Site (at_of (path ++ name ∷ []))) → Each FreeSite (sites_in depth (path ++ name ∷ []) inside))
+          → Each FreeSite (here b)
       by false is met on = tt
       by true is met on =
-          free_shorty depth path (left - 1) name inside (subst (λ (s : Bool). Met (path ++ name ∷ []) (left - 1) inside (in_site (at_of path) holds bytes name s)) is met) on
+          free_shorty depth path (left - 1) name inside (subst (λ (s : Bool). Met (path ++ name ∷ []) (left - 1) inside
+          (in_site (at_of path) holds bytes name s)) is met) on
 
   free_root : (depth left : ℕ) (tree : Option Forest) → Met [] left (unwrap_or tree none) (within.Site at.Root) → Each FreeSite (sites_in_root depth tree)
   free_root depth left None met = tt
@@ -123,7 +168,8 @@ module _ (wants : Wants) (prefix top : List ℕ) where
     free_named object (Err refusal.NotUtf8) silent = λ e. absurd (cc)
     free_named object (Err refusal.Reserved) silent = absurd (cc)
 
-    free_with_tuples : (object : PairtreeObject) (read : Option (List ℕ)) → (job.tuples.count == 0) ≡ false → FreeVerdict (verdict_by_identifier object (identifier_by job.tuples prefix read))
+    free_with_tuples : (object : PairtreeObject) (read : Option (List ℕ)) → (job.tuples.count == 0) ≡ false
+        → FreeVerdict (verdict_by_identifier object (identifier_by job.tuples prefix read))
     free_with_tuples object None some = λ e. absurd (cc)
     free_with_tuples object (Some read) some = by (is_utf8 read)
       where
@@ -131,7 +177,8 @@ module _ (wants : Wants) (prefix top : List ℕ) where
         id = prefix ++ read
 
         own : (flat : Bool) → flat ≡ false
-            → FreeVerdict (verdict_by_identifier object (cond (flat && same_path (place_of job.tuples id) (codes "extensions" ∷ [])) (Err refusal.Reserved) (Ok id)))
+            → FreeVerdict (verdict_by_identifier object (cond (flat && same_path (place_of job.tuples id) (codes "extensions" ∷ [])) (Err refusal.Reserved)
+            (Ok id)))
         own true is = absurd (cc)
         own false is = tt
 
@@ -160,7 +207,8 @@ module _ (wants : Wants) (prefix top : List ℕ) where
         free_encapsulated path (encapsulated path (entries_from i inside))
         (sym (ap (λ (l : Tuples). reserved_trouble l prefix (finding.Candidate i) (top ∷ path)) told) ∙ silent)
 
-    free_finding : (path : Path) (inside : Forest) (f : Finding) → found (listing_of inside) (at_of path) form.Plain ≡ f → is_told (at_of path) f (top ∷ path) ≡ None
+    free_finding : (path : Path) (inside : Forest) (f : Finding) → found (listing_of inside) (at_of path) form.Plain ≡ f
+        → is_told (at_of path) f (top ∷ path) ≡ None
         → reserved_trouble wants.layout prefix f (top ∷ path) ≡ None → FreeVerdict (verdict_by_finding job prefix path inside f)
     free_finding path inside finding.Interior is silent free = tt
     free_finding path inside (finding.Skip why) is silent free = absurd (cc)

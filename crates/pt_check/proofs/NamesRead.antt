@@ -19,7 +19,8 @@ pub reads_text : (text joined : List ℕ) (id : String Global) → GivesReading 
     → spelling_trouble text (string_bytes id) ≡ trouble_of_names joined
 reads_text text joined id is same =
     let valid : is_utf8 (string_bytes id) ≡ true = is_utf8-from_IsUtf8 (string_bytes id) (IsUtf8-string_bytes id) in
-    sym (ap trouble_of_names (sym same) ∙ ap (trouble_of_reading text) is ∙ ap (λ (b : Bool). cond b (spelling_trouble text (string_bytes id)) (Some (trouble.Skipped cause.Utf8))) valid)
+    sym (ap trouble_of_names (sym same) ∙ ap (trouble_of_reading text) is
+    ∙ ap (λ (b : Bool). cond b (spelling_trouble text (string_bytes id)) (Some (trouble.Skipped cause.Utf8))) valid)
 
 pub reads_bytes : (text joined : List ℕ) → GivesReading (reading_of text) (Err unclean.NotUtf8) → text ≡ joined
     → Some (trouble.Skipped cause.Utf8) ≡ trouble_of_names joined
@@ -34,7 +35,8 @@ pub reads_nothing : (text joined : List ℕ) → GivesReading (reading_of text) 
 reads_nothing text joined is same = sym (ap trouble_of_names (sym same) ∙ ap (trouble_of_reading text) is)
 
 -- where there is a name, what is told of the place is what is said of the names
-pub place_told : (tuples : Tuples) (prefix : List ℕ) (path : Path) → 0 < length path → reserved_by (identification_of tuples whole prefix path) ≡ reserved_at tuples prefix path
+pub place_told : (tuples : Tuples) (prefix : List ℕ) (path : Path) → 0 < length path
+    → reserved_by (identification_of tuples whole prefix path) ≡ reserved_at tuples prefix path
 place_told tuples prefix [] some = absurd (omega (arith, some))
 place_told tuples prefix (name ∷ names) some = refl
 

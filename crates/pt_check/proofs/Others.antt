@@ -1,5 +1,30 @@
 -- No run passes an object of a clean store over for `other`.
-use Rattle.std.proofs.Common.{◌≡◌, ◌+◌, ◌||◌, ℕ, zero, suc, Bool, true, false, cond, length, List, [], ◌∷◌, ◌++◌, Option, None, Some, Result, Ok, Err, refl, subst, nat_lt}
+use Rattle.std.proofs.Common.{
+  ◌≡◌,
+  ◌+◌,
+  ◌||◌,
+  ℕ,
+  zero,
+  suc,
+  Bool,
+  true,
+  false,
+  cond,
+  length,
+  List,
+  [],
+  ◌∷◌,
+  ◌++◌,
+  Option,
+  None,
+  Some,
+  Result,
+  Ok,
+  Err,
+  refl,
+  subst,
+  nat_lt,
+}
 use Rattle.std.specs.Prelude.{◌≢◌, ⊤, option_map, map, unwrap_or}
 use Rattle.pt_check.specs.Clean.{Each, IsClean, IsNotSkippedForOther, NoRunSkipsForOther, has_other}
 use Rattle.pt_check.specs.Visits.{Folder, finding_of, folder_in, has_object}
@@ -7,7 +32,25 @@ use Rattle.pt_check.specs.declared.trouble.Trouble.TheVariants as trouble
 use Rattle.pt_check.specs.declared.wants.Wants.{Wants}
 use Rattle.pt_name.specs.Identifying.{identifier_at}
 use Rattle.pt_name.specs.declared.identifying.Refusal.{Refusal}
-use Rattle.pt_plan.specs.Items.{Named, PairtreeObject, Verdict, Interior, Skip, bad_entry, cause_of, encapsulated, gathered_from, is_ours, is_too_deep, item_of, verdict_by_finding, verdict_by_identifier, verdict_by_visit, verdict_of, verdict_on_candidate}
+use Rattle.pt_plan.specs.Items.{
+  Named,
+  PairtreeObject,
+  Verdict,
+  Interior,
+  Skip,
+  bad_entry,
+  cause_of,
+  encapsulated,
+  gathered_from,
+  is_ours,
+  is_too_deep,
+  item_of,
+  verdict_by_finding,
+  verdict_by_identifier,
+  verdict_by_visit,
+  verdict_of,
+  verdict_on_candidate,
+}
 use Rattle.pt_plan.specs.Job.{Job, form_of}
 use Rattle.pt_plan.specs.Store.{pairtree_root, prefix_of, sites_in_root}
 use Rattle.pt_tree.specs.Forest.{Forest, none, file, other, dir, Node, File, Dir, Other, dir_at, listing_of}
@@ -44,7 +87,8 @@ no_other wants folder holds (other name after) clean =
     absurd (cc)
 no_other wants folder holds (dir name inside after) clean =
     let it = folder_in folder holds name in
-    both_not (has_other inside) (has_other after) (no_other wants it (has_object (finding_of it.here (listing_of inside))) inside clean.3) (no_other wants folder holds after clean.4)
+    both_not (has_other inside) (has_other after) (no_other wants it (has_object (finding_of it.here (listing_of inside))) inside clean.3)
+    (no_other wants folder holds after clean.4)
 
 none_from : (i : ℕ) (tree : Forest) → has_other tree ≡ false → has_other (entries_from i tree) ≡ false
 none_from zero tree plain = plain
@@ -116,7 +160,8 @@ IsPlainVerdict Interior = ⊤
 IsPlainVerdict (Skip why) = ⊤
 IsPlainVerdict (Named id object) = has_other object.inside ≡ false
 
-plain_object : (object : PairtreeObject) (named : Result (List ℕ) Refusal) → has_other object.inside ≡ false → IsPlainVerdict (verdict_by_identifier object named)
+plain_object : (object : PairtreeObject) (named : Result (List ℕ) Refusal) → has_other object.inside ≡ false
+    → IsPlainVerdict (verdict_by_identifier object named)
 plain_object object (Ok id) plain = plain
 plain_object object (Err why) plain = tt
 
@@ -126,7 +171,8 @@ module _ (job : Job) (prefix : List ℕ) (path : Path) where
   plain_candidate (file name bytes after) plain = tt
   plain_candidate (other name after) plain = tt
   plain_candidate (dir name inside after) plain =
-      plain_object (record { at = path ++ name ∷ []; gathered = false; inside = inside }) (identifier_at job.tuples prefix path) (neither (has_other inside) (has_other after) plain).0
+      plain_object (record { at = path ++ name ∷ []; gathered = false; inside = inside }) (identifier_at job.tuples prefix path)
+      (neither (has_other inside) (has_other after) plain).0
 
   plain_finding : (inside : Forest) (f : Finding) → has_other inside ≡ false → IsPlainVerdict (verdict_by_finding job prefix path inside f)
   plain_finding inside finding.Interior plain = tt
@@ -161,8 +207,11 @@ plain_entries path none plain = tt
 plain_entries path (file name bytes after) plain = (tt, plain_entries path after plain)
 plain_entries path (other name after) plain = absurd (cc)
 plain_entries path (dir name inside after) plain =
-    let parts = neither (has_other inside) (has_other after) plain in
-    (tt, each_both IsPlainEntry (entries_in (path ++ name ∷ []) inside) (entries_in path after) (plain_entries (path ++ name ∷ []) inside parts.0) (plain_entries path after parts.1))
+    let parts = neither (has_other inside) (has_other after) plain in (
+      tt,
+      each_both IsPlainEntry (entries_in (path ++ name ∷ []) inside) (entries_in path after) (plain_entries (path ++ name ∷ []) inside parts.0)
+          (plain_entries path after parts.1),
+    )
 
 abbrev IsNotOther : Option Cause → Type 0
 IsNotOther why = why ≢ Some cause.Other
@@ -191,7 +240,8 @@ module _ (limits : Bounds) (depth : ℕ) where
   first_plain : (held : ℕ) (all : List Entry) → Each IsPlainEntry all → IsNotOther (option_map (λ bad. bad.1) (first_bad limits depth held all))
   first_plain held [] plain = none_is_not
   first_plain held (entry ∷ others) plain =
-      bad_plain (entry_cause limits depth held entry) entry (first_bad limits depth (files_with held entry) others) (entry_plain held entry plain.0) (first_plain (files_with held entry) others plain.1)
+      bad_plain (entry_cause limits depth held entry) entry (first_bad limits depth (files_with held entry) others) (entry_plain held entry plain.0)
+      (first_plain (files_with held entry) others plain.1)
 
 cause_plain : (limits : Bounds) (object : PairtreeObject) → has_other object.inside ≡ false → IsNotOther (cause_of limits object)
 cause_plain limits object plain = by (is_too_deep limits object)

@@ -13,7 +13,8 @@ each_more path [] reason a m b same tells = (b, subst (λ (s : Seen). Tells (Unr
 each_more path (x ∷ xs) reason a m b (n, first, each) tells = (n, first, each_more path xs reason n m b each tells)
 
 -- the next of them was told
-pub each_step : (path : Path) (reasons : List (String Global)) (i : ℕ) (reason d : String Global) (text : List ℕ) (a m b : Seen) → i < length reasons → reason ≡ get_or reasons i d
+pub each_step : (path : Path) (reasons : List (String Global)) (i : ℕ) (reason d : String Global) (text : List ℕ) (a m b : Seen) → i < length reasons
+    → reason ≡ get_or reasons i d
     → text ≡ string_bytes reason → TellsEach path (map (λ r. string_bytes r) (take i reasons)) a m → Tells (Unreadable path text) m b
     → TellsEach path (map (λ r. string_bytes r) (take (i + 1) reasons)) a b
 each_step path reasons i reason d text a m b within is text_is each tells =

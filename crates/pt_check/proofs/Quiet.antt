@@ -1,5 +1,35 @@
 -- What a check that told nothing has met.
-use Rattle.std.proofs.Common.{◌≡◌, ◌<◌, ◌≤◌, ◌∙◌, ◌==◌, ◌+◌, ◌^◌, ℕ, suc, Bool, true, false, cond, min, length, List, [], ◌∷◌, ◌++◌, Option, None, Some, inl, inr, refl, sym, ap, subst, arith}
+use Rattle.std.proofs.Common.{
+  ◌≡◌,
+  ◌<◌,
+  ◌≤◌,
+  ◌∙◌,
+  ◌==◌,
+  ◌+◌,
+  ◌^◌,
+  ℕ,
+  suc,
+  Bool,
+  true,
+  false,
+  cond,
+  min,
+  length,
+  List,
+  [],
+  ◌∷◌,
+  ◌++◌,
+  Option,
+  None,
+  Some,
+  inl,
+  inr,
+  refl,
+  sym,
+  ap,
+  subst,
+  arith,
+}
 use Rattle.std.proofs.lemmas.Bool.{eqb-false, ltb-false}
 use Rattle.std.proofs.lemmas.List.{length-take, take_all}
 use Rattle.std.specs.Option.{option_and_then, option_map}
@@ -12,7 +42,45 @@ use Rattle.pt_check.specs.Counting.{with_bytes, with_entry, with_object, with_ob
 use Rattle.pt_check.specs.Goes.{GoesBy}
 use Rattle.pt_check.specs.Lines.{Told}
 use Rattle.pt_check.specs.Prefix.{prefix_trouble, trouble_of_prefix}
-use Rattle.pt_check.specs.Visits.{Begins, Checks, Enters, Finds, Folder, GoesAt, Judges, LooksAll, Meets, Opens, Puts, ReadsPrefix, Says, Seen, Tells, TellsEach, TellsFailure, TellsIf, TellsUnlisted, Visits, VisitsFolder, begun, count_trouble, counting, ended, entry_trouble, finding_of, folder_in, folder_trouble, has_object, missing, prefix_path, reserved_trouble, room_trouble, root_folder, size_trouble, with_folder}
+use Rattle.pt_check.specs.Visits.{
+  Begins,
+  Checks,
+  Enters,
+  Finds,
+  Folder,
+  GoesAt,
+  Judges,
+  LooksAll,
+  Meets,
+  Opens,
+  Puts,
+  ReadsPrefix,
+  Says,
+  Seen,
+  Tells,
+  TellsEach,
+  TellsFailure,
+  TellsIf,
+  TellsUnlisted,
+  Visits,
+  VisitsFolder,
+  begun,
+  count_trouble,
+  counting,
+  ended,
+  entry_trouble,
+  finding_of,
+  folder_in,
+  folder_trouble,
+  has_object,
+  missing,
+  prefix_path,
+  reserved_trouble,
+  room_trouble,
+  root_folder,
+  size_trouble,
+  with_folder,
+}
 use Rattle.pt_check.specs.Within.{below, starts_object}
 use Rattle.pt_check.specs.declared.numbers.Numbers.{Numbers}
 use Rattle.pt_check.specs.declared.trouble.Trouble.{Trouble}
@@ -128,7 +196,8 @@ one_more false held now is quiet_of more few =
     let less : suc held ≤ 1000000 = omega (arith, few, apart) in
     (omega (arith, more, less), omega (arith, more, less))
 
-met_fills : (here : Within) (k : Kind) (bytes : ℕ) (a m : Seen) → count_trouble here k a.numbers.held ≡ None → m ≡ counting (with_entry k bytes) a → Fills here (one_of k) a m
+met_fills : (here : Within) (k : Kind) (bytes : ℕ) (a m : Seen) → count_trouble here k a.numbers.held ≡ None → m ≡ counting (with_entry k bytes) a
+    → Fills here (one_of k) a m
 met_fills (within.Object before) kind.File bytes a m quiet_of same = λ few.
     one_more (a.numbers.held == 1000000) a.numbers.held m.numbers.held refl quiet_of (ap held_by same) few
 met_fills (within.Object before) kind.Dir bytes a m quiet_of same = no_fill (within.Object before) a m (ap held_by same)
@@ -137,7 +206,8 @@ met_fills (within.Site at) k bytes a m quiet_of same = tt
 met_fills within.Past k bytes a m quiet_of same = tt
 met_fills within.Beside k bytes a m quiet_of same = tt
 
-met : (wants : Wants) (folder : Folder) (name : List ℕ) (k : Kind) (a m : Seen) → Meets wants (folder.path ++ name ∷ []) folder.here (name, k) a m → told_by m ≡ 0
+met : (wants : Wants) (folder : Folder) (name : List ℕ) (k : Kind) (a m : Seen) → Meets wants (folder.path ++ name ∷ []) folder.here (name, k) a m
+    → told_by m ≡ 0
     → IsCleanEntry wants folder name k × Quiet a m × Fills folder.here (one_of k) a m
 met wants folder name k a m (s, crowds, n, tells, fits) nothing =
     let path = folder.path ++ name ∷ [] in
@@ -273,7 +343,8 @@ still_goes_in wants path tree a b same goes reads =
 abbrev Visited : Wants → Folder → Bool → Forest → Seen → Seen → Type 0
 Visited wants folder holds tree a b = Quiet a b × IsClean wants folder holds tree × Fills folder.here (file_count tree) a b × Goes wants folder.path tree b
 
-quiet : (says : Says) (wants : Wants) (folder : Folder) (holds : Bool) (tree : Forest) (a b : Seen) → Visits says wants folder holds tree a b → told_by b ≡ 0 → Visited wants folder holds tree a b
+quiet : (says : Says) (wants : Wants) (folder : Folder) (holds : Bool) (tree : Forest) (a b : Seen) → Visits says wants folder holds tree a b → told_by b ≡ 0
+    → Visited wants folder holds tree a b
 quiet says wants folder holds none a b same nothing =
     ((ap told_by (sym same) ∙ nothing, ap source_of same), tt, no_fill folder.here a b (ap held_by same), λ reads. tt)
 quiet says wants folder holds (file name bytes after) a b (m, meets, n, opens, rest) nothing =
@@ -301,7 +372,9 @@ quiet says wants folder holds (dir name inside after) a b (m, meets, n, enters, 
     let start = counting (begun it.here folder.here) m in
     let later = quiet says wants folder holds after (counting (ended it.here folder.here m.numbers.bytes) n) b rest nothing in
     let ends : told_by n ≡ 0 = sym (ended_told (starts_object it.here folder.here) m.numbers.bytes n.numbers) ∙ later.0.0 in
-    let entering = entered says wants it items (λ h. Visits says wants it h inside) (λ h s. IsClean wants it h inside × Fills it.here count s n × Goes wants it.path inside n) start n (λ h s visited. let all = quiet says wants it h inside s n visited ends in (all.0, (all.1, all.2, all.3))) enters ends in
+    let entering = entered says wants it items (λ h. Visits says wants it h inside) (λ h s. IsClean wants it h inside × Fills it.here count s n
+    × Goes wants it.path inside n) start n (λ h s visited. let all = quiet says wants it h inside s n visited ends in (all.0, (all.1, all.2, all.3))) enters
+    ends in
     let begins : told_by m ≡ 0 = sym (begun_told (starts_object it.here folder.here) m.numbers) ∙ entering.1.0 in
     let meeting = met wants folder name kind.Dir a m meets begins in
     let within_it = entering.2 in
@@ -309,14 +382,20 @@ quiet says wants folder holds (dir name inside after) a b (m, meets, n, enters, 
       (meeting.1.0, later.0.1 ∙ entering.1.1 ∙ meeting.1.1),
       (meeting.0, entering.0, (λ starts. has_room it.here folder.here count m n fills starts), within_it.2.0, later.1),
       dir_fills folder.here holds name (length (joined it.path)) m.numbers.bytes count (file_count after) a m n b meeting.2 fills later.2,
-      (λ reads. (still_goes it.path start b (later.0.1 ∙ entering.1.1) entering.3, still_goes_in wants it.path inside n b later.0.1 within_it.2.2 reads, later.3 reads)),
+      (λ reads. (
+        still_goes it.path start b (later.0.1 ∙ entering.1.1) entering.3,
+        still_goes_in wants it.path inside n b later.0.1 within_it.2.2 reads,
+        later.3
+            reads,
+      )),
     )
 
 -- a prefix has at most 1024 bytes
 prefix_short : (bytes : List ℕ) → prefix_refusal bytes ≡ None → length bytes ≤ 1024
 prefix_short bytes good = by (nat_lt 1024 (length bytes)) refl good
   where
-    by : (long : Bool) → nat_lt 1024 (length bytes) ≡ long → cond long (Some fault.TooLong) (cond (is_utf8 (without_line_ends bytes)) None (Some fault.NotUtf8)) ≡ None
+    by : (long : Bool) → nat_lt 1024 (length bytes) ≡ long → cond long (Some fault.TooLong) (cond (is_utf8 (without_line_ends bytes)) None (Some fault.NotUtf8))
+        ≡ None
         → length bytes ≤ 1024
     by true is good = absurd (cc)
     by false is good = ltb-false 1024 (length bytes) is
@@ -341,7 +420,8 @@ abbrev ReadPrefix : Option Node → Option Kind → List ℕ → List ℕ → Se
 ReadPrefix o k bytes prefix a b = IsCleanPrefix k bytes × Quiet a b × (prefix ≡ prefix_in o) × (k ≡ Some kind.File → GoesAt prefix_path a)
 
 -- the prefix that is known is that of a run
-prefix_read : (o : Option Node) (k : Option Kind) (bytes prefix : List ℕ) (a b : Seen) → k ≡ option_map kind_of o → bytes ≡ unwrap_or (option_and_then as_file o) []
+prefix_read : (o : Option Node) (k : Option Kind) (bytes prefix : List ℕ) (a b : Seen) → k ≡ option_map kind_of o
+    → bytes ≡ unwrap_or (option_and_then as_file o) []
     → ReadsPrefix k bytes prefix a b → told_by b ≡ 0 → ReadPrefix o k bytes prefix a b
 prefix_read None None bytes prefix a b is all (same, none_is) nothing = (tt, (ap told_by (sym same) ∙ nothing, ap source_of same), none_is, (λ e. absurd (cc)))
 prefix_read (Some node) None bytes prefix a b is all reads nothing = absurd (cc)
@@ -400,21 +480,25 @@ store_met says wants tree numbers a b checks nothing = by checks.whole checks.fi
     root_path : Path
     root_path = pairtree_root ∷ []
 
-    visited : (prefix : List ℕ) (m : Seen) (t : Bool) → cond t (VisitsFolder says wants (root_folder prefix) inside m last) (Tells (Told root_path trouble.Missing) m last)
+    visited : (prefix : List ℕ) (m : Seen) (t : Bool) → cond t (VisitsFolder says wants (root_folder prefix) inside m last)
+        (Tells (Told root_path trouble.Missing) m last)
         → (t ≡ true) × AreClean prefix × Quiet m last × GoesAt root_path m × Goes wants root_path inside last
     visited prefix m true enters =
         let root = root_folder prefix in
-        let all = entered says wants root (listing_of inside) (λ h. Visits says wants root h inside) (λ h s. IsClean wants root h inside × Goes wants root_path inside last) m last
+        let all = entered says wants root (listing_of inside) (λ h. Visits says wants root h inside) (λ h s. IsClean wants root h inside
+        × Goes wants root_path inside last) m last
         (λ h s visits. let it = quiet says wants root h inside s last visits quiet_last in (it.0, (it.1, it.3))) enters quiet_last in
         (refl, (all.0, all.2.2.0), all.1, all.3, all.2.2.1)
     visited prefix m false tells = absurd (puts_told _ m last tells quiet_last)
 
-    looked : (first : Seen) → LooksAll says wants tree first last → IsCleanStore wants tree × Quiet first last × (GoesAt [] first → GoesInStore wants tree first)
+    looked : (first : Seen) → LooksAll says wants tree first last → IsCleanStore wants tree × Quiet first last × (GoesAt [] first
+        → GoesInStore wants tree first)
     looked first (n, prefix, reads, (m, version, rest)) =
         let root = visited prefix m (is_dir_kind (kind_in (listing_of tree) pairtree_root)) rest in
         let marked = tells_if (version_file ∷ []) (missing (is_file_kind (kind_in (listing_of tree) version_file))) n m version root.2.0 in
         let before : told_by n ≡ 0 = ap told_by (sym marked.1) ∙ root.2.0 in
-        let read = prefix_read (find tree prefix_file) (kind_in (listing_of tree) prefix_file) (bytes_at tree prefix_path) prefix first n (kind_listed tree prefix_file) (bytes_found (find tree prefix_file)) reads before in
+        let read = prefix_read (find tree prefix_file) (kind_in (listing_of tree) prefix_file) (bytes_at tree prefix_path) prefix first n
+        (kind_listed tree prefix_file) (bytes_found (find tree prefix_file)) reads before in
         let clean : AreClean (prefix_of tree) = subst AreClean read.2 root.1 in
         let came : source_of m ≡ source_of first = ap source_of marked.1 ∙ read.1.1 in
         let stays : source_of last ≡ source_of first = root.2.1 ∙ came in (

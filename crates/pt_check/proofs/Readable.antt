@@ -23,7 +23,8 @@ clean_store says wants tree numbers a b checks nothing = let met = store_met say
 
 -- of what stands at or below `pairtree_root`
 below_goes : (w : Option (Path → Bool)) (o : Option Node) (q : Path) → GoesBy w (pairtree_root ∷ [])
-    → GoesIn w (pairtree_root ∷ []) (unwrap_or (option_and_then as_dir (option_and_then (λ n. node_at n []) o)) none) → StandsFrom o q → GoesBy w (pairtree_root ∷ q)
+    → GoesIn w (pairtree_root ∷ []) (unwrap_or (option_and_then as_dir (option_and_then (λ n. node_at n []) o)) none) → StandsFrom o q
+    → GoesBy w (pairtree_root ∷ q)
 below_goes w None q root inside stands = absurd (none_stands q stands)
 below_goes w (Some (File bytes)) [] root inside stands = root
 below_goes w (Some (File bytes)) (x ∷ q) root inside stands = absurd (file_ends bytes x q stands)
@@ -32,7 +33,8 @@ below_goes w (Some (Dir tree)) (x ∷ q) root inside stands = goes_there w (pair
 below_goes w (Some Other) q root inside stands = absurd (other_ends q stands)
 
 -- and of the file of the prefix
-prefix_goes : (o : Option Node) (k : Option Kind) (bytes : List ℕ) (a : Seen) → k ≡ option_map kind_of o → IsCleanPrefix k bytes → (k ≡ Some kind.File → GoesAt prefix_path a)
+prefix_goes : (o : Option Node) (k : Option Kind) (bytes : List ℕ) (a : Seen) → k ≡ option_map kind_of o → IsCleanPrefix k bytes
+    → (k ≡ Some kind.File → GoesAt prefix_path a)
     → StandsFrom o [] → GoesAt prefix_path a
 prefix_goes o (Some kind.File) bytes a is clean goes stands = goes refl
 prefix_goes o (Some kind.Dir) bytes a is clean goes stands = absurd clean
@@ -57,7 +59,8 @@ readable_store says wants tree numbers a b checks nothing reads = by
     by (name ∷ q) (inr (is, ends)) stands =
         let named : StandsFrom (find tree prefix_file) q = subst (λ (n : List ℕ). StandsFrom (find tree n) q) is stands in
         let there : StandsFrom (find tree prefix_file) [] = subst (StandsFrom (find tree prefix_file)) ends named in
-        let file = prefix_goes (find tree prefix_file) (kind_in (listing_of tree) prefix_file) (bytes_at tree prefix_path) a (kind_listed tree prefix_file) clean.prefix goes.prefix there in
+        let file = prefix_goes (find tree prefix_file) (kind_in (listing_of tree) prefix_file) (bytes_at tree prefix_path) a (kind_listed tree prefix_file)
+        clean.prefix goes.prefix there in
         subst (λ (n : List ℕ). GoesAt (n ∷ q) a) (sym is) (subst (λ (r : Path). GoesAt (prefix_file ∷ r) a) (sym ends) file)
 
 pub no_run_fails : NoRunFailsForSource

@@ -4,7 +4,24 @@ use Rattle.std.specs.Io.KnownBytes.{Appends}
 use Rattle.std.specs.Option.{ForSome}
 use Rattle.std.specs.Prelude.{Option, Some, take}
 use Rattle.pt_check.specs.Lines.{End, Told, line_text}
-use Rattle.pt_check.specs.Visits.{Checks, Finds, Folder, Looks, LooksAll, ReadsFront, ReadsPrefix, Says, Seen, Tells, TellsIf, TellsUnlisted, VisitsFolder, missing, prefix_path, root_folder}
+use Rattle.pt_check.specs.Visits.{
+  Checks,
+  Finds,
+  Folder,
+  Looks,
+  LooksAll,
+  ReadsFront,
+  ReadsPrefix,
+  Says,
+  Seen,
+  Tells,
+  TellsIf,
+  TellsUnlisted,
+  VisitsFolder,
+  missing,
+  prefix_path,
+  root_folder,
+}
 use Rattle.pt_check.specs.declared.numbers.Numbers.{Numbers}
 use Rattle.pt_check.specs.declared.trouble.Trouble.TheVariants as trouble
 use Rattle.pt_check.specs.declared.wants.Wants.{Wants}
@@ -25,16 +42,19 @@ lists_top : (t : Forest) (items : List Item) → listing_at t [] ≡ Some items 
 lists_top t items lists = let same : Some (listing_of t) ≡ Some items = lists in cc
 
 -- what a store must have was looked for, and `pairtree_root` visited
-pub looked : (says : Says) (here there : Option Forest) (wants again : Wants) (prefix : List ℕ) (items : List Item) (version root : Path) (left : ℕ) (a m b : Seen)
+pub looked : (says : Says) (here there : Option Forest) (wants again : Wants) (prefix : List ℕ) (items : List Item) (version root : Path) (left : ℕ)
+    (a m b : Seen)
     → ForSome here (λ t. listing_at t [] ≡ Some items) → version ≡ version_file ∷ [] → root ≡ pairtree_root ∷ [] → left ≡ 601
-    → TellsIf version (missing (is_file_kind (kind_in items version_file))) a m → is_dir_kind (kind_in items pairtree_root) ≡ true → there ≡ here → again ≡ wants
+    → TellsIf version (missing (is_file_kind (kind_in items version_file))) a m → is_dir_kind (kind_in items pairtree_root) ≡ true → there ≡ here
+    → again ≡ wants
     → ForSome there (λ t. VisitsFolder says again (record { path = root; prefix = prefix; here = within.Site at.Root; left = left }) (inside_at t root) m b)
     → ForSome here (λ t. Looks says wants prefix t a b)
 looked says here there wants again prefix items version root left a m b lists version_is root_is left_is tells is same same_wants visits t told =
     let top = lists_top t items (lists t told) in
     let folder : Path → Folder = λ p. record { path = p; prefix = prefix; here = within.Site at.Root; left = 601 } in
     let visited : VisitsFolder says again (folder root) (inside_at t root) m b =
-    subst (λ (n : ℕ). VisitsFolder says again (record { path = root; prefix = prefix; here = within.Site at.Root; left = n }) (inside_at t root) m b) left_is (visits t (same ∙ told)) in
+    subst (λ (n : ℕ). VisitsFolder says again (record { path = root; prefix = prefix; here = within.Site at.Root; left = n }) (inside_at t root) m b) left_is
+    (visits t (same ∙ told)) in
     let named : VisitsFolder says again (root_folder prefix) (inside_at t (pairtree_root ∷ [])) m b =
     subst (λ (p : Path). VisitsFolder says again (folder p) (inside_at t p) m b) root_is visited in
     let whole : VisitsFolder says wants (root_folder prefix) (inside_at t (pairtree_root ∷ [])) m b =
@@ -61,7 +81,8 @@ prefix_step here what path prefix a b is path_is reads t told =
     subst (λ (k : Option Kind). ReadsPrefix k (bytes_at t prefix_path) prefix a b) (sym is) named
 
 -- the prefix was looked at before
-pub looked_all : (says : Says) (here there : Option Forest) (wants again : Wants) (prefix : List ℕ) (items : List Item) (m n last : Seen) → ForSome here (λ t. listing_at t [] ≡ Some items)
+pub looked_all : (says : Says) (here there : Option Forest) (wants again : Wants) (prefix : List ℕ) (items : List Item) (m n last : Seen)
+    → ForSome here (λ t. listing_at t [] ≡ Some items)
     → there ≡ here → again ≡ wants
     → ForSome here (λ t. ReadsPrefix (kind_in items prefix_file) (bytes_at t prefix_path) prefix m n) → ForSome there (λ t. Looks says again prefix t n last)
     → ForSome here (λ t. LooksAll says wants t m last)
@@ -75,8 +96,10 @@ looked_all says here there wants again prefix items m n last lists same same_wan
     )
 
 -- then the numbers were told
-pub checked : (says : Says) (here there : Option Forest) (wants again : Wants) (numbers : Numbers) (whole : Bool) (a first last b : Seen) → there ≡ here → again ≡ wants → Finds says [] whole a first
-    → ForSome there (λ t. LooksAll says again t first last) → numbers ≡ last.numbers → b.failing ≡ last.failing → b.failed ≡ last.failed → b.numbers ≡ last.numbers
+pub checked : (says : Says) (here there : Option Forest) (wants again : Wants) (numbers : Numbers) (whole : Bool) (a first last b : Seen) → there ≡ here
+    → again ≡ wants → Finds says [] whole a first
+    → ForSome there (λ t. LooksAll says again t first last) → numbers ≡ last.numbers → b.failing ≡ last.failing → b.failed ≡ last.failed
+    → b.numbers ≡ last.numbers
     → Appends last.held b.held (line_text (End last.numbers)) → ForSome here (λ t. Checks says wants t numbers a b)
 checked says here there wants again numbers whole a first last b same same_wants finds looks is failing failed counted held t told =
     let all : LooksAll says again t first last = looks t (same ∙ told) in
@@ -93,7 +116,8 @@ checked says here there wants again numbers whole a first last b same same_wants
     }
 
 -- and so they were where the top couldn't be listed
-pub checked_nothing : (says : Says) (here : Option Forest) (wants : Wants) (numbers : Numbers) (a last b : Seen) → TellsUnlisted says [] false a last → numbers ≡ last.numbers → b.failing ≡ last.failing → b.failed ≡ last.failed
+pub checked_nothing : (says : Says) (here : Option Forest) (wants : Wants) (numbers : Numbers) (a last b : Seen) → TellsUnlisted says [] false a last
+    → numbers ≡ last.numbers → b.failing ≡ last.failing → b.failed ≡ last.failed
     → b.numbers ≡ last.numbers → Appends last.held b.held (line_text (End last.numbers)) → ForSome here (λ t. Checks says wants t numbers a b)
 checked_nothing says here wants numbers a last b fails is failing failed counted held t told = record {
   last = last;

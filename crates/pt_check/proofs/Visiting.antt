@@ -1,11 +1,58 @@
 -- The steps of a check through a folder.
-use Rattle.std.proofs.Common.{arith, get_or, ◌≡◌, ◌<◌, ◌≤◌, ◌+◌, ◌-◌, ◌==◌, ℕ, Bool, true, false, List, [], ◌∷◌, ◌++◌, refl, sym, ap, ◌∙◌, subst, length, cond, inl, inr}
+use Rattle.std.proofs.Common.{
+  arith,
+  get_or,
+  ◌≡◌,
+  ◌<◌,
+  ◌≤◌,
+  ◌+◌,
+  ◌-◌,
+  ◌==◌,
+  ℕ,
+  Bool,
+  true,
+  false,
+  List,
+  [],
+  ◌∷◌,
+  ◌++◌,
+  refl,
+  sym,
+  ap,
+  ◌∙◌,
+  subst,
+  length,
+  cond,
+  inl,
+  inr,
+}
 use Rattle.std.proofs.lemmas.Bool.{ne_eqb}
 use Rattle.std.proofs.lemmas.Option.{slice_get_cases, slice_get_past}
 use Rattle.std.specs.Option.{ForSome, option_and_then, option_map}
 use Rattle.std.specs.Prelude.{◌⊎◌, IsSome, is_some, Option, None, Some, slice_get}
 use Rattle.pt_check.specs.Lines.{Told}
-use Rattle.pt_check.specs.Visits.{Begins, Enters, Finds, Folder, Judges, Meets, Opens, OpensIf, Says, Seen, Tells, TellsUnlisted, Visits, VisitsFolder, begun, counting, ended, finding_of, folder_in, has_object}
+use Rattle.pt_check.specs.Visits.{
+  Begins,
+  Enters,
+  Finds,
+  Folder,
+  Judges,
+  Meets,
+  Opens,
+  OpensIf,
+  Says,
+  Seen,
+  Tells,
+  TellsUnlisted,
+  Visits,
+  VisitsFolder,
+  begun,
+  counting,
+  ended,
+  finding_of,
+  folder_in,
+  has_object,
+}
 use Rattle.pt_check.specs.Within.{below}
 use Rattle.pt_check.specs.declared.trouble.Trouble.TheVariants as trouble
 use Rattle.pt_check.specs.declared.wants.Wants.{Wants}
@@ -39,7 +86,8 @@ file_stands top path items place name proper listed at =
     subst (λ (o : Option (List ℕ)). IsSome o) (sym ahead.file_is) refl
 
 -- a file was met and opened
-pub visited_file : (says : Says) (wants : Wants) (folder : Folder) (holds : Bool) (top : Forest) (items : List Item) (place : ℕ) (name : List ℕ) (first now met opened : Seen)
+pub visited_file : (says : Says) (wants : Wants) (folder : Folder) (holds : Bool) (top : Forest) (items : List Item) (place : ℕ) (name : List ℕ)
+    (first now met opened : Seen)
     → is_proper top ≡ true → listing_at top folder.path ≡ Some items → slice_get items place ≡ Some (name, kind.File)
     → VisitedTo says wants folder holds top place first now
     → Meets wants (folder.path ++ name ∷ []) folder.here (name, kind.File) now met
@@ -50,7 +98,8 @@ visited_file says wants folder holds top items place name first now met opened p
     to last (subst (λ (f : Forest). Visits says wants folder holds f now last) (sym ahead.rest_is) (met, meets, opened, opens, rest))
 
 -- what is neither a file nor a directory was met
-pub visited_other : (says : Says) (wants : Wants) (folder : Folder) (holds : Bool) (top : Forest) (items : List Item) (place : ℕ) (name : List ℕ) (first now met : Seen)
+pub visited_other : (says : Says) (wants : Wants) (folder : Folder) (holds : Bool) (top : Forest) (items : List Item) (place : ℕ) (name : List ℕ)
+    (first now met : Seen)
     → is_proper top ≡ true → listing_at top folder.path ≡ Some items → slice_get items place ≡ Some (name, kind.Other)
     → VisitedTo says wants folder holds top place first now
     → Meets wants (folder.path ++ name ∷ []) folder.here (name, kind.Other) now met
@@ -60,11 +109,13 @@ visited_other says wants folder holds top items place name first now met proper 
     to last (subst (λ (f : Forest). Visits says wants folder holds f now last) (sym ahead) (met, meets, rest))
 
 -- a folder was met and visited
-pub visited_dir : (says : Says) (wants : Wants) (folder : Folder) (holds : Bool) (top : Forest) (items : List Item) (place : ℕ) (name : List ℕ) (first now met left : Seen)
+pub visited_dir : (says : Says) (wants : Wants) (folder : Folder) (holds : Bool) (top : Forest) (items : List Item) (place : ℕ) (name : List ℕ)
+    (first now met left : Seen)
     → is_proper top ≡ true → listing_at top folder.path ≡ Some items → slice_get items place ≡ Some (name, kind.Dir)
     → VisitedTo says wants folder holds top place first now
     → Meets wants (folder.path ++ name ∷ []) folder.here (name, kind.Dir) now met
-    → VisitsFolder says wants (folder_in folder holds name) (inside_at top (folder.path ++ name ∷ [])) (counting (begun (folder_in folder holds name).here folder.here) met) left
+    → VisitsFolder says wants (folder_in folder holds name) (inside_at top (folder.path ++ name ∷ []))
+    (counting (begun (folder_in folder holds name).here folder.here) met) left
     → VisitedTo says wants folder holds top (place + 1) first (counting (ended (folder_in folder holds name).here folder.here met.numbers.bytes) left)
 visited_dir says wants folder holds top items place name first now met left proper listed at to meets visits last rest =
     let ahead = dir_ahead top folder.path items place name proper listed at in
@@ -74,7 +125,8 @@ visited_dir says wants folder holds top items place name first now met left prop
 pub goes_past : (items : List Item) (place : ℕ) → place < length items → slice_get items place ≡ None → ⊥
 goes_past items place less is = by (slice_get_cases items place).1
   where
-    by : ((x : Item) × (place < length items) × (slice_get items place ≡ Some x) × (get_or items place x ≡ x)) ⊎ ((length items ≤ place) × (slice_get items place ≡ None)) → ⊥
+    by : ((x : Item) × (place < length items) × (slice_get items place ≡ Some x) × (get_or items place x ≡ x))
+        ⊎ ((length items ≤ place) × (slice_get items place ≡ None)) → ⊥
     by (inl (x, within, some, same)) = absurd (cc)
     by (inr (past, none_is)) = omega (arith, less, past)
 
@@ -87,7 +139,8 @@ visited_all says wants folder holds top items place first now listed at to =
     to now (subst (λ (f : Forest). Visits says wants folder holds f now now) (sym ahead) refl)
 
 -- an entry that is no folder was met, and opened if it is a file
-pub visited_leaf : (says : Says) (wants : Wants) (folder : Folder) (holds : Bool) (top : Forest) (items : List Item) (place : ℕ) (name : List ℕ) (here : Kind) (first now met left : Seen)
+pub visited_leaf : (says : Says) (wants : Wants) (folder : Folder) (holds : Bool) (top : Forest) (items : List Item) (place : ℕ) (name : List ℕ) (here : Kind)
+    (first now met left : Seen)
     → is_proper top ≡ true → listing_at top folder.path ≡ Some items → slice_get items place ≡ Some (name, here) → (here ≡ kind.Dir → ⊥)
     → VisitedTo says wants folder holds top place first now
     → Meets wants (folder.path ++ name ∷ []) folder.here (name, here) now met
@@ -101,7 +154,8 @@ visited_leaf says wants folder holds top items place name kind.Other first now m
     (visited_other says wants folder holds top items place name first now met proper listed at to meets)
 
 -- what is no folder may be opened if it is a file
-pub leaf_stands : (top : Forest) (path : Path) (items : List Item) (place : ℕ) (name : List ℕ) (here : Kind) → is_proper top ≡ true → listing_at top path ≡ Some items
+pub leaf_stands : (top : Forest) (path : Path) (items : List Item) (place : ℕ) (name : List ℕ) (here : Kind) → is_proper top ≡ true
+    → listing_at top path ≡ Some items
     → slice_get items place ≡ Some (name, here) → here ≡ kind.File → IsSome (file_at top (path ++ name ∷ []))
 leaf_stands top path items place name here proper listed at is =
     file_stands top path items place name proper listed (at ∙ ap (λ (k : Kind). Some (name, k)) is)
@@ -109,21 +163,24 @@ leaf_stands top path items place name here proper listed at is =
 -- ---- the top of a store
 
 -- a folder that is listed at the top stands there
-pub root_stands : (here there : Option Forest) (items : List Item) (name : List ℕ) → ForSome here (λ tree. listing_at tree [] ≡ Some items) → is_dir_kind (kind_in items name) ≡ true
+pub root_stands : (here there : Option Forest) (items : List Item) (name : List ℕ) → ForSome here (λ tree. listing_at tree [] ≡ Some items)
+    → is_dir_kind (kind_in items name) ≡ true
     → there ≡ here → ForSome there (λ tree. IsSome (dir_at tree (name ∷ [])))
 root_stands here there items name listed is same tree at =
     let lists : Some (listing_of tree) ≡ Some items = listed tree (sym same ∙ at) in
     let items_are : items ≡ listing_of tree = cc in
     by (find tree name) (ap is_dir_kind (sym (kind_listed tree name)) ∙ ap (λ (l : List Item). is_dir_kind (kind_in l name)) (sym items_are) ∙ is)
   where
-    by : (node : Option Node) → is_dir_kind (option_map kind_of node) ≡ true → is_some (option_and_then as_dir (option_and_then (λ n. node_at n []) node)) ≡ true
+    by : (node : Option Node) → is_dir_kind (option_map kind_of node) ≡ true → is_some (option_and_then as_dir (option_and_then (λ n. node_at n []) node))
+        ≡ true
     by None is = absurd (cc)
     by (Some (File bytes)) is = absurd (cc)
     by (Some (Dir inside)) is = refl
     by (Some Other) is = absurd (cc)
 
 -- and so does a file
-pub file_at_top : (here : Option Forest) (items : List Item) (name : List ℕ) → ForSome here (λ tree. listing_at tree [] ≡ Some items) → kind_in items name ≡ Some kind.File
+pub file_at_top : (here : Option Forest) (items : List Item) (name : List ℕ) → ForSome here (λ tree. listing_at tree [] ≡ Some items)
+    → kind_in items name ≡ Some kind.File
     → ForSome here (λ tree. IsSome (file_at tree (name ∷ [])))
 file_at_top here items name listed is tree at =
     let lists : Some (listing_of tree) ≡ Some items = listed tree at in
@@ -144,7 +201,8 @@ in_same P old new same holds tree is = holds tree (sym same ∙ is)
 
 -- a folder that isn't too deep is told as unreadable, or begun and visited
 pub enters : (says : Says) (wants : Wants) (folder : Folder) (items : List Item) (visits : Bool → Seen → Seen → Type 0) (a b : Seen) → (folder.left ≡ 0 → ⊥)
-    → TellsUnlisted says folder.path false a b ⊎ ((holds : Bool) × (m : Seen) × Begins says wants folder items holds a m × visits holds m b) → Enters says wants folder items visits a b
+    → TellsUnlisted says folder.path false a b ⊎ ((holds : Bool) × (m : Seen) × Begins says wants folder items holds a m × visits holds m b)
+    → Enters says wants folder items visits a b
 enters says wants folder items visits a b some does = by (folder.left == 0) (ne_eqb folder.left 0 some)
   where
     by : (t : Bool) → t ≡ false → cond t (Tells (Told folder.path trouble.Deep) a b)
@@ -154,25 +212,33 @@ enters says wants folder items visits a b some does = by (folder.left == 0) (ne_
 
 -- a folder was found, and judged where it was listed whole
 pub begins : (says : Says) (wants : Wants) (folder : Folder) (items : List Item) (whole holds : Bool) (a m b : Seen) → Finds says folder.path whole a m
-    → cond whole (Judges wants (folder.path, folder.prefix) folder.here items m b) (b ≡ m) → holds ≡ cond whole (has_object (finding_of folder.here items)) false
+    → cond whole (Judges wants (folder.path, folder.prefix) folder.here items m b) (b ≡ m)
+    → holds ≡ cond whole (has_object (finding_of folder.here items)) false
     → Begins says wants folder items holds a b
 begins says wants folder items true holds a m b (same, goes) judges holds_is =
     inl (subst (λ (s : Seen). Judges wants (folder.path, folder.prefix) folder.here items s b) same judges, holds_is, goes)
-begins says wants folder items false holds a m b tells same holds_is = inr (subst (λ (s : Seen). TellsUnlisted says folder.path true a s) (sym same) tells, holds_is)
+begins says wants folder items false holds a m b tells same holds_is = inr
+    (subst (λ (s : Seen). TellsUnlisted says folder.path true a s) (sym same) tells, holds_is)
 
 -- a folder among the entries was met and visited
-pub dir_step : (says : Says) (told : Option Reading) → IsProperTold told → (wants again : Wants) (folder : Folder) (holds : Bool) (items : List Item) (place : ℕ) (name : List ℕ) (what : Kind) (entry : Path)
+pub dir_step : (says : Says) (told : Option Reading) → IsProperTold told
+    → (wants again : Wants) (folder : Folder) (holds : Bool) (items : List Item) (place : ℕ) (name : List ℕ) (what : Kind) (entry : Path)
     (inside : Within) (first now met start after final : Seen) (there : Option Forest) → ForSome (tree_in told) (λ t. listing_at t folder.path ≡ Some items)
-    → slice_get items place ≡ Some (name, what) → what ≡ kind.Dir → entry ≡ folder.path ++ name ∷ [] → inside ≡ below folder.here holds name (length (joined entry))
-    → ForSome (tree_in told) (λ t. VisitedTo says wants folder holds t place first now) → Meets wants entry folder.here (name, what) now met → there ≡ tree_in told → again ≡ wants
+    → slice_get items place ≡ Some (name, what) → what ≡ kind.Dir → entry ≡ folder.path ++ name ∷ []
+    → inside ≡ below folder.here holds name (length (joined entry))
+    → ForSome (tree_in told) (λ t. VisitedTo says wants folder holds t place first now) → Meets wants entry folder.here (name, what) now met
+    → there ≡ tree_in told → again ≡ wants
     → start ≡ counting (begun inside folder.here) met
-    → ForSome there (λ t. VisitsFolder says again (record { path = entry; prefix = folder.prefix; here = inside; left = folder.left - 1 }) (inside_at t entry) start after)
+    → ForSome there (λ t. VisitsFolder says again (record { path = entry; prefix = folder.prefix; here = inside; left = folder.left - 1 }) (inside_at t entry)
+    start after)
     → final ≡ counting (ended inside folder.here met.numbers.bytes) after
     → ForSome (tree_in told) (λ t. VisitedTo says wants folder holds t (place + 1) first final)
-dir_step says told proper wants again folder holds items place name what entry inside first now met start after final there listed at is_dir entry_is inside_is to meets there_is same_wants start_is visits final_is tree is =
+dir_step says told proper wants again folder holds items place name what entry inside first now met start after final there listed at is_dir entry_is inside_is
+    to meets there_is same_wants start_is visits final_is tree is =
     let path : Path = folder.path ++ name ∷ [] in
     let make : Path → Within → Folder = λ q w. record { path = q; prefix = folder.prefix; here = w; left = folder.left - 1 } in
-    let whole : inside ≡ below folder.here holds name (length (joined path)) = inside_is ∙ ap (λ (q : Path). below folder.here holds name (length (joined q))) entry_is in
+    let whole : inside ≡ below folder.here holds name (length (joined path)) = inside_is
+    ∙ ap (λ (q : Path). below folder.here holds name (length (joined q))) entry_is in
     let it : make entry inside ≡ folder_in folder holds name = ap (λ (q : Path). make q inside) entry_is ∙ ap (make path) whole in
     let visited : VisitsFolder says again (make entry inside) (inside_at tree entry) start after = visits tree (there_is ∙ is) in
     let read : VisitsFolder says wants (make entry inside) (inside_at tree entry) start after =
@@ -182,57 +248,74 @@ dir_step says told proper wants again folder holds items place name what entry i
     let below_it : VisitsFolder says wants (folder_in folder holds name) (inside_at tree path) start after =
     subst (λ (q : Path). VisitsFolder says wants (folder_in folder holds name) (inside_at tree q) start after) entry_is named in
     let met_dir : Meets wants entry folder.here (name, kind.Dir) now met = subst (λ (k : Kind). Meets wants entry folder.here (name, k) now met) is_dir meets in
-    let met_it : Meets wants path folder.here (name, kind.Dir) now met = subst (λ (q : Path). Meets wants q folder.here (name, kind.Dir) now met) entry_is met_dir in
+    let met_it : Meets wants path folder.here (name, kind.Dir) now met = subst (λ (q : Path). Meets wants q folder.here (name, kind.Dir) now met) entry_is
+    met_dir in
     let at_dir : slice_get items place ≡ Some (name, kind.Dir) = at ∙ ap (λ (k : Kind). Some (name, k)) is_dir in
     let begins : start ≡ counting (begun (folder_in folder holds name).here folder.here) met =
     start_is ∙ ap (λ (w : Within). counting (begun w folder.here) met) whole in
-    let from_start : VisitsFolder says wants (folder_in folder holds name) (inside_at tree path) (counting (begun (folder_in folder holds name).here folder.here) met) after =
+    let from_start : VisitsFolder says wants (folder_in folder holds name) (inside_at tree path)
+    (counting (begun (folder_in folder holds name).here folder.here) met) after =
     subst (λ (s : Seen). VisitsFolder says wants (folder_in folder holds name) (inside_at tree path) s after) begins below_it in
     let ends : final ≡ counting (ended (folder_in folder holds name).here folder.here met.numbers.bytes) after =
     final_is ∙ ap (λ (w : Within). counting (ended w folder.here met.numbers.bytes) after) whole in
     subst (λ (s : Seen). VisitedTo says wants folder holds tree (place + 1) first s) (sym ends)
-    (visited_dir says wants folder holds tree items place name first now met after (proper_in told proper tree is) (listed tree is) at_dir (to tree is) met_it from_start)
+    (visited_dir says wants folder holds tree items place name first now met after (proper_in told proper tree is) (listed tree is) at_dir (to tree is) met_it
+    from_start)
 
 -- another entry was met, and opened if it is a file
-pub leaf_step : (says : Says) (told : Option Reading) → IsProperTold told → (wants again : Wants) (folder : Folder) (holds : Bool) (items : List Item) (place : ℕ) (name : List ℕ) (here : Kind) (entry : Path)
+pub leaf_step : (says : Says) (told : Option Reading) → IsProperTold told
+    → (wants again : Wants) (folder : Folder) (holds : Bool) (items : List Item) (place : ℕ) (name : List ℕ) (here : Kind) (entry : Path)
     (first now met after : Seen) (there : Option Forest) → ForSome (tree_in told) (λ t. listing_at t folder.path ≡ Some items)
     → slice_get items place ≡ Some (name, here) → (here ≡ kind.Dir → ⊥) → entry ≡ folder.path ++ name ∷ []
-    → ForSome (tree_in told) (λ t. VisitedTo says wants folder holds t place first now) → Meets wants entry folder.here (name, here) now met → there ≡ tree_in told
+    → ForSome (tree_in told) (λ t. VisitedTo says wants folder holds t place first now) → Meets wants entry folder.here (name, here) now met
+    → there ≡ tree_in told
     → again ≡ wants → ForSome there (λ t. OpensIf again.reads entry here (bytes_at t entry) met after)
     → ForSome (tree_in told) (λ t. VisitedTo says wants folder holds t (place + 1) first after)
-leaf_step says told proper wants again folder holds items place name here entry first now met after there listed at leaf entry_is to meets there_is same_wants opens tree is =
+leaf_step says told proper wants again folder holds items place name here entry first now met after there listed at leaf entry_is to meets there_is same_wants
+    opens tree is =
     let path : Path = folder.path ++ name ∷ [] in
-    let read : OpensIf wants.reads entry here (bytes_at tree entry) met after = subst (λ (r : Wants). OpensIf r.reads entry here (bytes_at tree entry) met after) same_wants (opens tree (there_is ∙ is)) in
+    let read : OpensIf wants.reads entry here (bytes_at tree entry) met after = subst
+    (λ (r : Wants). OpensIf r.reads entry here (bytes_at tree entry) met after) same_wants (opens tree (there_is ∙ is)) in
     let opened : OpensIf wants.reads path here (bytes_at tree path) met after =
     subst (λ (q : Path). OpensIf wants.reads q here (bytes_at tree q) met after) entry_is read in
     let met_it : Meets wants path folder.here (name, here) now met = subst (λ (q : Path). Meets wants q folder.here (name, here) now met) entry_is meets in
-    visited_leaf says wants folder holds tree items place name here first now met after (proper_in told proper tree is) (listed tree is) at leaf (to tree is) met_it opened
+    visited_leaf says wants folder holds tree items place name here first now met after (proper_in told proper tree is) (listed tree is) at leaf (to tree is)
+    met_it opened
 
 -- the folder that is visited next stands there
-pub dir_there : (told : Option Reading) → IsProperTold told → (path entry : Path) (items : List Item) (place : ℕ) (name : List ℕ) (what : Kind) (there : Option Forest)
-    → ForSome (tree_in told) (λ t. listing_at t path ≡ Some items) → slice_get items place ≡ Some (name, what) → what ≡ kind.Dir → entry ≡ path ++ name ∷ [] → there ≡ tree_in told
+pub dir_there : (told : Option Reading) → IsProperTold told → (path entry : Path) (items : List Item) (place : ℕ) (name : List ℕ) (what : Kind)
+    (there : Option Forest)
+    → ForSome (tree_in told) (λ t. listing_at t path ≡ Some items) → slice_get items place ≡ Some (name, what) → what ≡ kind.Dir → entry ≡ path ++ name ∷ []
+    → there ≡ tree_in told
     → ForSome there (λ t. IsSome (dir_at t entry))
 dir_there told proper path entry items place name what there listed at is_dir entry_is there_is tree is =
     let here = sym there_is ∙ is in
     let at_dir : slice_get items place ≡ Some (name, kind.Dir) = at ∙ ap (λ (k : Kind). Some (name, k)) is_dir in
-    subst (λ (q : Path). IsSome (dir_at tree q)) (sym entry_is) (dir_stands tree path items place name (proper_in told proper tree here) (listed tree here) at_dir)
+    subst (λ (q : Path). IsSome (dir_at tree q)) (sym entry_is) (dir_stands tree path items place name (proper_in told proper tree here) (listed tree here)
+    at_dir)
 
 -- and the file that is opened next
-pub leaf_there : (told : Option Reading) → IsProperTold told → (path entry : Path) (items : List Item) (place : ℕ) (name : List ℕ) (what : Kind) (there : Option Forest)
-    → ForSome (tree_in told) (λ t. listing_at t path ≡ Some items) → slice_get items place ≡ Some (name, what) → entry ≡ path ++ name ∷ [] → there ≡ tree_in told
+pub leaf_there : (told : Option Reading) → IsProperTold told → (path entry : Path) (items : List Item) (place : ℕ) (name : List ℕ) (what : Kind)
+    (there : Option Forest)
+    → ForSome (tree_in told) (λ t. listing_at t path ≡ Some items) → slice_get items place ≡ Some (name, what) → entry ≡ path ++ name ∷ []
+    → there ≡ tree_in told
     → ForSome there (λ t. what ≡ kind.File → IsSome (file_at t entry))
 leaf_there told proper path entry items place name what there listed at entry_is there_is tree is is_file =
     let here = sym there_is ∙ is in
-    subst (λ (q : Path). IsSome (file_at tree q)) (sym entry_is) (leaf_stands tree path items place name what (proper_in told proper tree here) (listed tree here) at is_file)
+    subst (λ (q : Path). IsSome (file_at tree q)) (sym entry_is) (leaf_stands tree path items place name what (proper_in told proper tree here)
+    (listed tree here) at is_file)
 
 -- at the end of its listing a folder was visited
 pub all_step : (says : Says) (told : Option Reading) (wants : Wants) (folder : Folder) (holds : Bool) (items : List Item) (place : ℕ) (a first now : Seen)
-    → ForSome (tree_in told) (λ t. listing_at t folder.path ≡ Some items) → length items ≤ place → (folder.left ≡ 0 → ⊥) → Begins says wants folder items holds a first
+    → ForSome (tree_in told) (λ t. listing_at t folder.path ≡ Some items) → length items ≤ place → (folder.left ≡ 0 → ⊥)
+    → Begins says wants folder items holds a first
     → ForSome (tree_in told) (λ t. VisitedTo says wants folder holds t place first now)
     → ForSome (tree_in told) (λ t. VisitsFolder says wants folder (inside_at t folder.path) a now)
 all_step says told wants folder holds items place a first now listed past some started to tree is =
     let inside = inside_at tree folder.path in
     let lists : items ≡ listing_of inside = sym (inside_lists tree folder.path items (listed tree is)) in
-    let starts : Begins says wants folder (listing_of inside) holds a first = subst (λ (l : List Item). Begins says wants folder l holds a first) lists started in
-    let all : Visits says wants folder holds inside first now = visited_all says wants folder holds tree items place first now (listed tree is) (slice_get_past items place past) (to tree is) in
+    let starts : Begins says wants folder (listing_of inside) holds a first = subst (λ (l : List Item). Begins says wants folder l holds a first) lists started
+    in
+    let all : Visits says wants folder holds inside first now = visited_all says wants folder holds tree items place first now (listed tree is)
+    (slice_get_past items place past) (to tree is) in
     enters says wants folder (listing_of inside) (λ h. Visits says wants folder h inside) a now some (inr (holds, first, starts, all))

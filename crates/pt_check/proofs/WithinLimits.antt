@@ -1,5 +1,41 @@
 -- No run with the limits of a check passes anything over for `limit` in a clean store.
-use Rattle.std.proofs.Common.{◌≡◌, ◌≤◌, ◌∙◌, ◌+◌, ◌-◌, ◌==◌, ◌||◌, ◌^◌, ℕ, zero, suc, Bool, true, false, cond, length, List, [], ◌∷◌, ◌++◌, Option, None, Some, Result, Ok, Err, refl, sym, ap, subst, arith, nat_le, nat_lt, append_assoc, append-nil}
+use Rattle.std.proofs.Common.{
+  ◌≡◌,
+  ◌≤◌,
+  ◌∙◌,
+  ◌+◌,
+  ◌-◌,
+  ◌==◌,
+  ◌||◌,
+  ◌^◌,
+  ℕ,
+  zero,
+  suc,
+  Bool,
+  true,
+  false,
+  cond,
+  length,
+  List,
+  [],
+  ◌∷◌,
+  ◌++◌,
+  Option,
+  None,
+  Some,
+  Result,
+  Ok,
+  Err,
+  refl,
+  sym,
+  ap,
+  subst,
+  arith,
+  nat_le,
+  nat_lt,
+  append_assoc,
+  append-nil,
+}
 use Rattle.std.specs.Prelude.{◌≢◌, ◌&&◌, ⊤, not, option_map, map, slice_get, unwrap_or}
 use Rattle.std.proofs.lemmas.Bool.{eqb-false, le-ltb, lt-leb, ltb-false, ltb-true, or_from}
 use Rattle.std.proofs.lemmas.List.{length-append}
@@ -17,7 +53,22 @@ use Rattle.pt_name.specs.Identifying.{identifier_at}
 use Rattle.pt_name.specs.declared.identifying.Refusal.{Refusal}
 use Rattle.pt_name.specs.declared.identifying.Refusal.TheVariants as refusal
 use Rattle.pt_name.specs.Tuples.{Tuples}
-use Rattle.pt_plan.specs.Items.{Interior, Named, PairtreeObject, Skip, Verdict, cause_of, encapsulated, is_ours, item_of, verdict_by_finding, verdict_by_identifier, verdict_by_visit, verdict_of, verdict_on_candidate}
+use Rattle.pt_plan.specs.Items.{
+  Interior,
+  Named,
+  PairtreeObject,
+  Skip,
+  Verdict,
+  cause_of,
+  encapsulated,
+  is_ours,
+  item_of,
+  verdict_by_finding,
+  verdict_by_identifier,
+  verdict_by_visit,
+  verdict_of,
+  verdict_on_candidate,
+}
 use Rattle.pt_plan.specs.Job.{Job, form_of}
 use Rattle.pt_plan.specs.Store.{pairtree_root, prefix_of, sites_in_root}
 use Rattle.pt_tree.specs.Forest.{Forest, none, file, other, dir, File, Dir, Other, dir_at, listing_of}
@@ -43,11 +94,13 @@ use Rattle.pt_walk.specs.declared.site.Form.TheVariants as form
 
 -- ---- the length of a path
 
-behind : (x : List ℕ) (base : Path) (y : List ℕ) (rel : Path) → length (joined ((x ∷ base) ++ (y ∷ rel))) ≡ length (joined (x ∷ base)) + suc (length (joined (y ∷ rel)))
+behind : (x : List ℕ) (base : Path) (y : List ℕ) (rel : Path) → length (joined ((x ∷ base) ++ (y ∷ rel)))
+    ≡ length (joined (x ∷ base)) + suc (length (joined (y ∷ rel)))
 behind x [] y rel = length-append x (47 ∷ joined (y ∷ rel))
 behind x (z ∷ base) y rel =
     let inner = behind z base y rel in
-    let whole : length (joined ((x ∷ z ∷ base) ++ (y ∷ rel))) ≡ length x + suc (length (joined ((z ∷ base) ++ (y ∷ rel)))) = length-append x (47 ∷ joined ((z ∷ base) ++ (y ∷ rel))) in
+    let whole : length (joined ((x ∷ z ∷ base) ++ (y ∷ rel))) ≡ length x + suc (length (joined ((z ∷ base) ++ (y ∷ rel)))) = length-append x
+    (47 ∷ joined ((z ∷ base) ++ (y ∷ rel))) in
     let front : length (joined (x ∷ z ∷ base)) ≡ length x + suc (length (joined (z ∷ base))) = length-append x (47 ∷ joined (z ∷ base)) in
     omega (arith, inner, whole, front)
 
@@ -81,7 +134,8 @@ same_below w how items path ((i, kind.File) ∷ []) silent = absurd (cc)
 same_below w how items path ((i, kind.Other) ∷ []) silent = absurd (cc)
 same_below w how items path (first ∷ second ∷ others) silent = absurd (cc)
 
-pub same_found : (w : At) (how : Form) (items : List Item) (path : Path) → is_told w (found items w form.Plain) path ≡ None → found items w how ≡ found items w form.Plain
+pub same_found : (w : At) (how : Form) (items : List Item) (path : Path) → is_told w (found items w form.Plain) path ≡ None
+    → found items w how ≡ found items w form.Plain
 same_found at.Root how items path silent = refl
 same_found at.Pair how items path silent = same_below at.Pair how items path (non_shorties items) silent
 same_found at.Last how items path silent = same_below at.Last how items path (non_shorties items) silent
@@ -124,7 +178,8 @@ abbrev read_whole : Option ℕ → Tuples → Wants
 read_whole room layout = record { reads = true; room = room; layout = layout }
 
 module _ (room : Option ℕ) (layout : Tuples) (start : List ℕ) where
-  fine_file : (top : List ℕ) (own rel : Path) (left : ℕ) (name bytes : List ℕ) → IsCleanEntry (read_whole room layout) (inner start top own (own ++ rel) left) name kind.File → AreCleanBytes true bytes
+  fine_file : (top : List ℕ) (own rel : Path) (left : ℕ) (name bytes : List ℕ)
+      → IsCleanEntry (read_whole room layout) (inner start top own (own ++ rel) left) name kind.File → AreCleanBytes true bytes
       → FineEntry (length own) (rel ++ name ∷ [], File bytes)
   fine_file top own rel left name bytes entry read =
       let all = length (joined (top ∷ ((own ++ rel) ++ name ∷ []))) in
@@ -151,7 +206,8 @@ module _ (room : Option ℕ) (layout : Tuples) (start : List ℕ) where
       let there : IsClean (read_whole room layout) (inner start top own (own ++ (rel ++ name ∷ [])) (left - 1)) false inside =
       subst (λ (p : Path). IsClean (read_whole room layout) (inner start top own p (left - 1)) false inside) (append_assoc own rel (name ∷ [])) clean.3 in (
         fits,
-        each_both (FineEntry (length own)) (entries_in (rel ++ name ∷ []) inside) (entries_in rel after) (fine_entries top own (rel ++ name ∷ []) (left - 1) false inside deeper there)
+        each_both (FineEntry (length own)) (entries_in (rel ++ name ∷ []) inside) (entries_in rel after)
+            (fine_entries top own (rel ++ name ∷ []) (left - 1) false inside deeper there)
             (fine_entries top own rel left holds after deep clean.4),
       )
 
@@ -207,10 +263,12 @@ module _ (room : Option ℕ) (layout : Tuples) (start : List ℕ) where
   fine_object top own left holds inside deep some clean few =
       let fits : nat_lt 600 (length own) ≡ false = le-ltb 600 (length own) (omega (arith, deep, some)) in
       let whole = append-nil own in
-      let there : IsClean (read_whole room layout) (inner start top own (own ++ []) left) holds inside = subst (λ (p : Path). IsClean (read_whole room layout) (inner start top own p left) holds inside) (sym whole) clean in
+      let there : IsClean (read_whole room layout) (inner start top own (own ++ []) left) holds inside = subst
+      (λ (p : Path). IsClean (read_whole room layout) (inner start top own p left) holds inside) (sym whole) clean in
       let long : left + length (own ++ []) ≡ 601 = ap (λ (p : Path). left + length p) whole ∙ deep in
       let count = files_count [] inside in
-      by (nat_lt 600 (length own)) fits (first_fine (length own) 0 (entries_in [] inside) (fine_entries top own [] left holds inside long there) (omega (arith, count, few)))
+      by (nat_lt 600 (length own)) fits (first_fine (length own) 0 (entries_in [] inside) (fine_entries top own [] left holds inside long there)
+      (omega (arith, count, few)))
     where
       by : (t : Bool) → t ≡ false → IsNoLimit (option_map (λ bad. bad.1) (first_bad greatest_limits (length own) 0 (entries_in [] inside)))
           → IsNoLimit (cond (not false && t) (Some cause.Limit) (option_map (λ bad. bad.1) (first_bad greatest_limits (length own) 0 (entries_in [] inside))))
@@ -239,7 +297,8 @@ module _ (room : Option ℕ) (layout : Tuples) (start : List ℕ) where
   -- what a check finds of a folder in a site, and of all that stands in it
   abbrev Met : List ℕ → Path → ℕ → Forest → Within → Type 0
   Met top path left inside here = let it : Folder = record { path = top ∷ path; prefix = start; here = here; left = left } in
-      IsCleanFolder (read_whole room layout) it (listing_of inside) × IsClean (read_whole room layout) it (has_object (finding_of here (listing_of inside))) inside
+      IsCleanFolder (read_whole room layout) it (listing_of inside) × IsClean (read_whole room layout) it (has_object (finding_of here (listing_of inside)))
+      inside
 
   fine_shorty : (top : List ℕ) (path : Path) (left : ℕ) (name : List ℕ) (inside : Forest) → left + length path ≡ 601
       → Met top (path ++ name ∷ []) (left - 1) inside (below_site (at_of path) name)
@@ -248,7 +307,8 @@ module _ (room : Option ℕ) (layout : Tuples) (start : List ℕ) where
   fine_shorty top path left name inside deep met on = by (is_last (at_of path)) (nat_lt 600 (length path + 1)) refl refl
     where
       by : (a b : Bool) → is_last (at_of path) ≡ a → nat_lt 600 (length path + 1) ≡ b
-          → Each (FineSite top) ((path ++ name ∷ [], cond a Past (cond b Deep (Listed inside))) ∷ walked (cond a Past (cond b Deep (Listed inside))) (sites_in 600 (path ++ name ∷ []) inside))
+          → Each (FineSite top) ((path ++ name ∷ [], cond a Past (cond b Deep (Listed inside))) ∷ walked (cond a Past (cond b Deep (Listed inside)))
+          (sites_in 600 (path ++ name ∷ []) inside))
       by true b last too_deep = (tt, tt)
       by false true last too_deep =
           let some = eqb-false (left - 1) 0 met.0.0 in
@@ -259,7 +319,8 @@ module _ (room : Option ℕ) (layout : Tuples) (start : List ℕ) where
           let longer = one_longer path name in
           let here : below_site (at_of path) name ≡ within.Site (at_of (path ++ name ∷ [])) =
           leads_to (at_of path) name last ∙ ap (λ (w : At). within.Site w) (sym (last_name_says path name)) in
-          let there : Met top (path ++ name ∷ []) (left - 1) inside (within.Site (at_of (path ++ name ∷ []))) = subst (Met top (path ++ name ∷ []) (left - 1) inside) here met in
+          let there : Met top (path ++ name ∷ []) (left - 1) inside (within.Site (at_of (path ++ name ∷ []))) = subst
+          (Met top (path ++ name ∷ []) (left - 1) inside) here met in
           let clean : CleanSite top (path ++ name ∷ []) inside = (left - 1, omega (arith, deep, some, longer), there.0, there.1) in
           (clean, on clean)
 
@@ -267,7 +328,8 @@ module _ (room : Option ℕ) (layout : Tuples) (start : List ℕ) where
   abbrev in_site : At → Bool → List ℕ → ℕ → Bool → Within
   in_site w holds name bytes short = cond short (below_site w name) (beside_shorties holds bytes)
 
-  fine_sites : (top : List ℕ) (path : Path) (left : ℕ) (holds : Bool) (tree : Forest) → left + length path ≡ 601 → IsClean (read_whole room layout) (site_folder top path left) holds tree
+  fine_sites : (top : List ℕ) (path : Path) (left : ℕ) (holds : Bool) (tree : Forest) → left + length path ≡ 601
+      → IsClean (read_whole room layout) (site_folder top path left) holds tree
       → Each (FineSite top) (sites_in 600 path tree)
   fine_sites top path left holds none deep clean = tt
   fine_sites top path left holds (file name bytes after) deep clean = fine_sites top path left holds after deep clean.2
@@ -275,7 +337,8 @@ module _ (room : Option ℕ) (layout : Tuples) (start : List ℕ) where
   fine_sites top path left holds (dir name inside after) deep clean =
       each_both (FineSite top) (here (is_short name)) (sites_in 600 path after)
       (by (is_short name) refl (clean.1, clean.3)
-      (λ site. fine_sites top (path ++ name ∷ []) site.0 (has_object (finding_of (within.Site (at_of (path ++ name ∷ []))) (listing_of inside))) inside site.1 site.3))
+      (λ site. fine_sites top (path ++ name ∷ []) site.0 (has_object (finding_of (within.Site (at_of (path ++ name ∷ []))) (listing_of inside))) inside site.1
+      site.3))
       (fine_sites top path left holds after deep clean.4)
     where
       here : Bool → List Site
@@ -288,7 +351,8 @@ module _ (room : Option ℕ) (layout : Tuples) (start : List ℕ) where
           → (CleanSite top (path ++ name ∷ []) inside → Each (FineSite top) (sites_in 600 (path ++ name ∷ []) inside)) → Each (FineSite top) (here b)
       by false is met on = tt
       by true is met on =
-          fine_shorty top path left name inside deep (subst (λ (s : Bool). Met top (path ++ name ∷ []) (left - 1) inside (in_site (at_of path) holds name bytes s)) is met) on
+          fine_shorty top path left name inside deep (subst (λ (s : Bool). Met top (path ++ name ∷ []) (left - 1) inside
+          (in_site (at_of path) holds name bytes s)) is met) on
 
   -- ---- the verdict on a site
 
@@ -297,7 +361,8 @@ module _ (room : Option ℕ) (layout : Tuples) (start : List ℕ) where
   FineVerdict (Skip why) = why ≢ cause.Limit
   FineVerdict (Named id object) = IsNoLimit (cause_of greatest_limits object)
 
-  fine_named : (object : PairtreeObject) (named : Result (List ℕ) Refusal) → IsNoLimit (cause_of greatest_limits object) → FineVerdict (verdict_by_identifier object named)
+  fine_named : (object : PairtreeObject) (named : Result (List ℕ) Refusal) → IsNoLimit (cause_of greatest_limits object)
+      → FineVerdict (verdict_by_identifier object named)
   fine_named object (Ok id) fine = fine
   fine_named object (Err refusal.Malformed) fine = λ e. absurd (cc)
   fine_named object (Err refusal.NotUtf8) fine = λ e. absurd (cc)
@@ -320,7 +385,8 @@ module _ (room : Option ℕ) (layout : Tuples) (start : List ℕ) where
   item_from (suc i) (other name after) = item_from i after
   item_from (suc i) (dir name inside after) = item_from i after
 
-  clean_from : (folder : Folder) (holds : Bool) (i : ℕ) (tree : Forest) → IsClean (read_whole room layout) folder holds tree → IsClean (read_whole room layout) folder holds (entries_from i tree)
+  clean_from : (folder : Folder) (holds : Bool) (i : ℕ) (tree : Forest) → IsClean (read_whole room layout) folder holds tree
+      → IsClean (read_whole room layout) folder holds (entries_from i tree)
   clean_from folder holds zero tree clean = clean
   clean_from folder holds (suc i) none clean = clean
   clean_from folder holds (suc i) (file name bytes after) clean = clean_from folder holds i after clean.2
@@ -334,8 +400,10 @@ module _ (room : Option ℕ) (layout : Tuples) (start : List ℕ) where
         IsCleanFolder (read_whole room layout) it (listing_of inside) × (starts_object here (within.Site w) ≡ true → file_count inside ≤ 1000000)
         × IsClean (read_whole room layout) it (has_object (finding_of here (listing_of inside))) inside
 
-    fine_candidate : (path : Path) (left : ℕ) (tree : Forest) → left + length path ≡ 601 → IsClean (read_whole room layout) (site_folder top path left) true tree
-        → ((name : List ℕ) → first_item tree ≡ Some (name, kind.Dir) → is_short name ≡ false) → FineVerdict (verdict_on_candidate job prefix path (encapsulated path tree))
+    fine_candidate : (path : Path) (left : ℕ) (tree : Forest) → left + length path ≡ 601
+        → IsClean (read_whole room layout) (site_folder top path left) true tree
+        → ((name : List ℕ) → first_item tree ≡ Some (name, kind.Dir) → is_short name ≡ false)
+        → FineVerdict (verdict_on_candidate job prefix path (encapsulated path tree))
     fine_candidate path left none deep clean long = tt
     fine_candidate path left (file name bytes after) deep clean long = tt
     fine_candidate path left (other name after) deep clean long = tt
@@ -346,12 +414,14 @@ module _ (room : Option ℕ) (layout : Tuples) (start : List ℕ) where
         let longer = one_longer path name in
         let sum : (left - 1) + length (path ++ name ∷ []) ≡ 601 = omega (arith, deep, some, longer) in
         let met : MetObject own (left - 1) inside (at_of path) (within.Object (plus bytes 1)) =
-        subst (λ (s : Bool). MetObject own (left - 1) inside (at_of path) (in_site (at_of path) true name bytes s)) (long name refl) (clean.1, clean.2, clean.3) in
+        subst (λ (s : Bool). MetObject own (left - 1) inside (at_of path) (in_site (at_of path) true name bytes s)) (long name refl) (clean.1, clean.2, clean.3)
+        in
         fine_named (record { at = own; gathered = false; inside = inside }) (identifier_at job.tuples prefix path)
         (fine_object top own (left - 1) false inside sum some met.2 (met.1 refl))
 
     fine_finding : (path : Path) (left : ℕ) (inside : Forest) (f : Finding) → left + length path ≡ 601 → found (listing_of inside) (at_of path) form.Plain ≡ f
-        → is_told (at_of path) f (top ∷ path) ≡ None → IsClean (read_whole room layout) (site_folder top path left) (has_object f) inside → FineVerdict (verdict_by_finding job prefix path inside f)
+        → is_told (at_of path) f (top ∷ path) ≡ None → IsClean (read_whole room layout) (site_folder top path left) (has_object f) inside
+        → FineVerdict (verdict_by_finding job prefix path inside f)
     fine_finding path left inside finding.Interior deep is silent clean = tt
     fine_finding path left inside (finding.Skip why) deep is silent clean = absurd (cc)
     fine_finding path left inside finding.Gathered deep is silent clean = absurd (no_gathered (at_of path) (listing_of inside) is)
@@ -367,7 +437,8 @@ module _ (room : Option ℕ) (layout : Tuples) (start : List ℕ) where
         let items = listing_of inside in
         let plain = found items (at_of path) form.Plain in
         let same : found items (at_of path) (form_of job) ≡ plain = same_found (at_of path) (form_of job) items (top ∷ path) folder.1 in
-        subst (λ (f : Finding). FineVerdict (verdict_by_finding job prefix path inside f)) (sym same) (fine_finding path left inside plain deep refl folder.1 clean)
+        subst (λ (f : Finding). FineVerdict (verdict_by_finding job prefix path inside f)) (sym same)
+        (fine_finding path left inside plain deep refl folder.1 clean)
     fine_by_visit path Past fine = λ e. absurd (cc)
     fine_by_visit path Deep fine = absurd fine
 
@@ -404,7 +475,8 @@ none_for_limit wants job tree reads limits clean =
     let root = dir_at tree (pairtree_root ∷ []) in
     let whole : wants ≡ read_whole room layout = ap (λ (b : Bool). record { reads = b; room = room; layout = layout }) reads in
     let read : IsCleanStore (read_whole room layout) tree = subst (λ (w : Wants). IsCleanStore w tree) whole clean in
-    let fine : Each (FineSite room layout start pairtree_root) (sites_in_root 600 root) = fine_root room layout start pairtree_root root (read.top, read.inside) in
+    let fine : Each (FineSite room layout start pairtree_root) (sites_in_root 600 root) = fine_root room layout start pairtree_root root (read.top, read.inside)
+    in
     let depth : 600 ≡ job.limits.depth = sym (ap (λ (l : Bounds). l.depth) limits) in
     fine_items room layout start job start pairtree_root limits (sites_in_root job.limits.depth root)
     (subst (λ (d : ℕ). Each (FineSite room layout start pairtree_root) (sites_in_root d root)) depth fine)

@@ -1,7 +1,23 @@
 -- A store of which a check has nothing to tell.
 use Rattle.std.specs.Prelude.{◌≡◌, ◌≢◌, ◌≤◌, ◌+◌, ◌==◌, ◌||◌, ⊤, ℕ, suc, Bool, true, false, cond, length, take, List, [], ◌∷◌, ◌++◌, Option, None, Some}
 use Rattle.pt_check.specs.Prefix.{prefix_trouble}
-use Rattle.pt_check.specs.Visits.{Checks, Folder, GoesAt, Says, Seen, entry_trouble, finding_of, folder_in, folder_trouble, has_object, prefix_path, reserved_trouble, room_trouble, root_folder, size_trouble}
+use Rattle.pt_check.specs.Visits.{
+  Checks,
+  Folder,
+  GoesAt,
+  Says,
+  Seen,
+  entry_trouble,
+  finding_of,
+  folder_in,
+  folder_trouble,
+  has_object,
+  prefix_path,
+  reserved_trouble,
+  room_trouble,
+  root_folder,
+  size_trouble,
+}
 use Rattle.pt_check.specs.Within.{starts_object}
 use Rattle.pt_check.specs.declared.numbers.Numbers.{Numbers}
 use Rattle.pt_check.specs.declared.wants.Wants.{Wants}

@@ -80,7 +80,8 @@ impl<S: Source, L: Log, E: Explains<S> + Drop> Check<S, L, E> {
         }
     }
 
-    /// Checks the store, and gives the numbers of its last line. What the source fails at is told, and passed.
+    /// Checks the store, and gives the numbers of its last line. What the source fails at is told,
+    /// and passed.
     ///
     /// `Log` where a line couldn't be put, and `Memory` where a growth was refused.
     pub fn run(&mut self) -> Result<Numbers, Fault>
@@ -109,7 +110,8 @@ impl<S: Source, L: Log, E: Explains<S> + Drop> Check<S, L, E> {
         (self.source, self.log)
     }
 
-    // Looks at the file of the prefix, where the top of a store lists one. Gives the prefix, empty where none is known.
+    // Looks at the file of the prefix, where the top of a store lists one. Gives the prefix, empty
+    // where none is known.
     fn look_at_prefix(&mut self, listing: &Listing) -> Result<String, Fault>
         requires { ForSome (tree_by S.told self.old)
             (λ tree. listing_at tree [] ≡ Some listing.now) }
@@ -131,7 +133,8 @@ impl<S: Source, L: Log, E: Explains<S> + Drop> Check<S, L, E> {
         }
     }
 
-    // Reads the front of the prefix file, and tells what there is to tell of it, or that it can't be read. Gives the prefix, as above.
+    // Reads the front of the prefix file, and tells what there is to tell of it, or that it can't
+    // be read. Gives the prefix, as above.
     fn read_prefix(&mut self, file: &NamePath) -> Result<String, Fault>
         requires { ForSome (tree_by S.told self.old) (λ tree. IsSome (file_at tree file.now)) }
         ensures read { IfOk result (λ prefix. ForSome (tree_by S.told self.old)
@@ -179,8 +182,9 @@ impl<S: Source, L: Log, E: Explains<S> + Drop> Check<S, L, E> {
         }
     }
 
-    // A folder at a path in a store of this prefix, which is this, and below which folders may stand so deep, and all that lies in it.
-    // What can't be read is told, and passed. `Log` where a line couldn't be put, `Memory` where a growth was refused.
+    // A folder at a path in a store of this prefix, which is this, and below which folders may
+    // stand so deep, and all that lies in it. What can't be read is told, and passed. `Log` where a
+    // line couldn't be put, `Memory` where a growth was refused.
     fn visit(
         &mut self,
         path: &NamePath,
@@ -238,7 +242,8 @@ impl<S: Source, L: Log, E: Explains<S> + Drop> Check<S, L, E> {
         }
     }
 
-    // Where an object begins with a folder, it has no files yet. Gives how many bytes were read so far.
+    // Where an object begins with a folder, it has no files yet. Gives how many bytes were read so
+    // far.
     fn begin(&mut self, within: Within, above: Within) -> u64
         ensures numbers { self.new.numbers ≡ begun within above self.old.numbers }
         ensures bytes { result ≡ self.old.numbers.bytes }
@@ -270,8 +275,8 @@ impl<S: Source, L: Log, E: Explains<S> + Drop> Check<S, L, E> {
         }
     }
 
-    // Judges a folder that was listed whole, as below. What another one is can't be said: it isn't judged, counts as no site, and is taken
-    // for one without an object.
+    // Judges a folder that was listed whole, as below. What another one is can't be said: it isn't
+    // judged, counts as no site, and is taken for one without an object.
     fn judge_found(
         &mut self,
         path: &NamePath,
@@ -295,8 +300,8 @@ impl<S: Source, L: Log, E: Explains<S> + Drop> Check<S, L, E> {
         }
     }
 
-    // Judges a folder of a store of this prefix by what it lists: it is counted, and told if there is trouble. Gives whether it has an
-    // object.
+    // Judges a folder of a store of this prefix by what it lists: it is counted, and told if there
+    // is trouble. Gives whether it has an object.
     fn judge(
         &mut self,
         path: &NamePath,
@@ -323,7 +328,8 @@ impl<S: Source, L: Log, E: Explains<S> + Drop> Check<S, L, E> {
         Ok(has_object)
     }
 
-    // Meets an entry of a folder that is this: it is counted, and told if there is trouble. Gives how many bytes its path has.
+    // Meets an entry of a folder that is this: it is counted, and told if there is trouble. Gives
+    // how many bytes its path has.
     fn meet(
         &mut self,
         path: &NamePath,
@@ -372,7 +378,8 @@ impl<S: Source, L: Log, E: Explains<S> + Drop> Check<S, L, E> {
         }
     }
 
-    // Tells that the source failed to list a folder, by a line for each reason. Gives what of it can be listed all the same.
+    // Tells that the source failed to list a folder, by a line for each reason. Gives what of it
+    // can be listed all the same.
     #[tactic(auto, using(pt_tree::proofs::Told::listed_in))]
     fn list_part(&mut self, path: &NamePath) -> Result<Option<Found>, Fault>
         requires { ForSome (tree_by S.told self.old) (λ tree. IsSome (dir_at tree path.now)) }

@@ -54,7 +54,8 @@ pub(crate) fn folder_trouble(
     }
 }
 
-// What is told of the names of a site, which are read with nothing between (Pairtree 0.1, "Identifier string cleaning").
+// What is told of the names of a site, which are read with nothing between (Pairtree 0.1,
+// "Identifier string cleaning").
 fn identifier_trouble(alloc: Global, path: &NamePath) -> Result<Option<Trouble>, MemoryFault>
     ensures { IfOk result (λ trouble. trouble
         ≡ trouble_of_names (concat (drop 1 path.now))) }
@@ -83,7 +84,8 @@ fn text_trouble(alloc: Global, text: &[u8]) -> Result<Option<Trouble>, MemoryFau
     }
 }
 
-// What is told of an identifier, by the text that the names of its site join to (Pairtree 0.1: the one that cleaning gives).
+// What is told of an identifier, by the text that the names of its site join to (Pairtree 0.1: the
+// one that cleaning gives).
 fn spelling_trouble(alloc: Global, text: &[u8], id: &str) -> Result<Option<Trouble>, MemoryFault>
     ensures { IfOk result (λ trouble. trouble ≡ spelling_trouble_of text.now id.now) }
 {
@@ -95,7 +97,8 @@ fn spelling_trouble(alloc: Global, text: &[u8], id: &str) -> Result<Option<Troub
     }
 }
 
-/// What is told of a folder that is found to be this, by its place in a destination of this layout, in a store of this prefix.
+/// What is told of a folder that is found to be this, by its place in a destination of this layout,
+/// in a store of this prefix.
 pub(crate) fn reserved_trouble(
     layout: Layout,
     prefix: &str,
@@ -111,7 +114,8 @@ pub(crate) fn reserved_trouble(
     }
 }
 
-// What is told of the identifier of a site with an object, by its place: a run keeps that free for the root's own use.
+// What is told of the identifier of a site with an object, by its place: a run keeps that free for
+// the root's own use.
 fn reserved_at(
     layout: Layout,
     prefix: &str,
@@ -164,7 +168,8 @@ fn names_below(path: &NamePath) -> &[Name]
     }
 }
 
-/// What is told of an entry in a folder that is this, whose path from the store's folder on has so many bytes.
+/// What is told of an entry in a folder that is this, whose path from the store's folder on has so
+/// many bytes.
 pub(crate) fn entry_trouble(within: Within, name: &Name, kind: Kind, length: u64) -> Option<Trouble>
     ensures { result ≡ entry_trouble_of within name.now kind length }
 {
@@ -175,7 +180,8 @@ pub(crate) fn entry_trouble(within: Within, name: &Name, kind: Kind, length: u64
     }
 }
 
-/// What is told of an entry of this kind in a folder that is this, by how many files its object has before it.
+/// What is told of an entry of this kind in a folder that is this, by how many files its object has
+/// before it.
 pub(crate) fn count_trouble(within: Within, kind: Kind, held: u64) -> Option<Trouble>
     ensures { result ≡ count_trouble_of within kind held }
 {
@@ -187,8 +193,9 @@ pub(crate) fn count_trouble(within: Within, kind: Kind, held: u64) -> Option<Tro
     }
 }
 
-/// What is told of an entry of this kind in a folder that is this, whose path from the store's folder on has so many bytes, where a
-/// destination has room for paths of so many bytes in an object.
+/// What is told of an entry of this kind in a folder that is this, whose path from the store's
+/// folder on has so many bytes, where a destination has room for paths of so many bytes in an
+/// object.
 pub(crate) fn room_trouble(
     room: Option<u64>,
     within: Within,
@@ -226,7 +233,8 @@ fn name_trouble(name: &Name) -> Option<Trouble>
     }
 }
 
-// Whether the logical path of an entry is longer than a run carries, which has so many bytes with what is before it.
+// Whether the logical path of an entry is longer than a run carries, which has so many bytes with
+// what is before it.
 fn is_long(within: Within, length: u64) -> bool
     ensures { result ≡ is_long_path within length }
 {

@@ -16,7 +16,8 @@ pub enum Trouble {
     Deep,
     /// What a store must have isn't there, or is of another kind.
     Missing,
-    /// The names of a site are others than its identifier's own, so that it may be the twin of the site with these.
+    /// The names of a site are others than its identifier's own, so that it may be the twin of the
+    /// site with these.
     Spelling,
     /// `pairtree_prefix` is no file, or its bytes are no prefix.
     Prefix,
@@ -31,8 +32,8 @@ pub enum Trouble {
 }
 
 impl Trouble {
-    /// The trouble's number: that of its cause, 1 to 9; 10 `Desktop`, 11 `Long`, 12 `Deep`, 13 `Missing`, 14 `Spelling`, 15 `Prefix`,
-    /// 16 `Doubtful`, 17 `Many`, 18 `Large`, 19 `Place`.
+    /// The trouble's number: that of its cause, 1 to 9; 10 `Desktop`, 11 `Long`, 12 `Deep`, 13
+    /// `Missing`, 14 `Spelling`, 15 `Prefix`, 16 `Doubtful`, 17 `Many`, 18 `Large`, 19 `Place`.
     pub fn number(&self) -> u8
         ensures { result ≡ trouble_number self.now }
     {
@@ -51,8 +52,8 @@ impl Trouble {
         }
     }
 
-    /// The trouble's word in a line: that of its cause; `desktop`, `long`, `deep`, `missing`, `spelling`,
-    /// `prefix`, `doubtful`, `many`, `large`, `place`.
+    /// The trouble's word in a line: that of its cause; `desktop`, `long`, `deep`, `missing`,
+    /// `spelling`, `prefix`, `doubtful`, `many`, `large`, `place`.
     pub fn word(&self) -> &'static str
         ensures { result.now ≡ trouble_word self.now }
     {

@@ -18,16 +18,18 @@ pub struct UnlistedFolder {
 
 /// Why a source failed.
 pub trait Explains<S: Source> {
-    /// It may say of a folder at this path that it can't be listed for these reasons, and whether what has names in it can be.
+    /// It may say of a folder at this path that it can't be listed for these reasons, and whether
+    /// what has names in it can be.
     ghost says: { List (List ℕ) → List (List ℕ) → Bool → Bool };
 
     /// The reason of the source's last failure, in words. `Memory` where a growth was refused.
     fn reason(&self, alloc: Global, source: &S) -> Result<String, MemoryFault>;
 
-    /// Why the source's last call failed, which was to list a folder, and what of that can be listed all the same. `Memory` where a growth
-    /// was refused.
+    /// Why the source's last call failed, which was to list a folder, and what of that can be
+    /// listed all the same. `Memory` where a growth was refused.
     ///
-    /// The source may be called, and fail, again. Where it tells, each entry has a name, and what can be listed is all of them.
+    /// The source may be called, and fail, again. Where it tells, each entry has a name, and what
+    /// can be listed is all of them.
     fn explain_listing(
         &self,
         alloc: Global,

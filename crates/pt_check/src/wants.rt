@@ -5,7 +5,8 @@ use pt_name::Layout;
 pub struct Wants {
     /// Whether each file is read whole, and not only opened.
     pub reads: bool,
-    /// How many bytes the path of a file in its object may have in a destination; None where none is named.
+    /// How many bytes the path of a file in its object may have in a destination; None where none
+    /// is named.
     pub room: Option<u64>,
     /// How the places in a destination are cut.
     pub layout: Layout,

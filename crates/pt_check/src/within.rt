@@ -11,15 +11,16 @@ pub enum Within {
     Site(At),
     /// A shorty below a name of one byte.
     Past,
-    /// An object's own folder, or one in it; the paths of its entries have so many bytes before their logical path.
+    /// An object's own folder, or one in it; the paths of its entries have so many bytes before
+    /// their logical path.
     Object(u64),
     /// A folder of which no run makes anything.
     Beside,
 }
 
 impl Within {
-    /// What a folder of this name is that stands in one which is this, and whose path has so many bytes. Where that is a site, it
-    /// has an object or not.
+    /// What a folder of this name is that stands in one which is this, and whose path has so many
+    /// bytes. Where that is a site, it has an object or not.
     pub fn of_child(self, has_object: bool, name: &Name, length: u64) -> Within
         ensures { result ≡ below_of self has_object name.now length }
     {

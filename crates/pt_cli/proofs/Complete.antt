@@ -1,5 +1,29 @@
 -- What the parser accepts has an answer: no words that it takes ask for nothing that there is.
-use Rattle.std.proofs.Common.{◌≡◌, ◌∙◌, ◌||◌, ℕ, Bool, true, false, cond, not, List, [], ◌∷◌, Option, Some, None, Result, Ok, Err, refl, sym, ap, arith, true≢false}
+use Rattle.std.proofs.Common.{
+  ◌≡◌,
+  ◌∙◌,
+  ◌||◌,
+  ℕ,
+  Bool,
+  true,
+  false,
+  cond,
+  not,
+  List,
+  [],
+  ◌∷◌,
+  Option,
+  Some,
+  None,
+  Result,
+  Ok,
+  Err,
+  refl,
+  sym,
+  ap,
+  arith,
+  true≢false,
+}
 use Rattle.std.specs.Prelude.{⊤, codes, is_some, option_map}
 use Rattle.std.specs.List.{list_any}
 use Rattle.std.specs.Str.{bytes_eq}
@@ -8,7 +32,19 @@ use Rattle.std.specs.Borrow.{Bor}
 use Rattle.std.proofs.lemmas.Slice.Eq.{bytes_eq-Decides}
 use Rattle.clap.specs.Words.{App, Row, Text, all_of, fault_of, first_of, one_of, subcommand_of, without_minus, built}
 use Rattle.clap.specs.Walk.{answers_to, nothing_held, rows_after, stop_after, walk_from}
-use Rattle.clap.specs.Simple.{Shape, argument_words, built_leaf, entered, help_shape, inherited, label_of, marked_built, names_of as commands_of, rows_at, with_leaf_noted}
+use Rattle.clap.specs.Simple.{
+  Shape,
+  argument_words,
+  built_leaf,
+  entered,
+  help_shape,
+  inherited,
+  label_of,
+  marked_built,
+  names_of as commands_of,
+  rows_at,
+  with_leaf_noted,
+}
 use Rattle.clap.specs.Faults.{built_fault, check_fault, entered_fault, level_fault}
 use Rattle.clap.specs.ValueTests.{accepts}
 use Rattle.clap.specs.declared.builder.value_parser.ValueParser.TheVariants as vp
@@ -30,7 +66,25 @@ use Rattle.pt_messages.specs.declared.watch.Progress.TheVariants.{Auto, Always, 
 use Rattle.pt_cli.specs.Grammar.{Spelled, SpellsAlgorithms, SpellsTimes, audit_app, check_app, migrate_app, names_app, program, u32_parser}
 use Rattle.pt_cli.specs.Arguments.{◌>>=◌, IsThere, algorithm_of, judged, number_of, path_only, progress_of}
 use Rattle.pt_cli.specs.Ignore.{are_names, ignored_in, names_of, names_only}
-use Rattle.pt_cli.specs.Options.{answer_to, audit_in, audit_meta, audit_options_in, check_in, command_in, cut, described_by, feedback_in, folders_in, id_only, job_in, layout_in, meta_in, migration_in, names_in, run_options_in}
+use Rattle.pt_cli.specs.Options.{
+  answer_to,
+  audit_in,
+  audit_meta,
+  audit_options_in,
+  check_in,
+  command_in,
+  cut,
+  described_by,
+  feedback_in,
+  folders_in,
+  id_only,
+  job_in,
+  layout_in,
+  meta_in,
+  migration_in,
+  names_in,
+  run_options_in,
+}
 use Rattle.pt_cli.specs.Share.{share_asked}
 use Rattle.pt_cli.specs.declared.faults.Unread.{Unread}
 use Rattle.pt_cli.specs.declared.faults.Unread.TheVariants as unread
@@ -48,7 +102,8 @@ algorithm_there words spells v e =
     ap (list_any (λ t. bytes_eq t v)) (sym spells) ∙ sym (list_any-map (λ t. bytes_eq t v) (λ (s : Bor Text). s.now) words.now) ∙ e in
     go (bytes_eq (codes "sha512") v) (bytes_eq (codes "sha256") v) refl refl listed
   where
-    go : (a b : Bool) → bytes_eq (codes "sha512") v ≡ a → bytes_eq (codes "sha256") v ≡ b → (a || (b || false)) ≡ true → (x : Algorithm) × (algorithm_of v ≡ Some x)
+    go : (a b : Bool) → bytes_eq (codes "sha512") v ≡ a → bytes_eq (codes "sha256") v ≡ b → (a || (b || false)) ≡ true
+        → (x : Algorithm) × (algorithm_of v ≡ Some x)
     go true b is other h =
         let same : codes "sha512" ≡ v = (bytes_eq-Decides _ _).0 is in
         (Sha512, ap algorithm_of (sym same))
@@ -79,7 +134,8 @@ time_there words spells v e =
 
 number_there : (v : Text) → accepts false u32_parser v ≡ true → (n : ℕ) × (number_of (without_minus v) ≡ Some n)
 number_there v e =
-    let read = signed_reads ⊤ (λ u x. ParsesUnsigned 32 10 u x) 32 0 4294967295 v (number_of (without_minus v)) (number_read_back (without_minus v)) (λ u x g. g) (omega arith)
+    let read = signed_reads ⊤ (λ u x. ParsesUnsigned 32 10 u x) 32 0 4294967295 v (number_of (without_minus v)) (number_read_back (without_minus v))
+    (λ u x g. g) (omega arith)
     (accepts-Accepts false u32_parser v e) in
     (read.0, read.1)
 
@@ -110,7 +166,8 @@ described_there meta (Some meta_fault.Memory) = tt
 audit_meta_there : IsThere audit_meta
 unfolding audit_meta
 audit_meta_there =
-    described_there (parts_of (codes "1970-01-01T00:00:00Z") (codes "audit") (given_address None) []) (meta_refusal (codes "1970-01-01T00:00:00Z") (codes "audit"))
+    described_there (parts_of (codes "1970-01-01T00:00:00Z") (codes "audit") (given_address None) [])
+    (meta_refusal (codes "1970-01-01T00:00:00Z") (codes "audit"))
 
 cut_there : (layout : Result Tuples LayoutFault) → IsThere (cut layout)
 cut_there (Ok tuples) = tt
@@ -162,9 +219,11 @@ module _ (rows : List Row) where
   job_there : (meta : MetaParts) (digest : Text) (algorithm : Algorithm) → first_of (codes "digest") rows ≡ Some digest → algorithm_of digest ≡ Some algorithm
       → IsThere (layout_in rows) → IsThere (job_in meta rows)
   job_there meta digest algorithm e1 e2 cuts =
-      rw (e1, e2) (then_there (layout_in rows) _ cuts (λ tuples. then_there (judged unread.Share (share_asked (first_of (codes "share") rows))) _ (share_there _) (λ share. tt)))
+      rw (e1, e2) (then_there (layout_in rows) _ cuts (λ tuples. then_there (judged unread.Share (share_asked (first_of (codes "share") rows))) _
+      (share_there _) (λ share. tt)))
 
-  feedback_there : (when interval_text : Text) (progress : Progress) (interval : ℕ) → first_of (codes "progress") rows ≡ Some when → progress_of when ≡ Some progress
+  feedback_there : (when interval_text : Text) (progress : Progress) (interval : ℕ) → first_of (codes "progress") rows ≡ Some when
+      → progress_of when ≡ Some progress
       → one_of (codes "interval") rows ≡ Some interval_text → number_of interval_text ≡ Some interval → IsThere (feedback_in rows)
   feedback_there when interval_text progress interval e1 e2 e3 e4 =
       rw (e1, e2, e3, e4) (then_there (path_only unread.EmptyEvent (first_of (codes "event") rows)) _ (event_there _) (λ event. tt))
@@ -173,16 +232,19 @@ module _ (rows : List Row) where
   folders_there source dest e1 e2 = rw (e1, e2) tt
 
   -- the commands, of their parts
-  migration_there : IsThere (meta_in rows) → ((meta : MetaParts) → IsThere (job_in meta rows)) → IsThere (feedback_in rows) → IsThere (folders_in rows) → IsThere (migration_in rows)
+  migration_there : IsThere (meta_in rows) → ((meta : MetaParts) → IsThere (job_in meta rows)) → IsThere (feedback_in rows) → IsThere (folders_in rows)
+      → IsThere (migration_in rows)
   migration_there meta job feedback folders =
       then_there (run_options_in rows) _
-      (then_there (meta_in rows) _ meta (λ m. then_there (job_in m rows) _ (job m) (λ j. then_there (ignored_in rows) _ (ignored_there (all_of (codes "ignore") rows)) (λ i. then_there (feedback_in rows) _ feedback (λ f. tt)))))
+      (then_there (meta_in rows) _ meta (λ m. then_there (job_in m rows) _ (job m)
+      (λ j. then_there (ignored_in rows) _ (ignored_there (all_of (codes "ignore") rows)) (λ i. then_there (feedback_in rows) _ feedback (λ f. tt)))))
       (λ o. then_there (folders_in rows) _ folders (λ f. then_there (path_only unread.EmptyList (first_of (codes "list") rows)) _ (list_there _) (λ l. tt)))
 
   audit_there : ((meta : MetaParts) → IsThere (job_in meta rows)) → IsThere (feedback_in rows) → IsThere (folders_in rows) → IsThere (audit_in rows)
   audit_there job feedback folders =
       then_there (audit_options_in rows) _
-      (then_there audit_meta _ audit_meta_there (λ m. then_there (job_in m rows) _ (job m) (λ j. then_there (ignored_in rows) _ (ignored_there (all_of (codes "ignore") rows)) (λ i. then_there (feedback_in rows) _ feedback (λ f. tt)))))
+      (then_there audit_meta _ audit_meta_there (λ m. then_there (job_in m rows) _ (job m)
+      (λ j. then_there (ignored_in rows) _ (ignored_there (all_of (codes "ignore") rows)) (λ i. then_there (feedback_in rows) _ feedback (λ f. tt)))))
       (λ o. then_there (folders_in rows) _ folders (λ f. then_there (path_only unread.EmptyList (first_of (codes "list") rows)) _ (list_there _) (λ l. tt)))
 
   check_there : (source : Text) → first_of (codes "SOURCE") rows ≡ Some source → IsThere (layout_in rows) → IsThere (check_in rows)
@@ -205,11 +267,13 @@ Answered s = (words : List Text) → level_fault s [] nothing_held words false [
 
 module _ (top x y w v z : Shape) (names_answered : Answered x) (migrate_answered : Answered y) (audit_answered : Answered w) (check_answered : Answered v)
     (is_help : (word : Text) → answers_to word (label_of z) ≡ true → bytes_eq word (codes "help") ≡ true) where
-  dispatched : (stop : Option (Text × List Text)) → NotHelp stop → entered_fault (five top x y w v z) stop ≡ [] → is_some (entered (five top x y w v z) stop) ≡ true
+  dispatched : (stop : Option (Text × List Text)) → NotHelp stop → entered_fault (five top x y w v z) stop ≡ []
+      → is_some (entered (five top x y w v z) stop) ≡ true
       → IsThere (answer_to (entered (five top x y w v z) stop))
   dispatched None not passes some = absurd (cc)
   dispatched (Some p) not passes some =
-      go (answers_to p.0 (label_of x)) (answers_to p.0 (label_of y)) (answers_to p.0 (label_of w)) (answers_to p.0 (label_of v)) (answers_to p.0 (label_of z)) refl passes some
+      go (answers_to p.0 (label_of x)) (answers_to p.0 (label_of y)) (answers_to p.0 (label_of w)) (answers_to p.0 (label_of v)) (answers_to p.0 (label_of z))
+      refl passes some
     where
       found : Bool → Bool → Bool → Bool → Bool → Option Shape
       found a b d f c = cond a (Some x) (cond b (Some y) (cond d (Some w) (cond f (Some v) (cond c (Some z) None))))
@@ -225,7 +289,8 @@ module _ (top x y w v z : Shape) (names_answered : Answered x) (migrate_answered
       go false false false false true is k there = absurd (true≢false (sym (is_help p.0 is) ∙ not))
       go false false false false false is k there = absurd (true≢false (sym there))
 
-  some_command : (ask : Bool) (rows : List Row) → top.arg_required_else_help ≡ false → top.subcommand_required ≡ true → check_fault top rows ask ≡ [] → ask ≡ true
+  some_command : (ask : Bool) (rows : List Row) → top.arg_required_else_help ≡ false → top.subcommand_required ≡ true → check_fault top rows ask ≡ []
+      → ask ≡ true
   some_command true rows quiet wants e = refl
   some_command false rows quiet wants e =
       let bad : Rattle.clap.specs.declared.error.kind.ErrorKind.TheVariants.MissingSubcommand ∷ [] ≡ [] = rw (quiet, wants) at e in
@@ -239,7 +304,8 @@ module _ (top x y w v z : Shape) (names_answered : Answered x) (migrate_answered
       let stop = stop_after top.rules names words in
       let walks = walk_passed top once fit names words (is_some (entered (five top x y w v z) stop)) (entered_fault (five top x y w v z) stop) e in
       let checks = check_passed top once fit names words (is_some (entered (five top x y w v z) stop)) (entered_fault (five top x y w v z) stop) e in
-      dispatched stop (walk_goes top helps names (walk_from nothing_held) words tt walks.0) walks.1 (some_command _ (rows_after top.rules names words) quiet wants checks)
+      dispatched stop (walk_goes top helps names (walk_from nothing_held) words tt walks.0) walks.1
+      (some_command _ (rows_after top.rules names words) quiet wants checks)
 
 module _ (spelled others : Spelled) where
   -- the commands as the parser builds them
@@ -268,13 +334,124 @@ module _ (spelled others : Spelled) where
   fit_names = ((refl, refl, refl), ((refl, refl, refl), ((refl, refl, refl), ((refl, refl, refl), ((refl, refl, refl), tt)))))
 
   fit_migrate : Every (Fits built_migrate.rules) built_migrate.rules
-  fit_migrate = ((refl, refl, refl), ((refl, refl, refl), ((refl, refl, refl), ((refl, refl, refl), ((refl, refl, refl), ((refl, refl, refl), ((refl, refl, refl), ((refl, refl, refl), ((refl, refl, refl), ((refl, refl, refl), ((refl, refl, refl), ((refl, refl, refl), ((refl, refl, refl), ((refl, refl, refl), ((refl, refl, refl), ((refl, refl, refl), ((refl, refl, refl), ((refl, refl, refl), ((refl, refl, refl), ((refl, refl, refl), ((refl, refl, refl), ((refl, refl, refl), ((refl, refl, refl), ((refl, refl, refl), ((refl, refl, refl), tt)))))))))))))))))))))))))
+  fit_migrate = (
+    (refl, refl, refl),
+    (
+      (refl, refl, refl),
+      (
+        (refl, refl, refl),
+        (
+          (refl, refl, refl),
+          (
+            (refl, refl, refl),
+            (
+              (refl, refl, refl),
+              (
+                (refl, refl, refl),
+                (
+                  (refl, refl, refl),
+                  (
+                    (refl, refl, refl),
+                    (
+                      (refl, refl, refl),
+                      (
+                        (refl, refl, refl),
+                        (
+                          (refl, refl, refl),
+                          (
+                            (refl, refl, refl),
+                            (
+                              (refl, refl, refl),
+                              (
+                                (refl, refl, refl),
+                                (
+                                  (refl, refl, refl),
+                                  (
+                                    (refl, refl, refl),
+                                    (
+                                      (refl, refl, refl),
+                                      (
+                                        (refl, refl, refl),
+                                        ((refl, refl, refl), ((refl, refl, refl), ((refl, refl, refl), ((refl, refl, refl), ((refl, refl, refl), ((refl, refl, refl), tt)))))),
+                                      ),
+                                    ),
+                                  ),
+                                ),
+                              ),
+                            ),
+                          ),
+                        ),
+                      ),
+                    ),
+                  ),
+                ),
+              ),
+            ),
+          ),
+        ),
+      ),
+    ),
+  )
 
   fit_audit : Every (Fits built_audit.rules) built_audit.rules
-  fit_audit = ((refl, refl, refl), ((refl, refl, refl), ((refl, refl, refl), ((refl, refl, refl), ((refl, refl, refl), ((refl, refl, refl), ((refl, refl, refl), ((refl, refl, refl), ((refl, refl, refl), ((refl, refl, refl), ((refl, refl, refl), ((refl, refl, refl), ((refl, refl, refl), ((refl, refl, refl), ((refl, refl, refl), ((refl, refl, refl), ((refl, refl, refl), ((refl, refl, refl), ((refl, refl, refl), tt)))))))))))))))))))
+  fit_audit = (
+    (refl, refl, refl),
+    (
+      (refl, refl, refl),
+      (
+        (refl, refl, refl),
+        (
+          (refl, refl, refl),
+          (
+            (refl, refl, refl),
+            (
+              (refl, refl, refl),
+              (
+                (refl, refl, refl),
+                (
+                  (refl, refl, refl),
+                  (
+                    (refl, refl, refl),
+                    (
+                      (refl, refl, refl),
+                      (
+                        (refl, refl, refl),
+                        (
+                          (refl, refl, refl),
+                          (
+                            (refl, refl, refl),
+                            (
+                              (refl, refl, refl),
+                              (
+                                (refl, refl, refl),
+                                ((refl, refl, refl), ((refl, refl, refl), ((refl, refl, refl), ((refl, refl, refl), tt)))),
+                              ),
+                            ),
+                          ),
+                        ),
+                      ),
+                    ),
+                  ),
+                ),
+              ),
+            ),
+          ),
+        ),
+      ),
+    ),
+  )
 
   fit_check : Every (Fits built_check.rules) built_check.rules
-  fit_check = ((refl, refl, refl), ((refl, refl, refl), ((refl, refl, refl), ((refl, refl, refl), ((refl, refl, refl), ((refl, refl, refl), ((refl, refl, refl), tt)))))))
+  fit_check = (
+    (refl, refl, refl),
+    (
+      (refl, refl, refl),
+      (
+        (refl, refl, refl),
+        ((refl, refl, refl), ((refl, refl, refl), ((refl, refl, refl), ((refl, refl, refl), tt)))),
+      ),
+    ),
+  )
 
   check_is_answered : Answered built_check
   check_is_answered words e =
@@ -301,7 +478,8 @@ module _ (spelled others : Spelled) where
       let number = number_there count.0 count.3 in
       let seconds = number_there interval.0 interval.3 in
       let rows = rows_after built_audit.rules [] words in
-      audit_there rows (λ meta. job_there rows meta digest.0 algorithm.0 digest.1 algorithm.1 (layout_there rows _ _ digits.0 number.0 size.2 digits.1 count.2 number.1))
+      audit_there rows (λ meta. job_there rows meta digest.0 algorithm.0 digest.1 algorithm.1
+      (layout_there rows _ _ digits.0 number.0 size.2 digits.1 count.2 number.1))
       (feedback_there rows when.0 _ progress.0 seconds.0 when.1 progress.1 interval.2 seconds.1) (folders_there rows source.0 dest.0 source.1 dest.1)
 
   names_is_answered : Answered built_names
@@ -349,5 +527,6 @@ module _ (spelled others : Spelled) where
   pub program_answered : (words : List Text) → fault_of (program spelled others) words ≡ []
       → IsThere (answer_to (subcommand_of (program spelled others) words))
   program_answered words e =
-      answered (built (program spelled others)).top built_names built_migrate built_audit built_check built_help names_is_answered migrate_is_answered audit_is_answered check_is_answered help_is_help refl fit_top refl refl refl
+      answered (built (program spelled others)).top built_names built_migrate built_audit built_check built_help names_is_answered migrate_is_answered
+      audit_is_answered check_is_answered help_is_help refl fit_top refl refl refl
       (argument_words (program spelled others) words) e

@@ -1,5 +1,38 @@
 -- How the lines of a file come to its identifiers, byte by byte and block by block.
-use Rattle.std.proofs.Common.{◌≡◌, ◌<◌, ◌≤◌, ◌+◌, ◌==◌, ℕ, suc, Bool, true, false, List, [], ◌∷◌, ◌++◌, ◌∙◌, add-one, ap, append_assoc, append-nil, arith, drop, drop-cons, get_or, inl, inr, length, length-append, length-take-le, refl, subst, sym, take}
+use Rattle.std.proofs.Common.{
+  ◌≡◌,
+  ◌<◌,
+  ◌≤◌,
+  ◌+◌,
+  ◌==◌,
+  ℕ,
+  suc,
+  Bool,
+  true,
+  false,
+  List,
+  [],
+  ◌∷◌,
+  ◌++◌,
+  ◌∙◌,
+  add-one,
+  ap,
+  append_assoc,
+  append-nil,
+  arith,
+  drop,
+  drop-cons,
+  get_or,
+  inl,
+  inr,
+  length,
+  length-append,
+  length-take-le,
+  refl,
+  subst,
+  sym,
+  take,
+}
 use Rattle.std.specs.Io.BufRead.{strip_last}
 use Rattle.std.specs.List.{FoldsTo}
 use Rattle.std.specs.Global.{Global}
@@ -11,7 +44,25 @@ use Rattle.std.proofs.lemmas.Fn.{FoldsTo-push}
 use Rattle.std.proofs.lemmas.List.{drop_all}
 use Rattle.pt_folder.specs.Runs.{GivesPiece}
 use Rattle.pt_cli.proofs.NameLists.{is_too_long, stripped_long}
-use Rattle.pt_cli.specs.Listing.{Answer, EndsLine, EndsReading, Identifiers, Reading, ReadsIdentifiers, ReadsMore, TakesBytes, TakesEnd, behind, come_to, fault_with_mark, identifiers_in, listed_fault, read_before, read_from, texts_of}
+use Rattle.pt_cli.specs.Listing.{
+  Answer,
+  EndsLine,
+  EndsReading,
+  Identifiers,
+  Reading,
+  ReadsIdentifiers,
+  ReadsMore,
+  TakesBytes,
+  TakesEnd,
+  behind,
+  come_to,
+  fault_with_mark,
+  identifiers_in,
+  listed_fault,
+  read_before,
+  read_from,
+  texts_of,
+}
 use Rattle.pt_cli.specs.NameList.{lines_from, next_number}
 use Rattle.pt_cli.specs.declared.list_fault.BadLine.{BadLine}
 use Rattle.pt_cli.specs.declared.list_fault.FileFault.{FileFault}
@@ -34,12 +85,14 @@ by_byte at ended byte rest =
     behind at.ids (read_from at.number (if ended then strip_last 13 at.line ∷ lines_from [] rest else lines_from (at.line ++ byte ∷ []) rest))
 
 -- a byte that ends no line is of the line at hand
-pub goes_on : (old new : Reading) (byte : ℕ) (done : Unit {0}) → (byte == 10) ≡ false → new ≡ record old { line = old.line ++ byte ∷ [] } → TakesBytes old (byte ∷ []) new (Ok done)
+pub goes_on : (old new : Reading) (byte : ℕ) (done : Unit {0}) → (byte == 10) ≡ false → new ≡ record old { line = old.line ++ byte ∷ [] }
+    → TakesBytes old (byte ∷ []) new (Ok done)
 unfolding by_byte
 goes_on old new byte done other is = λ rest. ap (λ b. by_byte old b byte rest) other ∙ ap (λ (at : Reading). come_to at rest) (sym is)
 
 -- one that ends a line ends it
-pub ends_line : (old new : Reading) (byte : ℕ) (answer : Result (Unit {0}) FileFault) → (byte == 10) ≡ true → EndsLine old (strip_last 13 old.line) new answer → TakesBytes old (byte ∷ []) new answer
+pub ends_line : (old new : Reading) (byte : ℕ) (answer : Result (Unit {0}) FileFault) → (byte == 10) ≡ true → EndsLine old (strip_last 13 old.line) new answer
+    → TakesBytes old (byte ∷ []) new answer
 unfolding by_byte
 ends_line old new byte (Ok done) ends (fine, is) = λ rest.
     let id = strip_last 13 old.line in
@@ -63,7 +116,8 @@ refused_long number line more long =
     ap (λ (why : Option LineFault). read_before number line (fault_with_mark number line why) more) (is_too_long line long)
 
 -- it is, whatever comes behind what was read of it
-long_line : (number : ℕ) (line bytes : List ℕ) → 65537 < length line → read_from number (lines_from line bytes) ≡ Err (record { number = number; fault = TooLong })
+long_line : (number : ℕ) (line bytes : List ℕ) → 65537 < length line → read_from number (lines_from line bytes)
+    ≡ Err (record { number = number; fault = TooLong })
 long_line number line [] long = by (length line == 0) refl
   where
     by : (c : Bool) → (length line == 0) ≡ c → read_from number (cond c [] (line ∷ [])) ≡ Err (record { number = number; fault = TooLong })
@@ -72,12 +126,14 @@ long_line number line [] long = by (length line == 0) refl
 long_line number line (byte ∷ bytes) long = by (byte == 10) (long_line number (line ++ byte ∷ []) bytes (omega (arith, length-append line (byte ∷ []))))
   where
     by : (c : Bool) → read_from number (lines_from (line ++ byte ∷ []) bytes) ≡ Err (record { number = number; fault = TooLong })
-        → read_from number (cond c (strip_last 13 line ∷ lines_from [] bytes) (lines_from (line ++ byte ∷ []) bytes)) ≡ Err (record { number = number; fault = TooLong })
+        → read_from number (cond c (strip_last 13 line ∷ lines_from [] bytes) (lines_from (line ++ byte ∷ []) bytes))
+        ≡ Err (record { number = number; fault = TooLong })
     by true more = refused_long number (strip_last 13 line) (read_from (next_number number) (lines_from [] bytes)) (stripped_long line long)
     by false more = more
 
 -- so a byte that ends no line may be one too many
-pub too_long : (old new : Reading) (byte : ℕ) (bad : BadLine) → (byte == 10) ≡ false → 65536 < length old.line → bad ≡ record { number = old.number; fault = TooLong }
+pub too_long : (old new : Reading) (byte : ℕ) (bad : BadLine) → (byte == 10) ≡ false → 65536 < length old.line
+    → bad ≡ record { number = old.number; fault = TooLong }
     → TakesBytes old (byte ∷ []) new (Err (file.Line bad))
 unfolding by_byte
 too_long old new byte bad other long is = λ rest.
@@ -94,7 +150,8 @@ comes_to_none at none =
     ∙ ap (λ (l : List (List ℕ)). Ok l) (append-nil at.ids)
 
 -- or is one
-comes_to_one : (at : Reading) → (length at.line == 0) ≡ false → come_to at [] ≡ behind at.ids (read_before at.number at.line (listed_fault at.number at.line) (Ok []))
+comes_to_one : (at : Reading) → (length at.line == 0) ≡ false → come_to at []
+    ≡ behind at.ids (read_before at.number at.line (listed_fault at.number at.line) (Ok []))
 comes_to_one at some = ap (λ b. behind at.ids (read_from at.number (if b then [] else at.line ∷ []))) some
 
 pub comes_to_last : (old new : Reading) (done : Unit {0}) → (length old.line == 0) ≡ false → EndsLine old old.line new (Ok done) → come_to old [] ≡ Ok new.ids
@@ -131,7 +188,8 @@ module _ (first old new : Reading) (piece : List ℕ) (i : ℕ) (within : i < le
       past_it rest ∙ takes (drop (suc i) piece ++ rest) ∙ ap (λ n. come_to new (drop n piece ++ rest)) (sym (add-one i))
 
   -- a byte ends it
-  pub byte_ends : (fault : FileFault) (answer : Result (Unit {0}) FileFault) → TakesBytes old (get_or piece i 0 ∷ []) new (Err fault) → IsErrAnd answer (λ y. y ≡ fault)
+  pub byte_ends : (fault : FileFault) (answer : Result (Unit {0}) FileFault) → TakesBytes old (get_or piece i 0 ∷ []) new (Err fault)
+      → IsErrAnd answer (λ y. y ≡ fault)
       → TakesBytes first piece new answer
   byte_ends fault (Ok done) takes is = absurd is
   byte_ends fault (Err answer) takes is = subst (λ (f : FileFault). TakesBytes first piece new (Err f)) (sym is) (by fault takes)
@@ -142,7 +200,8 @@ module _ (first old new : Reading) (piece : List ℕ) (i : ℕ) (within : i < le
       by file.Memory told = tt
 
 -- all bytes were read
-pub all_bytes : (first last : Reading) (piece : List ℕ) (i : ℕ) → length piece ≤ i → IsWithin first piece i last → (rest : List ℕ) → come_to first (piece ++ rest) ≡ come_to last rest
+pub all_bytes : (first last : Reading) (piece : List ℕ) (i : ℕ) → length piece ≤ i → IsWithin first piece i last → (rest : List ℕ)
+    → come_to first (piece ++ rest) ≡ come_to last rest
 all_bytes first last piece i past so = λ rest. so rest ∙ ap (λ (l : List ℕ). come_to last (l ++ rest)) (drop_all i piece past)
 
 -- ---- the pieces of a file
@@ -155,7 +214,8 @@ pub record SoFar {F : Type 0} (reads : F → List ℕ → Result ℕ Error → F
   pub comes : (rest : List ℕ) → identifiers_in (bytes ++ rest) ≡ come_to at rest
 
 -- at the beginning
-pub begins : {F : Type 0} (reads : F → List ℕ → Result ℕ Error → F → Type 0) (old : F) (first : Reading) → first ≡ record { number = 1; line = []; ids = [] } → SoFar reads old old first
+pub begins : {F : Type 0} (reads : F → List ℕ → Result ℕ Error → F → Type 0) (old : F) (first : Reading) → first ≡ record { number = 1; line = []; ids = [] }
+    → SoFar reads old old first
 begins reads old first is = record {
   bytes = [];
   pieces = [];
@@ -163,7 +223,8 @@ begins reads old first is = record {
   comes = λ rest. sym (ap (λ (at : Reading). come_to at rest) is ∙ behind_none (identifiers_in rest));
 }
 
-module _ {F : Type 0} (reads : F → List ℕ → Result ℕ Error → F → Type 0) (old mid new : F) (at : Reading) (block : List ℕ) (so : SoFar reads old mid at) (whole : length block ≡ 8192) where
+module _ {F : Type 0} (reads : F → List ℕ → Result ℕ Error → F → Type 0) (old mid new : F) (at : Reading) (block : List ℕ) (so : SoFar reads old mid at)
+    (whole : length block ≡ 8192) where
   -- what a read gave
   piece_of : (count : ℕ) → count ≤ length block → (count ≡ 0 → ⊥) → reads mid block (Ok count) new → GivesPiece reads 8192 mid (take count block) new
   piece_of count fits some read =
@@ -205,7 +266,8 @@ module _ {F : Type 0} (reads : F → List ℕ → Result ℕ Error → F → Typ
       }
 
       -- a piece ends it
-      pub piece_ends : (fault : FileFault) (answer : Result (Vec (String Global) Global) FileFault) → TakesBytes at piece after (Err fault) → IsErrAnd answer (λ y. y ≡ fault)
+      pub piece_ends : (fault : FileFault) (answer : Result (Vec (String Global) Global) FileFault) → TakesBytes at piece after (Err fault)
+          → IsErrAnd answer (λ y. y ≡ fault)
           → ReadsIdentifiers reads old new (texts_of answer)
       piece_ends fault (Ok ids) takes same = absurd same
       piece_ends fault (Err answer) takes same = subst (λ (f : FileFault). ReadsIdentifiers reads old new (Err f)) (sym same) (by fault takes)
@@ -238,7 +300,8 @@ module _ {F : Type 0} (reads : F → List ℕ → Result ℕ Error → F → Typ
   piece_fails error read = record { pieces = so.pieces; last = (mid, so.bytes); read = so.read; ends = (block, whole, read) }
 
 -- want of memory may come at any time
-pub breaks_off : {F : Type 0} (reads : F → List ℕ → Result ℕ Error → F → Type 0) (old mid new : F) (at : Reading) → SoFar reads old mid at → ReadsIdentifiers reads old new (Err file.Memory)
+pub breaks_off : {F : Type 0} (reads : F → List ℕ → Result ℕ Error → F → Type 0) (old mid new : F) (at : Reading) → SoFar reads old mid at
+    → ReadsIdentifiers reads old new (Err file.Memory)
 breaks_off reads old mid new at so = record { pieces = so.pieces; last = (mid, so.bytes); read = so.read; ends = tt }
 
 pub ruleset lines = (goes_on, ends_line, too_long, comes_to_none, comes_to_last, comes_to_fault)

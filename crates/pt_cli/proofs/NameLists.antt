@@ -1,5 +1,41 @@
 -- What an input comes to, as it is read byte by byte.
-use Rattle.std.proofs.Common.{◌≡◌, ◌≢◌, ◌∙◌, ◌+◌, ◌-◌, ◌<◌, ◌≤◌, ◌++◌, ◌∷◌, [], ℕ, Bool, true, false, List, length, take, Option, Some, None, Result, Ok, Err, ap, refl, sym, append_assoc, append-nil, subst, arith, zero, suc, length-append, length-take, get_or}
+use Rattle.std.proofs.Common.{
+  ◌≡◌,
+  ◌≢◌,
+  ◌∙◌,
+  ◌+◌,
+  ◌-◌,
+  ◌<◌,
+  ◌≤◌,
+  ◌++◌,
+  ◌∷◌,
+  [],
+  ℕ,
+  Bool,
+  true,
+  false,
+  List,
+  length,
+  take,
+  Option,
+  Some,
+  None,
+  Result,
+  Ok,
+  Err,
+  ap,
+  refl,
+  sym,
+  append_assoc,
+  append-nil,
+  subst,
+  arith,
+  zero,
+  suc,
+  length-append,
+  length-take,
+  get_or,
+}
 use Rattle.std.specs.Prelude.{◌==◌, nat_lt, cond}
 use Rattle.std.specs.Str.{is_utf8}
 use Rattle.std.proofs.lemmas.Bool.{eqb-true, lt-ltb, ltb-true}
@@ -200,11 +236,17 @@ module _ (asked : NamesArgs) where
       goes true long next =
           ap (λ (r : Result Fed Stopped). in_all (at_end asked r)) (stays (stopped_by at TooLong) bytes)
           ∙ ap (λ (l : List ℕ). record { text = l; bad = Some (record { number = at.number; fault = TooLong }) }) (sym (append-nil at.text))
-          ∙ sym (ap (behind at.text) (long_line at.number (at.line ++ byte ∷ []) bytes (omega (arith, length-append at.line (byte ∷ []), ltb-true 65536 (length at.line) long))))
+          ∙ sym (ap (behind at.text) (long_line at.number (at.line ++ byte ∷ []) bytes
+          (omega (arith, length-append at.line (byte ∷ []), ltb-true 65536 (length at.line) long))))
       goes false long next = next
 
       by : (c : Bool)
-          → in_all (at_end asked (fed asked (Ok (record { number = next_number at.number; line = []; text = at.text ++ names_line asked (strip_last 13 at.line) })) bytes))
+          → in_all (at_end asked (fed asked (Ok (record {
+            number = next_number at.number;
+            line = [];
+            text = at.text
+                ++ names_line asked (strip_last 13 at.line);
+          })) bytes))
           ≡ behind (at.text ++ names_line asked (strip_last 13 at.line)) (listed_from asked (next_number at.number) (lines_from [] bytes))
           → in_all (at_end asked (fed asked (Ok (record at { line = at.line ++ byte ∷ [] })) bytes))
           ≡ behind at.text (listed_from asked at.number (lines_from (at.line ++ byte ∷ []) bytes))
@@ -227,7 +269,8 @@ module _ (asked : NamesArgs) where
     where
       ends : (id : List ℕ) (fault : Option LineFault)
           → (fed asked (Ok (record { number = next_number at.number; line = []; text = at.text ++ names_line asked id })) bytes ≡ Ok now
-          → behind (at.text ++ names_line asked id) (listed_from asked (next_number at.number) (whole_lines_from [] bytes)) ≡ record { text = now.text; bad = None })
+          → behind (at.text ++ names_line asked id) (listed_from asked (next_number at.number) (whole_lines_from [] bytes))
+          ≡ record { text = now.text; bad = None })
           → fed asked (ended_by asked at id fault) bytes ≡ Ok now
           → behind at.text (listed_before asked at.number id fault (listed_from asked (next_number at.number) (whole_lines_from [] bytes)))
           ≡ record { text = now.text; bad = None }
@@ -247,11 +290,13 @@ module _ (asked : NamesArgs) where
 
       by : (c : Bool)
           → (fed asked (Ok (record { number = next_number at.number; line = []; text = at.text ++ names_line asked (strip_last 13 at.line) })) bytes ≡ Ok now
-          → behind (at.text ++ names_line asked (strip_last 13 at.line)) (listed_from asked (next_number at.number) (whole_lines_from [] bytes)) ≡ record { text = now.text; bad = None })
+          → behind (at.text ++ names_line asked (strip_last 13 at.line)) (listed_from asked (next_number at.number) (whole_lines_from [] bytes))
+          ≡ record { text = now.text; bad = None })
           → (fed asked (Ok (record at { line = at.line ++ byte ∷ [] })) bytes ≡ Ok now
           → behind at.text (listed_from asked at.number (whole_lines_from (at.line ++ byte ∷ []) bytes)) ≡ record { text = now.text; bad = None })
           → fed asked (cond c (ended asked at (strip_last 13 at.line)) (longer at byte)) bytes ≡ Ok now
-          → behind at.text (listed_from asked at.number (cond c (strip_last 13 at.line ∷ whole_lines_from [] bytes) (whole_lines_from (at.line ++ byte ∷ []) bytes)))
+          → behind at.text (listed_from asked at.number (cond c (strip_last 13 at.line ∷ whole_lines_from [] bytes)
+          (whole_lines_from (at.line ++ byte ∷ []) bytes)))
           ≡ record { text = now.text; bad = None }
       by true next more is = ends (strip_last 13 at.line) (line_fault (strip_last 13 at.line)) next is
       by false next more is = goes (nat_lt 65536 (length at.line)) more is

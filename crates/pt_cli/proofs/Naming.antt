@@ -1,5 +1,33 @@
 -- What is answered to texts of which one is no name.
-use Rattle.std.proofs.Common.{◌≡◌, ◌∙◌, ◌+◌, ◌++◌, ◌∷◌, [], ℕ, ◌<◌, Bool, true, false, List, length, get_or, map, take, inl, inr, Bor, Option, Some, Result, Ok, Err, ap, refl, sym}
+use Rattle.std.proofs.Common.{
+  ◌≡◌,
+  ◌∙◌,
+  ◌+◌,
+  ◌++◌,
+  ◌∷◌,
+  [],
+  ℕ,
+  ◌<◌,
+  Bool,
+  true,
+  false,
+  List,
+  length,
+  get_or,
+  map,
+  take,
+  inl,
+  inr,
+  Bor,
+  Option,
+  Some,
+  Result,
+  Ok,
+  Err,
+  ap,
+  refl,
+  sym,
+}
 use Rattle.std.specs.Prelude.{◌&&◌}
 use Rattle.std.proofs.lemmas.List.{map-append, take_more}
 use Rattle.std.specs.Result.{IsErrAnd}
@@ -34,13 +62,15 @@ name_refused texts i d e (Err y) P here told is = go (is_name (get_or texts i d)
 -- a text that is a name is one more of them
 pub name_added : (texts : List (Bor Text)) (i : ℕ) (d : Bor Text) (name : List ℕ) (names added : List Text) → i < length texts
     → Answers {T = List ℕ} (not_a_name (is_name (get_or texts i d).now)) fault.Memory (Ok name) (λ n. n ≡ (get_or texts i d).now)
-    → (names ≡ written (take i texts)) × (are_names names ≡ true) → added ≡ names ++ name ∷ [] → (added ≡ written (take (i + 1) texts)) × (are_names added ≡ true)
+    → (names ≡ written (take i texts)) × (are_names names ≡ true) → added ≡ names ++ name ∷ []
+    → (added ≡ written (take (i + 1) texts)) × (are_names added ≡ true)
 name_added texts i d name names added within told (so_far, all) is = go (is_name (get_or texts i d).now) refl told
   where
     both : (a b : Bool) → a ≡ true → b ≡ true → (a && (b && true)) ≡ true
     both a b x y = cc
 
-    go : (b : Bool) → is_name (get_or texts i d).now ≡ b → Answers {T = List ℕ} (not_a_name b) fault.Memory (Ok name) (λ n. n ≡ (get_or texts i d).now) → (added ≡ written (take (i + 1) texts)) × (are_names added ≡ true)
+    go : (b : Bool) → is_name (get_or texts i d).now ≡ b → Answers {T = List ℕ} (not_a_name b) fault.Memory (Ok name) (λ n. n ≡ (get_or texts i d).now)
+        → (added ≡ written (take (i + 1) texts)) × (are_names added ≡ true)
     go true named at = (
       is ∙ ap (λ (l : List Text). l ++ name ∷ []) so_far ∙ ap (λ (n : Text). written (take i texts) ++ n ∷ []) at
           ∙ sym (ap written (take_more texts i d within) ∙ map-append (λ (t : Bor Text). t.now) (take i texts) (get_or texts i d ∷ [])),

@@ -1,5 +1,28 @@
 -- From what the parser says of its error or its matches to what the words are answered.
-use Rattle.std.proofs.Common.{◌≡◌, ◌∙◌, inl, inr, Bool, List, [], ◌∷◌, Result, Ok, Err, Option, Some, None, if◌then◌else◌, option_map, refl, sym, ap, subst, true, false}
+use Rattle.std.proofs.Common.{
+  ◌≡◌,
+  ◌∙◌,
+  inl,
+  inr,
+  Bool,
+  List,
+  [],
+  ◌∷◌,
+  Result,
+  Ok,
+  Err,
+  Option,
+  Some,
+  None,
+  if◌then◌else◌,
+  option_map,
+  refl,
+  sym,
+  ap,
+  subst,
+  true,
+  false,
+}
 use Rattle.std.specs.Borrow.{Bor}
 use Rattle.std.specs.Str.{bytes_eq}
 use Rattle.std.specs.Prelude.{⊤, codes}

@@ -1,5 +1,35 @@
 -- The rows that a parser makes of words that it accepts: each value passed its option's parser.
-use Rattle.std.proofs.Common.{◌≡◌, ◌∙◌, ◌<◌, ◌&&◌, ◌||◌, ℕ, zero, suc, Bool, true, false, cond, not, nat_lt, List, [], ◌∷◌, ◌++◌, length, Option, Some, None, refl, sym, ap, subst, arith, ne_eqb, append-nil}
+use Rattle.std.proofs.Common.{
+  ◌≡◌,
+  ◌∙◌,
+  ◌<◌,
+  ◌&&◌,
+  ◌||◌,
+  ℕ,
+  zero,
+  suc,
+  Bool,
+  true,
+  false,
+  cond,
+  not,
+  nat_lt,
+  List,
+  [],
+  ◌∷◌,
+  ◌++◌,
+  length,
+  Option,
+  Some,
+  None,
+  refl,
+  sym,
+  ap,
+  subst,
+  arith,
+  ne_eqb,
+  append-nil,
+}
 use Rattle.std.specs.Prelude.{⊤, IfSome, drop, encode_utf8, is_some, slice_get}
 use Rattle.std.specs.List.{find, fold}
 use Rattle.std.specs.Option.{option_map_or}
@@ -10,8 +40,97 @@ use Rattle.clap.specs.Kinds.{or_else, range_kinds, request_kinds, value_kinds, v
 use Rattle.clap.specs.Values.{is_request}
 use Rattle.clap.specs.Facts.{parser_of_value, unwrap_or_range}
 use Rattle.clap.specs.Simple.{Shape}
-use Rattle.clap.specs.Walk.{Held, Names, Outcome, Step, Waiting, Walk, action_of, after_flag, after_step, arg_by_id, arg_by_index, arg_by_long, arg_by_short, at_row, attached_value, bundle, bundle_met, bundle_step, default_rows, done, flag_met, has_row, idle, is_empty, is_pending, long_met, long_or_other, more_values, most_values, next, option, option_met, option_word, plain, plain_word, positional, reacted, reading_by, refused, settled, settled_rows, short_met, short_or_plain, stronger, subcommand, subcommand_met, subcommand_or_other, takes_several, takes_values, to_positional, trailing, used, used_as, used_by_id, value, values_or_missing, waits, walked, walked_from, with_default, with_values, without, word_met}
-use Rattle.clap.specs.Faults.{action_fault, bundle_fault, bundle_step_fault, default_fault, defaults_fault, flag_word_fault, flags_fault, given_default_fault, long_fault, option_fault, other_fault, positional_fault, react_fault, repeat_fault, set_fault, stray_fault, settle_fault, short_fault, step_fault, turn_fault, use_fault, values_fault, walk_fault, word_fault}
+use Rattle.clap.specs.Walk.{
+  Held,
+  Names,
+  Outcome,
+  Step,
+  Waiting,
+  Walk,
+  action_of,
+  after_flag,
+  after_step,
+  arg_by_id,
+  arg_by_index,
+  arg_by_long,
+  arg_by_short,
+  at_row,
+  attached_value,
+  bundle,
+  bundle_met,
+  bundle_step,
+  default_rows,
+  done,
+  flag_met,
+  has_row,
+  idle,
+  is_empty,
+  is_pending,
+  long_met,
+  long_or_other,
+  more_values,
+  most_values,
+  next,
+  option,
+  option_met,
+  option_word,
+  plain,
+  plain_word,
+  positional,
+  reacted,
+  reading_by,
+  refused,
+  settled,
+  settled_rows,
+  short_met,
+  short_or_plain,
+  stronger,
+  subcommand,
+  subcommand_met,
+  subcommand_or_other,
+  takes_several,
+  takes_values,
+  to_positional,
+  trailing,
+  used,
+  used_as,
+  used_by_id,
+  value,
+  values_or_missing,
+  waits,
+  walked,
+  walked_from,
+  with_default,
+  with_values,
+  without,
+  word_met,
+}
+use Rattle.clap.specs.Faults.{
+  action_fault,
+  bundle_fault,
+  bundle_step_fault,
+  default_fault,
+  defaults_fault,
+  flag_word_fault,
+  flags_fault,
+  given_default_fault,
+  long_fault,
+  option_fault,
+  other_fault,
+  positional_fault,
+  react_fault,
+  repeat_fault,
+  set_fault,
+  stray_fault,
+  settle_fault,
+  short_fault,
+  step_fault,
+  turn_fault,
+  use_fault,
+  values_fault,
+  walk_fault,
+  word_fault,
+}
 use Rattle.clap.specs.declared.builder.action.ArgAction.{ArgAction}
 use Rattle.clap.specs.declared.builder.action.ArgAction.TheVariants as action
 use Rattle.clap.specs.declared.error.kind.ErrorKind.TheVariants as kind
@@ -132,7 +251,8 @@ module _ (c : List Rule) where
           (subst (λ o. IfSome o (λ b. Suits b more)) (sym found) suits, good.1)
       go false is later = (good.0, later)
 
-  some_value : (a : Rule) (values : List Text) → leaves_value a ≡ true → range_kinds (unwrap_or_range a.range).start_inclusive (most_values a) (length values) ≡ []
+  some_value : (a : Rule) (values : List Text) → leaves_value a ≡ true → range_kinds (unwrap_or_range a.range).start_inclusive (most_values a) (length values)
+      ≡ []
       → 0 < length (values_or_missing a values)
   some_value a (v ∷ vs) leaves e = omega arith
   some_value a [] leaves e = some_missing (unwrap_or_range a.range).start_inclusive (most_values a) a.missing leaves e
@@ -177,7 +297,8 @@ module _ (c : List Rule) where
     pub settled_good : (h : Held) → AllGood h.rows → settle_fault c again h ≡ [] → AllGood (settled c h).rows
     settled_good h good e = go h.pending e
       where
-        by_id : (o : Option Rule) (values : List Text) → IfSome o (Fits c) → option_map_or (λ a. use_fault again a values h.rows) o [] ≡ [] → AllGood (used_by_id o values h.rows)
+        by_id : (o : Option Rule) (values : List Text) → IfSome o (Fits c) → option_map_or (λ a. use_fault again a values h.rows) o [] ≡ []
+            → AllGood (used_by_id o values h.rows)
         by_id None values fits k = good
         by_id (Some a) values fits k = used_good a values h.rows fits good k
 
@@ -186,7 +307,8 @@ module _ (c : List Rule) where
         go None k = good
         go (Some p) k = by_id (arg_by_id c p.0) p.1 (find_if (Fits c) _ c fit) k
 
-    reacted_good : (a : Rule) (values : List Text) (h : Held) → Fits c a → AllGood h.rows → react_fault c again a values h ≡ [] → AllGood (reacted c a values h).rows
+    reacted_good : (a : Rule) (values : List Text) (h : Held) → Fits c a → AllGood h.rows → react_fault c again a values h ≡ []
+        → AllGood (reacted c a values h).rows
     reacted_good a values h fits good e =
         let parts = both_empty _ _ e in
         used_good a values (settled c h).rows fits (settled_good h good parts.0) parts.1
@@ -195,12 +317,14 @@ module _ (c : List Rule) where
     option_good a (Some v) h fits good e = reacted_good a (v ∷ []) h fits good e
     option_good a None h fits good e = settled_good h good e
 
-    flag_good : (a : Rule) (v : Option Text) (h : Held) → Fits c a → AllGood h.rows → cond (is_some v) (kind.TooManyValues ∷ []) (react_fault c again a [] h) ≡ []
+    flag_good : (a : Rule) (v : Option Text) (h : Held) → Fits c a → AllGood h.rows → cond (is_some v) (kind.TooManyValues ∷ []) (react_fault c again a [] h)
+        ≡ []
         → AllGood (flag_met c a v h).0.rows
     flag_good a (Some v) h fits good e = good
     flag_good a None h fits good e = reacted_good a [] h fits good e
 
-    long_good : (o : Option Rule) (v : Option Text) (h : Held) → IfSome o (Fits c) → AllGood h.rows → long_fault c again o v h ≡ [] → AllGood (long_met c o v h).0.rows
+    long_good : (o : Option Rule) (v : Option Text) (h : Held) → IfSome o (Fits c) → AllGood h.rows → long_fault c again o v h ≡ []
+        → AllGood (long_met c o v h).0.rows
     long_good None v h fits good e = good
     long_good (Some a) v h fits good e = go (takes_values a) e
       where
@@ -232,7 +356,8 @@ module _ (c : List Rule) where
     character_good k more None flags skip so_far h good e = good
     character_good k more (Some x) flags zero so_far h good e =
         let rest = drop (length (encode_utf8 x)) flags in
-        short_good (arg_by_short c x) rest h (bundle_met c k rest 0 done) (flags_fault c again k rest 0) (λ j. more rest 0 done j) (find_if (Fits c) _ c fit) good e
+        short_good (arg_by_short c x) rest h (bundle_met c k rest 0 done) (flags_fault c again k rest 0) (λ j. more rest 0 done j) (find_if (Fits c) _ c fit)
+        good e
     character_good k more (Some x) flags (suc skip) so_far h good e = more (drop (length (encode_utf8 x)) flags) skip so_far h good e
 
     bundle_good : (k : ℕ) → BundleGood k
@@ -280,7 +405,8 @@ module _ (c : List Rule) where
 -- ---- a level of the words
 
 module _ (s : Shape) (once : s.args_override_self ≡ false) (fit : Every (Fits s.rules) s.rules) (names : Names) where
-  word_good : (is_trailing : Bool) (waiting : Waiting) (position : ℕ) (word : Text) (h : Held) → AllGood s.rules h.rows → word_fault s names is_trailing waiting word h ≡ []
+  word_good : (is_trailing : Bool) (waiting : Waiting) (position : ℕ) (word : Text) (h : Held) → AllGood s.rules h.rows
+      → word_fault s names is_trailing waiting word h ≡ []
       → AllGood s.rules (word_met s.rules names is_trailing waiting position word h).0.rows
   word_good true waiting position word h good e = good
   word_good false waiting position word h good e = go (subcommand_met names waiting word) e
@@ -317,7 +443,8 @@ module _ (s : Shape) (once : s.args_override_self ≡ false) (fit : Every (Fits 
           let parts = both_empty _ _ k in
           after_good word w met.0 met.1 (word_good w.is_trailing w.waiting w.position word w.held good parts.0) parts.1
 
-  pub walk_good : (w : Walk) (words : List Text) → AllGood s.rules w.held.rows → walk_fault s names w words ≡ [] → AllGood s.rules (fold (walked s.rules names) w words).held.rows
+  pub walk_good : (w : Walk) (words : List Text) → AllGood s.rules w.held.rows → walk_fault s names w words ≡ []
+      → AllGood s.rules (fold (walked s.rules names) w words).held.rows
   unfolding walk_fault
   walk_good w [] good e = good
   walk_good w (word ∷ rest) good e =
@@ -342,7 +469,8 @@ module _ (c : List Rule) where
       go true is = good
       go false is = default_good a a.defaults rows fits good is (rw is at e)
 
-  pub defaults_good : (rules : List Rule) (rows : List Row) → Every (Fits c) rules → AllGood c rows → defaults_fault rows rules ≡ [] → AllGood c (fold with_default rows rules)
+  pub defaults_good : (rules : List Rule) (rows : List Row) → Every (Fits c) rules → AllGood c rows → defaults_fault rows rules ≡ []
+      → AllGood c (fold with_default rows rules)
   unfolding defaults_fault
   defaults_good [] rows fits good e = good
   defaults_good (a ∷ rest) rows fits good e =

@@ -1,5 +1,31 @@
 -- Where a parser accepts, each option that is required or has a default has a value.
-use Rattle.std.proofs.Common.{inl, inr, ◌≡◌, ◌∙◌, ◌<◌, ◌&&◌, ◌||◌, Bool, true, false, cond, not, List, [], ◌∷◌, ◌++◌, length, Some, None, refl, sym, ap, subst, arith, true≢false}
+use Rattle.std.proofs.Common.{
+  inl,
+  inr,
+  ◌≡◌,
+  ◌∙◌,
+  ◌<◌,
+  ◌&&◌,
+  ◌||◌,
+  Bool,
+  true,
+  false,
+  cond,
+  not,
+  List,
+  [],
+  ◌∷◌,
+  ◌++◌,
+  length,
+  Some,
+  None,
+  refl,
+  sym,
+  ap,
+  subst,
+  arith,
+  true≢false,
+}
 use Rattle.std.specs.Prelude.{◌⊎◌, IfSome, option_and_then, slice_get}
 use Rattle.std.specs.List.{find, fold, list_any}
 use Rattle.std.specs.Option.{option_map}
@@ -16,7 +42,22 @@ use Rattle.clap.specs.Facts.{parser_of_value}
 use Rattle.clap.specs.ValueTests.{accepts}
 use Rattle.clap.specs.Simple.{Shape}
 use Rattle.clap.specs.Takes.{is_given}
-use Rattle.clap.specs.Walk.{Names, arg_by_id, default_rows, has_row, is_empty, more_values, nothing_held, reading_by, row_text, rows_after, settled, walk_from, walked, with_default}
+use Rattle.clap.specs.Walk.{
+  Names,
+  arg_by_id,
+  default_rows,
+  has_row,
+  is_empty,
+  more_values,
+  nothing_held,
+  reading_by,
+  row_text,
+  rows_after,
+  settled,
+  walk_from,
+  walked,
+  with_default,
+}
 use Rattle.clap.specs.Faults.{check_fault, defaults_fault, level_fault, settle_fault, values_fault, walk_fault}
 use Rattle.clap.specs.declared.parser.matches.ValueSource.TheVariants.{DefaultValue}
 use Rattle.pt_cli.proofs.Passing.{AllGood, Every, Fits, Suits, absent, both_empty, defaults_good, neither, settled_good, walk_good}
@@ -70,7 +111,8 @@ default_there : (id : Text) (rules : List Rule) (rows : List Row) → has_defaul
 default_there id [] rows e = absurd (cc)
 default_there id (a ∷ rest) rows e = go (bytes_eq a.id id && not (is_empty a.defaults)) refl (default_there id rest (with_default rows a))
   where
-    go : (b : Bool) → (bytes_eq a.id id && not (is_empty a.defaults)) ≡ b → (has_default id rest ≡ true → has_row id (fold with_default (with_default rows a) rest) ≡ true)
+    go : (b : Bool) → (bytes_eq a.id id && not (is_empty a.defaults)) ≡ b
+        → (has_default id rest ≡ true → has_row id (fold with_default (with_default rows a) rest) ≡ true)
         → has_row id (fold with_default (with_default rows a) rest) ≡ true
     go true is more =
         let parts = both _ _ is in
@@ -81,7 +123,8 @@ default_there id (a ∷ rest) rows e = go (bytes_eq a.id id && not (is_empty a.d
 abbrev pub is_required : Text → List Rule → Bool
 is_required id = list_any (λ a. bytes_eq a.id id && a.required)
 
-required_given : (id : Text) (rows : List Row) (rules : List Rule) → list_any (λ a. a.required && not (is_given a.id rows)) rules ≡ false → is_required id rules ≡ true
+required_given : (id : Text) (rows : List Row) (rules : List Rule) → list_any (λ a. a.required && not (is_given a.id rows)) rules ≡ false
+    → is_required id rules ≡ true
     → is_given id rows ≡ true
 required_given id rows [] none e = absurd (cc)
 required_given id rows (a ∷ rest) none e = go (bytes_eq a.id id && a.required) refl (required_given id rows rest parts.1)
@@ -170,7 +213,8 @@ no_argument false true argument e = absurd (cc)
 no_argument false false true e = absurd (cc)
 no_argument false false false e = refl
 
-module _ (s : Shape) (once : s.args_override_self ≡ false) (fit : Every (Fits s.rules) s.rules) (names : Names) (words : List Text) (has_subcommand : Bool) (below : Kinds)
+module _ (s : Shape) (once : s.args_override_self ≡ false) (fit : Every (Fits s.rules) s.rules) (names : Names) (words : List Text) (has_subcommand : Bool)
+    (below : Kinds)
     (passes : level_fault s names nothing_held words has_subcommand below ≡ []) where
   pub walk_passed : (walk_fault s names (walk_from nothing_held) words ≡ []) × (below ≡ [])
   walk_passed =
@@ -192,7 +236,8 @@ module _ (s : Shape) (once : s.args_override_self ≡ false) (fit : Every (Fits 
       let settles = both_empty _ _ goes.1 in
       let end = (fold (walked s.rules names) (walk_from nothing_held) words).held in
       defaults_good s.rules s.rules (settled s.rules end).rows fit
-      (settled_good s.rules s.args_override_self once fit end (walk_good s once fit names (walk_from nothing_held) words tt walks.0) settles.0) (both_empty _ _ settles.1).0
+      (settled_good s.rules s.args_override_self once fit end (walk_good s once fit names (walk_from nothing_held) words tt walks.0) settles.0)
+      (both_empty _ _ settles.1).0
 
   -- an option with a default has a value
   pub default_value : (id : Text) (a : Rule) → arg_by_id s.rules id ≡ Some a → has_default id s.rules ≡ true → Value id a (rows_after s.rules names words)
@@ -201,7 +246,8 @@ module _ (s : Shape) (once : s.args_override_self ≡ false) (fit : Every (Fits 
       value_there s.rules id a is_rule _ level_good (default_there id s.rules (settled s.rules end).rows has)
 
   -- and one that is required
-  pub required_value : (id : Text) (a : Rule) → arg_by_id s.rules id ≡ Some a → is_required id s.rules ≡ true → (s.subcommand_negates_reqs && has_subcommand) ≡ false
+  pub required_value : (id : Text) (a : Rule) → arg_by_id s.rules id ≡ Some a → is_required id s.rules ≡ true
+      → (s.subcommand_negates_reqs && has_subcommand) ≡ false
       → Value id a (rows_after s.rules names words)
   required_value id a is_rule is wants =
       let none = no_argument _ _ _ check_passed in

@@ -1,5 +1,31 @@
 -- What the parser's texts are read as.
-use Rattle.std.proofs.Common.{◌≡◌, ℕ, ◌^◌, ◌&&◌, nat_lt, Bool, true, false, [], ◌∷◌, length, Option, Some, None, Result, Ok, Err, cond, refl, sym, ap, ◌∙◌, true≢false, lt-ltb, ltb-true}
+use Rattle.std.proofs.Common.{
+  ◌≡◌,
+  ℕ,
+  ◌^◌,
+  ◌&&◌,
+  nat_lt,
+  Bool,
+  true,
+  false,
+  [],
+  ◌∷◌,
+  length,
+  Option,
+  Some,
+  None,
+  Result,
+  Ok,
+  Err,
+  cond,
+  refl,
+  sym,
+  ap,
+  ◌∙◌,
+  true≢false,
+  lt-ltb,
+  ltb-true,
+}
 use Rattle.std.specs.Prelude.{⊤, option_and_then}
 use Rattle.std.specs.List.{list_all}
 use Rattle.std.specs.Result.{result_ok}
@@ -40,7 +66,8 @@ number_read G only text None h = go (is_u32 (without_leading_plus text)) refl
         absurd (only text (Err h.0) h.1 ((ltb-true _ _ inner.0, digits_from (without_leading_plus text) inner.1), ltb-true _ _ outer.1))
 
 -- the same, where there may be no text
-pub reads_one : (E : Type 0) (G : Text → Result ℕ E → Type 0) → ((u : Text) (x : Result ℕ E) → G u x → ParsesUnsigned 32 10 u x) → (o : Option Text) (r : Option ℕ)
+pub reads_one : (E : Type 0) (G : Text → Result ℕ E → Type 0) → ((u : Text) (x : Result ℕ E) → G u x → ParsesUnsigned 32 10 u x)
+    → (o : Option Text) (r : Option ℕ)
     → (o ≡ None → r ≡ None) → ((t : Text) → o ≡ Some t → ReadsOne G t r) → r ≡ option_and_then number_of o
 reads_one E G only None r none some = none refl
 reads_one E G only (Some text) r none some = number_read G only text r (some text refl)

@@ -1,5 +1,33 @@
 -- What was read of an input and written of it so far, and what that comes to.
-use Rattle.std.proofs.Common.{◌≡◌, ◌∙◌, ◌+◌, ◌++◌, ◌∷◌, [], ℕ, zero, suc, Bool, true, false, List, length, take, Option, Some, None, Result, Ok, Err, ap, refl, sym, subst, append_assoc, append-nil}
+use Rattle.std.proofs.Common.{
+  ◌≡◌,
+  ◌∙◌,
+  ◌+◌,
+  ◌++◌,
+  ◌∷◌,
+  [],
+  ℕ,
+  zero,
+  suc,
+  Bool,
+  true,
+  false,
+  List,
+  length,
+  take,
+  Option,
+  Some,
+  None,
+  Result,
+  Ok,
+  Err,
+  ap,
+  refl,
+  sym,
+  subst,
+  append_assoc,
+  append-nil,
+}
 use Rattle.std.specs.Prelude.{◌==◌, cond}
 use Rattle.std.specs.Result.{IsErrAnd}
 use Rattle.std.specs.Io.KnownBytes.{Appends, Consumes, IsAtEnd, Keeps}

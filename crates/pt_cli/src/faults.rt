@@ -58,8 +58,9 @@ pub enum WordsFault {
 }
 
 impl WordsFault {
-    /// The fault's number: 1 `Help`, 2 `Words`, 3 `Created`, 4 `EmptyName`, 5 `EmptyId`, 6 `Memory`, 7 `Tuples`,
-    /// 8 `Version`, 9 `Share`, 10 `Ignored`, 11 `EmptyEvent`, 12 `EmptyList`, 13 `EmptyDest`.
+    /// The fault's number: 1 `Help`, 2 `Words`, 3 `Created`, 4 `EmptyName`, 5 `EmptyId`, 6
+    /// `Memory`, 7 `Tuples`, 8 `Version`, 9 `Share`, 10 `Ignored`, 11 `EmptyEvent`, 12 `EmptyList`,
+    /// 13 `EmptyDest`.
     pub fn number(&self) -> u8
         ensures { result ≡ words_number self.now }
     {
@@ -107,8 +108,8 @@ pub(crate) fn refusal<S: AsStr>(alloc: Global, error: &Error, words: &[S]) -> Wo
     }
 }
 
-// Why what the parser found for the arguments is no command: `Missing`, where one isn't there that it sees to, and else as in
-// `WordsFault`.
+// Why what the parser found for the arguments is no command: `Missing`, where one isn't there that
+// it sees to, and else as in `WordsFault`.
 #[derive(Clone, Copy)]
 pub(crate) enum Unread {
     Missing,

@@ -1,4 +1,5 @@
-//! The words that say what is told beside the log: `--verbose`, `--quiet`, `--progress`, `--interval`, `--expect` and `--event`.
+//! The words that say what is told beside the log: `--verbose`, `--quiet`, `--progress`,
+//! `--interval`, `--expect` and `--event`.
 ghost use Rattle.std.specs.Prelude.{◌≡◌, IfOk, option_map};
 ghost use Rattle.clap.specs.Words.{found_of, rows_of};
 ghost use Rattle.pt_cli.specs.Arguments.{ReadsAs, path_only, progress_in, progress_of};

@@ -15,8 +15,9 @@ use clap::{Arg, ArgAction, Command as Parser, value_parser};
 use pt_host::VERSION;
 use std::alloc::{AllocError, Global};
 
-// An argument that a command takes: its id, how it is given, its line of `-h`, and what `--help` says where that is more. A line of help has at
-// most 100 characters: 71 of them are left for `help` with what `-h` puts behind it, and 90 for a line of `more`.
+// An argument that a command takes: its id, how it is given, its line of `-h`, and what `--help`
+// says where that is more. A line of help has at most 100 characters: 71 of them are left for
+// `help` with what `-h` puts behind it, and 90 for a line of `more`.
 pub(crate) struct ArgSpec {
     pub id: &'static str,
     pub form: Form,
@@ -128,7 +129,8 @@ fn check_parser<'a>(alloc: Global) -> Result<Parser<'a>, AllocError>
     with_help(alloc, CHECK, about, TROUBLES_AND_STATUS, CHECK_TAKES)
 }
 
-// The parser of a command that takes these, with what its help says before them, and `--help` also after them.
+// The parser of a command that takes these, with what its help says before them, and `--help` also
+// after them.
 fn with_help<'a>(
     alloc: Global,
     name: &'a str,

@@ -1,5 +1,5 @@
-//! What `--help` of a command says below its options, in lines of at most 100 characters: what its log tells, and what each exit status
-//! means.
+//! What `--help` of a command says below its options, in lines of at most 100 characters: what its
+//! log tells, and what each exit status means.
 
 // Of `migrate`.
 pub(crate) const LOG_AND_STATUS: &str =

@@ -1,4 +1,5 @@
-//! The hint that the parser gives at a word which it doesn't know, where that is meant as an option's value.
+//! The hint that the parser gives at a word which it doesn't know, where that is meant as an
+//! option's value.
 
 use crate::Text;
 use crate::grammar::takes_value;
@@ -9,8 +10,9 @@ use std::convert::AsStr;
 // What the parser's text begins with where it doesn't know a word, which stands behind it.
 const UNKNOWN: &str = "error: unexpected argument '";
 
-// The parser's text on these words, with the hint mended. The parser takes a word that begins with `-` for no value, and hints at `-- WORD`:
-// behind an option that would make it a folder or an identifier, and what is meant is `--OPTION=WORD`.
+// The parser's text on these words, with the hint mended. The parser takes a word that begins with
+// `-` for no value, and hints at `-- WORD`: behind an option that would make it a folder or an
+// identifier, and what is meant is `--OPTION=WORD`.
 pub(crate) fn mend_hint<S: AsStr>(
     alloc: Global,
     text: &str,
@@ -30,13 +32,15 @@ pub(crate) fn mend_hint<S: AsStr>(
     Text::of(alloc, mended.as_str())
 }
 
-// The word that the parser says it doesn't know, if it says that: of several letters behind a `-` the first that it doesn't know.
+// The word that the parser says it doesn't know, if it says that: of several letters behind a `-`
+// the first that it doesn't know.
 fn unknown_word(text: &str) -> Option<&str> {
     let (word, _) = text.strip_prefix(UNKNOWN)?.split_once("' found")?;
     Some(word)
 }
 
-// The first word that begins so and stands behind an option that has a value, with that option before it.
+// The first word that begins so and stands behind an option that has a value, with that option
+// before it.
 fn find_value<'w, S: AsStr>(words: &'w [S], shown: &str) -> Option<(&'w str, &'w str)> {
     let mut before = "";
     for word in words {

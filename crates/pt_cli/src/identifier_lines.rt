@@ -16,7 +16,8 @@ use std::marker::Model;
 // U+FEFF in UTF-8.
 const BYTE_ORDER_MARK: &[u8] = b"\xef\xbb\xbf";
 
-// Where the reading of lines stands: the number of the line at hand, what was read of it, and the identifiers before it.
+// Where the reading of lines stands: the number of the line at hand, what was read of it, and the
+// identifiers before it.
 #[derive(Drop)]
 struct LineReader {
     alloc: Global,
@@ -39,13 +40,16 @@ impl Model for LineReader {
     } };
 }
 
-/// The identifiers in the lines of a file, from where it stands to its end. Lines end as those of `names -`.
+/// The identifiers in the lines of a file, from where it stands to its end. Lines end as those of
+/// `names -`.
 ///
-/// `Line` at the first line that is no identifier, with its number: as there, or else as `ByteOrderMark`, where it is line 1 and begins so.
-/// Nothing is read behind the block in which that shows: a line is too long as soon as it is so whatever comes. `Read` where a read answers an
-/// error, with that. `Memory` where a growth was refused.
+/// `Line` at the first line that is no identifier, with its number: as there, or else as
+/// `ByteOrderMark`, where it is line 1 and begins so. Nothing is read behind the block in which
+/// that shows: a line is too long as soon as it is so whatever comes. `Read` where a read answers
+/// an error, with that. `Memory` where a growth was refused.
 ///
-/// Beside the identifiers, what is held doesn't grow with the file: it is a block, and of the line at hand at most 65,537 bytes.
+/// Beside the identifiers, what is held doesn't grow with the file: it is a block, and of the line
+/// at hand at most 65,537 bytes.
 pub fn read_identifiers<F: Input>(alloc: Global, file: &mut F) -> Result<Vec<String>, FileFault>
     ensures { ReadsIdentifiers F.reads file.old file.new (texts_of result) }
 {
@@ -109,7 +113,8 @@ impl LineReader {
         self.end_line()
     }
 
-    // Takes the end of the file: what stands behind its last LF is a line too, where it isn't empty.
+    // Takes the end of the file: what stands behind its last LF is a line too, where it isn't
+    // empty.
     fn finish(mut self) -> Result<Vec<String>, FileFault>
         ensures { TakesEnd self (texts_of result) }
     {
@@ -119,7 +124,8 @@ impl LineReader {
         Ok(self.ids)
     }
 
-    // Adds the line at hand to the identifiers, and goes on to the next; or refuses it, where it is none.
+    // Adds the line at hand to the identifiers, and goes on to the next; or refuses it, where it is
+    // none.
     fn end_line(&mut self) -> Result<(), FileFault>
         ensures { EndsLine self.old self.old.line self.new result }
     {

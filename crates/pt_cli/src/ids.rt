@@ -1,4 +1,5 @@
-// The words of the commands, and the ids of what they take: an option or a flag goes by its id, as `--id`.
+// The words of the commands, and the ids of what they take: an option or a flag goes by its id, as
+// `--id`.
 
 pub(crate) const NAMES: &str = "names";
 

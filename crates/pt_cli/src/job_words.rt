@@ -1,5 +1,5 @@
-//! The words that say what is carried, and where it comes to lie: `--digest`, `--tuple-size`, `--tuples`, `--gather`, `--share`,
-//! `--only`, and the two folders.
+//! The words that say what is carried, and where it comes to lie: `--digest`, `--tuple-size`,
+//! `--tuples`, `--gather`, `--share`, `--only`, and the two folders.
 ghost use Rattle.std.specs.Prelude.{◌≡◌, option_map};
 ghost use Rattle.clap.specs.Words.{found_of, rows_of};
 ghost use Rattle.pt_cli.specs.Arguments.{ReadsAs, algorithm_in, algorithm_of};
@@ -31,7 +31,8 @@ pub(crate) fn meta_of(
     Ok(Meta::of(alloc, created, name, address, message)?)
 }
 
-// The run whose versions are described so, with the greatest limits: refused as `Tuples`, and then as `Share`.
+// The run whose versions are described so, with the greatest limits: refused as `Tuples`, and then
+// as `Share`.
 pub(crate) fn job(alloc: Global, matches: &ArgMatches<'_>, meta: Meta) -> Result<Job, Unread>
     ensures { ReadsAs (job_in meta (rows_of (found_of matches.now))) result }
 {

@@ -19,7 +19,8 @@ pub enum LineFault {
     /// It isn't UTF-8.
     #[error("the identifier is not UTF-8")]
     NotUtf8,
-    /// Of a list: it is the first, and begins with U+FEFF, by which some editors mark a text as UTF-8.
+    /// Of a list: it is the first, and begins with U+FEFF, by which some editors mark a text as
+    /// UTF-8.
     #[error("it begins with a byte order mark")]
     ByteOrderMark,
 }

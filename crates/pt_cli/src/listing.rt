@@ -15,8 +15,9 @@ use pt_tree::MemoryFault;
 use std::alloc::{AllocGlobal, Global};
 use std::{fmt, io};
 
-// The job that takes the identifiers of the list in a file too, where one is named. Where the file can't be read, or a line is no identifier,
-// standard error is told why, and the answer is the status of that: 2, or 3 for want of memory.
+// The job that takes the identifiers of the list in a file too, where one is named. Where the file
+// can't be read, or a line is no identifier, standard error is told why, and the answer is the
+// status of that: 2, or 3 for want of memory.
 pub(crate) fn take_list<R: Reads + Eprint + AllocGlobal>(
     rt: &R,
     list: &Option<Text>,
@@ -44,7 +45,8 @@ fn read_list<R: Reads + AllocGlobal>(rt: &R, path: &str) -> Result<Vec<String>, 
     }
 }
 
-// The job that takes these identifiers too; or the status of want of memory, of which standard error is told.
+// The job that takes these identifiers too; or the status of want of memory, of which standard
+// error is told.
 fn take_identifiers<R: Eprint + AllocGlobal>(
     rt: &R,
     path: &str,

@@ -18,7 +18,8 @@ pub(crate) const LONGEST: usize = 65_536;
 // How many bytes are read at a time.
 const PIECE: usize = 65_536;
 
-// Where the naming of an input's lines stands: the number of the line at hand, what was read of it, and what isn't written yet.
+// Where the naming of an input's lines stands: the number of the line at hand, what was read of it,
+// and what isn't written yet.
 #[derive(Drop)]
 struct NameLister {
     alloc: Global,
@@ -35,16 +36,20 @@ impl Model for NameLister {
     ghost view = { λ l. record { number = l.number; line = l.line.items; text = l.text.items } };
 }
 
-/// Writes for each line of an input the pairpath of the identifier in it, a tab, and its place, that of the prefix with it
-/// behind, LF. A line ends with LF or CR LF; what stands behind the last LF is a line too, where it isn't empty.
+/// Writes for each line of an input the pairpath of the identifier in it, a tab, and its place,
+/// that of the prefix with it behind, LF. A line ends with LF or CR LF; what stands behind the last
+/// LF is a line too, where it isn't empty.
 ///
-/// `Line` at the first line that is no identifier, with its number: as `TooLong` where it has more than 65,536 bytes, else as `Empty`,
-/// else as `NotUtf8`. The names of all lines before it were written. `Read` where the input answers an error: each whole line before it is
-/// an identifier, and their names were. `Write` where the output answers an error, or takes nothing of a piece that isn't empty: a front of
-/// the names was. `Memory` where a growth was refused: the names of the whole lines in a front of the input were, each an identifier.
+/// `Line` at the first line that is no identifier, with its number: as `TooLong` where it has more
+/// than 65,536 bytes, else as `Empty`, else as `NotUtf8`. The names of all lines before it were
+/// written. `Read` where the input answers an error: each whole line before it is an identifier,
+/// and their names were. `Write` where the output answers an error, or takes nothing of a piece
+/// that isn't empty: a front of the names was. `Memory` where a growth was refused: the names of
+/// the whole lines in a front of the input were, each an identifier.
 ///
-/// What is held doesn't grow with the input: it is read in pieces of at most 65,536 bytes, and the names of the lines that end in one
-/// are written before the next is read. Line numbers stop at 2^64 - 1.
+/// What is held doesn't grow with the input: it is read in pieces of at most 65,536 bytes, and the
+/// names of the lines that end in one are written before the next is read. Line numbers stop at
+/// 2^64 - 1.
 pub fn list_names<I: Read, W: Write>(
     alloc: Global,
     asked: &NamesArgs,
@@ -101,7 +106,8 @@ impl NameLister {
         taken
     }
 
-    // Takes the end of the input: what stands behind its last LF is a line too, if there is something.
+    // Takes the end of the input: what stands behind its last LF is a line too, if there is
+    // something.
     fn finish<W: Write>(&mut self, asked: &NamesArgs, out: &mut W) -> Result<(), ListFault>
         ensures { IsPut (finished asked.now self.old) self.new
             (W.contents out.old) (W.contents out.new) result }

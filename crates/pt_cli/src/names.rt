@@ -46,12 +46,14 @@ impl From<MemoryFault> for NamesFault {
     }
 }
 
-/// Writes the pairpath of an identifier by Pairtree 0.1, LF, the place of a prefix with the identifier behind in a layout of
-/// extension 0003-hash-and-id-n-tuple-storage-layout, LF; then flushes.
+/// Writes the pairpath of an identifier by Pairtree 0.1, LF, the place of a prefix with the
+/// identifier behind in a layout of extension 0003-hash-and-id-n-tuple-storage-layout, LF; then
+/// flushes.
 ///
-/// `Empty` for the empty identifier, which is tested first. `Memory` where a growth was refused, before anything is
-/// written. `Write` where the output answers an error, or takes nothing of a piece that isn't empty: a front of the
-/// two lines was written then. After the other refusals nothing was.
+/// `Empty` for the empty identifier, which is tested first. `Memory` where a growth was refused,
+/// before anything is written. `Write` where the output answers an error, or takes nothing of a
+/// piece that isn't empty: a front of the two lines was written then. After the other refusals
+/// nothing was.
 pub fn names_to<W: Write>(
     alloc: Global,
     layout: &Layout,

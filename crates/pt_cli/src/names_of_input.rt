@@ -20,7 +20,8 @@ pub(crate) fn is_of_input(asked: &NamesArgs) -> bool
     asked.id.as_str() == INPUT
 }
 
-// Writes the names of the identifiers on the machine's input to its output, and gives the status of that.
+// Writes the names of the identifiers on the machine's input to its output, and gives the status of
+// that.
 pub(crate) fn write_names_of_input<R, H>(rt: &R, host: &mut H, asked: &NamesArgs) -> u8
 where
     R: Eprint + AllocGlobal,

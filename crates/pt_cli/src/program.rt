@@ -26,11 +26,13 @@ use std::io;
 use std::process::ExitCode;
 use std::rt::Clock;
 
-/// Runs the program on the words that it was started with, on a machine, and gives its exit status: 0 the names were written, all was
-/// carried, each object stands, nothing was told of a store, or help or the version was asked for; 1 a run, an audit or a check ended
-/// whose log has other lines; 2 the words or a line of the input were refused, or the folders lie in one another, or the destination is
-/// a storage root itself, or the file of an event may not be made there; 3 a fault of the run, a destination that another run has, an
-/// output or an event's file that failed, or want of memory.
+/// Runs the program on the words that it was started with, on a machine, and gives its exit status:
+/// 0 the names were written, all was carried, each object stands, nothing was told of a store, or
+/// help or the version was asked for; 1 a run, an audit or a check ended whose log has other lines;
+/// 2 the words or a line of the input were refused, or the folders lie in one another, or the
+/// destination is a storage root itself, or the file of an event may not be made there; 3 a fault
+/// of the run, a destination that another run has, an output or an event's file that failed, or
+/// want of memory.
 ///
 /// What the words lead to is said at `answer`.
 pub fn run<R, H: Host + HasInput>(rt: &R, host: &mut H) -> ExitCode
@@ -69,12 +71,14 @@ fn wordless(rt: &impl Eprint, error: &io::Error) -> u8
     }
 }
 
-/// Does on a machine what words ask for, of which the first is the program's name, and gives the status.
+/// Does on a machine what words ask for, of which the first is the program's name, and gives the
+/// status.
 ///
-/// The words of `names` lead to the call that writes the two names to the machine's output, or, with `-` for the identifier, to the one that
-/// writes the names of the identifiers on the machine's input; those of `migrate` to the run that they ask for; those of `audit` to the
-/// audit; those of `check` to the check; those that ask for help or the version to the writing of that; and all others ask nothing of
-/// the machine.
+/// The words of `names` lead to the call that writes the two names to the machine's output, or,
+/// with `-` for the identifier, to the one that writes the names of the identifiers on the
+/// machine's input; those of `migrate` to the run that they ask for; those of `audit` to the audit;
+/// those of `check` to the check; those that ask for help or the version to the writing of that;
+/// and all others ask nothing of the machine.
 pub fn answer<R, H: Host + HasInput>(rt: &R, host: &mut H, words: &[String]) -> u8
 where
     R: Reads + Clock + Eprint + AllocGlobal + Terminals,

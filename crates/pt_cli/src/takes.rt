@@ -1,4 +1,5 @@
-//! What each command takes: a row for each argument. `tools/fill.py` makes the man page and the completions of these rows.
+//! What each command takes: a row for each argument. `tools/fill.py` makes the man page and the
+//! completions of these rows.
 
 use crate::grammar::{ArgSpec, Form};
 use crate::ids::{

@@ -19,14 +19,17 @@ use std::convert::AsStr;
 
 /// Reads the words of a command line, of which the first is the program's name.
 ///
-/// Refused as `Help` where the parser was asked for help, as `Version` where for the version, and as `Words` where it refuses
-/// the words otherwise. Then for `names` as `EmptyId`, where the identifier is empty, and as `Tuples`. For `audit` as `Tuples`, `Share`,
-/// `Ignored`, `EmptyEvent` and `EmptyList`, as below, and for `check` as `Tuples`, `Ignored` and `EmptyDest`, where `--dest` is the empty
-/// text. For `migrate`, in this order, as `Created`, where `--created` isn't a moment of RFC 3339 to the second; as `EmptyName`, where
-/// `--name` is empty; as `Tuples`, where `--tuple-size` and `--tuples` aren't a layout of extension
-/// 0003-hash-and-id-n-tuple-storage-layout; as `Share`, where `--share` isn't `K/N` with a share's two numbers; as `Ignored`, where
-/// `--ignore` isn't a name that an entry may have; as `EmptyEvent` and as `EmptyList`, where `--event` or `--list` is the empty text. As
-/// `Memory` where a growth was refused.
+/// Refused as `Help` where the parser was asked for help, as `Version` where for the version, and
+/// as `Words` where it refuses the words otherwise. Then for `names` as `EmptyId`, where the
+/// identifier is empty, and as `Tuples`. For `audit` as `Tuples`, `Share`, `Ignored`, `EmptyEvent`
+/// and `EmptyList`, as below, and for `check` as `Tuples`, `Ignored` and `EmptyDest`, where
+/// `--dest` is the empty text. For `migrate`, in this order, as `Created`, where `--created` isn't
+/// a moment of RFC 3339 to the second; as `EmptyName`, where `--name` is empty; as `Tuples`, where
+/// `--tuple-size` and `--tuples` aren't a layout of extension
+/// 0003-hash-and-id-n-tuple-storage-layout; as `Share`, where `--share` isn't `K/N` with a share's
+/// two numbers; as `Ignored`, where `--ignore` isn't a name that an entry may have; as `EmptyEvent`
+/// and as `EmptyList`, where `--event` or `--list` is the empty text. As `Memory` where a growth
+/// was refused.
 pub fn read_words<S: AsStr>(alloc: Global, words: &[S]) -> Result<Command, WordsFault>
     ensures { ReadsWords (map S.text words.now) result }
 {
@@ -36,7 +39,8 @@ pub fn read_words<S: AsStr>(alloc: Global, words: &[S]) -> Result<Command, Words
     }
 }
 
-// The command that words which the parser accepts ask for: it leaves nothing out that has to be there.
+// The command that words which the parser accepts ask for: it leaves nothing out that has to be
+// there.
 fn command(alloc: Global, matches: &ArgMatches<'_>) -> Result<Command, WordsFault>
     requires { IsThere (answer_to (subcommand_rows_of matches.now)) }
     ensures { Answers [] (subcommand_rows_of matches.now) result }

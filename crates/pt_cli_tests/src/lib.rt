@@ -1,5 +1,5 @@
-//! Tests of the command by its public calls: how its words are read or refused, and what `names` writes, also of many lines. No code of the
-//! program stands on this crate.
+//! Tests of the command by its public calls: how its words are read or refused, and what `names`
+//! writes, also of many lines. No code of the program stands on this crate.
 #![tactic(auto)]
 
 #[cfg(test)]

@@ -1,4 +1,5 @@
-//! What the names of the lines of an input are, and the identifiers in the lines of a file, also of those that fail.
+//! What the names of the lines of an input are, and the identifiers in the lines of a file, also of
+//! those that fail.
 use pt_cli::{
     BadLine, FileFault, LineFault, ListFault, NamesArgs, Text, list_names, read_identifiers,
 };

@@ -6,7 +6,8 @@ use std::io;
 use std::io::Write;
 use std::test::Fail;
 
-// A writer that takes so many bytes at a time and so many in all, and then fails; its flush may fail too.
+// A writer that takes so many bytes at a time and so many in all, and then fails; its flush may
+// fail too.
 struct Limited {
     bytes: Vec<u8>,
     at_a_time: usize,

@@ -1,4 +1,5 @@
-//! Words of a command line: the commands that are read of them, and the fault as which they are refused.
+//! Words of a command line: the commands that are read of them, and the fault as which they are
+//! refused.
 use pt_cli::{Audit, CheckArgs, Command, Migrate, NamesArgs, Text, WordsFault, read_words};
 use pt_name::Layout;
 use pt_object::{Algorithm, Meta};
@@ -12,9 +13,11 @@ pub(crate) enum Reading {
     Names,
     // The migration that the row has.
     Migration(&'static Row),
-    // An audit of what was gathered, by SHA-256 and two tuples of three digits, with its event and extras.
+    // An audit of what was gathered, by SHA-256 and two tuples of three digits, with its event and
+    // extras.
     Audit,
-    // A check that reads each file, of all entries but those with one name, for a run into D with four tuples of two digits.
+    // A check that reads each file, of all entries but those with one name, for a run into D with
+    // four tuples of two digits.
     Check,
     // The fault of this number; 0 where it is a migration.
     Fault(u8),

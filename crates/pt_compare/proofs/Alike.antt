@@ -35,7 +35,8 @@ behind_same a x y = on (bytes_eq x y) refl (bytes_eq (a ++ x) (a ++ y)) refl
     on true is false are = absurd (other_text (a ++ x) (a ++ y) (sym are) (ap (λ (l : List ℕ). a ++ l) (same_text x y (sym is))))
     on false is true are = absurd (other_text x y (sym is) (append_cancel_left a x y (same_text (a ++ x) (a ++ y) (sym are))))
 
-pub so_far_next : (s r now_s now_r new_s new_r : Option Reading) (block other : List ℕ) → SoFar s r now_s now_r → IsRead now_s block → IsRead now_r other → new_s ≡ option_map after_next now_s → new_r ≡ option_map after_next now_r → other ≡ block → SoFar s r new_s new_r
+pub so_far_next : (s r now_s now_r new_s new_r : Option Reading) (block other : List ℕ) → SoFar s r now_s now_r → IsRead now_s block → IsRead now_r other
+    → new_s ≡ option_map after_next now_s → new_r ≡ option_map after_next now_r → other ≡ block → SoFar s r new_s new_r
 unfolding SoFar
 so_far_next s r now_s now_r new_s new_r block other so_far read_s read_r moved_s moved_r alike = λ x is y are.
     let p = so_far x is y are in
@@ -51,7 +52,8 @@ so_far_next s r now_s now_r new_s new_r block other so_far read_s read_r moved_s
       same = p.same ∙ (λ i. bytes_eq (b_is i) (a_is i)) ∙ behind_same block (drop 8192 p.b) (drop 8192 p.a);
     }
 
-pub so_far_differ : (s r now_s now_r : Option Reading) (block other : List ℕ) → SoFar s r now_s now_r → IsRead now_s block → IsRead now_r other → other ≢ block → TellsAlike s r false
+pub so_far_differ : (s r now_s now_r : Option Reading) (block other : List ℕ) → SoFar s r now_s now_r → IsRead now_s block → IsRead now_r other → other ≢ block
+    → TellsAlike s r false
 unfolding SoFar TellsAlike
 so_far_differ s r now_s now_r block other so_far read_s read_r differ = λ x is y are.
     let p = so_far x is y are in
@@ -61,7 +63,8 @@ so_far_differ s r now_s now_r block other so_far read_s read_r differ = λ x is 
     on b a front_b front_a false is = refl
     on b a front_b front_a true is = absurd (differ (sym front_b ∙ ap (take 8192) (same_text b a (sym is)) ∙ front_a))
 
-pub so_far_end : (s r now_s now_r : Option Reading) (block other : List ℕ) → SoFar s r now_s now_r → IsRead now_s block → IsRead now_r other → other ≡ block → true ≡ (length block == 0) → TellsAlike s r true
+pub so_far_end : (s r now_s now_r : Option Reading) (block other : List ℕ) → SoFar s r now_s now_r → IsRead now_s block → IsRead now_r other → other ≡ block
+    → true ≡ (length block == 0) → TellsAlike s r true
 unfolding SoFar TellsAlike
 so_far_end s r now_s now_r block other so_far read_s read_r alike ends = λ x is y are.
     let p = so_far x is y are in

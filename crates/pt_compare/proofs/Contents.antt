@@ -44,12 +44,16 @@ module _ (f g : Path → Bool) (c : List ℕ) where
       ≡ map MakeFolder (filter (λ folder. not (g folder)) (map (λ x. version_folder ++ c ∷ x) xs))
   folders_same [] all = refl
   folders_same (x ∷ xs) all =
-      by (f (c ∷ x)) (g (version_folder ++ c ∷ x)) (All-head (λ x. f (c ∷ x) ≡ g (version_folder ++ c ∷ x)) x xs all) (folders_same xs (All-tail (λ x. f (c ∷ x) ≡ g (version_folder ++ c ∷ x)) x xs all))
+      by (f (c ∷ x)) (g (version_folder ++ c ∷ x)) (All-head (λ x. f (c ∷ x) ≡ g (version_folder ++ c ∷ x)) x xs all)
+      (folders_same xs (All-tail (λ x. f (c ∷ x) ≡ g (version_folder ++ c ∷ x)) x xs all))
     where
       by : (a b : Bool) → a ≡ b
-          → map (item_in version_folder) (map MakeFolder (filter (λ folder. not (f folder)) (map (λ front. c ∷ front) xs))) ≡ map MakeFolder (filter (λ folder. not (g folder)) (map (λ x. version_folder ++ c ∷ x) xs))
-          → map (item_in version_folder) (map MakeFolder (cond (not a) ((c ∷ x) ∷ filter (λ folder. not (f folder)) (map (λ front. c ∷ front) xs)) (filter (λ folder. not (f folder)) (map (λ front. c ∷ front) xs))))
-          ≡ map MakeFolder (cond (not b) ((version_folder ++ c ∷ x) ∷ filter (λ folder. not (g folder)) (map (λ x. version_folder ++ c ∷ x) xs)) (filter (λ folder. not (g folder)) (map (λ x. version_folder ++ c ∷ x) xs)))
+          → map (item_in version_folder) (map MakeFolder (filter (λ folder. not (f folder)) (map (λ front. c ∷ front) xs)))
+          ≡ map MakeFolder (filter (λ folder. not (g folder)) (map (λ x. version_folder ++ c ∷ x) xs))
+          → map (item_in version_folder) (map MakeFolder (cond (not a) ((c ∷ x) ∷ filter (λ folder. not (f folder)) (map (λ front. c ∷ front) xs))
+          (filter (λ folder. not (f folder)) (map (λ front. c ∷ front) xs))))
+          ≡ map MakeFolder (cond (not b) ((version_folder ++ c ∷ x) ∷ filter (λ folder. not (g folder)) (map (λ x. version_folder ++ c ∷ x) xs))
+          (filter (λ folder. not (g folder)) (map (λ x. version_folder ++ c ∷ x) xs)))
       by true true same later = later
       by true false same later = absurd (cc)
       by false true same later = absurd (cc)
@@ -57,12 +61,15 @@ module _ (f g : Path → Bool) (c : List ℕ) where
 
 -- ---- one file
 
-one_file : (earlier : List File) (last : Option Path) (file : File) → All (λ x. leads_to earlier (codes "content" ∷ x) ≡ leads_to_last last (in_content x)) (fronts file.0)
+one_file : (earlier : List File) (last : Option Path) (file : File) → All (λ x. leads_to earlier (codes "content" ∷ x) ≡ leads_to_last last (in_content x))
+    (fronts file.0)
     → map (item_in version_folder) (file_items earlier (content_file file)) ≡ way_items last (fronts file.0) ++ MakeFile (in_content file.0) file.1 ∷ []
 one_file earlier last file agrees =
-    map-append (item_in version_folder) (map MakeFolder (filter (λ folder. not (leads_to earlier folder)) (folders_above (codes "content" ∷ file.0)))) (MakeFile (codes "content" ∷ file.0) file.1 ∷ [])
+    map-append (item_in version_folder) (map MakeFolder (filter (λ folder. not (leads_to earlier folder)) (folders_above (codes "content" ∷ file.0))))
+    (MakeFile (codes "content" ∷ file.0) file.1 ∷ [])
     ∙ ap (λ (l : List Item). l ++ MakeFile (in_content file.0) file.1 ∷ [])
-    (ap (λ (l : List Path). map (item_in version_folder) (map MakeFolder (filter (λ folder. not (leads_to earlier folder)) l))) (above_is (codes "content") file.0)
+    (ap (λ (l : List Path). map (item_in version_folder) (map MakeFolder (filter (λ folder. not (leads_to earlier folder)) l)))
+    (above_is (codes "content") file.0)
     ∙ folders_same (leads_to earlier) (leads_to_last last) (codes "content") (fronts file.0) agrees)
 
 agrees_first : (p : Path) → All (λ x. leads_to [] (codes "content" ∷ x) ≡ leads_to_last None (in_content x)) (fronts p)
@@ -82,7 +89,8 @@ order_front : (xs ys : List Path) → part_in_order (xs ++ ys) ≡ true → part
 order_front [] ys h = refl
 order_front (x ∷ xs) ys h = let parts = and_parts _ _ h in and_from _ _ (all_front (parts_before x) xs ys parts.0) (order_front xs ys parts.1)
 
-all_below : (p : Path) (files : List File) → list_all (parts_before (codes "content" ∷ p)) (paths_of (map content_file files)) ≡ list_all (parts_before p) (paths_of files)
+all_below : (p : Path) (files : List File) → list_all (parts_before (codes "content" ∷ p)) (paths_of (map content_file files))
+    ≡ list_all (parts_before p) (paths_of files)
 all_below p [] = refl
 all_below p (f ∷ files) = ap (λ b. parts_before p f.0 && b) (all_below p files)
 
@@ -91,31 +99,36 @@ order_below [] = refl
 order_below (f ∷ files) = λ i. all_below f.0 files i && order_below files i
 
 -- up to a file and the one after it
-two_more : (e : List File) (l f : File) (files : List File) → part_in_order (paths_of (e ++ l ∷ f ∷ files)) ≡ true → part_in_order (paths_of (map content_file e ++ content_file l ∷ content_file f ∷ [])) ≡ true
+two_more : (e : List File) (l f : File) (files : List File) → part_in_order (paths_of (e ++ l ∷ f ∷ files)) ≡ true
+    → part_in_order (paths_of (map content_file e ++ content_file l ∷ content_file f ∷ [])) ≡ true
 two_more e l f files h =
     let whole : paths_of (e ++ l ∷ f ∷ files) ≡ paths_of (e ++ l ∷ f ∷ []) ++ paths_of files =
     ap paths_of (sym (append_assoc e (l ∷ f ∷ []) files)) ∙ map-append (λ (file : File). file.0) (e ++ l ∷ f ∷ []) files in
-    let first : part_in_order (paths_of (e ++ l ∷ f ∷ [])) ≡ true = order_front (paths_of (e ++ l ∷ f ∷ [])) (paths_of files) (ap part_in_order (sym whole) ∙ h) in
+    let first : part_in_order (paths_of (e ++ l ∷ f ∷ [])) ≡ true = order_front (paths_of (e ++ l ∷ f ∷ [])) (paths_of files) (ap part_in_order (sym whole) ∙ h)
+    in
     ap (λ (l : List File). part_in_order (paths_of l)) (sym (map-append content_file e (l ∷ f ∷ []))) ∙ order_below (e ++ l ∷ f ∷ []) ∙ first
 
 agrees_later : (e : List File) (l f : File) (files : List File) → part_in_order (paths_of (e ++ l ∷ f ∷ files)) ≡ true
     → All (λ x. leads_to (map content_file (e ++ l ∷ [])) (codes "content" ∷ x) ≡ leads_to_last (Some (in_content l.0)) (in_content x)) (fronts f.0)
 agrees_later e l f files h = each (fronts f.0) (front_leads f.0)
   where
-    one : (x : Path) → is_some (rest_below x f.0) ≡ true → leads_to (map content_file (e ++ l ∷ [])) (codes "content" ∷ x) ≡ leads_to_last (Some (in_content l.0)) (in_content x)
+    one : (x : Path) → is_some (rest_below x f.0) ≡ true → leads_to (map content_file (e ++ l ∷ [])) (codes "content" ∷ x)
+        ≡ leads_to_last (Some (in_content l.0)) (in_content x)
     one x leads =
         ap (λ (l : List File). leads_to l (codes "content" ∷ x)) (map-append content_file e (l ∷ []))
         ∙ last_file_tells_folders (map content_file e) (content_file l) (content_file f) (codes "content" ∷ x) (two_more e l f files h) leads
         ∙ sym (leads-below version_folder (codes "content" ∷ x) (codes "content" ∷ l.0))
 
-    each : (xs : List Path) → All (λ x. is_some (rest_below x f.0) ≡ true) xs → All (λ x. leads_to (map content_file (e ++ l ∷ [])) (codes "content" ∷ x) ≡ leads_to_last (Some (in_content l.0)) (in_content x)) xs
+    each : (xs : List Path) → All (λ x. is_some (rest_below x f.0) ≡ true) xs
+        → All (λ x. leads_to (map content_file (e ++ l ∷ [])) (codes "content" ∷ x) ≡ leads_to_last (Some (in_content l.0)) (in_content x)) xs
     each [] all = All-nil (λ x. leads_to (map content_file (e ++ l ∷ [])) (codes "content" ∷ x) ≡ leads_to_last (Some (in_content l.0)) (in_content x))
     each (x ∷ xs) all =
         All-cons (λ x. leads_to (map content_file (e ++ l ∷ [])) (codes "content" ∷ x) ≡ leads_to_last (Some (in_content l.0)) (in_content x)) x xs
         (one x (All-head (λ x. is_some (rest_below x f.0) ≡ true) x xs all)) (each xs (All-tail (λ x. is_some (rest_below x f.0) ≡ true) x xs all))
 
 -- one more file, before the others
-then_files : (earlier : List File) (last : Option Path) (file : File) (files : List File) → All (λ x. leads_to earlier (codes "content" ∷ x) ≡ leads_to_last last (in_content x)) (fronts file.0)
+then_files : (earlier : List File) (last : Option Path) (file : File) (files : List File)
+    → All (λ x. leads_to earlier (codes "content" ∷ x) ≡ leads_to_last last (in_content x)) (fronts file.0)
     → map (item_in version_folder) (files_items (earlier ++ content_file file ∷ []) (map content_file files)) ≡ content_items (Some (in_content file.0)) files
     → map (item_in version_folder) (files_items earlier (map content_file (file ∷ files))) ≡ content_items last (file ∷ files)
 then_files earlier last file files agrees later =
@@ -123,7 +136,8 @@ then_files earlier last file files agrees later =
     ∙ (λ i. one_file earlier last file agrees i ++ later i)
     ∙ append_assoc (way_items last (fronts file.0)) (MakeFile (in_content file.0) file.1 ∷ []) (content_items (Some (in_content file.0)) files)
 
-files_later : (e : List File) (l : File) (files : List File) → part_in_order (paths_of (e ++ l ∷ files)) ≡ true → map (item_in version_folder) (files_items (map content_file (e ++ l ∷ [])) (map content_file files)) ≡ content_items (Some (in_content l.0)) files
+files_later : (e : List File) (l : File) (files : List File) → part_in_order (paths_of (e ++ l ∷ files)) ≡ true
+    → map (item_in version_folder) (files_items (map content_file (e ++ l ∷ [])) (map content_file files)) ≡ content_items (Some (in_content l.0)) files
 files_later e l [] h = refl
 files_later e l (f ∷ files) h =
     then_files (map content_file (e ++ l ∷ [])) (Some (in_content l.0)) f files (agrees_later e l f files h)
@@ -131,10 +145,13 @@ files_later e l (f ∷ files) h =
     ∙ files_later (e ++ l ∷ []) f files (ap (λ (l : List File). part_in_order (paths_of l)) (append_assoc e (l ∷ []) (f ∷ files)) ∙ h))
 
 -- the contents of an object are its stored files, each with the new folders on the way
-pub contents_are : (files : List File) → part_in_order (paths_of files) ≡ true → map (item_in version_folder) (files_items [] (map content_file files)) ≡ content_items None files
+pub contents_are : (files : List File) → part_in_order (paths_of files) ≡ true → map (item_in version_folder) (files_items [] (map content_file files))
+    ≡ content_items None files
 contents_are [] h = refl
 contents_are (f ∷ files) h = then_files [] None f files (agrees_first f.0) (files_later [] f files h)
 
 -- all items of an object
-pub items_are : (algorithm : Algorithm) (text : List ℕ) (files : List File) → part_in_order (paths_of files) ≡ true → object_items algorithm text files ≡ early_items files ++ MakeFile (version_folder ++ inventory_name ∷ []) text ∷ last_items algorithm text
-items_are algorithm text files h = ap (λ (l : List Item). first_items ++ (l ++ MakeFile (version_folder ++ inventory_name ∷ []) text ∷ last_items algorithm text)) (contents_are files h)
+pub items_are : (algorithm : Algorithm) (text : List ℕ) (files : List File) → part_in_order (paths_of files) ≡ true
+    → object_items algorithm text files ≡ early_items files ++ MakeFile (version_folder ++ inventory_name ∷ []) text ∷ last_items algorithm text
+items_are algorithm text files h = ap (λ (l : List Item). first_items ++ (l ++ MakeFile (version_folder ++ inventory_name ∷ []) text
+    ∷ last_items algorithm text)) (contents_are files h)

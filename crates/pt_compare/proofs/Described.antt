@@ -34,7 +34,8 @@ given_again texts meta is = by (meta_refusal texts.created texts.name) refl is
     by None free is =
         let told : MetaParts = record texts { address = given_address texts.address } in
         let same : told ≡ meta = cc in
-        subst IsGiven same (ap (λ o. unless_refused o told) free ∙ ap (λ a. Some (parts_of texts.created texts.name a texts.message)) (given_twice texts.address))
+        subst IsGiven same (ap (λ o. unless_refused o told) free ∙ ap (λ a. Some (parts_of texts.created texts.name a texts.message))
+        (given_twice texts.address))
     by (Some refusal) free is = absurd (cc)
 
 given_of : (texts : Option MetaParts) (meta : MetaParts) → option_and_then given_by texts ≡ Some meta → IsGiven meta
@@ -46,11 +47,13 @@ all_given texts (Ok None) is = tt
 all_given texts (Ok (Some meta)) is = given_again texts meta (sym is)
 all_given texts (Err e) is = tt
 
-pub given_ok : (o : Option MetaFault) (texts meta : MetaParts) → Answers o fault.Memory (Ok meta) (λ m. m ≡ record texts { address = given_address texts.address }) → Some meta ≡ unless_refused o texts
+pub given_ok : (o : Option MetaFault) (texts meta : MetaParts) → Answers o fault.Memory (Ok meta) (λ m. m
+    ≡ record texts { address = given_address texts.address }) → Some meta ≡ unless_refused o texts
 given_ok None texts meta is = ap (λ m. Some m) is
 given_ok (Some refusal) texts meta is = absurd (cc)
 
-pub given_err : (o : Option MetaFault) (texts : MetaParts) (f : MetaFault) (P : MetaParts → Type 0) → (f ≡ fault.Memory → ⊥) → Answers o fault.Memory (Err f) P → None ≡ unless_refused o texts
+pub given_err : (o : Option MetaFault) (texts : MetaParts) (f : MetaFault) (P : MetaParts → Type 0) → (f ≡ fault.Memory → ⊥) → Answers o fault.Memory (Err f) P
+    → None ≡ unless_refused o texts
 given_err None texts f P refused is = absurd (refused is)
 given_err (Some refusal) texts f P refused is = refl
 
@@ -64,14 +67,22 @@ not_empty is = cc
 -- ---- whether it is made
 
 -- with a description that a run can be given the inventory is made
-made_with : (text_with : MetaParts → List ℕ) (inventory : List ℕ) (meta : Option MetaParts) → IsUtf8 inventory → ((m : MetaParts) → meta ≡ Some m → IsGiven m) → is_text_with text_with inventory meta ≡ true → IsMade text_with inventory
+made_with : (text_with : MetaParts → List ℕ) (inventory : List ℕ) (meta : Option MetaParts) → IsUtf8 inventory → ((m : MetaParts) → meta ≡ Some m → IsGiven m)
+    → is_text_with text_with inventory meta ≡ true → IsMade text_with inventory
 made_with text_with inventory None text given is = absurd (true≢false (sym is))
-made_with text_with inventory (Some m) text given is = record { is_text = text; meta = m; given = given m refl; is = same_text inventory (text_with m) (sym is) }
+made_with text_with inventory (Some m) text given is = record {
+  is_text = text;
+  meta = m;
+  given = given m refl;
+  is = same_text inventory (text_with m)
+      (sym is);
+}
 
 if_given : (meta : Option MetaParts) → IfSome meta IsGiven → (m : MetaParts) → meta ≡ Some m → IsGiven m
 if_given meta given m is = subst (λ o. IfSome o IsGiven) is given
 
-pub tells_made : (text_with : MetaParts → List ℕ) (inventory : List ℕ) (meta : Option MetaParts) (made : Bool) → IsUtf8 inventory → IfSome meta IsGiven → made ≡ true → made ≡ is_text_with text_with inventory meta → TellsMade text_with inventory true
+pub tells_made : (text_with : MetaParts → List ℕ) (inventory : List ℕ) (meta : Option MetaParts) (made : Bool) → IsUtf8 inventory → IfSome meta IsGiven
+    → made ≡ true → made ≡ is_text_with text_with inventory meta → TellsMade text_with inventory true
 tells_made text_with inventory meta made text given is told = (λ t. made_with text_with inventory meta text (if_given meta given) (sym told ∙ is), λ m. refl)
 
 -- what the inventory of some files says of its version
@@ -82,12 +93,16 @@ module _ (id : List ℕ) (rows : List Row) (algorithm : Algorithm) where
   told_of : (meta : MetaParts) → texts_in_inventory (inventory_tree id rows meta algorithm) ≡ Some (parts_of meta.created meta.name meta.address meta.message)
   told_of meta = by meta.address refl
     where
-      by : (address : Option (List ℕ)) → meta.address ≡ address → texts_in_inventory (inventory_tree id rows meta algorithm) ≡ Some (parts_of meta.created meta.name meta.address meta.message)
-      by None is = ap (λ a. texts_in_inventory (inventory_tree id rows (parts_of meta.created meta.name a meta.message) algorithm)) is ∙ ap (λ a. Some (parts_of meta.created meta.name a meta.message)) (sym is)
-      by (Some address) is = ap (λ a. texts_in_inventory (inventory_tree id rows (parts_of meta.created meta.name a meta.message) algorithm)) is ∙ ap (λ a. Some (parts_of meta.created meta.name a meta.message)) (sym is)
+      by : (address : Option (List ℕ)) → meta.address ≡ address → texts_in_inventory (inventory_tree id rows meta algorithm)
+          ≡ Some (parts_of meta.created meta.name meta.address meta.message)
+      by None is = ap (λ a. texts_in_inventory (inventory_tree id rows (parts_of meta.created meta.name a meta.message) algorithm)) is
+          ∙ ap (λ a. Some (parts_of meta.created meta.name a meta.message)) (sym is)
+      by (Some address) is = ap (λ a. texts_in_inventory (inventory_tree id rows (parts_of meta.created meta.name a meta.message) algorithm)) is
+          ∙ ap (λ a. Some (parts_of meta.created meta.name a meta.message)) (sym is)
 
   read_back : (meta : MetaParts) → IsGiven meta → description_in (unwrap_or (read (texts meta)) null) ≡ Some meta
-  read_back meta given = ap (λ o. description_in (unwrap_or o null)) (inventory_reads id rows meta algorithm) ∙ ap (option_and_then given_by) (told_of meta) ∙ given
+  read_back meta given = ap (λ o. description_in (unwrap_or o null)) (inventory_reads id rows meta algorithm) ∙ ap (option_and_then given_by) (told_of meta)
+      ∙ given
 
   same_as_itself : (text : List ℕ) → bytes_eq text text ≡ true
   same_as_itself text = by (bytes_eq text text) refl
@@ -96,12 +111,14 @@ module _ (id : List ℕ) (rows : List Row) (algorithm : Algorithm) where
       by true is = refl
       by false is = absurd (other_text text text (sym is) refl)
 
-  made_read : (inventory : List ℕ) (meta : Option MetaParts) → meta ≡ description_in (unwrap_or (read inventory) null) → IsMade texts inventory → is_text_with texts inventory meta ≡ true
+  made_read : (inventory : List ℕ) (meta : Option MetaParts) → meta ≡ description_in (unwrap_or (read inventory) null) → IsMade texts inventory
+      → is_text_with texts inventory meta ≡ true
   made_read inventory meta told made =
       let found : meta ≡ Some made.meta = told ∙ ap (λ b. description_in (unwrap_or (read b) null)) made.is ∙ read_back made.meta made.given in
       ap (is_text_with texts inventory) found ∙ ap (λ b. bytes_eq b (texts made.meta)) made.is ∙ same_as_itself (texts made.meta)
 
-  pub tells_by_json : (inventory : List ℕ) (meta : Option MetaParts) (r : Result Bool MemoryFault) → IsUtf8 inventory → meta ≡ description_in (unwrap_or (read inventory) null) → IfOk r (λ made. made ≡ is_text_with texts inventory meta) → IfOk r (TellsMade texts inventory)
+  pub tells_by_json : (inventory : List ℕ) (meta : Option MetaParts) (r : Result Bool MemoryFault) → IsUtf8 inventory
+      → meta ≡ description_in (unwrap_or (read inventory) null) → IfOk r (λ made. made ≡ is_text_with texts inventory meta) → IfOk r (TellsMade texts inventory)
   tells_by_json inventory meta (Err e) text told is = tt
   tells_by_json inventory meta (Ok made) text told is = (
     λ t. made_with texts inventory meta text (λ m some. given_of (texts_in_inventory (unwrap_or (read inventory) null)) m (sym told ∙ some)) (sym is ∙ t),

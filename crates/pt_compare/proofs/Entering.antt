@@ -22,14 +22,16 @@ use Rattle.pt_tree.specs.declared.kind.Kind.{Kind}
 
 -- ---- entries noted one after another
 
-listed_at : (p : Path) (i : ℕ) (listing : List Item) (item : Item) (m n : Marks) → slice_get listing i ≡ Some item → n ≡ with_mark (p ++ item.0 ∷ []) item.1 m → with_listed p (drop i listing) m ≡ with_listed p (drop (suc i) listing) n
+listed_at : (p : Path) (i : ℕ) (listing : List Item) (item : Item) (m n : Marks) → slice_get listing i ≡ Some item → n ≡ with_mark (p ++ item.0 ∷ []) item.1 m
+    → with_listed p (drop i listing) m ≡ with_listed p (drop (suc i) listing) n
 listed_at p i [] item m n is next = absurd (cc)
 listed_at p zero (x ∷ listing) item m n is next =
     let same : x ≡ item = cc in
     ap (λ (x : Item). with_listed p listing (with_mark (p ++ x.0 ∷ []) x.1 m)) same ∙ ap (with_listed p listing) (sym next)
 listed_at p (suc i) (x ∷ listing) item m n is next = listed_at p i listing item m n is next
 
-pub listed_step : (p : Path) (i : ℕ) (listing : List Item) (item : Item) (m n : Marks) → slice_get listing i ≡ Some item → n ≡ with_mark (p ++ item.0 ∷ []) item.1 m → with_listed p (drop i listing) m ≡ with_listed p (drop (i + 1) listing) n
+pub listed_step : (p : Path) (i : ℕ) (listing : List Item) (item : Item) (m n : Marks) → slice_get listing i ≡ Some item
+    → n ≡ with_mark (p ++ item.0 ∷ []) item.1 m → with_listed p (drop i listing) m ≡ with_listed p (drop (i + 1) listing) n
 listed_step p i listing item m n is next = listed_at p i listing item m n is next ∙ ap (λ k. with_listed p (drop k listing) n) (sym (add-one i))
 
 -- ---- against what stands
@@ -41,17 +43,20 @@ listed_find : (n : List ℕ) (f : Forest) → list_any (λ (e : Item). bytes_eq 
 listed_find n forest.none = refl
 listed_find n (forest.file m b f) = by (bytes_eq m n) (listed_find n f)
   where
-    by : (t : Bool) → list_any (λ (e : Item). bytes_eq e.0 n) (listing_of f) ≡ is_some (find f n) → (t || list_any (λ (e : Item). bytes_eq e.0 n) (listing_of f)) ≡ is_some (cond t (Some (File b)) (find f n))
+    by : (t : Bool) → list_any (λ (e : Item). bytes_eq e.0 n) (listing_of f) ≡ is_some (find f n)
+        → (t || list_any (λ (e : Item). bytes_eq e.0 n) (listing_of f)) ≡ is_some (cond t (Some (File b)) (find f n))
     by true later = refl
     by false later = later
 listed_find n (forest.other m f) = by (bytes_eq m n) (listed_find n f)
   where
-    by : (t : Bool) → list_any (λ (e : Item). bytes_eq e.0 n) (listing_of f) ≡ is_some (find f n) → (t || list_any (λ (e : Item). bytes_eq e.0 n) (listing_of f)) ≡ is_some (cond t (Some Other) (find f n))
+    by : (t : Bool) → list_any (λ (e : Item). bytes_eq e.0 n) (listing_of f) ≡ is_some (find f n)
+        → (t || list_any (λ (e : Item). bytes_eq e.0 n) (listing_of f)) ≡ is_some (cond t (Some Other) (find f n))
     by true later = refl
     by false later = later
 listed_find n (forest.dir m d f) = by (bytes_eq m n) (listed_find n f)
   where
-    by : (t : Bool) → list_any (λ (e : Item). bytes_eq e.0 n) (listing_of f) ≡ is_some (find f n) → (t || list_any (λ (e : Item). bytes_eq e.0 n) (listing_of f)) ≡ is_some (cond t (Some (Dir d)) (find f n))
+    by : (t : Bool) → list_any (λ (e : Item). bytes_eq e.0 n) (listing_of f) ≡ is_some (find f n)
+        → (t || list_any (λ (e : Item). bytes_eq e.0 n) (listing_of f)) ≡ is_some (cond t (Some (Dir d)) (find f n))
     by true later = refl
     by false later = later
 
@@ -80,39 +85,51 @@ module _ (p : Path) where
     Fits : Item → Type 0
     Fits e = kinds (p ++ e.0 ∷ []) ≡ Some e.1
 
-    stays : (entries : List Item) (m : Marks) → All (λ (e : Item). kinds (p ++ e.0 ∷ []) ≡ Some e.1) entries → m (p ++ n ∷ []) ≡ kinds (p ++ n ∷ []) → with_listed p entries m (p ++ n ∷ []) ≡ kinds (p ++ n ∷ [])
+    stays : (entries : List Item) (m : Marks) → All (λ (e : Item). kinds (p ++ e.0 ∷ []) ≡ Some e.1) entries → m (p ++ n ∷ []) ≡ kinds (p ++ n ∷ [])
+        → with_listed p entries m (p ++ n ∷ []) ≡ kinds (p ++ n ∷ [])
     stays [] m all is = is
-    stays (e ∷ entries) m all is = stays entries (with_mark (p ++ e.0 ∷ []) e.1 m) (All-tail (λ (e : Item). kinds (p ++ e.0 ∷ []) ≡ Some e.1) e entries all) (on (same_path (p ++ n ∷ []) (p ++ e.0 ∷ [])) refl)
+    stays (e ∷ entries) m all is = stays entries (with_mark (p ++ e.0 ∷ []) e.1 m) (All-tail (λ (e : Item). kinds (p ++ e.0 ∷ []) ≡ Some e.1) e entries all)
+        (on (same_path (p ++ n ∷ []) (p ++ e.0 ∷ [])) refl)
       where
         on : (b : Bool) → same_path (p ++ n ∷ []) (p ++ e.0 ∷ []) ≡ b → cond b (Some e.1) (m (p ++ n ∷ [])) ≡ kinds (p ++ n ∷ [])
-        on true same = sym (All-head (λ (e : Item). kinds (p ++ e.0 ∷ []) ≡ Some e.1) e entries all) ∙ ap kinds (sym (is_same (p ++ n ∷ []) (p ++ e.0 ∷ []) same))
+        on true same = sym (All-head (λ (e : Item). kinds (p ++ e.0 ∷ []) ≡ Some e.1) e entries all)
+            ∙ ap kinds (sym (is_same (p ++ n ∷ []) (p ++ e.0 ∷ []) same))
         on false other = is
 
-    among : (entries : List Item) (m : Marks) → All (λ (e : Item). kinds (p ++ e.0 ∷ []) ≡ Some e.1) entries → list_any (λ (e : Item). bytes_eq e.0 n) entries ≡ true → with_listed p entries m (p ++ n ∷ []) ≡ kinds (p ++ n ∷ [])
+    among : (entries : List Item) (m : Marks) → All (λ (e : Item). kinds (p ++ e.0 ∷ []) ≡ Some e.1) entries
+        → list_any (λ (e : Item). bytes_eq e.0 n) entries ≡ true → with_listed p entries m (p ++ n ∷ []) ≡ kinds (p ++ n ∷ [])
     among [] m all h = absurd (cc)
-    among (e ∷ entries) m all h = on (λ h. among entries (with_mark (p ++ e.0 ∷ []) e.1 m) (All-tail (λ (e : Item). kinds (p ++ e.0 ∷ []) ≡ Some e.1) e entries all) h) (bytes_eq e.0 n) refl h
+    among (e ∷ entries) m all h = on (λ h. among entries (with_mark (p ++ e.0 ∷ []) e.1 m)
+        (All-tail (λ (e : Item). kinds (p ++ e.0 ∷ []) ≡ Some e.1) e entries all) h) (bytes_eq e.0 n) refl h
       where
         rest : All (λ (e : Item). kinds (p ++ e.0 ∷ []) ≡ Some e.1) entries
         rest = All-tail (λ (e : Item). kinds (p ++ e.0 ∷ []) ≡ Some e.1) e entries all
 
-        on : (list_any (λ (e : Item). bytes_eq e.0 n) entries ≡ true → with_listed p entries (with_mark (p ++ e.0 ∷ []) e.1 m) (p ++ n ∷ []) ≡ kinds (p ++ n ∷ []))
-            → (b : Bool) → bytes_eq e.0 n ≡ b → (b || list_any (λ (e : Item). bytes_eq e.0 n) entries) ≡ true → with_listed p entries (with_mark (p ++ e.0 ∷ []) e.1 m) (p ++ n ∷ []) ≡ kinds (p ++ n ∷ [])
+        on : (list_any (λ (e : Item). bytes_eq e.0 n) entries ≡ true → with_listed p entries (with_mark (p ++ e.0 ∷ []) e.1 m) (p ++ n ∷ [])
+            ≡ kinds (p ++ n ∷ []))
+            → (b : Bool) → bytes_eq e.0 n ≡ b → (b || list_any (λ (e : Item). bytes_eq e.0 n) entries) ≡ true
+            → with_listed p entries (with_mark (p ++ e.0 ∷ []) e.1 m) (p ++ n ∷ []) ≡ kinds (p ++ n ∷ [])
         on later true is h =
             let same : p ++ e.0 ∷ [] ≡ p ++ n ∷ [] = ap (λ (k : List ℕ). p ++ k ∷ []) (same_name e.0 n is) in
             stays entries (with_mark (p ++ e.0 ∷ []) e.1 m) rest
-            (ap (with_mark (p ++ e.0 ∷ []) e.1 m) (sym same) ∙ mark_there (p ++ e.0 ∷ []) e.1 m ∙ sym (All-head (λ (e : Item). kinds (p ++ e.0 ∷ []) ≡ Some e.1) e entries all) ∙ ap kinds same)
+            (ap (with_mark (p ++ e.0 ∷ []) e.1 m) (sym same) ∙ mark_there (p ++ e.0 ∷ []) e.1 m
+            ∙ sym (All-head (λ (e : Item). kinds (p ++ e.0 ∷ []) ≡ Some e.1) e entries all) ∙ ap kinds same)
         on later false is h = later h
 
-    unlisted : (entries : List Item) (m : Marks) → list_any (λ (e : Item). bytes_eq e.0 n) entries ≡ false → with_listed p entries m (p ++ n ∷ []) ≡ m (p ++ n ∷ [])
+    unlisted : (entries : List Item) (m : Marks) → list_any (λ (e : Item). bytes_eq e.0 n) entries ≡ false
+        → with_listed p entries m (p ++ n ∷ []) ≡ m (p ++ n ∷ [])
     unlisted [] m h = refl
     unlisted (e ∷ entries) m h = on (λ h. unlisted entries (with_mark (p ++ e.0 ∷ []) e.1 m) h) (bytes_eq e.0 n) refl h
       where
-        on : (list_any (λ (e : Item). bytes_eq e.0 n) entries ≡ false → with_listed p entries (with_mark (p ++ e.0 ∷ []) e.1 m) (p ++ n ∷ []) ≡ with_mark (p ++ e.0 ∷ []) e.1 m (p ++ n ∷ []))
-            → (b : Bool) → bytes_eq e.0 n ≡ b → (b || list_any (λ (e : Item). bytes_eq e.0 n) entries) ≡ false → with_listed p entries (with_mark (p ++ e.0 ∷ []) e.1 m) (p ++ n ∷ []) ≡ m (p ++ n ∷ [])
+        on : (list_any (λ (e : Item). bytes_eq e.0 n) entries ≡ false → with_listed p entries (with_mark (p ++ e.0 ∷ []) e.1 m) (p ++ n ∷ [])
+            ≡ with_mark (p ++ e.0 ∷ []) e.1 m (p ++ n ∷ []))
+            → (b : Bool) → bytes_eq e.0 n ≡ b → (b || list_any (λ (e : Item). bytes_eq e.0 n) entries) ≡ false
+            → with_listed p entries (with_mark (p ++ e.0 ∷ []) e.1 m) (p ++ n ∷ []) ≡ m (p ++ n ∷ [])
         on later true is h = absurd (cc)
         on later false is h =
             later h
-            ∙ mark_other (p ++ n ∷ []) (p ++ e.0 ∷ []) e.1 m (λ same. let itself = ap (λ (k : List ℕ). bytes_eq k n) (same_last n e.0 same) in let there = sym itself ∙ name_itself n in cc)
+            ∙ mark_other (p ++ n ∷ []) (p ++ e.0 ∷ []) e.1 m (λ same. let itself = ap (λ (k : List ℕ). bytes_eq k n) (same_last n e.0 same) in let there = sym
+            itself ∙ name_itself n in cc)
 
 all_from : {A : Type 0} (P : A → Type 0) (xs : List A) → ((i : ℕ) (x : A) → slice_get xs i ≡ Some x → P x) → All P xs
 all_from P [] each = All-nil P
@@ -151,11 +168,14 @@ module _ (f : Forest) (place p : Path) (d : Forest) (there : dir_at f (place ++ 
       here : (n : List ℕ) → with_listed p (listing_of d) m (p ++ n ∷ []) ≡ option_or (kind_in (inside f place) (p ++ n ∷ [])) (m (p ++ n ∷ []))
       here n = by (find d n) refl
         where
-          by : (o : Option Node) → find d n ≡ o → with_listed p (listing_of d) m (p ++ n ∷ []) ≡ option_or (kind_in (inside f place) (p ++ n ∷ [])) (m (p ++ n ∷ []))
-          by None is = unlisted p (kind_in (inside f place)) n (listing_of d) m (listed_find n d ∙ ap is_some is) ∙ ap (λ k. option_or k (m (p ++ n ∷ []))) (sym (kind_found n ∙ ap (option_map kind_of) is))
+          by : (o : Option Node) → find d n ≡ o → with_listed p (listing_of d) m (p ++ n ∷ [])
+              ≡ option_or (kind_in (inside f place) (p ++ n ∷ [])) (m (p ++ n ∷ []))
+          by None is = unlisted p (kind_in (inside f place)) n (listing_of d) m (listed_find n d ∙ ap is_some is)
+              ∙ ap (λ k. option_or k (m (p ++ n ∷ []))) (sym (kind_found n ∙ ap (option_map kind_of) is))
           by (Some x) is =
               let kind = kind_found n ∙ ap (option_map kind_of) is in
-              among p (kind_in (inside f place)) n (listing_of d) m all_fit (listed_find n d ∙ ap is_some is) ∙ kind ∙ ap (λ k. option_or k (m (p ++ n ∷ []))) (sym kind)
+              among p (kind_in (inside f place)) n (listing_of d) m all_fit (listed_find n d ∙ ap is_some is) ∙ kind
+              ∙ ap (λ k. option_or k (m (p ++ n ∷ []))) (sym kind)
 
       on : (b : Bool) → is_entry_of p (split_path q) ≡ b → with_listed p (listing_of d) m q ≡ option_or (cond b (kind_in (inside f place) q) None) (m q)
       on true is =
@@ -163,7 +183,8 @@ module _ (f : Forest) (place p : Path) (d : Forest) (there : dir_at f (place ++ 
           ap (with_listed p (listing_of d) m) whole ∙ here (last_name q) ∙ ap (λ (r : Path). option_or (kind_in (inside f place) r) (m r)) (sym whole)
       on false is = elsewhere p q (listing_of d) m is
 
-pub entries_listed : (f : Forest) (place p : Path) (listing : List Item) (m : Marks) → is_proper f ≡ true → listing_at f (place ++ p) ≡ Some listing → with_listed p listing m ≡ with_entries (inside f place) p m
+pub entries_listed : (f : Forest) (place p : Path) (listing : List Item) (m : Marks) → is_proper f ≡ true → listing_at f (place ++ p) ≡ Some listing
+    → with_listed p listing m ≡ with_entries (inside f place) p m
 entries_listed f place p listing m proper listed = on (dir_at f (place ++ p)) refl listed
   where
     on : (o : Option Forest) → dir_at f (place ++ p) ≡ o → option_map listing_of o ≡ Some listing → with_listed p listing m ≡ with_entries (inside f place) p m
@@ -181,7 +202,9 @@ noted_kind (Some f) place p m k noted is =
     ap (λ o. option_map_or (same_kind k) o false) (sym (kind_same (node_at (Dir f) (place ++ p))) ∙ noted f refl p k is) ∙ itself k
 
 -- what was listed is what is told
-pub listed_now : (told : Option Reading) (p : Path) (listing : List Item) → ((s : Reading) → told ≡ Some s → is_proper s.tree ≡ true) → IsListed told p listing → Lists (tree_in told) p listing
+pub listed_now : (told : Option Reading) (p : Path) (listing : List Item) → ((s : Reading) → told ≡ Some s → is_proper s.tree ≡ true) → IsListed told p listing
+    → Lists (tree_in told) p listing
 unfolding IsListed Lists
 listed_now None p listing proper listed = λ f is. absurd (cc)
-listed_now (Some s) p listing proper listed = λ f is. let same : s.tree ≡ f = cc in subst (λ f. (is_proper f ≡ true) × (listing_at f p ≡ Some listing)) same (proper s refl, listed s refl)
+listed_now (Some s) p listing proper listed = λ f is. let same : s.tree ≡ f = cc in subst (λ f. (is_proper f ≡ true) × (listing_at f p ≡ Some listing)) same
+    (proper s refl, listed s refl)

@@ -28,7 +28,8 @@ module _ (sought : Sought) (t : Tree) (order : part_in_order (paths_of sought.st
   top_is = all [] ∙ at_top sought order apart t inventory
 
   inventory_is : t version_inventory ≡ Some (Bytes inventory)
-  inventory_is = all version_inventory ∙ (locate sought order apart t inventory (early_items sought.stored) (MakeFile version_inventory inventory) (last_items sought.algorithm inventory) (are_items sought order apart t inventory)).wanted
+  inventory_is = all version_inventory ∙ (locate sought order apart t inventory (early_items sought.stored) (MakeFile version_inventory inventory)
+      (last_items sought.algorithm inventory) (are_items sought order apart t inventory)).wanted
 
   just_it : (other : List ℕ) → t version_inventory ≡ Some (Bytes other) → other ≡ inventory
   just_it other is = let e : Some (Bytes other) ≡ Some (Bytes inventory) = sym is ∙ inventory_is in cc
@@ -48,7 +49,8 @@ module _ (sought : Sought) (t : Tree) (order : part_in_order (paths_of sought.st
 
   no_other_kind : (q : Path) → HaveOtherKinds (shape sought) t q → ⊥
   no_other_kind q (entry, other, wants, has, differ) =
-      differ (let e : Some (kind_of_entry other) ≡ Some (kind_of_entry entry) = ap (option_map kind_of_entry) (sym has) ∙ kind_is q ∙ ap (option_map kind_of_entry) wants in cc)
+      differ (let e : Some (kind_of_entry other) ≡ Some (kind_of_entry entry) = ap (option_map kind_of_entry) (sym has) ∙ kind_is q
+      ∙ ap (option_map kind_of_entry) wants in cc)
 
   nothing_wrong : (q : Path) (w : Why) → IsWrong sought t q w → ⊥
   nothing_wrong q why.Missing wrong =

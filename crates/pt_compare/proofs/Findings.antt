@@ -3,7 +3,20 @@ use Rattle.std.proofs.Common.{◌≡◌, ◌∙◌, ◌⊎◌, inl, inr, ℕ, Li
 use Rattle.std.specs.Prelude.{All, Option, None, Some, IsSome}
 use Rattle.std.specs.Option.{option_and_then, option_map, option_or}
 use Rattle.std.proofs.lemmas.List.Elements.{All-head, All-tail}
-use Rattle.pt_compare.specs.Found.{HaveOtherBytes, IsFirst, IsHeld, IsOtherFile, IsWrong, Sought, StandsUpTo, all_items, inventory_items, object_with, shape, version_inventory}
+use Rattle.pt_compare.specs.Found.{
+  HaveOtherBytes,
+  IsFirst,
+  IsHeld,
+  IsOtherFile,
+  IsWrong,
+  Sought,
+  StandsUpTo,
+  all_items,
+  inventory_items,
+  object_with,
+  shape,
+  version_inventory,
+}
 use Rattle.pt_compare.specs.Marks.{Marks, all_met, at_first, inside, is_entry_of, kind_in, met, without_mark}
 use Rattle.pt_compare.specs.Meeting.{HasOtherBytes, HasOtherKind, IsWrongInventory, IsWrongItem, StandsSo, StopsAt}
 use Rattle.pt_compare.specs.Parts.{early_items, last_items}
@@ -66,7 +79,8 @@ reaches (x ∷ front) item rest u can =
     record { first = (can.0, more.first); here = more.here; later = more.later }
 
 -- other bytes change no kind
-put_kind : (u v : Tree) (p : Path) (a b : List ℕ) → ((q : Path) → kind_in u q ≡ kind_in v q) → (q : Path) → kind_in (put u p (Bytes a)) q ≡ kind_in (put v p (Bytes b)) q
+put_kind : (u v : Tree) (p : Path) (a b : List ℕ) → ((q : Path) → kind_in u q ≡ kind_in v q) → (q : Path)
+    → kind_in (put u p (Bytes a)) q ≡ kind_in (put v p (Bytes b)) q
 put_kind u v p a b same q = on (same_path q p)
   where
     on : (c : Bool) → option_map kind_of_entry (cond c (Some (Bytes a)) (u q)) ≡ option_map kind_of_entry (cond c (Some (Bytes b)) (v q))
@@ -100,7 +114,8 @@ module _ (sought : Sought) (order : part_in_order (paths_of sought.stored) ≡ t
       none_deeper [] n some = let e = some in cc
       none_deeper (x ∷ p) n some = let e = some in cc
 
-      from : (q : Path) (k : Kind) → ((is_entry_of [] (split_path q) ≡ true) × (kind_in t q ≡ Some k)) ⊎ (without_mark [] (at_first t) q ≡ Some k) → kind_in t q ≡ Some k
+      from : (q : Path) (k : Kind) → ((is_entry_of [] (split_path q) ≡ true) × (kind_in t q ≡ Some k)) ⊎ (without_mark [] (at_first t) q ≡ Some k)
+          → kind_in t q ≡ Some k
       from q k (inl entry) = entry.1
       from [] k (inr left) = absurd (cc)
       from (x ∷ q) k (inr left) = absurd (cc)
@@ -113,7 +128,8 @@ module _ (sought : Sought) (order : part_in_order (paths_of sought.stored) ≡ t
       plain None = refl
       plain (Some x) = refl
 
-      opened : (p : Path) (n : List ℕ) → on_way [] [] p ≡ Some Folder → on_way [] [] (p ++ n ∷ []) ≡ None → met t (MakeFolder []) (at_first t) (p ++ n ∷ []) ≡ kind_in t (p ++ n ∷ [])
+      opened : (p : Path) (n : List ℕ) → on_way [] [] p ≡ Some Folder → on_way [] [] (p ++ n ∷ []) ≡ None
+          → met t (MakeFolder []) (at_first t) (p ++ n ∷ []) ≡ kind_in t (p ++ n ∷ [])
       opened [] n folder absent = plain (kind_in t (n ∷ []))
       opened (x ∷ p) n folder absent = absurd (cc)
 
@@ -126,7 +142,8 @@ module _ (sought : Sought) (order : part_in_order (paths_of sought.stored) ≡ t
     pub noted : all_met t front (at_first t) (item_path item) ≡ kind_in t (item_path item)
     pub wanted : object_with sought inventory (item_path item) ≡ Some (item_entry item)
 
-  pub locate : (inventory : List ℕ) (front : List Item) (item : Item) (rest : List Item) → object_items sought.algorithm inventory sought.stored ≡ front ++ item ∷ rest → Located inventory front item
+  pub locate : (inventory : List ℕ) (front : List Item) (item : Item) (rest : List Item)
+      → object_items sought.algorithm inventory sought.stored ≡ front ++ item ∷ rest → Located inventory front item
   unfolding tail_of
   locate inventory [] item rest is =
       let same : MakeFolder [] ≡ item = cc in
@@ -134,7 +151,8 @@ module _ (sought : Sought) (order : part_in_order (paths_of sought.stored) ≡ t
       subst (Located inventory []) same
       (record {
         noted = refl;
-        wanted = ap (λ (u : Tree). u []) (sym c.leaves) ∙ stays_made (tail_of (object_items sought.algorithm inventory sought.stored)) (on_way [] []) [] Folder c.can refl;
+        wanted = ap (λ (u : Tree). u []) (sym c.leaves) ∙ stays_made (tail_of (object_items sought.algorithm inventory sought.stored)) (on_way [] []) [] Folder
+            c.can refl;
       })
   locate inventory (x ∷ front) item rest is =
       let same : MakeFolder [] ≡ x = cc in
@@ -143,9 +161,12 @@ module _ (sought : Sought) (order : part_in_order (paths_of sought.stored) ≡ t
       let r = reaches front item rest (on_way [] []) (subst (λ (l : List Item). CanCarryOut l (on_way [] [])) tail c.can) in
       record {
         noted = ap (λ (first : Item). all_met t front (met t first (at_first t)) (item_path item)) (sym same)
-            ∙ next_noted t (item_path item) (made front (on_way [] [])) (all_met t front (met t (MakeFolder []) (at_first t))) r.here (met_all t front (on_way [] []) (met t (MakeFolder []) (at_first t)) r.first started);
-        wanted = ap (λ (u : Tree). u (item_path item)) (sym c.leaves ∙ ap (λ (l : List Item). made l (on_way [] [])) tail ∙ made-append front (item ∷ rest) (on_way [] []))
-            ∙ stays_made rest (done item (made front (on_way [] []))) (item_path item) (item_entry item) r.later (put_there (made front (on_way [] [])) (item_path item) (item_entry item));
+            ∙ next_noted t (item_path item) (made front (on_way [] [])) (all_met t front (met t (MakeFolder []) (at_first t))) r.here
+            (met_all t front (on_way [] []) (met t (MakeFolder []) (at_first t)) r.first started);
+        wanted = ap (λ (u : Tree). u (item_path item)) (sym c.leaves ∙ ap (λ (l : List Item). made l (on_way [] [])) tail
+            ∙ made-append front (item ∷ rest) (on_way [] []))
+            ∙ stays_made rest (done item (made front (on_way [] []))) (item_path item) (item_entry item) r.later
+            (put_there (made front (on_way [] [])) (item_path item) (item_entry item));
       }
 
   -- a folder is at the object's place
@@ -161,15 +182,19 @@ module _ (sought : Sought) (order : part_in_order (paths_of sought.stored) ≡ t
       early : Tree
       early = made (tail_of (early_items sought.stored)) (on_way [] [])
 
-      whole : (inventory : List ℕ) → object_with sought inventory ≡ made (inventory_items sought.algorithm inventory) (made (tail_of (early_items sought.stored)) (on_way [] []))
-      whole inventory = sym (carries inventory).leaves ∙ ap (λ (l : List Item). made (tail_of l) (on_way [] [])) (are_items inventory) ∙ made-append (tail_of (early_items sought.stored)) (inventory_items sought.algorithm inventory) (on_way [] [])
+      whole : (inventory : List ℕ) → object_with sought inventory ≡ made (inventory_items sought.algorithm inventory)
+          (made (tail_of (early_items sought.stored)) (on_way [] []))
+      whole inventory = sym (carries inventory).leaves ∙ ap (λ (l : List Item). made (tail_of l) (on_way [] [])) (are_items inventory)
+          ∙ made-append (tail_of (early_items sought.stored)) (inventory_items sought.algorithm inventory) (on_way [] [])
 
-      four : (q : Path) → kind_in (made (inventory_items sought.algorithm a) (made (tail_of (early_items sought.stored)) (on_way [] []))) q ≡ kind_in (made (inventory_items sought.algorithm b) (made (tail_of (early_items sought.stored)) (on_way [] []))) q
+      four : (q : Path) → kind_in (made (inventory_items sought.algorithm a) (made (tail_of (early_items sought.stored)) (on_way [] []))) q
+          ≡ kind_in (made (inventory_items sought.algorithm b) (made (tail_of (early_items sought.stored)) (on_way [] []))) q
       four = put_kind _ _ _ _ _ (put_kind _ _ _ _ _ (put_kind _ _ _ _ _ (put_kind _ _ _ _ _ (λ q. refl))))
 
   -- ---- what is wrong with an item
 
-  module _ (inventory : List ℕ) (front : List Item) (item : Item) (rest : List Item) (is : object_items sought.algorithm inventory sought.stored ≡ front ++ item ∷ rest) where
+  module _ (inventory : List ℕ) (front : List Item) (item : Item) (rest : List Item) (is : object_items sought.algorithm inventory sought.stored
+      ≡ front ++ item ∷ rest) where
     there : Located inventory front item
     there = locate inventory front item rest is
 
@@ -188,11 +213,14 @@ module _ (sought : Sought) (order : part_in_order (paths_of sought.stored) ≡ t
         let here = kind_some t (item_path item) other.0 (sym there.noted ∙ other.1) in
         (wants.0, here.0, wants.1, here.1, λ same. other.2 (sym here.2 ∙ same ∙ wants.2))
 
-  other_bytes : (inventory : List ℕ) (front : List Item) (item : Item) (rest : List Item) → object_items sought.algorithm inventory sought.stored ≡ front ++ item ∷ rest → HasOtherBytes t item → HaveOtherBytes (object_with sought inventory) t (item_path item)
+  other_bytes : (inventory : List ℕ) (front : List Item) (item : Item) (rest : List Item)
+      → object_items sought.algorithm inventory sought.stored ≡ front ++ item ∷ rest → HasOtherBytes t item
+      → HaveOtherBytes (object_with sought inventory) t (item_path item)
   other_bytes inventory front (MakeFolder p) rest is other = absurd other
   other_bytes inventory front (MakeFile p bytes) rest is other = (bytes, other.0, (locate inventory front (MakeFile p bytes) rest is).wanted, other.1, other.2)
 
-  wrong_item : (inventory : List ℕ) (front : List Item) (item : Item) (rest : List Item) → object_items sought.algorithm inventory sought.stored ≡ front ++ item ∷ rest → (w : Why) → IsWrongItem t (all_met t front (at_first t)) item w
+  wrong_item : (inventory : List ℕ) (front : List Item) (item : Item) (rest : List Item)
+      → object_items sought.algorithm inventory sought.stored ≡ front ++ item ∷ rest → (w : Why) → IsWrongItem t (all_met t front (at_first t)) item w
       → (HasOtherBytes t item → IsOtherFile sought t (item_path item)) → IsWrong sought t (item_path item) w
   wrong_item inventory front item rest is why.Missing wrong bytes = missing inventory front item rest is wrong
   wrong_item inventory front item rest is why.Kind wrong bytes = other_kind inventory front item rest is wrong
@@ -205,19 +233,24 @@ module _ (sought : Sought) (order : part_in_order (paths_of sought.stored) ≡ t
       (wrong_item [] s.front s.item (s.rest ++ inventory_items sought.algorithm []) (whole []) w s.wrong
       (λ other. inl (λ inventory. other_bytes inventory s.front s.item (s.rest ++ inventory_items sought.algorithm inventory) (whole inventory) other)))
     where
-      whole : (inventory : List ℕ) → object_items sought.algorithm inventory sought.stored ≡ s.front ++ s.item ∷ (s.rest ++ inventory_items sought.algorithm inventory)
-      whole inventory = are_items inventory ∙ ap (λ (l : List Item). l ++ inventory_items sought.algorithm inventory) s.items_are ∙ append_assoc s.front (s.item ∷ s.rest) (inventory_items sought.algorithm inventory)
+      whole : (inventory : List ℕ) → object_items sought.algorithm inventory sought.stored
+          ≡ s.front ++ s.item ∷ (s.rest ++ inventory_items sought.algorithm inventory)
+      whole inventory = are_items inventory ∙ ap (λ (l : List Item). l ++ inventory_items sought.algorithm inventory) s.items_are
+          ∙ append_assoc s.front (s.item ∷ s.rest) (inventory_items sought.algorithm inventory)
 
-  pub stopped_late : (inventory : List ℕ) (p : Path) (w : Why) → IsHeld sought t inventory → StopsAt t (at_first t) (all_items sought inventory) p w → IsWrong sought t p w
+  pub stopped_late : (inventory : List ℕ) (p : Path) (w : Why) → IsHeld sought t inventory → StopsAt t (at_first t) (all_items sought inventory) p w
+      → IsWrong sought t p w
   stopped_late inventory p w held s =
       subst (λ (q : Path). IsWrong sought t q w) (sym s.path_is)
       (wrong_item inventory s.front s.item s.rest (are_items inventory ∙ s.items_are) w s.wrong
       (λ other. inr (inr (inventory, held, other_bytes inventory s.front s.item s.rest (are_items inventory ∙ s.items_are) other))))
 
-  pub stopped_between : (p : Path) (w : Why) → p ≡ version_inventory → IsWrongInventory t (all_met t (early_items sought.stored) (at_first t)) version_inventory sought.text_with w → IsWrong sought t p w
+  pub stopped_between : (p : Path) (w : Why) → p ≡ version_inventory → IsWrongInventory t (all_met t (early_items sought.stored) (at_first t)) version_inventory
+      sought.text_with w → IsWrong sought t p w
   stopped_between p w is wrong = subst (λ (q : Path). IsWrong sought t q w) (sym is) (by w wrong)
     where
-      by : (w : Why) → IsWrongInventory t (all_met t (early_items sought.stored) (at_first t)) version_inventory sought.text_with w → IsWrong sought t version_inventory w
+      by : (w : Why) → IsWrongInventory t (all_met t (early_items sought.stored) (at_first t)) version_inventory sought.text_with w
+          → IsWrong sought t version_inventory w
       by why.Missing wrong = missing [] (early_items sought.stored) (MakeFile version_inventory []) (last_items sought.algorithm []) (are_items []) wrong
       by why.Kind wrong = other_kind [] (early_items sought.stored) (MakeFile version_inventory []) (last_items sought.algorithm []) (are_items []) wrong
       by why.Bytes wrong = inr (inl (refl, wrong))
@@ -232,12 +265,15 @@ module _ (sought : Sought) (order : part_in_order (paths_of sought.stored) ≡ t
   not_extra q why.Extra marks item wrong up_to = absurd wrong
 
   pub first_early : (p : Path) (w : Why) → StopsAt t (at_first t) (early_items sought.stored) p w → IsFirst sought t p w
-  first_early p w s = not_extra p w (all_met t s.front (at_first t)) s.item s.wrong ([], s.front, s.item, s.rest ++ inventory_items sought.algorithm [], whole, s.path_is, s.stand)
+  first_early p w s = not_extra p w (all_met t s.front (at_first t)) s.item s.wrong
+      ([], s.front, s.item, s.rest ++ inventory_items sought.algorithm [], whole, s.path_is, s.stand)
     where
       whole : object_items sought.algorithm [] sought.stored ≡ s.front ++ s.item ∷ (s.rest ++ inventory_items sought.algorithm [])
-      whole = are_items [] ∙ ap (λ (l : List Item). l ++ inventory_items sought.algorithm []) s.items_are ∙ append_assoc s.front (s.item ∷ s.rest) (inventory_items sought.algorithm [])
+      whole = are_items [] ∙ ap (λ (l : List Item). l ++ inventory_items sought.algorithm []) s.items_are
+          ∙ append_assoc s.front (s.item ∷ s.rest) (inventory_items sought.algorithm [])
 
-  pub first_between : (p : Path) (w : Why) → p ≡ version_inventory → All (StandsSo t) (early_items sought.stored) → IsWrongInventory t (all_met t (early_items sought.stored) (at_first t)) version_inventory sought.text_with w → IsFirst sought t p w
+  pub first_between : (p : Path) (w : Why) → p ≡ version_inventory → All (StandsSo t) (early_items sought.stored)
+      → IsWrongInventory t (all_met t (early_items sought.stored) (at_first t)) version_inventory sought.text_with w → IsFirst sought t p w
   first_between p w is stand wrong = by w wrong
     where
       up_to : StandsUpTo sought t p
@@ -250,7 +286,16 @@ module _ (sought : Sought) (order : part_in_order (paths_of sought.stored) ≡ t
       by why.Extra wrong = absurd wrong
 
   pub first_late : (inventory : List ℕ) (p : Path) (w : Why) → StopsAt t (at_first t) (all_items sought inventory) p w → IsFirst sought t p w
-  first_late inventory p w s = not_extra p w (all_met t s.front (at_first t)) s.item s.wrong (inventory, s.front, s.item, s.rest, are_items inventory ∙ s.items_are, s.path_is, s.stand)
+  first_late inventory p w s = not_extra p w (all_met t s.front (at_first t)) s.item s.wrong (
+    inventory,
+    s.front,
+    s.item,
+    s.rest,
+    are_items inventory
+        ∙ s.items_are,
+    s.path_is,
+    s.stand,
+  )
 
   -- ---- all of it stands
 
@@ -272,7 +317,8 @@ module _ (sought : Sought) (order : part_in_order (paths_of sought.stored) ≡ t
         by_inventory : object_with sought inventory q ≡ None → shape sought q ≡ None
         by_inventory none = kind_none (shape sought) q (kinds [] inventory q ∙ ap (option_map kind_of_entry) none)
 
-    pub is_all : All (StandsSo t) (all_items sought inventory) → ((p : Path) (n : List ℕ) → IsSome (t (p ++ n ∷ [])) → t p ≡ Some Folder) → ((q : Path) → marks q ≡ None) → (q : Path) → t q ≡ object_with sought inventory q
+    pub is_all : All (StandsSo t) (all_items sought inventory) → ((p : Path) (n : List ℕ) → IsSome (t (p ++ n ∷ [])) → t p ≡ Some Folder)
+        → ((q : Path) → marks q ≡ None) → (q : Path) → t q ≡ object_with sought inventory q
     unfolding tail_of
     is_all stand above none = all_same t (record { top = top; above = above }) (object_with sought inventory) marks ended none either
       where
@@ -288,4 +334,5 @@ module _ (sought : Sought) (order : part_in_order (paths_of sought.stored) ≡ t
 
         either : (q : Path) → (object_with sought inventory q ≡ t q) ⊎ (object_with sought inventory q ≡ None)
         either q = subst (λ (u : Tree). (u q ≡ t q) ⊎ (u q ≡ None)) (carries inventory).leaves
-            (made_either t (tail_of (object_items sought.algorithm inventory sought.stored)) (on_way [] []) q (All-tail (StandsSo t) (MakeFolder []) (tail_of (object_items sought.algorithm inventory sought.stored)) all) (begins q))
+            (made_either t (tail_of (object_items sought.algorithm inventory sought.stored)) (on_way [] []) q
+            (All-tail (StandsSo t) (MakeFolder []) (tail_of (object_items sought.algorithm inventory sought.stored)) all) (begins q))

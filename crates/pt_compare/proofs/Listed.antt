@@ -21,8 +21,10 @@ pub record Found (d : Forest) (item : Item) : Type 0 where
 found_first : (n : List ℕ) (node : Node) (later : Option Node) → cond (bytes_eq n n) (Some node) later ≡ Some node
 found_first n node later = ap (λ t. cond t (Some node) later) (name_itself n)
 
-found_later : (n : List ℕ) (node : Node) (f : Forest) (m : List ℕ) (x : Node) → Rattle.pt_tree.specs.Forest.comes_before n f ≡ true → is_proper f ≡ true → find f m ≡ Some x → cond (bytes_eq n m) (Some node) (find f m) ≡ Some x
-found_later n node f m x before proper is = ap (λ t. cond t (Some node) (find f m)) (behind n f m [] x before proper (ap (option_and_then (λ y. node_at y [])) is)) ∙ is
+found_later : (n : List ℕ) (node : Node) (f : Forest) (m : List ℕ) (x : Node) → Rattle.pt_tree.specs.Forest.comes_before n f ≡ true → is_proper f ≡ true
+    → find f m ≡ Some x → cond (bytes_eq n m) (Some node) (find f m) ≡ Some x
+found_later n node f m x before proper is = ap (λ t. cond t (Some node) (find f m))
+    (behind n f m [] x before proper (ap (option_and_then (λ y. node_at y [])) is)) ∙ is
 
 pub found : (d : Forest) (i : ℕ) (item : Item) → is_proper d ≡ true → slice_get (listing_of d) i ≡ Some item → Found d item
 found none i item proper e = absurd (cc)
@@ -48,7 +50,8 @@ found (dir n d f) (suc i) item proper e =
     let at = found f i item parts.2 e in
     record { node = at.node; there = found_later n (Dir d) f item.0 at.node parts.1 parts.2 at.there; kind_is = at.kind_is }
 
-pub node_in : (x : Node) (p : Path) (n : List ℕ) (d : Forest) → option_and_then as_dir (node_at x p) ≡ Some d → node_at x (p ++ n ∷ []) ≡ option_and_then (λ y. node_at y []) (find d n)
+pub node_in : (x : Node) (p : Path) (n : List ℕ) (d : Forest) → option_and_then as_dir (node_at x p) ≡ Some d
+    → node_at x (p ++ n ∷ []) ≡ option_and_then (λ y. node_at y []) (find d n)
 node_in (File b) [] n d e = absurd (cc)
 node_in Other [] n d e = absurd (cc)
 node_in (Dir g) [] n d e = let same : g ≡ d = cc in ap (λ d. option_and_then (λ y. node_at y []) (find d n)) same
@@ -56,8 +59,10 @@ node_in (File b) (m ∷ p) n d e = absurd (cc)
 node_in Other (m ∷ p) n d e = absurd (cc)
 node_in (Dir g) (m ∷ p) n d e = by (find g m) (λ x. node_in x p n d) e
   where
-    by : (o : Option Node) → ((x : Node) → option_and_then as_dir (node_at x p) ≡ Some d → node_at x (p ++ n ∷ []) ≡ option_and_then (λ y. node_at y []) (find d n))
-        → option_and_then as_dir (option_and_then (λ x. node_at x p) o) ≡ Some d → option_and_then (λ x. node_at x (p ++ n ∷ [])) o ≡ option_and_then (λ y. node_at y []) (find d n)
+    by : (o : Option Node) → ((x : Node) → option_and_then as_dir (node_at x p) ≡ Some d
+        → node_at x (p ++ n ∷ []) ≡ option_and_then (λ y. node_at y []) (find d n))
+        → option_and_then as_dir (option_and_then (λ x. node_at x p) o) ≡ Some d
+        → option_and_then (λ x. node_at x (p ++ n ∷ [])) o ≡ option_and_then (λ y. node_at y []) (find d n)
     by None later e = absurd (cc)
     by (Some x) later e = later x e
 

@@ -89,7 +89,8 @@ put_tree u p e tree can = record {
     stays : (q : Path) → u q ≡ Some Folder → put u p e q ≡ Some Folder
     stays q is = put_other u p q e (λ same. let none = can.absent in let there = ap u same in cc) ∙ is
 
-    folder : (q : Path) (n : List ℕ) → IsSome (put u p e (q ++ n ∷ [])) → ((q ++ n ∷ [] ≡ p) × (put u p e (q ++ n ∷ []) ≡ Some e)) ⊎ ((q ++ n ∷ [] ≡ p → ⊥) × (put u p e (q ++ n ∷ []) ≡ u (q ++ n ∷ []))) → u q ≡ Some Folder
+    folder : (q : Path) (n : List ℕ) → IsSome (put u p e (q ++ n ∷ []))
+        → ((q ++ n ∷ [] ≡ p) × (put u p e (q ++ n ∷ []) ≡ Some e)) ⊎ ((q ++ n ∷ [] ≡ p → ⊥) × (put u p e (q ++ n ∷ []) ≡ u (q ++ n ∷ []))) → u q ≡ Some Folder
     folder q n some (inl there) = ap u (sym (parent-push q n) ∙ ap parent there.0) ∙ can.in_folder
     folder q n some (inr other) = tree.above q n (subst IsSome other.1 some)
 
@@ -133,10 +134,12 @@ module _ (t : Tree) where
       on (inr other) = other.1
 
   -- the entries of a folder: one that is noted is an entry that stands, or was noted
-  pub entries_some : (p q : Path) (marks : Marks) (k : Kind) → with_entries t p marks q ≡ Some k → ((is_entry_of p (split_path q) ≡ true) × (kind_in t q ≡ Some k)) ⊎ (marks q ≡ Some k)
+  pub entries_some : (p q : Path) (marks : Marks) (k : Kind) → with_entries t p marks q ≡ Some k
+      → ((is_entry_of p (split_path q) ≡ true) × (kind_in t q ≡ Some k)) ⊎ (marks q ≡ Some k)
   entries_some p q marks k is = on (is_entry_of p (split_path q)) refl (kind_in t q) refl is
     where
-      on : (b : Bool) → is_entry_of p (split_path q) ≡ b → (o : Option Kind) → kind_in t q ≡ o → option_or (cond b o None) (marks q) ≡ Some k → ((is_entry_of p (split_path q) ≡ true) × (kind_in t q ≡ Some k)) ⊎ (marks q ≡ Some k)
+      on : (b : Bool) → is_entry_of p (split_path q) ≡ b → (o : Option Kind) → kind_in t q ≡ o → option_or (cond b o None) (marks q) ≡ Some k
+          → ((is_entry_of p (split_path q) ≡ true) × (kind_in t q ≡ Some k)) ⊎ (marks q ≡ Some k)
       on true entry None none is = inr is
       on true entry (Some x) some is = inl (entry, some ∙ is)
       on false entry o same is = inr is
@@ -148,7 +151,8 @@ module _ (t : Tree) where
       on true entry = absurd (other entry)
       on false entry = refl
 
-  entries_there : (p q : Path) (marks : Marks) → is_entry_of p (split_path q) ≡ true → ((k : Kind) → marks q ≡ Some k → kind_in t q ≡ Some k) → with_entries t p marks q ≡ kind_in t q
+  entries_there : (p q : Path) (marks : Marks) → is_entry_of p (split_path q) ≡ true → ((k : Kind) → marks q ≡ Some k → kind_in t q ≡ Some k)
+      → with_entries t p marks q ≡ kind_in t q
   entries_there p q marks entry noted = ap (λ b. option_or (cond b (kind_in t q) None) (marks q)) entry ∙ on (kind_in t q) refl (marks q) refl
     where
       on : (o : Option Kind) → kind_in t q ≡ o → (m : Option Kind) → marks q ≡ m → option_or o m ≡ o
@@ -164,7 +168,8 @@ module _ (t : Tree) where
   met_folder u marks p can is = record {
     tree = put_tree u p Folder is.tree can;
     noted = λ q k some. from q k (entries_some p q (without_mark p marks) k some);
-    unmade = λ q some. let there = is_some_of (met t (MakeFolder p) marks q) some in not_made q there.0 (entries_some p q (without_mark p marks) there.0 there.1);
+    unmade = λ q some. let there = is_some_of (met t (MakeFolder p) marks q) some in not_made q there.0
+        (entries_some p q (without_mark p marks) there.0 there.1);
     listed = λ r n folder absent. opened r n folder absent (either_put u p r Folder) (either_put u p (r ++ n ∷ []) Folder);
   }
     where
@@ -180,7 +185,8 @@ module _ (t : Tree) where
           on (inl none) = none
           on (inr some) = absurd (let folder = is.tree.above p n (some_of _ some.0 some.1) in let none = can.absent in cc)
 
-      not_made : (q : Path) (k : Kind) → ((is_entry_of p (split_path q) ≡ true) × (kind_in t q ≡ Some k)) ⊎ (without_mark p marks q ≡ Some k) → put u p Folder q ≡ None
+      not_made : (q : Path) (k : Kind) → ((is_entry_of p (split_path q) ≡ true) × (kind_in t q ≡ Some k)) ⊎ (without_mark p marks q ≡ Some k)
+          → put u p Folder q ≡ None
       not_made q k (inl entry) =
           let whole = entry_is p q entry.0 in
           put_other u p q Folder (λ same. not_longer p (last_name q) (sym same ∙ whole)) ∙ ap u whole ∙ below (last_name q)
@@ -201,17 +207,20 @@ module _ (t : Tree) where
           ∙ left_other p (r ++ n ∷ []) marks there.0
           ∙ is.listed r n (sym here.1 ∙ folder) (sym there.1 ∙ absent)
 
-  met_file : (u : Tree) (marks : Marks) (p : Path) (bytes : List ℕ) → CanMake u p → Noting u marks → Noting (put u p (Bytes bytes)) (met t (MakeFile p bytes) marks)
+  met_file : (u : Tree) (marks : Marks) (p : Path) (bytes : List ℕ) → CanMake u p → Noting u marks
+      → Noting (put u p (Bytes bytes)) (met t (MakeFile p bytes) marks)
   met_file u marks p bytes can is = record {
     tree = put_tree u p (Bytes bytes) is.tree can;
     noted = λ q k some. is.noted q k (left_some p q marks k some).0;
-    unmade = λ q some. let there = is_some_of (without_mark p marks q) some in let was = left_some p q marks there.0 there.1 in put_other u p q (Bytes bytes) was.1 ∙ is.unmade q (some_of (marks q) there.0 was.0);
+    unmade = λ q some. let there = is_some_of (without_mark p marks q) some in let was = left_some p q marks there.0 there.1 in put_other u p q (Bytes bytes)
+        was.1 ∙ is.unmade q (some_of (marks q) there.0 was.0);
     listed = λ r n folder absent. opened r n folder absent (either_put u p r (Bytes bytes)) (either_put u p (r ++ n ∷ []) (Bytes bytes));
   }
     where
       opened : (r : Path) (n : List ℕ) → put u p (Bytes bytes) r ≡ Some Folder → put u p (Bytes bytes) (r ++ n ∷ []) ≡ None
           → ((r ≡ p) × (put u p (Bytes bytes) r ≡ Some (Bytes bytes))) ⊎ ((r ≡ p → ⊥) × (put u p (Bytes bytes) r ≡ u r))
-          → ((r ++ n ∷ [] ≡ p) × (put u p (Bytes bytes) (r ++ n ∷ []) ≡ Some (Bytes bytes))) ⊎ ((r ++ n ∷ [] ≡ p → ⊥) × (put u p (Bytes bytes) (r ++ n ∷ []) ≡ u (r ++ n ∷ [])))
+          → ((r ++ n ∷ [] ≡ p) × (put u p (Bytes bytes) (r ++ n ∷ []) ≡ Some (Bytes bytes)))
+          ⊎ ((r ++ n ∷ [] ≡ p → ⊥) × (put u p (Bytes bytes) (r ++ n ∷ []) ≡ u (r ++ n ∷ [])))
           → without_mark p marks (r ++ n ∷ []) ≡ kind_in t (r ++ n ∷ [])
       opened r n folder absent (inl here) there = absurd (let some = here.1 in cc)
       opened r n folder absent (inr here) (inl there) = absurd (let some = there.1 in cc)
@@ -236,12 +245,14 @@ module _ (t : Tree) where
       (is.listed (parent (x ∷ p)) (last_name (x ∷ p)) can.in_folder (ap u whole ∙ can.absent))
 
   -- at each path the items make what stands there, or nothing
-  pub made_either : (items : List Item) (u : Tree) (q : Path) → All (StandsSo t) items → (u q ≡ t q) ⊎ (u q ≡ None) → (made items u q ≡ t q) ⊎ (made items u q ≡ None)
+  pub made_either : (items : List Item) (u : Tree) (q : Path) → All (StandsSo t) items → (u q ≡ t q) ⊎ (u q ≡ None)
+      → (made items u q ≡ t q) ⊎ (made items u q ≡ None)
   made_either [] u q stand start = start
   made_either (item ∷ items) u q stand start =
       made_either items (done item u) q (All-tail (StandsSo t) item items stand) (on (either_put u (item_path item) q (item_entry item)) start)
     where
-      on : ((q ≡ item_path item) × (done item u q ≡ Some (item_entry item))) ⊎ ((q ≡ item_path item → ⊥) × (done item u q ≡ u q)) → (u q ≡ t q) ⊎ (u q ≡ None) → (done item u q ≡ t q) ⊎ (done item u q ≡ None)
+      on : ((q ≡ item_path item) × (done item u q ≡ Some (item_entry item))) ⊎ ((q ≡ item_path item → ⊥) × (done item u q ≡ u q)) → (u q ≡ t q) ⊎ (u q ≡ None)
+          → (done item u q ≡ t q) ⊎ (done item u q ≡ None)
       on (inl there) start = inl (there.1 ∙ sym (ap t there.0 ∙ All-head (StandsSo t) item items stand))
       on (inr other) (inl same) = inl (other.1 ∙ same)
       on (inr other) (inr none) = inr (other.1 ∙ none)
@@ -251,7 +262,8 @@ module _ (t : Tree) where
   length-parent x (y ∷ p) = ap suc (length-parent y p)
 
   -- where nothing is noted, nothing else stands than what was made
-  module _ (tree : IsTree t) (w : Tree) (marks : Marks) (is : Noting w marks) (none : (q : Path) → marks q ≡ None) (either : (q : Path) → (w q ≡ t q) ⊎ (w q ≡ None)) where
+  module _ (tree : IsTree t) (w : Tree) (marks : Marks) (is : Noting w marks) (none : (q : Path) → marks q ≡ None) (either : (q : Path)
+      → (w q ≡ t q) ⊎ (w q ≡ None)) where
     nothing_else : (k : ℕ) (q : Path) → length q ≡ k → w q ≡ None → t q ≡ None
     nothing_else k [] long absent = absurd (let top = is.tree.top in cc)
     nothing_else zero (x ∷ q) long absent = absurd (omega (arith, long))
@@ -260,15 +272,18 @@ module _ (t : Tree) where
         whole : parent (x ∷ q) ++ last_name (x ∷ q) ∷ [] ≡ x ∷ q
         whole = push-parent x q
 
-        found : (w (parent (x ∷ q)) ≡ None → t (parent (x ∷ q)) ≡ None) → t (parent (x ∷ q)) ≡ Some Folder → (w (parent (x ∷ q)) ≡ t (parent (x ∷ q))) ⊎ (w (parent (x ∷ q)) ≡ None) → t (x ∷ q) ≡ None
+        found : (w (parent (x ∷ q)) ≡ None → t (parent (x ∷ q)) ≡ None) → t (parent (x ∷ q)) ≡ Some Folder
+            → (w (parent (x ∷ q)) ≡ t (parent (x ∷ q))) ⊎ (w (parent (x ∷ q)) ≡ None) → t (x ∷ q) ≡ None
         found earlier folder (inr gone) = absurd (let no = earlier gone in cc)
         found earlier folder (inl same) =
             kind_none t (x ∷ q)
-            (ap (kind_in t) (sym whole) ∙ sym (is.listed (parent (x ∷ q)) (last_name (x ∷ q)) (same ∙ folder) (ap w whole ∙ absent)) ∙ none (parent (x ∷ q) ++ last_name (x ∷ q) ∷ []))
+            (ap (kind_in t) (sym whole) ∙ sym (is.listed (parent (x ∷ q)) (last_name (x ∷ q)) (same ∙ folder) (ap w whole ∙ absent))
+            ∙ none (parent (x ∷ q) ++ last_name (x ∷ q) ∷ []))
 
         on : (w (parent (x ∷ q)) ≡ None → t (parent (x ∷ q)) ≡ None) → (t (x ∷ q) ≡ None) ⊎ ((e : Entry) × (t (x ∷ q) ≡ Some e)) → t (x ∷ q) ≡ None
         on earlier (inl gone) = gone
-        on earlier (inr some) = found earlier (tree.above (parent (x ∷ q)) (last_name (x ∷ q)) (some_of _ some.0 (ap t whole ∙ some.1))) (either (parent (x ∷ q)))
+        on earlier (inr some) = found earlier (tree.above (parent (x ∷ q)) (last_name (x ∷ q)) (some_of _ some.0 (ap t whole ∙ some.1)))
+            (either (parent (x ∷ q)))
 
     pub all_same : (q : Path) → t q ≡ w q
     all_same q = on (either q)

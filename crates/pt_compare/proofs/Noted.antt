@@ -22,25 +22,33 @@ use Rattle.pt_tree.proofs.Cut.{names_back}
 use Rattle.pt_compare.specs.Marks.{marks_of}
 
 -- the entry of the first text comes first
-pub first_noted : (e : Vec ℕ × Kind) (path : Path) (es : List (Vec ℕ × Kind)) (now : Noted) → slice_get es 0 ≡ Some e → path ≡ names_in e.0.items → noted_of es ≡ now
+pub first_noted : (e : Vec ℕ × Kind) (path : Path) (es : List (Vec ℕ × Kind)) (now : Noted) → slice_get es 0 ≡ Some e → path ≡ names_in e.0.items
+    → noted_of es ≡ now
     → (text : Vec ℕ) × (kind : Kind) × (later : Noted) × (now ≡ (text, (path, kind)) ∷ later)
 first_noted e path [] now first names is = absurd (cc)
 first_noted e path (d ∷ es) now first names is =
-    let same : d ≡ e = cc in
-    (e.0, e.1, noted_of es, sym is ∙ ap (λ (d : Vec ℕ × Kind). (d.0, (names_in d.0.items, d.1)) ∷ noted_of es) same ∙ ap (λ (q : Path). (e.0, (q, e.1)) ∷ noted_of es) (sym names))
+    let same : d ≡ e = cc in (
+      e.0,
+      e.1,
+      noted_of es,
+      sym is ∙ ap (λ (d : Vec ℕ × Kind). (d.0, (names_in d.0.items, d.1)) ∷ noted_of es) same
+          ∙ ap (λ (q : Path). (e.0, (q, e.1)) ∷ noted_of es) (sym names),
+    )
 
 -- ---- what is held, and what it is seen as
 
 module _ (p : Path) (named : IsPath p) where
   same_at_text : (text : Vec ℕ) → is_text_of p text ≡ true → names_in text.items ≡ p
-  same_at_text text is = let same : joined p ≡ text.items = same_name (joined p) text.items (sym (is_eq-slice_cmp (joined p) text.items) ∙ is) in ap names_in (sym same) ∙ names_back p named
+  same_at_text text is = let same : joined p ≡ text.items = same_name (joined p) text.items (sym (is_eq-slice_cmp (joined p) text.items) ∙ is) in ap names_in
+      (sym same) ∙ names_back p named
 
   -- what is found by a path's text has that path
   pub found_noted : (es : List (Vec ℕ × Kind)) → kind_noted p (noted_of es) ≡ lookup (is_text_of p) es
   found_noted [] = refl
   found_noted (e ∷ es) = by (is_text_of p e.0) refl (found_noted es)
     where
-      by : (t : Bool) → is_text_of p e.0 ≡ t → kind_noted p (noted_of es) ≡ lookup (is_text_of p) es → kind_if p (cond t (Some (names_in e.0.items, e.1)) (lookup (is_text_of p) (noted_of es))) ≡ cond t (Some e.1) (lookup (is_text_of p) es)
+      by : (t : Bool) → is_text_of p e.0 ≡ t → kind_noted p (noted_of es) ≡ lookup (is_text_of p) es
+          → kind_if p (cond t (Some (names_in e.0.items, e.1)) (lookup (is_text_of p) (noted_of es))) ≡ cond t (Some e.1) (lookup (is_text_of p) es)
       by true is later = ap (λ (q : Path). cond (same_path q p) (Some e.1) None) (same_at_text e.0 is) ∙ ap (λ t. cond t (Some e.1) None) (path_itself p)
       by false is later = later
 
@@ -48,20 +56,23 @@ pub removed_noted : (test : Vec ℕ → Bool) (es : List (Vec ℕ × Kind)) → 
 removed_noted test [] = refl
 removed_noted test (e ∷ es) = by (test e.0) (removed_noted test es)
   where
-    by : (t : Bool) → noted_of (remove_entry test es) ≡ remove_entry test (noted_of es) → noted_of (cond t es (e ∷ remove_entry test es)) ≡ cond t (noted_of es) ((e.0, (names_in e.0.items, e.1)) ∷ remove_entry test (noted_of es))
+    by : (t : Bool) → noted_of (remove_entry test es) ≡ remove_entry test (noted_of es)
+        → noted_of (cond t es (e ∷ remove_entry test es)) ≡ cond t (noted_of es) ((e.0, (names_in e.0.items, e.1)) ∷ remove_entry test (noted_of es))
     by true later = refl
     by false later = ap (λ (l : Noted). (e.0, (names_in e.0.items, e.1)) ∷ l) later
 
 abbrev text_cmp : Vec ℕ → Vec ℕ → Ordering
 text_cmp a b = slice_cmp nat_cmp a.items b.items
 
-pub added_noted : (text : Vec ℕ) (p : Path) (kind : Kind) (es : List (Vec ℕ × Kind)) → names_in text.items ≡ p → noted_of (insert_entry text_cmp es text kind) ≡ with_entry text (p, kind) (noted_of es)
+pub added_noted : (text : Vec ℕ) (p : Path) (kind : Kind) (es : List (Vec ℕ × Kind)) → names_in text.items ≡ p
+    → noted_of (insert_entry text_cmp es text kind) ≡ with_entry text (p, kind) (noted_of es)
 added_noted text p kind [] names = ap (λ (q : Path). (text, (q, kind)) ∷ []) names
 added_noted text p kind (e ∷ es) names = by (text_cmp text e.0) refl (added_noted text p kind es names)
   where
     by : (o : Ordering) → text_cmp text e.0 ≡ o → noted_of (insert_entry text_cmp es text kind) ≡ with_entry text (p, kind) (noted_of es)
         → noted_of (match_ordering o ((text, kind) ∷ e ∷ es) ((e.0, kind) ∷ es) (e ∷ insert_entry text_cmp es text kind))
-        ≡ match_ordering o ((text, (p, kind)) ∷ noted_of (e ∷ es)) ((e.0, (p, kind)) ∷ noted_of es) ((e.0, (names_in e.0.items, e.1)) ∷ with_entry text (p, kind) (noted_of es))
+        ≡ match_ordering o ((text, (p, kind)) ∷ noted_of (e ∷ es)) ((e.0, (p, kind)) ∷ noted_of es)
+        ((e.0, (names_in e.0.items, e.1)) ∷ with_entry text (p, kind) (noted_of es))
     by Less is later = ap (λ (q : Path). (text, (q, kind)) ∷ noted_of (e ∷ es)) names
     by Equal is later =
         let same : text.items ≡ e.0.items = same_name text.items e.0.items (sym (is_eq-slice_cmp text.items e.0.items) ∙ ap is_eq is) in
@@ -86,7 +97,9 @@ noted_at q [] = on (is_back q)
     on false = refl
 noted_at q (e ∷ es) = by (is_text_of q e.0) refl (noted_at q es)
   where
-    by : (t : Bool) → is_text_of q e.0 ≡ t → kind_noted q (noted_of es) ≡ cond (is_back q) (lookup (is_text_of q) es) None → kind_if q (cond t (Some (names_in e.0.items, e.1)) (lookup (is_text_of q) (noted_of es))) ≡ cond (is_back q) (cond t (Some e.1) (lookup (is_text_of q) es)) None
+    by : (t : Bool) → is_text_of q e.0 ≡ t → kind_noted q (noted_of es) ≡ cond (is_back q) (lookup (is_text_of q) es) None
+        → kind_if q (cond t (Some (names_in e.0.items, e.1)) (lookup (is_text_of q) (noted_of es)))
+        ≡ cond (is_back q) (cond t (Some e.1) (lookup (is_text_of q) es)) None
     by true is later =
         let same : joined q ≡ e.0.items = same_name (joined q) e.0.items (sym (is_eq-slice_cmp (joined q) e.0.items) ∙ is) in
         ap (λ (t : List ℕ). cond (same_path (names_in t) q) (Some e.1) None) (sym same)
@@ -95,7 +108,8 @@ noted_at q (e ∷ es) = by (is_text_of q e.0) refl (noted_at q es)
 abbrev text_test : List ℕ → Vec ℕ → Bool
 text_test text k = is_eq (slice_cmp nat_cmp text k.items)
 
-module _ (p : Path) (named : IsPath p) (w : Option Kind) (text : List ℕ) (is_text : text ≡ joined p) (old new : List (Vec ℕ × Kind)) (at : lookup (text_test text) new ≡ w)
+module _ (p : Path) (named : IsPath p) (w : Option Kind) (text : List ℕ) (is_text : text ≡ joined p) (old new : List (Vec ℕ × Kind))
+    (at : lookup (text_test text) new ≡ w)
     (others : KeepsOthers (eq_by_cmp text_cmp) (text_test text) old new) where
   here_back : is_back p ≡ true
   here_back = ap (λ (q : Path). same_path q p) (names_back p named) ∙ path_itself p
@@ -104,7 +118,8 @@ module _ (p : Path) (named : IsPath p) (w : Option Kind) (text : List ℕ) (is_t
   changed_here = noted_at p new ∙ ap (λ b. cond b (lookup (is_text_of p) new) None) here_back ∙ ap (λ (t : List ℕ). lookup (text_test t) new) (sym is_text) ∙ at
 
   key_test : (q : Path) → IsKeyTest (eq_by_cmp text_cmp) (is_text_of q)
-  key_test q x y passes = let same : joined q ≡ x.items = same_name (joined q) x.items (sym (is_eq-slice_cmp (joined q) x.items) ∙ passes) in ap (λ (t : List ℕ). is_eq (slice_cmp nat_cmp t y.items)) same
+  key_test q x y passes = let same : joined q ≡ x.items = same_name (joined q) x.items (sym (is_eq-slice_cmp (joined q) x.items) ∙ passes) in ap
+      (λ (t : List ℕ). is_eq (slice_cmp nat_cmp t y.items)) same
 
   apart : (q : Path) → (q ≡ p → ⊥) → is_back q ≡ true → AreApart (text_test text) (is_text_of q)
   apart q differs back k passes = on (is_text_of q k) refl
@@ -150,18 +165,21 @@ joined_pieces (b ∷ t) = on (b == 47) refl (some_pieces t) (joined_pieces t)
     joined_onto x [] = refl
     joined_onto x (y ∷ p) = refl
 
-    on : (c : Bool) → (b == 47) ≡ c → (x : List ℕ) × (p : Path) × (pieces t ≡ x ∷ p) → joined (pieces t) ≡ t → joined (cond c ([] ∷ pieces t) (onto (b ∷ []) (pieces t))) ≡ b ∷ t
+    on : (c : Bool) → (b == 47) ≡ c → (x : List ℕ) × (p : Path) × (pieces t ≡ x ∷ p) → joined (pieces t) ≡ t
+        → joined (cond c ([] ∷ pieces t) (onto (b ∷ []) (pieces t))) ≡ b ∷ t
     on true same (x, p, is) later =
         let slash : b ≡ 47 = eqb-true b 47 same in
         ap (λ (ps : Path). joined ([] ∷ ps)) is ∙ ap (λ (l : List ℕ). 47 ∷ l) (ap joined (sym is) ∙ later) ∙ ap (λ (c : ℕ). c ∷ t) (sym slash)
-    on false other (x, p, is) later = ap (λ (ps : Path). joined (onto (b ∷ []) ps)) is ∙ joined_onto x p ∙ ap (λ (l : List ℕ). b ∷ l) (ap joined (sym is) ∙ later)
+    on false other (x, p, is) later = ap (λ (ps : Path). joined (onto (b ∷ []) ps)) is ∙ joined_onto x p
+        ∙ ap (λ (l : List ℕ). b ∷ l) (ap joined (sym is) ∙ later)
 
 joined_names : (t : List ℕ) → joined (names_in t) ≡ t
 joined_names [] = refl
 joined_names (b ∷ t) = joined_pieces (b ∷ t)
 
 -- the first entry is noted at its path
-pub first_marked : (e : Vec ℕ × Kind) (path : Path) (es : List (Vec ℕ × Kind)) (now : Noted) → slice_get es 0 ≡ Some e → path ≡ names_in e.0.items → noted_of es ≡ now → IsSome (marks_of now path)
+pub first_marked : (e : Vec ℕ × Kind) (path : Path) (es : List (Vec ℕ × Kind)) (now : Noted) → slice_get es 0 ≡ Some e → path ≡ names_in e.0.items
+    → noted_of es ≡ now → IsSome (marks_of now path)
 first_marked e path [] now first names is = absurd (cc)
 first_marked e path (d ∷ es) now first names is =
     let same : d ≡ e = cc in

@@ -1,5 +1,35 @@
 -- What of a text was found to come next in the open file of a root.
-use Rattle.std.proofs.Common.{suc, ◌≡◌, ◌≢◌, ◌+◌, ◌*◌, ◌<◌, ◌≤◌, ℕ, List, [], ◌∷◌, ◌++◌, true, false, refl, sym, ap, ◌∙◌, take, drop, length, inl, inr, ◌⊎◌, min, arith, not, Bool, ◌==◌}
+use Rattle.std.proofs.Common.{
+  suc,
+  ◌≡◌,
+  ◌≢◌,
+  ◌+◌,
+  ◌*◌,
+  ◌<◌,
+  ◌≤◌,
+  ℕ,
+  List,
+  [],
+  ◌∷◌,
+  ◌++◌,
+  true,
+  false,
+  refl,
+  sym,
+  ap,
+  ◌∙◌,
+  take,
+  drop,
+  length,
+  inl,
+  inr,
+  ◌⊎◌,
+  min,
+  arith,
+  not,
+  Bool,
+  ◌==◌,
+}
 use Rattle.std.specs.Prelude.{Option, None, Some}
 use Rattle.std.specs.Cmp.Lexicographic.{other_text, same_text}
 use Rattle.std.specs.Str.{bytes_eq}
@@ -7,7 +37,17 @@ use Rattle.std.specs.Global.{Vec}
 use Rattle.std.specs.Option.{option_map, ForSome}
 use Rattle.std.proofs.lemmas.Bool.{cases_order, false_from_ne_true, true≢false}
 use Rattle.std.proofs.lemmas.Bool.Decides.{Decides-eqb}
-use Rattle.std.proofs.lemmas.List.{append-nil, append_assoc, append_cancel_left, drop_all, length-append, length-take-le, take-append-drop, take-append-le, take_all}
+use Rattle.std.proofs.lemmas.List.{
+  append-nil,
+  append_assoc,
+  append_cancel_left,
+  drop_all,
+  length-append,
+  length-take-le,
+  take-append-drop,
+  take-append-le,
+  take_all,
+}
 use Rattle.pt_tree.specs.Source.{IsRead, Reading, after_next}
 use Rattle.pt_compare.specs.Bytes.{CameNext, EndsBlock, IsAllLeft, IsNotNext, TellsEnd, TellsRest, left_in}
 
@@ -30,7 +70,12 @@ none_passed bytes told = λ left is. record { front = []; behind = left; bytes_a
 pub all_passed : (bytes rest : List ℕ) (old now : Option Reading) → HasPassed bytes rest old now → length rest ≡ 0 → CameNext bytes old now
 unfolding HasPassed CameNext
 all_passed bytes (x ∷ rest) old now has none = absurd (cc)
-all_passed bytes [] old now has none = λ left is. let p = has left is in (p.behind, p.now_is, p.left_is ∙ ap (λ f. f ++ p.behind) (sym (p.bytes_are ∙ append-nil p.front)))
+all_passed bytes [] old now has none = λ left is. let p = has left is in (
+  p.behind,
+  p.now_is,
+  p.left_is
+      ∙ ap (λ f. f ++ p.behind) (sym (p.bytes_are ∙ append-nil p.front)),
+)
 
 pub block_is : (now : Option Reading) (left block : List ℕ) → IsRead now block → left_in now ≡ Some left → take 8192 left ≡ block
 unfolding IsRead
@@ -46,7 +91,8 @@ record IsPiece (n : ℕ) (rest piece : List ℕ) : Type 0 where
   size : n ≡ min (length rest) 8192
   value : piece ≡ take n rest
 
-ends_on : (n : ℕ) (rest piece behind front : List ℕ) → IsPiece n rest piece → behind ≡ drop n rest → (rest ≡ []) ⊎ ((blocks : ℕ) × (length front ≡ blocks * 8192)) → (behind ≡ []) ⊎ ((blocks : ℕ) × (length (front ++ piece) ≡ blocks * 8192))
+ends_on : (n : ℕ) (rest piece behind front : List ℕ) → IsPiece n rest piece → behind ≡ drop n rest
+    → (rest ≡ []) ⊎ ((blocks : ℕ) × (length front ≡ blocks * 8192)) → (behind ≡ []) ⊎ ((blocks : ℕ) × (length (front ++ piece) ≡ blocks * 8192))
 ends_on n rest piece behind front is back (inl none) = inl (back ∙ ap (drop n) none ∙ drop_all n [] (omega arith))
 ends_on n rest piece behind front is back (inr (blocks, e)) = by (cases_order (length rest) 8192)
   where
@@ -61,13 +107,15 @@ ends_on n rest piece behind front is back (inr (blocks, e)) = by (cases_order (l
     by (inr (inl short)) = inl (back ∙ drop_all n rest (omega (arith, short, is.size)))
     by (inr (inr long)) = inr (blocks + 1, whole (omega (arith, long)))
 
-pub one_passed : (n : ℕ) (bytes rest piece behind block : List ℕ) (old now new : Option Reading) → HasPassed bytes rest old now → IsRead now block → new ≡ option_map after_next now
+pub one_passed : (n : ℕ) (bytes rest piece behind block : List ℕ) (old now new : Option Reading) → HasPassed bytes rest old now → IsRead now block
+    → new ≡ option_map after_next now
     → n ≡ min (length rest) 8192 → piece ≡ take n rest → behind ≡ drop n rest → block ≡ piece → HasPassed bytes behind old new
 unfolding HasPassed
 one_passed n bytes rest piece behind block old now new has read moved size value back same = λ left is.
     let p = has left is in
     let rest_is : rest ≡ piece ++ behind = sym (take-append-drop n rest) ∙ cc in
-    let left_is : p.behind ≡ piece ++ drop 8192 p.behind = sym (take-append-drop 8192 p.behind) ∙ ap (λ x. x ++ drop 8192 p.behind) (block_is now p.behind block read p.now_is ∙ same) in
+    let left_is : p.behind ≡ piece ++ drop 8192 p.behind = sym (take-append-drop 8192 p.behind)
+    ∙ ap (λ x. x ++ drop 8192 p.behind) (block_is now p.behind block read p.now_is ∙ same) in
     record {
       front = p.front ++ piece;
       behind = drop 8192 p.behind;
@@ -78,7 +126,8 @@ one_passed n bytes rest piece behind block old now new has read moved size value
     }
 
 -- a text that fills blocks, or ends the file, has nothing behind it where less than a block of it is left
-none_behind : (bytes rest front more : List ℕ) → bytes ≡ front ++ rest → 0 < length rest → length rest < 8192 → (rest ≡ []) ⊎ ((blocks : ℕ) × (length front ≡ blocks * 8192)) → EndsBlock bytes more → more ≡ []
+none_behind : (bytes rest front more : List ℕ) → bytes ≡ front ++ rest → 0 < length rest → length rest < 8192
+    → (rest ≡ []) ⊎ ((blocks : ℕ) × (length front ≡ blocks * 8192)) → EndsBlock bytes more → more ≡ []
 none_behind bytes rest front more is some short ends (inl none) = none
 none_behind bytes rest front more is some short (inl none) (inr (j, e)) = absurd (omega (arith, some, ap length none))
 none_behind bytes rest front more is some short (inr (k, f)) (inr (j, e)) =
@@ -93,7 +142,8 @@ taken_whole n rest more size none = by (cases_order (length rest) 8192)
 
     by : (length rest ≡ 8192) ⊎ ((length rest < 8192) ⊎ (8192 < length rest)) → take 8192 (rest ++ more) ≡ take n rest
     by (inl same) = whole (omega (arith, same))
-    by (inr (inl short)) = ap (λ m. take 8192 (rest ++ m)) (none short) ∙ ap (take 8192) (append-nil rest) ∙ take_all 8192 rest (omega (arith, short)) ∙ sym (take_all n rest (omega (arith, short, size)))
+    by (inr (inl short)) = ap (λ m. take 8192 (rest ++ m)) (none short) ∙ ap (take 8192) (append-nil rest) ∙ take_all 8192 rest (omega (arith, short))
+        ∙ sym (take_all n rest (omega (arith, short, size)))
     by (inr (inr long)) = whole (omega (arith, long))
 
 pub other_next : (n : ℕ) (bytes rest piece block : List ℕ) (old now : Option Reading) → HasPassed bytes rest old now → 0 < length rest → IsRead now block
@@ -101,7 +151,8 @@ pub other_next : (n : ℕ) (bytes rest piece block : List ℕ) (old now : Option
 unfolding HasPassed IsNotNext
 other_next n bytes rest piece block old now has some read size value other = λ left is more ends same.
     let p = has left is in
-    let behind_is : p.behind ≡ rest ++ more = append_cancel_left p.front p.behind (rest ++ more) (sym p.left_is ∙ same ∙ ap (λ b. b ++ more) p.bytes_are ∙ append_assoc p.front rest more) in
+    let behind_is : p.behind ≡ rest ++ more = append_cancel_left p.front p.behind (rest ++ more) (sym p.left_is ∙ same ∙ ap (λ b. b ++ more) p.bytes_are
+    ∙ append_assoc p.front rest more) in
     let none = λ (short : length rest < 8192). none_behind bytes rest p.front more p.bytes_are some short p.ends ends in
     other (sym (block_is now p.behind block read p.now_is) ∙ ap (take 8192) behind_is ∙ taken_whole n rest more size none ∙ sym value)
 
@@ -135,7 +186,8 @@ rest_as bytes rest = on rest (bytes_eq (bytes ++ rest) bytes) refl
     on [] true e = refl
     on (x ∷ rest) false e = not_zero (length rest)
     on [] false e = absurd (other_text (bytes ++ []) bytes (sym e) (append-nil bytes))
-    on (x ∷ rest) true e = absurd (let both : length (bytes ++ x ∷ rest) ≡ length bytes + length (x ∷ rest) = length-append bytes (x ∷ rest) in omega (arith, both, ap length (same_text (bytes ++ x ∷ rest) bytes (sym e))))
+    on (x ∷ rest) true e = absurd (let both : length (bytes ++ x ∷ rest)
+        ≡ length bytes + length (x ∷ rest) = length-append bytes (x ∷ rest) in omega (arith, both, ap length (same_text (bytes ++ x ∷ rest) bytes (sym e))))
 
 pub rest_told : (bytes : List ℕ) (old mid : Option Reading) (ended : Bool) → CameNext bytes old mid → TellsEnd mid ended → TellsRest bytes old ended
 unfolding CameNext TellsEnd TellsRest
@@ -149,7 +201,8 @@ pub none_came : (told : Option Reading) → CameNext [] told told
 unfolding CameNext
 none_came told = λ left is. (left, is, refl)
 
-pub more_came : (bytes block longer : List ℕ) (old now new : Option Reading) → CameNext bytes old now → IsRead now block → new ≡ option_map after_next now → longer ≡ bytes ++ block → CameNext longer old new
+pub more_came : (bytes block longer : List ℕ) (old now new : Option Reading) → CameNext bytes old now → IsRead now block → new ≡ option_map after_next now
+    → longer ≡ bytes ++ block → CameNext longer old new
 unfolding CameNext
 more_came bytes block longer old now new came read moved is = λ left here.
     let (behind, now_is, left_is) = came left here in
@@ -160,7 +213,8 @@ more_came bytes block longer old now new came read moved is = λ left here.
       left_is ∙ ap (λ x. bytes ++ x) behind_is ∙ sym (append_assoc bytes block (drop 8192 behind)) ∙ ap (λ x. x ++ drop 8192 behind) (sym is),
     )
 
-pub all_came : (bytes : Vec ℕ) (block : List ℕ) (old now : Option Reading) → CameNext bytes.items old now → IsRead now block → true ≡ (length block == 0) → IsAllLeft old bytes
+pub all_came : (bytes : Vec ℕ) (block : List ℕ) (old now : Option Reading) → CameNext bytes.items old now → IsRead now block → true ≡ (length block == 0)
+    → IsAllLeft old bytes
 unfolding CameNext IsAllLeft
 all_came bytes block old now came read test = λ left here.
     let (behind, now_is, left_is) = came left here in

@@ -33,12 +33,14 @@ next_tree None = refl
 next_tree (Some r) = refl
 
 -- after a block was asked for, a file is open still
-pub still_reads : (r : Result (Unit {0}) TreeFault) (old new : Option Reading) → OnOk r (new ≡ option_map after_next old) → OnErr r (new ≡ old) → Reads old → Reads new
+pub still_reads : (r : Result (Unit {0}) TreeFault) (old new : Option Reading) → OnOk r (new ≡ option_map after_next old) → OnErr r (new ≡ old) → Reads old
+    → Reads new
 still_reads (Ok x) old new ok err reads = ap is_reading ok ∙ next_reads old reads
 still_reads (Err e) old new ok err reads = ap is_reading err ∙ reads
 
 -- and the tree is the same
-pub still_tree : (r : Result (Unit {0}) TreeFault) (old new : Option Reading) → OnOk r (new ≡ option_map after_next old) → OnErr r (new ≡ old) → tree_in new ≡ tree_in old
+pub still_tree : (r : Result (Unit {0}) TreeFault) (old new : Option Reading) → OnOk r (new ≡ option_map after_next old) → OnErr r (new ≡ old)
+    → tree_in new ≡ tree_in old
 still_tree (Ok x) old new ok err = ap tree_in ok ∙ next_tree old
 still_tree (Err e) old new ok err = ap tree_in err
 
@@ -70,7 +72,8 @@ opens_tree None new p is = ap tree_in is
 opens_tree (Some r) new p is = ap tree_in is
 
 -- after a file was asked for, the tree is the same
-pub still_there : (r : Result (Unit {0}) TreeFault) (old new : Option Reading) (p : Path) → OnOk r (new ≡ option_map (after_open p) old) → OnErr r (new ≡ old) → tree_in new ≡ tree_in old
+pub still_there : (r : Result (Unit {0}) TreeFault) (old new : Option Reading) (p : Path) → OnOk r (new ≡ option_map (after_open p) old) → OnErr r (new ≡ old)
+    → tree_in new ≡ tree_in old
 still_there (Ok x) old new p ok err = opens_tree old new p ok
 still_there (Err e) old new p ok err = ap tree_in err
 

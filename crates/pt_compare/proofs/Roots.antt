@@ -35,15 +35,20 @@ below (Dir d) (m ∷ p) n q other = on (find d m) (λ x. below x p n q) other
     on (Some x) deeper other = deeper x other
 
 -- a way has one more of the names
-pub way_more : (way longer path : Path) (n d : List ℕ) (i : ℕ) → way ≡ take i path → i < length path → n ≡ get_or path i d → longer ≡ way ++ n ∷ [] → longer ≡ take (i + 1) path
-way_more way longer path n d i is within item long = long ∙ ap (λ (p : Path). p ++ n ∷ []) is ∙ ap (λ (x : List ℕ). take i path ++ x ∷ []) item ∙ sym (take_more path i d within)
+pub way_more : (way longer path : Path) (n d : List ℕ) (i : ℕ) → way ≡ take i path → i < length path → n ≡ get_or path i d → longer ≡ way ++ n ∷ []
+    → longer ≡ take (i + 1) path
+way_more way longer path n d i is within item long = long ∙ ap (λ (p : Path). p ++ n ∷ []) is ∙ ap (λ (x : List ℕ). take i path ++ x ∷ []) item
+    ∙ sym (take_more path i d within)
 
 -- below what is no directory nothing stands
-pub none_below : (tree : Option Forest) (path way : Path) (i : ℕ) (n d : List ℕ) (here : Option Kind) → i < length path → n ≡ get_or path i d → way ≡ take i path
+pub none_below : (tree : Option Forest) (path way : Path) (i : ℕ) (n d : List ℕ) (here : Option Kind) → i < length path → n ≡ get_or path i d
+    → way ≡ take i path
     → IsSeen tree way here → is_dir_kind here ≡ false → IsSeen tree path None
 none_below tree path way i n d here within is way_is seen other =
-    let whole : way ++ n ∷ drop (i + 1) path ≡ path = ap (λ (p : Path). p ++ n ∷ drop (i + 1) path) way_is ∙ ap (λ (p : Path). take i path ++ p) (ap (λ (x : List ℕ). x ∷ drop (i + 1) path) is ∙ sym (drop_more path i d within)) ∙ take-append-drop i path in
-    λ f told. ap (λ (p : Path). kind_at f p) (sym whole) ∙ ap (option_map kind_of) (below (Dir f) way n (drop (i + 1) path) (ap is_dir_kind (seen f told) ∙ other))
+    let whole : way ++ n ∷ drop (i + 1) path ≡ path = ap (λ (p : Path). p ++ n ∷ drop (i + 1) path) way_is
+    ∙ ap (λ (p : Path). take i path ++ p) (ap (λ (x : List ℕ). x ∷ drop (i + 1) path) is ∙ sym (drop_more path i d within)) ∙ take-append-drop i path in
+    λ f told. ap (λ (p : Path). kind_at f p) (sym whole) ∙ ap (option_map kind_of)
+    (below (Dir f) way n (drop (i + 1) path) (ap is_dir_kind (seen f told) ∙ other))
 
 -- what is a directory is of that kind, and only that
 pub same_dir : (here : Option Kind) → option_map_or (same_kind kind.Dir) here false ≡ is_dir_kind here

@@ -22,7 +22,9 @@ alike m [] other less = absurd (omega (arith, less))
 alike m (name ∷ path) [] less = sym (le-ltb m 0 (omega arith))
 alike m (name ∷ path) (first ∷ other) less = by m (bytes_eq name first) less (λ j more. alike j path other more)
   where
-    by : (m : ℕ) (b : Bool) → suc m ≤ length (name ∷ path) → ((j : ℕ) → suc j ≤ length path → is_some (rest_below (take (suc j) path) other) ≡ nat_lt j (common_names path other)) → is_some (cond b (rest_below (take m path) other) None) ≡ nat_lt m (cond b (suc (common_names path other)) 0)
+    by : (m : ℕ) (b : Bool) → suc m ≤ length (name ∷ path) → ((j : ℕ) → suc j ≤ length path
+        → is_some (rest_below (take (suc j) path) other) ≡ nat_lt j (common_names path other))
+        → is_some (cond b (rest_below (take m path) other) None) ≡ nat_lt m (cond b (suc (common_names path other)) 0)
     by m false less later = sym (le-ltb m 0 (omega arith))
     by zero true less later = sym (lt-ltb 0 (suc (common_names path other)) (omega arith))
     by (suc j) true less later = later j (omega (arith, less)) ∙ sym (lt_suc j (common_names path other))
@@ -32,8 +34,10 @@ one_less k zero = le-ltb (suc k) 0 (omega arith) ∙ sym (le-ltb k 0 (omega arit
 one_less k (suc c) = lt_suc k c ∙ ap (nat_lt k) (let same : c ≡ suc c - 1 = omega arith in same)
 
 pub are_met : (last stored : Path) (count met : ℕ) → count ≡ common_names stored last → met ≡ count - 1 → AreMet (Some last) stored met
-are_met last stored count met is less k there = alike (suc k) stored last there ∙ one_less k (common_names stored last) ∙ sym (ap (nat_lt k) (less ∙ ap (λ (n : ℕ). n - 1) is))
+are_met last stored count met is less k there = alike (suc k) stored last there ∙ one_less k (common_names stored last)
+    ∙ sym (ap (nat_lt k) (less ∙ ap (λ (n : ℕ). n - 1) is))
 
 -- the folder with so many names of the path
-pub on_way : (last : Option Path) (whole names p : Path) (met k : ℕ) → whole ≡ in_content names → names ≡ p → AreMet last whole met → k < length p → leads_to_last last (in_content (take k p)) ≡ nat_lt k met
+pub on_way : (last : Option Path) (whole names p : Path) (met k : ℕ) → whole ≡ in_content names → names ≡ p → AreMet last whole met → k < length p
+    → leads_to_last last (in_content (take k p)) ≡ nat_lt k met
 on_way last whole names p met k is all are less = (rw (is ∙ ap in_content all) at are) k (omega (arith, less))

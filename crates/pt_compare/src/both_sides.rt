@@ -7,8 +7,8 @@ use crate::stop::{Stop, of_root, of_source};
 use pt_plan::Fault;
 use pt_tree::{Block, Source};
 
-/// Whether what is left of both files has the same bytes; both are read block by block, up to the first that differ. `Memory`
-/// where they are longer than 2^77 bytes, which no file is.
+/// Whether what is left of both files has the same bytes; both are read block by block, up to the
+/// first that differ. `Memory` where they are longer than 2^77 bytes, which no file is.
 pub(crate) fn are_alike<S: Source, R: Source>(source: &mut S, root: &mut R) -> Result<bool, Stop>
     requires source { Reads (S.told source.old) }
     requires root { Reads (R.told root.old) }

@@ -1,4 +1,5 @@
-//! The bytes of the open file of a root, held against others. Where a block can't be read, the fault of `next` is answered.
+//! The bytes of the open file of a root, held against others. Where a block can't be read, the
+//! fault of `next` is answered.
 ghost use Rattle.std.specs.Prelude.{◌≡◌, true, false, IfOk};
 ghost use Rattle.pt_tree.specs.Failures.{IsCounted};
 ghost use Rattle.pt_compare.specs.Bytes.{CameNext, IsAllLeft, IsNotNext, TellsEnd, TellsRest};
@@ -11,7 +12,8 @@ use std::alloc::Global;
 // How many blocks of a file are read at most: 2^64 bytes, of which memory has to be wanting before.
 const MOST: u64 = 1 << 51;
 
-/// Whether these bytes come next in the open file of a root: block by block, of which all but the last have to be full.
+/// Whether these bytes come next in the open file of a root: block by block, of which all but the
+/// last have to be full.
 pub fn come_next<R: Source>(
     root: &mut R,
     block: &mut Block,

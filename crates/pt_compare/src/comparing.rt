@@ -26,14 +26,17 @@ use pt_plan::names::alike_names;
 use pt_tree::{Kind, NamePath, Source, TreeFault};
 use std::alloc::Global;
 
-/// Holds an object against what stands at its place, in the order in which a run makes it (OCFL 1.1, "Object Structure"): the
-/// place itself, the declaration, the version's folder, its contents, its inventory and sidecar, and those at the top. It finds
-/// the first of them that doesn't stand so; else the first entry that stands there beside them, by the order of the texts of
-/// the paths; else that just the object stands. The inventory in the version's folder may be any that a run could make of these
-/// files, with whatever moment, user and message; the one at the top has to be the same as that, byte for byte.
+/// Holds an object against what stands at its place, in the order in which a run makes it (OCFL
+/// 1.1, "Object Structure"): the place itself, the declaration, the version's folder, its contents,
+/// its inventory and sidecar, and those at the top. It finds the first of them that doesn't stand
+/// so; else the first entry that stands there beside them, by the order of the texts of the paths;
+/// else that just the object stands. The inventory in the version's folder may be any that a run
+/// could make of these files, with whatever moment, user and message; the one at the top has to be
+/// the same as that, byte for byte.
 ///
-/// What is known to be alike isn't read again. `Source` where a call of the source failed, `Dest` where one of the root did, and `Memory` where a
-/// growth was refused, or a file has more than 2^77 bytes.
+/// What is known to be alike isn't read again. `Source` where a call of the source failed, `Dest`
+/// where one of the root did, and `Memory` where a growth was refused, or a file has more than 2^77
+/// bytes.
 pub fn compare<S: Source, R: Source>(
     alloc: Global,
     source: &mut S,
@@ -67,7 +70,8 @@ pub fn compare<S: Source, R: Source>(
     }
 }
 
-// The kind of what stands at an object's place, if anything does; what is known of it isn't looked at.
+// The kind of what stands at an object's place, if anything does; what is known of it isn't looked
+// at.
 fn at_place<R: Source>(
     alloc: Global,
     root: &mut R,
@@ -128,7 +132,8 @@ fn meet_object<S: Source, R: Source>(
     meet_inventories(alloc, root, object, entries)
 }
 
-// Meets the place itself, the declaration (OCFL 1.1, "Object Conformance Declaration") and the version's folder.
+// Meets the place itself, the declaration (OCFL 1.1, "Object Conformance Declaration") and the
+// version's folder.
 fn meet_first<R: Source>(
     alloc: Global,
     root: &mut R,
@@ -148,7 +153,8 @@ fn meet_first<R: Source>(
     meet_folder(root, place, entries, version)
 }
 
-// Meets the contents (OCFL 1.1, "Content Directory"), each with the folders on the way to it that are new.
+// Meets the contents (OCFL 1.1, "Content Directory"), each with the folders on the way to it that
+// are new.
 fn meet_contents<S: Source, R: Source>(
     alloc: Global,
     source: &mut S,
@@ -206,7 +212,8 @@ fn meet_contents<S: Source, R: Source>(
     Ok(())
 }
 
-// The way to a content, by its logical path, from where the content that was met last is stored, if there was one.
+// The way to a content, by its logical path, from where the content that was met last is stored, if
+// there was one.
 #[derive(Drop)]
 struct Way<'a> {
     last: &'a Option<NamePath>,
@@ -242,8 +249,8 @@ fn meet_way<R: Source>(
     Ok(())
 }
 
-// How many of the folders on the way to a stored content are on the way to the one that was met last. The names are compared
-// once.
+// How many of the folders on the way to a stored content are on the way to the one that was met
+// last. The names are compared once.
 fn folders_met(last: &Option<NamePath>, path: &NamePath) -> usize
     ensures { AreMet last.now path.now result }
 {
@@ -276,8 +283,8 @@ fn meet_inventories<R: Source>(
     meet_copies(alloc, root, object, entries, stands.as_str())
 }
 
-// Meets what follows from the inventory in the version's folder: its sidecar, the same inventory at the top, and the sidecar
-// there.
+// Meets what follows from the inventory in the version's folder: its sidecar, the same inventory at
+// the top, and the sidecar there.
 fn meet_copies<R: Source>(
     alloc: Global,
     root: &mut R,

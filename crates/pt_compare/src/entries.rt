@@ -12,7 +12,8 @@ use std::alloc::Global;
 use std::collections::BTreeMap;
 use std::marker::Model;
 
-/// Entries by the texts of their paths, seen as the list of these and of the paths, which aren't held beside them.
+/// Entries by the texts of their paths, seen as the list of these and of the paths, which aren't
+/// held beside them.
 #[derive(Drop)]
 pub(crate) struct Entries {
     alloc: Global,

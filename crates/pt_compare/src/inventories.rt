@@ -26,8 +26,9 @@ const USER: &str = ",\"user\":";
 
 const END: &str = "}}}";
 
-/// The text of an inventory that stands, if it is one that a run could make of this object's files: with whatever moment, user
-/// and message it could be given (OCFL 1.1, "Versions"). `Memory` where a growth was refused.
+/// The text of an inventory that stands, if it is one that a run could make of this object's files:
+/// with whatever moment, user and message it could be given (OCFL 1.1, "Versions"). `Memory` where
+/// a growth was refused.
 pub(crate) fn text_if_made(
     alloc: Global,
     stands: Vec<u8>,
@@ -49,8 +50,8 @@ pub(crate) fn text_if_made(
     }
 }
 
-// Whether it is such a text. What it says of its version is first sought where a run writes that, since as JSON a whole
-// inventory takes far more memory than as text.
+// Whether it is such a text. What it says of its version is first sought where a run writes that,
+// since as JSON a whole inventory takes far more memory than as text.
 fn is_made(alloc: Global, stands: &str, object: &ScannedObject<'_>) -> Result<bool, MemoryFault>
     requires { object.now.contents.now ≡ map content_of_row (distinct object.now.rows.now) }
     ensures { IfOk result (TellsMade (texts_of_object object.now) stands.now) }
@@ -88,7 +89,8 @@ fn is_text(
     Ok(text == made.as_str())
 }
 
-// What an inventory says of its version, if that stands where a run writes it and is what a run could say.
+// What an inventory says of its version, if that stands where a run writes it and is what a run
+// could say.
 fn meta_by_text(alloc: Global, text: &str) -> Result<Option<Meta>, MemoryFault>
     ensures { IfOk result (λ meta. IfSome meta IsGiven) }
 {
@@ -112,8 +114,8 @@ struct Parts<'a> {
     user: &'a str,
 }
 
-// Those of a text, if it has them. In the strings of JSON each quote has a backslash before it, so the words between the parts
-// are found in none of them.
+// Those of a text, if it has them. In the strings of JSON each quote has a backslash before it, so
+// the words between the parts are found in none of them.
 fn parts_of(text: &str) -> Option<Parts<'_>> {
     let (_, rest) = text.split_once(CREATED)?;
     let (created, rest) = rest.split_once(MESSAGE)?;

@@ -1,4 +1,5 @@
-//! Single entries of an object, held against what stands at its place: one that stands is taken out of what is noted.
+//! Single entries of an object, held against what stands at its place: one that stands is taken out
+//! of what is noted.
 ghost use Rattle.std.specs.Prelude.{◌≡◌, ◌∷◌, [], true, OnOk, map};
 ghost use Rattle.pt_compare.specs.Beside.{StandsAlike, TakesFile};
 ghost use Rattle.pt_compare.specs.Found.{texts_of_object};
@@ -68,7 +69,8 @@ pub(crate) fn meet_bytes<R: Source>(
     }
 }
 
-/// A content that has to stand in an object: its path there, the source's file whose bytes it has, and whether it is known to have them.
+/// A content that has to stand in an object: its path there, the source's file whose bytes it has,
+/// and whether it is known to have them.
 #[derive(Drop)]
 pub(crate) struct Stored<'a> {
     pub path: &'a NamePath,
@@ -146,8 +148,8 @@ fn meet_content<S: Source, R: Source>(
     }
 }
 
-/// Meets the inventory in the version's folder, which has to be one that a run could make of the object's files, and gives its
-/// text.
+/// Meets the inventory in the version's folder, which has to be one that a run could make of the
+/// object's files, and gives its text.
 pub(crate) fn meet_inventory<R: Source>(
     alloc: Global,
     root: &mut R,

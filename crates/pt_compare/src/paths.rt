@@ -13,8 +13,8 @@ pub(crate) fn join(path: &NamePath, inner: &NamePath) -> Result<NamePath, Memory
     path.concat(inner.names())
 }
 
-/// The content path of a logical path, or of a folder on the way to it, from the object's place on (OCFL 1.1, "Content
-/// Directory"). `Memory` where a growth was refused.
+/// The content path of a logical path, or of a folder on the way to it, from the object's place on
+/// (OCFL 1.1, "Content Directory"). `Memory` where a growth was refused.
 pub fn content_path(alloc: Global, path: &[Name]) -> Result<NamePath, MemoryFault>
     ensures { IfOk result (λ whole. whole ≡ in_content path.now) }
 {

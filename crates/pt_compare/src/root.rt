@@ -11,8 +11,8 @@ use pt_plan::names::alike_names;
 use pt_tree::{Kind, Name, NamePath, Source, TreeFault};
 use std::alloc::Global;
 
-/// The kind of what stands at a path; None where nothing does, also below what is no directory. Each entry on its way is
-/// looked at, from the top on, up to the first that isn't a directory.
+/// The kind of what stands at a path; None where nothing does, also below what is no directory.
+/// Each entry on its way is looked at, from the top on, up to the first that isn't a directory.
 /// `Memory` where a growth was refused, else the fault of the look that failed.
 pub fn find_kind<R: Source>(
     alloc: Global,
@@ -38,9 +38,9 @@ pub fn find_kind<R: Source>(
 
 /// Opens the file at a path of a root, if one stands there; whether it does.
 ///
-/// Each folder on its way is looked at, but for those that lead to a folder that is known to stand. The folder of the file is
-/// that one from then on, if it isn't above it.
-/// `Memory` where a growth was refused, else the fault of the look or the opening that failed.
+/// Each folder on its way is looked at, but for those that lead to a folder that is known to stand.
+/// The folder of the file is that one from then on, if it isn't above it. `Memory` where a growth
+/// was refused, else the fault of the look or the opening that failed.
 pub fn open_standing<R: Source>(
     alloc: Global,
     root: &mut R,
@@ -67,7 +67,8 @@ pub fn open_standing<R: Source>(
     Ok(true)
 }
 
-// Whether the folder of these names stands. It is the one that is known to stand from then on, unless that is below it.
+// Whether the folder of these names stands. It is the one that is known to stand from then on,
+// unless that is below it.
 fn stand_above<R: Source>(
     alloc: Global,
     root: &mut R,

@@ -32,33 +32,45 @@ module _ {S R L : Type 0} (store : OfSource S) (root : OfSource R) (log : OfLog 
   keeps_on a b c first second = record {
     store_stays = (store_on a.store b.store c.store first.store_stays.0 second.store_stays.0, second.store_stays.1 ∙ first.store_stays.1);
     root_stays = (root_on a.root b.root c.root first.root_stays.0 second.root_stays.0, second.root_stays.1 ∙ first.root_stays.1);
-    log_grows = (log_on a.log b.log c.log first.log_grows.0 second.log_grows.0, grows_on (log.told a.log) (log.told b.log) (log.told c.log) first.log_grows.1 second.log_grows.1);
+    log_grows = (
+      log_on a.log b.log c.log first.log_grows.0 second.log_grows.0,
+      grows_on (log.told a.log) (log.told b.log) (log.told c.log) first.log_grows.1
+          second.log_grows.1,
+    );
     job = second.job ∙ first.job;
     prefix = second.prefix ∙ first.prefix;
   }
 
 -- it is held against the same then
-pub same_against : {S R L : Type 0} (store : OfSource S) (root : OfSource R) (log : OfLog L) (a b : Extras S R L) (s : Forest) → Keeps store root log a b → against b s ≡ against a s
+pub same_against : {S R L : Type 0} (store : OfSource S) (root : OfSource R) (log : OfLog L) (a b : Extras S R L) (s : Forest) → Keeps store root log a b
+    → against b s ≡ against a s
 same_against store root log a b s keeps = λ i. record { job = job_of (keeps.job i); prefix = string_bytes (keeps.prefix i); store = s }
 
 -- so what is told from there on is what is found from the start
-pub told_from : {S R L : Type 0} (store : OfSource S) (root : OfSource R) (log : OfLog L) (findings : Against → Forest → List ExtraFinding) (a b c : Extras S R L) → Keeps store root log a b → Tells store root log findings b c
+pub told_from : {S R L : Type 0} (store : OfSource S) (root : OfSource R) (log : OfLog L) (findings : Against → Forest
+    → List ExtraFinding) (a b c : Extras S R L) → Keeps store root log a b → Tells store root log findings b c
     → ForSome (tree_in (store.told a.store)) (λ s. ForSome (tree_in (root.told a.root)) (λ r. Puts (findings (against a s) r) (seen_by log b) (seen_by log c)))
 told_from store root log findings a b c keeps tells = λ s is r there.
     subst (λ (x : Against). Puts (findings x r) (seen_by log b) (seen_by log c)) (same_against store root log a b s keeps)
     (tells s (keeps.store_stays.1 ∙ is) r (keeps.root_stays.1 ∙ there))
 
 -- the same of a front
-pub front_from : {S R L : Type 0} (store : OfSource S) (root : OfSource R) (log : OfLog L) (findings : Against → Forest → List ExtraFinding) (a b c : Extras S R L) → Keeps store root log a b → TellsFront store root log findings b c
-    → ForSome (tree_in (store.told a.store)) (λ s. ForSome (tree_in (root.told a.root)) (λ r. AppendsFront (log.told b.log) (log.told c.log) (texts (findings (against a s) r))))
+pub front_from : {S R L : Type 0} (store : OfSource S) (root : OfSource R) (log : OfLog L) (findings : Against → Forest
+    → List ExtraFinding) (a b c : Extras S R L) → Keeps store root log a b → TellsFront store root log findings b c
+    → ForSome (tree_in (store.told a.store)) (λ s. ForSome (tree_in (root.told a.root))
+    (λ r. AppendsFront (log.told b.log) (log.told c.log) (texts (findings (against a s) r))))
 front_from store root log findings a b c keeps front = λ s is r there.
     subst (λ (x : Against). AppendsFront (log.told b.log) (log.told c.log) (texts (findings x r))) (same_against store root log a b s keeps)
     (front s (keeps.store_stays.1 ∙ is) r (keeps.root_stays.1 ∙ there))
 
 -- where nothing was put it breaks off so
-pub stops_still : {S R L T : Type 0} (store : OfSource S) (root : OfSource R) (log : OfLog L) (findings : Against → Forest → List ExtraFinding) (a b : Extras S R L) (result : Result T Fault) → log.told b.log ≡ log.told a.log → OnErr result (TellsFront store root log findings a b)
+pub stops_still : {S R L T : Type 0} (store : OfSource S) (root : OfSource R) (log : OfLog L) (findings : Against → Forest
+    → List ExtraFinding) (a b : Extras S R L) (result : Result T Fault) → log.told b.log ≡ log.told a.log
+    → OnErr result (TellsFront store root log findings a b)
 stops_still store root log findings a b (Ok x) same = tt
-stops_still store root log findings a b (Err why) same = λ s is r there. subst (λ (l : Option (List ℕ)). AppendsFront (log.told a.log) l (texts (findings (against a s) r))) (sym same) (front_none (log.told a.log) (texts (findings (against a s) r)))
+stops_still store root log findings a b (Err why) same = λ s is r there. subst
+    (λ (l : Option (List ℕ)). AppendsFront (log.told a.log) l (texts (findings (against a s) r))) (sym same)
+    (front_none (log.told a.log) (texts (findings (against a s) r)))
 
 -- whatever the answer is called
 pub at_err : {T X : Type 0} (result : Result T Fault) → X → OnErr result X

@@ -8,7 +8,8 @@ use Rattle.pt_name.specs.Place.{place_of}
 use Rattle.pt_name.specs.Share.{begins_with, holds}
 use Rattle.pt_tree.specs.Path.{Path, same_path}
 
-chosen_at : (c : Against) (path : Path) (id : List ℕ) (at : Bool) → holds c.job.share id ≡ true → same_path path (place_of c.job.tuples id) ≡ at → of_object c path (Some id) ≡ cond at (of_placed c path id) (Stray path ∷ [])
+chosen_at : (c : Against) (path : Path) (id : List ℕ) (at : Bool) → holds c.job.share id ≡ true → same_path path (place_of c.job.tuples id) ≡ at
+    → of_object c path (Some id) ≡ cond at (of_placed c path id) (Stray path ∷ [])
 chosen_at c path id at chosen same =
     ap (λ (t : Bool). cond t (cond (same_path path (place_of c.job.tuples id)) (of_placed c path id) (Stray path ∷ [])) []) chosen
     ∙ ap (λ (t : Bool). cond t (of_placed c path id) (Stray path ∷ [])) same
@@ -18,18 +19,22 @@ pub of_unchosen : (c : Against) (path : Path) (id : List ℕ) → holds c.job.sh
 of_unchosen c path id chosen = ap (λ (t : Bool). cond t (cond (same_path path (place_of c.job.tuples id)) (of_placed c path id) (Stray path ∷ [])) []) chosen
 
 -- it is stray where its place is another
-pub of_misplaced : (c : Against) (path : Path) (id : List ℕ) → holds c.job.share id ≡ true → same_path path (place_of c.job.tuples id) ≡ false → of_object c path (Some id) ≡ Stray path ∷ []
+pub of_misplaced : (c : Against) (path : Path) (id : List ℕ) → holds c.job.share id ≡ true → same_path path (place_of c.job.tuples id) ≡ false
+    → of_object c path (Some id) ≡ Stray path ∷ []
 of_misplaced c path id chosen other = chosen_at c path id false chosen other
 
-placed_by : (c : Against) (path : Path) (id : List ℕ) (h : Bool) → holds c.job.share id ≡ true → same_path path (place_of c.job.tuples id) ≡ true → h ≡ is_held c id → of_object c path (Some id) ≡ cond h [] (Extra id path ∷ [])
+placed_by : (c : Against) (path : Path) (id : List ℕ) (h : Bool) → holds c.job.share id ≡ true → same_path path (place_of c.job.tuples id) ≡ true
+    → h ≡ is_held c id → of_object c path (Some id) ≡ cond h [] (Extra id path ∷ [])
 placed_by c path id h chosen same is = chosen_at c path id true chosen same ∙ ap (λ (t : Bool). cond t [] (Extra id path ∷ [])) (sym is)
 
 -- nothing is found where the store has it
-pub of_held : (c : Against) (path : Path) (id : List ℕ) → holds c.job.share id ≡ true → same_path path (place_of c.job.tuples id) ≡ true → true ≡ is_held c id → of_object c path (Some id) ≡ []
+pub of_held : (c : Against) (path : Path) (id : List ℕ) → holds c.job.share id ≡ true → same_path path (place_of c.job.tuples id) ≡ true → true ≡ is_held c id
+    → of_object c path (Some id) ≡ []
 of_held c path id chosen same is = placed_by c path id true chosen same is
 
 -- else it is extra
-pub of_unheld : (c : Against) (path : Path) (id : List ℕ) → holds c.job.share id ≡ true → same_path path (place_of c.job.tuples id) ≡ true → false ≡ is_held c id → of_object c path (Some id) ≡ Extra id path ∷ []
+pub of_unheld : (c : Against) (path : Path) (id : List ℕ) → holds c.job.share id ≡ true → same_path path (place_of c.job.tuples id) ≡ true
+    → false ≡ is_held c id → of_object c path (Some id) ≡ Extra id path ∷ []
 of_unheld c path id chosen same is = placed_by c path id false chosen same is
 
 -- an identifier that begins otherwise isn't held
@@ -37,5 +42,6 @@ pub not_begun : (c : Against) (id : List ℕ) → begins_with c.prefix id ≡ fa
 not_begun c id begins = sym (ap (λ (t : Bool). t && object_stands c.job c.store (proper_site (drop (length c.prefix) id))) begins)
 
 -- of one that begins so it is asked whether an object stands where it belongs
-pub held_by : (c : Against) (id : List ℕ) (h : Bool) → begins_with c.prefix id ≡ true → h ≡ object_stands c.job c.store (proper_site (drop (length c.prefix) id)) → h ≡ is_held c id
+pub held_by : (c : Against) (id : List ℕ) (h : Bool) → begins_with c.prefix id ≡ true
+    → h ≡ object_stands c.job c.store (proper_site (drop (length c.prefix) id)) → h ≡ is_held c id
 held_by c id h begins is = is ∙ sym (ap (λ (t : Bool). t && object_stands c.job c.store (proper_site (drop (length c.prefix) id))) begins)

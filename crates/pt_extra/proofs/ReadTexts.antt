@@ -28,7 +28,8 @@ no_id name is same = other_text name (codes "id") (sym is) (sym same)
 
 -- once a value stands at `id`
 pub text_at : (k : List ℕ) (d : Data) (ms : Members) → k ≡ codes "id" → text_in (object (put k d ms)) ≡ as_str d
-text_at k d ms is = subst (λ (n : List ℕ). option_and_then as_str (get_member n (put k d ms)) ≡ as_str d) is (ap (option_and_then as_str) (get_member-put k d ms))
+text_at k d ms is = subst (λ (n : List ℕ). option_and_then as_str (get_member n (put k d ms)) ≡ as_str d) is
+    (ap (option_and_then as_str) (get_member-put k d ms))
 
 -- and at another name
 pub text_kept : (k : List ℕ) (d : Data) (ms : Members) → (codes "id" ≡ k → ⊥) → text_in (object (put k d ms)) ≡ text_in (object ms)
@@ -70,16 +71,19 @@ nothing text is = sym (ap (λ o. id_by (unwrap_or o null)) is)
 pub none_read : (text : List ℕ) → text_read (converted of_json (value 127 (tokens text))) ≡ None → None ≡ id_by (unwrap_or (read text) null)
 none_read text none = by (converted of_json (value 127 (tokens text))) refl none
   where
-    by : (o : Option (Data × List spec.Token)) → converted of_json (value 127 (tokens text)) ≡ o → text_read o ≡ None → None ≡ id_by (unwrap_or (read text) null)
+    by : (o : Option (Data × List spec.Token)) → converted of_json (value 127 (tokens text)) ≡ o → text_read o ≡ None
+        → None ≡ id_by (unwrap_or (read text) null)
     by None is none = nothing text (whole_refused (value 127 (tokens text)) is)
     by (Some (d, [])) is none =
         sym (ap (λ o. id_by (unwrap_or o null)) (whole_read (value 127 (tokens text)) d is) ∙ ap (option_and_then unless_empty) none)
     by (Some (d, t ∷ rest)) is none = nothing text (whole_and_more (value 127 (tokens text)) d t rest is)
 
 -- more comes behind it
-pub more_read : (text : List ℕ) (d : Data) (t : spec.Token) (rest ts : List spec.Token) → converted of_json (value 127 (tokens text)) ≡ Some (d, ts) → ts ≡ t ∷ rest → None ≡ id_by (unwrap_or (read text) null)
+pub more_read : (text : List ℕ) (d : Data) (t : spec.Token) (rest ts : List spec.Token) → converted of_json (value 127 (tokens text)) ≡ Some (d, ts)
+    → ts ≡ t ∷ rest → None ≡ id_by (unwrap_or (read text) null)
 more_read text d t rest ts is more = nothing text (whole_and_more (value 127 (tokens text)) d t rest (is ∙ ap (λ r. Some (d, r)) more))
 
 -- it is all
-pub all_read : (text : List ℕ) (d : Data) (ts : List spec.Token) → converted of_json (value 127 (tokens text)) ≡ Some (d, ts) → ts ≡ [] → id_by d ≡ id_by (unwrap_or (read text) null)
+pub all_read : (text : List ℕ) (d : Data) (ts : List spec.Token) → converted of_json (value 127 (tokens text)) ≡ Some (d, ts) → ts ≡ []
+    → id_by d ≡ id_by (unwrap_or (read text) null)
 all_read text d ts is end = sym (ap (λ o. id_by (unwrap_or o null)) (whole_read (value 127 (tokens text)) d (is ∙ ap (λ r. Some (d, r)) end)))

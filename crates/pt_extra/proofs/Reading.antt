@@ -42,14 +42,16 @@ long left many = by (nat_le (length left) most_bytes) (grind (arith, many))
     by t is = ap (λ (b : Bool). cond b (Some left) None) is
 
 -- all was read
-pub whole_read : (bytes : Vec ℕ) (old : Option Reading) → IsAllLeft old bytes → length bytes.items ≤ most_bytes → ForSome (left_in old) (λ left. Some bytes.items ≡ unless_long left)
+pub whole_read : (bytes : Vec ℕ) (old : Option Reading) → IsAllLeft old bytes → length bytes.items ≤ most_bytes
+    → ForSome (left_in old) (λ left. Some bytes.items ≡ unless_long left)
 unfolding IsAllLeft
 whole_read bytes old all few left is =
     let same : bytes.items ≡ left = all left is in
     subst (λ (l : List ℕ). Some bytes.items ≡ unless_long l) same (sym (short bytes.items few))
 
 -- there is more than is read
-pub more_left : (bytes : List ℕ) (old now : Option Reading) → CameNext bytes old now → most_bytes < length bytes → ForSome (left_in old) (λ left. None ≡ unless_long left)
+pub more_left : (bytes : List ℕ) (old now : Option Reading) → CameNext bytes old now → most_bytes < length bytes
+    → ForSome (left_in old) (λ left. None ≡ unless_long left)
 unfolding CameNext
 more_left bytes old now came many left is =
     let (rest, now_is, left_is) = came left is in
@@ -62,32 +64,38 @@ abbrev inventory : List ℕ
 inventory = known_text known.Inventory
 
 -- there is none
-pub no_inventory : (top : Forest) (folder : Path) (items : List Item) → listing_at top folder ≡ Some items → is_file_kind (kind_in items inventory) ≡ false → None ≡ id_of (inside_at top folder)
+pub no_inventory : (top : Forest) (folder : Path) (items : List Item) → listing_at top folder ≡ Some items → is_file_kind (kind_in items inventory) ≡ false
+    → None ≡ id_of (inside_at top folder)
 no_inventory top folder items listed lacks =
     let inside = inside_at top folder in
     let is : is_file_kind (option_map kind_of (find inside inventory)) ≡ false =
-    ap is_file_kind (sym (kind_listed inside inventory)) ∙ ap (λ (l : List Item). is_file_kind (kind_in l inventory)) (inside_lists top folder items listed) ∙ lacks in
+    ap is_file_kind (sym (kind_listed inside inventory)) ∙ ap (λ (l : List Item). is_file_kind (kind_in l inventory)) (inside_lists top folder items listed)
+    ∙ lacks in
     by (find inside inventory) is
   where
-    by : (o : Option Node) → is_file_kind (option_map kind_of o) ≡ false → None ≡ option_and_then id_in (option_and_then unless_long (option_and_then as_file o))
+    by : (o : Option Node) → is_file_kind (option_map kind_of o) ≡ false
+        → None ≡ option_and_then id_in (option_and_then unless_long (option_and_then as_file o))
     by None is = refl
     by (Some (File bytes)) is = absurd (cc)
     by (Some (Dir inside)) is = refl
     by (Some Other) is = refl
 
 -- the file at its path is the one that is listed
-file_is : (top : Forest) (folder : Path) (items : List Item) → listing_at top folder ≡ Some items → file_at top (folder ++ inventory ∷ []) ≡ inventory_in (inside_at top folder)
+file_is : (top : Forest) (folder : Path) (items : List Item) → listing_at top folder ≡ Some items
+    → file_at top (folder ++ inventory ∷ []) ≡ inventory_in (inside_at top folder)
 file_is top folder items listed =
     let at = dir_listed top folder items listed in
     let here : inside_at top folder ≡ at.inside = ap (λ (o : Option Forest). unwrap_or o none) at.dir_is in
     ap (option_and_then as_file) (node_below top folder inventory at.inside at.node_is) ∙ ap inventory_in (sym here)
 
 -- it may be opened
-pub inventory_stands : (top : Forest) (folder path : Path) (items : List Item) → listing_at top folder ≡ Some items → path ≡ folder ++ inventory ∷ [] → is_file_kind (kind_in items inventory) ≡ true → IsSome (file_at top path)
+pub inventory_stands : (top : Forest) (folder path : Path) (items : List Item) → listing_at top folder ≡ Some items → path ≡ folder ++ inventory ∷ []
+    → is_file_kind (kind_in items inventory) ≡ true → IsSome (file_at top path)
 inventory_stands top folder path items listed path_is stands =
     let inside = inside_at top folder in
     let is : is_file_kind (option_map kind_of (find inside inventory)) ≡ true =
-    ap is_file_kind (sym (kind_listed inside inventory)) ∙ ap (λ (l : List Item). is_file_kind (kind_in l inventory)) (inside_lists top folder items listed) ∙ stands in
+    ap is_file_kind (sym (kind_listed inside inventory)) ∙ ap (λ (l : List Item). is_file_kind (kind_in l inventory)) (inside_lists top folder items listed)
+    ∙ stands in
     ap is_some (ap (file_at top) path_is ∙ file_is top folder items listed) ∙ by (find inside inventory) is
   where
     by : (o : Option Node) → is_file_kind (option_map kind_of o) ≡ true → is_some (option_and_then as_file o) ≡ true
@@ -96,7 +104,8 @@ inventory_stands top folder path items listed path_is stands =
     by (Some (Dir inside)) is = absurd (cc)
     by (Some Other) is = absurd (cc)
 
-pub may_open : (told : Option Reading) (folder path : Path) (items : List Item) → ForSome (tree_in told) (λ tree. listing_at tree folder ≡ Some items) → path ≡ folder ++ inventory ∷ [] → is_file_kind (kind_in items inventory) ≡ true → CanOpen told path
+pub may_open : (told : Option Reading) (folder path : Path) (items : List Item) → ForSome (tree_in told) (λ tree. listing_at tree folder ≡ Some items)
+    → path ≡ folder ++ inventory ∷ [] → is_file_kind (kind_in items inventory) ≡ true → CanOpen told path
 unfolding CanOpen
 may_open told folder path items listed path_is stands s is = inventory_stands s.tree folder path items (listed s.tree (ap tree_in is)) path_is stands
 
@@ -107,7 +116,8 @@ opened_reads None new path may is = ap is_reading is
 opened_reads (Some s) new path may is = ap is_reading is ∙ may s refl
 
 -- then it is what is left to read
-left_opened : (old new : Option Reading) (path : Path) (top : Forest) → new ≡ option_map (after_open path) old → tree_in old ≡ Some top → left_in new ≡ file_at top path
+left_opened : (old new : Option Reading) (path : Path) (top : Forest) → new ≡ option_map (after_open path) old → tree_in old ≡ Some top
+    → left_in new ≡ file_at top path
 left_opened None new path top is told = absurd (cc)
 left_opened (Some s) new path top is told = let same : s.tree ≡ top = cc in ap left_in is ∙ ap (λ (t : Forest). file_at t path) same
 
@@ -116,7 +126,8 @@ some_of None some = absurd (cc)
 some_of (Some bytes) some = (bytes, refl)
 
 -- by what was read of it the identifier is known
-pub id_read : (old mid : Option Reading) (folder path : Path) (items : List Item) (got : Option (List ℕ)) → ForSome (tree_in old) (λ tree. listing_at tree folder ≡ Some items) → path ≡ folder ++ inventory ∷ []
+pub id_read : (old mid : Option Reading) (folder path : Path) (items : List Item) (got : Option (List ℕ))
+    → ForSome (tree_in old) (λ tree. listing_at tree folder ≡ Some items) → path ≡ folder ++ inventory ∷ []
     → is_file_kind (kind_in items inventory) ≡ true → mid ≡ option_map (after_open path) old → ForSome (left_in mid) (λ left. got ≡ unless_long left)
     → ForSome (tree_in old) (λ tree. option_and_then id_in got ≡ id_of (inside_at tree folder))
 id_read old mid folder path items got listed path_is stands opened reads top told =

@@ -16,7 +16,8 @@ pub no_root : (c : Against) (r : Forest) → is_dir_kind (kind_in (listing_of r)
 no_root c r lacks = ap (λ (t : Bool). cond t (found_at c [] (c.job.tuples.count + 1) (inside_at r storage_root)) []) lacks
 
 -- else what is found of that
-pub of_root : (c : Against) (r : Forest) (top : Path) (left : ℕ) → is_dir_kind (kind_in (listing_of r) (known_text known.StorageRoot)) ≡ true → top ≡ [] → left ≡ c.job.tuples.count + 1
+pub of_root : (c : Against) (r : Forest) (top : Path) (left : ℕ) → is_dir_kind (kind_in (listing_of r) (known_text known.StorageRoot)) ≡ true → top ≡ []
+    → left ≡ c.job.tuples.count + 1
     → found_in c r ≡ found_at c top left (inside_at r (in_root top))
 of_root c r top left stands top_is left_is =
     ap (λ (t : Bool). cond t (found_at c [] (c.job.tuples.count + 1) (inside_at r storage_root)) []) stands

@@ -57,7 +57,8 @@ puts_on fs gs a b c first second = record {
 }
 
 -- one line
-pub puts_one : (f : ExtraFinding) (text : List ℕ) (a b : Seen) → text ≡ line_text f → Appends a.held b.held text → b.numbers ≡ with_finding f a.numbers → Puts (f ∷ []) a b
+pub puts_one : (f : ExtraFinding) (text : List ℕ) (a b : Seen) → text ≡ line_text f → Appends a.held b.held text → b.numbers ≡ with_finding f a.numbers
+    → Puts (f ∷ []) a b
 puts_one f text a b is held numbers = record {
   held = subst (Appends a.held b.held) (is ∙ sym (append-nil (line_text f))) held;
   numbers = numbers;

@@ -34,21 +34,25 @@ dir_top tree name is = by (find tree name) (ap is_dir_kind (sym (kind_listed tre
     by (Some Other) is = absurd (cc)
 
 -- as a directory
-pub stands_top : (tree : Option Forest) (name : List ℕ) → ForSome tree (λ t. true ≡ is_dir_kind (kind_in (listing_of t) name)) → Stands tree (name ∷ [], kind.Dir)
+pub stands_top : (tree : Option Forest) (name : List ℕ) → ForSome tree (λ t. true ≡ is_dir_kind (kind_in (listing_of t) name))
+    → Stands tree (name ∷ [], kind.Dir)
 stands_top None name is = refl
 stands_top (Some t) name is = by (find t name) (ap is_dir_kind (sym (kind_listed t name)) ∙ sym (is t refl))
   where
-    by : (o : Option Node) → is_dir_kind (option_map kind_of o) ≡ true → option_map_or (same_kind kind.Dir) (option_map kind_of (option_and_then (λ n. node_at n []) o)) false ≡ true
+    by : (o : Option Node) → is_dir_kind (option_map kind_of o) ≡ true
+        → option_map_or (same_kind kind.Dir) (option_map kind_of (option_and_then (λ n. node_at n []) o)) false ≡ true
     by None is = absurd (cc)
     by (Some (File bytes)) is = absurd (cc)
     by (Some (Dir inside)) is = refl
     by (Some Other) is = absurd (cc)
 
 -- and below one that isn't nothing does
-pub lacks_top : (tree : Forest) (name : List ℕ) (path : Path) → false ≡ is_dir_kind (kind_in (listing_of tree) name) → false ≡ is_dir_kind (kind_at tree (name ∷ path))
+pub lacks_top : (tree : Forest) (name : List ℕ) (path : Path) → false ≡ is_dir_kind (kind_in (listing_of tree) name)
+    → false ≡ is_dir_kind (kind_at tree (name ∷ path))
 lacks_top tree name path lacks = sym (by (find tree name) path (ap is_dir_kind (sym (kind_listed tree name)) ∙ sym lacks))
   where
-    by : (o : Option Node) (path : Path) → is_dir_kind (option_map kind_of o) ≡ false → is_dir_kind (option_map kind_of (option_and_then (λ n. node_at n path) o)) ≡ false
+    by : (o : Option Node) (path : Path) → is_dir_kind (option_map kind_of o) ≡ false
+        → is_dir_kind (option_map kind_of (option_and_then (λ n. node_at n path) o)) ≡ false
     by None path is = refl
     by (Some (File bytes)) [] is = refl
     by (Some (File bytes)) (n ∷ path) is = refl

@@ -1,5 +1,32 @@
 -- The steps of a walk through a folder.
-use Rattle.std.proofs.Common.{◌≡◌, ◌≤◌, ◌<◌, ◌+◌, ◌-◌, ◌==◌, ℕ, Bool, true, false, suc, zero, List, [], ◌∷◌, ◌++◌, refl, sym, ap, ◌∙◌, subst, arith, length, cond, append-nil, append_assoc}
+use Rattle.std.proofs.Common.{
+  ◌≡◌,
+  ◌≤◌,
+  ◌<◌,
+  ◌+◌,
+  ◌-◌,
+  ◌==◌,
+  ℕ,
+  Bool,
+  true,
+  false,
+  suc,
+  zero,
+  List,
+  [],
+  ◌∷◌,
+  ◌++◌,
+  refl,
+  sym,
+  ap,
+  ◌∙◌,
+  subst,
+  arith,
+  length,
+  cond,
+  append-nil,
+  append_assoc,
+}
 use Rattle.std.proofs.lemmas.Option.{slice_get_past}
 use Rattle.std.specs.Option.{ForSome}
 use Rattle.std.specs.Prelude.{IsSome, Option, None, Some, ◌||◌, slice_get}
@@ -21,13 +48,16 @@ use Rattle.pt_walk.proofs.Ahead.{dir_ahead, dir_stands, file_ahead, inside_lists
 use Rattle.pt_walk.specs.Left.{entries_from, inside_at}
 
 -- the next folder stands there
-pub next_stands : (told : Option Reading) (path entry : Path) (items : List Item) (place : ℕ) (name : List ℕ) (what : Kind) (there : Option Forest) → ForSome told (λ s. is_proper s.tree ≡ true)
-    → ForSome (tree_in told) (λ t. listing_at t (in_root path) ≡ Some items) → slice_get items place ≡ Some (name, what) → what ≡ kind.Dir → entry ≡ path ++ name ∷ [] → there ≡ tree_in told
+pub next_stands : (told : Option Reading) (path entry : Path) (items : List Item) (place : ℕ) (name : List ℕ) (what : Kind) (there : Option Forest)
+    → ForSome told (λ s. is_proper s.tree ≡ true)
+    → ForSome (tree_in told) (λ t. listing_at t (in_root path) ≡ Some items) → slice_get items place ≡ Some (name, what) → what ≡ kind.Dir
+    → entry ≡ path ++ name ∷ [] → there ≡ tree_in told
     → ForSome there (λ t. IsSome (dir_at t (in_root entry)))
 next_stands told path entry items place name what there proper listed at is_dir entry_is there_is tree is =
     let here = sym there_is ∙ is in
     let at_dir : slice_get items place ≡ Some (name, kind.Dir) = at ∙ ap (λ (k : Kind). Some (name, k)) is_dir in
-    subst (λ (q : Path). IsSome (dir_at tree (in_root q))) (sym entry_is) (dir_stands tree (in_root path) items place name (proper_in told proper tree here) (listed tree here) at_dir)
+    subst (λ (q : Path). IsSome (dir_at tree (in_root q))) (sym entry_is)
+    (dir_stands tree (in_root path) items place name (proper_in told proper tree here) (listed tree here) at_dir)
 
 -- ---- the entries of a folder
 
@@ -39,9 +69,11 @@ of_entry c top path left name kind.Dir =
     cond (is_part path name kind.Dir) [] (found_at c (path ++ name ∷ []) (left - 1) (inside_at top (in_root (path ++ name ∷ []))))
 
 -- what is found of the rest begins with it
-splits : (c : Against) (top : Forest) (path : Path) (left : ℕ) (items : List Item) (place : ℕ) (name : List ℕ) (here : Kind) → is_proper top ≡ true → listing_at top (in_root path) ≡ Some items
+splits : (c : Against) (top : Forest) (path : Path) (left : ℕ) (items : List Item) (place : ℕ) (name : List ℕ) (here : Kind) → is_proper top ≡ true
+    → listing_at top (in_root path) ≡ Some items
     → slice_get items place ≡ Some (name, here)
-    → of_entries c path left (entries_from place (inside_at top (in_root path))) ≡ of_entry c top path left name here ++ of_entries c path left (entries_from (place + 1) (inside_at top (in_root path)))
+    → of_entries c path left (entries_from place (inside_at top (in_root path))) ≡ of_entry c top path left name here
+    ++ of_entries c path left (entries_from (place + 1) (inside_at top (in_root path)))
 splits c top path left items place name kind.File proper listed at =
     ap (of_entries c path left) ((file_ahead top (in_root path) items place name proper listed at).rest_is)
 splits c top path left items place name kind.Other proper listed at =
@@ -59,7 +91,8 @@ pub found_none : (c : Against) (path : Path) (left : ℕ) (inside : Forest) (a :
 found_none c path left inside a = record { findings = []; puts = puts_none a; rest = refl }
 
 -- and of one more
-found_more : (c : Against) (top : Forest) (path : Path) (left : ℕ) (items : List Item) (place : ℕ) (name : List ℕ) (here : Kind) (a b d : Seen) → is_proper top ≡ true → listing_at top (in_root path) ≡ Some items
+found_more : (c : Against) (top : Forest) (path : Path) (left : ℕ) (items : List Item) (place : ℕ) (name : List ℕ) (here : Kind) (a b d : Seen)
+    → is_proper top ≡ true → listing_at top (in_root path) ≡ Some items
     → slice_get items place ≡ Some (name, here) → FoundTo c path left (inside_at top (in_root path)) place a b → Puts (of_entry c top path left name here) b d
     → FoundTo c path left (inside_at top (in_root path)) (place + 1) a d
 found_more c top path left items place name here a b d proper listed at to puts =
@@ -68,15 +101,18 @@ found_more c top path left items place name here a b d proper listed at to puts 
     record {
       findings = to.findings ++ e;
       puts = puts_on to.findings e a b d to.puts puts;
-      rest = append_assoc to.findings e rest ∙ ap (λ (l : List ExtraFinding). to.findings ++ l) (sym (splits c top path left items place name here proper listed at)) ∙ to.rest;
+      rest = append_assoc to.findings e rest ∙ ap (λ (l : List ExtraFinding). to.findings ++ l)
+          (sym (splits c top path left items place name here proper listed at)) ∙ to.rest;
     }
 
 -- where it is the root's own
-pub found_part : (c : Against) (top : Forest) (path : Path) (left : ℕ) (items : List Item) (place : ℕ) (name : List ℕ) (here : Kind) (a b : Seen) → is_proper top ≡ true → listing_at top (in_root path) ≡ Some items
+pub found_part : (c : Against) (top : Forest) (path : Path) (left : ℕ) (items : List Item) (place : ℕ) (name : List ℕ) (here : Kind) (a b : Seen)
+    → is_proper top ≡ true → listing_at top (in_root path) ≡ Some items
     → slice_get items place ≡ Some (name, here) → is_part path name here ≡ true → FoundTo c path left (inside_at top (in_root path)) place a b
     → FoundTo c path left (inside_at top (in_root path)) (place + 1) a b
 found_part c top path left items place name here a b proper listed at part to =
-    found_more c top path left items place name here a b b proper listed at to (subst (λ (l : List ExtraFinding). Puts l b b) (sym (by here part)) (puts_none b))
+    found_more c top path left items place name here a b b proper listed at to
+    (subst (λ (l : List ExtraFinding). Puts l b b) (sym (by here part)) (puts_none b))
   where
     by : (here : Kind) → is_part path name here ≡ true → of_entry c top path left name here ≡ []
     by kind.File part = ap (λ (t : Bool). cond t [] (of_unnamed c (path ++ name ∷ []))) part
@@ -84,17 +120,22 @@ found_part c top path left items place name here a b proper listed at part to =
     by kind.Dir part = ap (λ (t : Bool). cond t [] (found_at c (path ++ name ∷ []) (left - 1) (inside_at top (in_root (path ++ name ∷ []))))) part
 
 -- where it is a folder
-dir_is : (c : Against) (top : Forest) (path : Path) (left : ℕ) (name : List ℕ) (here : Kind) (entry : Path) → here ≡ kind.Dir → is_part path name here ≡ false → entry ≡ path ++ name ∷ []
+dir_is : (c : Against) (top : Forest) (path : Path) (left : ℕ) (name : List ℕ) (here : Kind) (entry : Path) → here ≡ kind.Dir → is_part path name here ≡ false
+    → entry ≡ path ++ name ∷ []
     → of_entry c top path left name here ≡ found_at c entry (left - 1) (inside_at top (in_root entry))
-dir_is c top path left name here entry is part entry_is = by here is part ∙ ap (λ (p : Path). found_at c p (left - 1) (inside_at top (in_root p))) (sym entry_is)
+dir_is c top path left name here entry is part entry_is = by here is part
+    ∙ ap (λ (p : Path). found_at c p (left - 1) (inside_at top (in_root p))) (sym entry_is)
   where
-    by : (here : Kind) → here ≡ kind.Dir → is_part path name here ≡ false → of_entry c top path left name here ≡ found_at c (path ++ name ∷ []) (left - 1) (inside_at top (in_root (path ++ name ∷ [])))
+    by : (here : Kind) → here ≡ kind.Dir → is_part path name here ≡ false
+        → of_entry c top path left name here ≡ found_at c (path ++ name ∷ []) (left - 1) (inside_at top (in_root (path ++ name ∷ [])))
     by kind.File is part = absurd (cc)
     by kind.Other is part = absurd (cc)
     by kind.Dir is part = ap (λ (t : Bool). cond t [] (found_at c (path ++ name ∷ []) (left - 1) (inside_at top (in_root (path ++ name ∷ []))))) part
 
-pub found_dir : (c : Against) (top : Forest) (path : Path) (left : ℕ) (items : List Item) (place : ℕ) (name : List ℕ) (here : Kind) (entry : Path) (a b d : Seen) → is_proper top ≡ true → listing_at top (in_root path) ≡ Some items
-    → slice_get items place ≡ Some (name, here) → here ≡ kind.Dir → is_part path name here ≡ false → entry ≡ path ++ name ∷ [] → FoundTo c path left (inside_at top (in_root path)) place a b
+pub found_dir : (c : Against) (top : Forest) (path : Path) (left : ℕ) (items : List Item) (place : ℕ) (name : List ℕ) (here : Kind) (entry : Path)
+    (a b d : Seen) → is_proper top ≡ true → listing_at top (in_root path) ≡ Some items
+    → slice_get items place ≡ Some (name, here) → here ≡ kind.Dir → is_part path name here ≡ false → entry ≡ path ++ name ∷ []
+    → FoundTo c path left (inside_at top (in_root path)) place a b
     → Puts (found_at c entry (left - 1) (inside_at top (in_root entry))) b d
     → FoundTo c path left (inside_at top (in_root path)) (place + 1) a d
 found_dir c top path left items place name here entry a b d proper listed at is part entry_is to puts =
@@ -102,7 +143,8 @@ found_dir c top path left items place name here entry a b d proper listed at is 
     (subst (λ (l : List ExtraFinding). Puts l b d) (sym (dir_is c top path left name here entry is part entry_is)) puts)
 
 -- where it is none
-leaf_is : (c : Against) (top : Forest) (path : Path) (left : ℕ) (name : List ℕ) (here : Kind) (entry : Path) → (here ≡ kind.Dir → ⊥) → is_part path name here ≡ false → entry ≡ path ++ name ∷ []
+leaf_is : (c : Against) (top : Forest) (path : Path) (left : ℕ) (name : List ℕ) (here : Kind) (entry : Path) → (here ≡ kind.Dir → ⊥)
+    → is_part path name here ≡ false → entry ≡ path ++ name ∷ []
     → of_entry c top path left name here ≡ of_unnamed c entry
 leaf_is c top path left name here entry leaf part entry_is = by here leaf part ∙ ap (of_unnamed c) (sym entry_is)
   where
@@ -111,8 +153,10 @@ leaf_is c top path left name here entry leaf part entry_is = by here leaf part �
     by kind.Other leaf part = ap (λ (t : Bool). cond t [] (of_unnamed c (path ++ name ∷ []))) part
     by kind.Dir leaf part = absurd (leaf refl)
 
-pub found_leaf : (c : Against) (top : Forest) (path : Path) (left : ℕ) (items : List Item) (place : ℕ) (name : List ℕ) (here : Kind) (entry : Path) (a b d : Seen) → is_proper top ≡ true → listing_at top (in_root path) ≡ Some items
-    → slice_get items place ≡ Some (name, here) → (here ≡ kind.Dir → ⊥) → is_part path name here ≡ false → entry ≡ path ++ name ∷ [] → FoundTo c path left (inside_at top (in_root path)) place a b
+pub found_leaf : (c : Against) (top : Forest) (path : Path) (left : ℕ) (items : List Item) (place : ℕ) (name : List ℕ) (here : Kind) (entry : Path)
+    (a b d : Seen) → is_proper top ≡ true → listing_at top (in_root path) ≡ Some items
+    → slice_get items place ≡ Some (name, here) → (here ≡ kind.Dir → ⊥) → is_part path name here ≡ false → entry ≡ path ++ name ∷ []
+    → FoundTo c path left (inside_at top (in_root path)) place a b
     → Puts (of_unnamed c entry) b d
     → FoundTo c path left (inside_at top (in_root path)) (place + 1) a d
 found_leaf c top path left items place name here entry a b d proper listed at leaf part entry_is to puts =
@@ -122,8 +166,10 @@ found_leaf c top path left items place name here entry a b d proper listed at le
 -- ---- where it breaks off
 
 -- of an entry a front is put
-stops_more : (c : Against) (top : Forest) (path : Path) (left : ℕ) (items : List Item) (place : ℕ) (name : List ℕ) (here : Kind) (a b : Seen) (last : Option (List ℕ)) → is_proper top ≡ true → listing_at top (in_root path) ≡ Some items
-    → slice_get items place ≡ Some (name, here) → FoundTo c path left (inside_at top (in_root path)) place a b → AppendsFront b.held last (texts (of_entry c top path left name here))
+stops_more : (c : Against) (top : Forest) (path : Path) (left : ℕ) (items : List Item) (place : ℕ) (name : List ℕ) (here : Kind) (a b : Seen)
+    (last : Option (List ℕ)) → is_proper top ≡ true → listing_at top (in_root path) ≡ Some items
+    → slice_get items place ≡ Some (name, here) → FoundTo c path left (inside_at top (in_root path)) place a b
+    → AppendsFront b.held last (texts (of_entry c top path left name here))
     → AppendsFront a.held last (texts (of_entries c path left (inside_at top (in_root path))))
 stops_more c top path left items place name here a b last proper listed at to part =
     let e = of_entry c top path left name here in
@@ -135,14 +181,16 @@ stops_more c top path left items place name here a b last proper listed at to pa
     (front_on a.held b.held last (texts to.findings) (texts e ++ texts rest) to.puts.held (front_more b.held last (texts e) (texts rest) part))
 
 -- nothing is
-stops_here : (c : Against) (path : Path) (left : ℕ) (inside : Forest) (place : ℕ) (a b : Seen) → FoundTo c path left inside place a b → AppendsFront a.held b.held (texts (of_entries c path left inside))
+stops_here : (c : Against) (path : Path) (left : ℕ) (inside : Forest) (place : ℕ) (a b : Seen) → FoundTo c path left inside place a b
+    → AppendsFront a.held b.held (texts (of_entries c path left inside))
 stops_here c path left inside place a b to =
     let rest = of_entries c path left (entries_from place inside) in
     subst (AppendsFront a.held b.held) (sym (texts_on to.findings rest) ∙ ap texts to.rest)
     (front_on a.held b.held b.held (texts to.findings) (texts rest) to.puts.held (front_none b.held (texts rest)))
 
 -- at the end all is told
-found_all : (c : Against) (top : Forest) (path : Path) (left : ℕ) (items : List Item) (place : ℕ) (a b : Seen) → listing_at top (in_root path) ≡ Some items → length items ≤ place
+found_all : (c : Against) (top : Forest) (path : Path) (left : ℕ) (items : List Item) (place : ℕ) (a b : Seen) → listing_at top (in_root path) ≡ Some items
+    → length items ≤ place
     → FoundTo c path left (inside_at top (in_root path)) place a b → Puts (of_entries c path left (inside_at top (in_root path))) a b
 found_all c top path left items place a b listed past to =
     let nothing = nothing_ahead top (in_root path) items place listed (slice_get_past items place past) in
@@ -168,40 +216,49 @@ folder_is c top path left items listed it =
     let entries = of_entries c path left (inside_at top (in_root path)) in
     let first : is_object (listing_of (inside_at top (in_root path))) ≡ false = ap is_object lists ∙ it.object in
     let none : (length (listing_of (inside_at top (in_root path))) == 0) ≡ false = ap (λ (l : List Item). length l == 0) lists ∙ it.empty in
-    ap (λ (t : Bool). cond t (of_object c path (id_of (inside_at top (in_root path)))) (cond (left == 0 || length (listing_of (inside_at top (in_root path))) == 0) (of_unnamed c path) entries)) first
+    ap (λ (t : Bool). cond t (of_object c path (id_of (inside_at top (in_root path))))
+    (cond (left == 0 || length (listing_of (inside_at top (in_root path))) == 0) (of_unnamed c path) entries)) first
     ∙ ap (λ (t : Bool). cond (t || length (listing_of (inside_at top (in_root path))) == 0) (of_unnamed c path) entries) it.deep
     ∙ ap (λ (t : Bool). cond t (of_unnamed c path) entries) none
 
-pub found_folder : (c : Against) (top : Forest) (path : Path) (left : ℕ) (items : List Item) (place : ℕ) (a b : Seen) → listing_at top (in_root path) ≡ Some items → IsWalked left items → length items ≤ place
+pub found_folder : (c : Against) (top : Forest) (path : Path) (left : ℕ) (items : List Item) (place : ℕ) (a b : Seen)
+    → listing_at top (in_root path) ≡ Some items → IsWalked left items → length items ≤ place
     → FoundTo c path left (inside_at top (in_root path)) place a b → Puts (found_at c path left (inside_at top (in_root path))) a b
 found_folder c top path left items place a b listed it past to =
     subst (λ (l : List ExtraFinding). Puts l a b) (sym (folder_is c top path left items listed it)) (found_all c top path left items place a b listed past to)
 
 -- where it breaks off in it: at an entry that is a folder, at one that is none, and before one
-pub stops_dir : (c : Against) (top : Forest) (path : Path) (left : ℕ) (items : List Item) (place : ℕ) (name : List ℕ) (here : Kind) (entry : Path) (a b : Seen) (last : Option (List ℕ)) → is_proper top ≡ true → listing_at top (in_root path) ≡ Some items
-    → slice_get items place ≡ Some (name, here) → here ≡ kind.Dir → is_part path name here ≡ false → entry ≡ path ++ name ∷ [] → IsWalked left items → FoundTo c path left (inside_at top (in_root path)) place a b
-    → AppendsFront b.held last (texts (found_at c entry (left - 1) (inside_at top (in_root entry)))) → AppendsFront a.held last (texts (found_at c path left (inside_at top (in_root path))))
+pub stops_dir : (c : Against) (top : Forest) (path : Path) (left : ℕ) (items : List Item) (place : ℕ) (name : List ℕ) (here : Kind) (entry : Path) (a b : Seen)
+    (last : Option (List ℕ)) → is_proper top ≡ true → listing_at top (in_root path) ≡ Some items
+    → slice_get items place ≡ Some (name, here) → here ≡ kind.Dir → is_part path name here ≡ false → entry ≡ path ++ name ∷ [] → IsWalked left items
+    → FoundTo c path left (inside_at top (in_root path)) place a b
+    → AppendsFront b.held last (texts (found_at c entry (left - 1) (inside_at top (in_root entry))))
+    → AppendsFront a.held last (texts (found_at c path left (inside_at top (in_root path))))
 stops_dir c top path left items place name here entry a b last proper listed at is part entry_is it to put =
     subst (λ (l : List ExtraFinding). AppendsFront a.held last (texts l)) (sym (folder_is c top path left items listed it))
     (stops_more c top path left items place name here a b last proper listed at to
     (subst (λ (l : List ExtraFinding). AppendsFront b.held last (texts l)) (sym (dir_is c top path left name here entry is part entry_is)) put))
 
-pub stops_leaf : (c : Against) (top : Forest) (path : Path) (left : ℕ) (items : List Item) (place : ℕ) (name : List ℕ) (here : Kind) (entry : Path) (a b : Seen) (last : Option (List ℕ)) → is_proper top ≡ true → listing_at top (in_root path) ≡ Some items
-    → slice_get items place ≡ Some (name, here) → (here ≡ kind.Dir → ⊥) → is_part path name here ≡ false → entry ≡ path ++ name ∷ [] → IsWalked left items → FoundTo c path left (inside_at top (in_root path)) place a b
+pub stops_leaf : (c : Against) (top : Forest) (path : Path) (left : ℕ) (items : List Item) (place : ℕ) (name : List ℕ) (here : Kind) (entry : Path) (a b : Seen)
+    (last : Option (List ℕ)) → is_proper top ≡ true → listing_at top (in_root path) ≡ Some items
+    → slice_get items place ≡ Some (name, here) → (here ≡ kind.Dir → ⊥) → is_part path name here ≡ false → entry ≡ path ++ name ∷ [] → IsWalked left items
+    → FoundTo c path left (inside_at top (in_root path)) place a b
     → AppendsFront b.held last (texts (of_unnamed c entry)) → AppendsFront a.held last (texts (found_at c path left (inside_at top (in_root path))))
 stops_leaf c top path left items place name here entry a b last proper listed at leaf part entry_is it to put =
     subst (λ (l : List ExtraFinding). AppendsFront a.held last (texts l)) (sym (folder_is c top path left items listed it))
     (stops_more c top path left items place name here a b last proper listed at to
     (subst (λ (l : List ExtraFinding). AppendsFront b.held last (texts l)) (sym (leaf_is c top path left name here entry leaf part entry_is)) put))
 
-pub stops_before : (c : Against) (top : Forest) (path : Path) (left : ℕ) (items : List Item) (place : ℕ) (a b : Seen) → listing_at top (in_root path) ≡ Some items → IsWalked left items → FoundTo c path left (inside_at top (in_root path)) place a b
+pub stops_before : (c : Against) (top : Forest) (path : Path) (left : ℕ) (items : List Item) (place : ℕ) (a b : Seen)
+    → listing_at top (in_root path) ≡ Some items → IsWalked left items → FoundTo c path left (inside_at top (in_root path)) place a b
     → AppendsFront a.held b.held (texts (found_at c path left (inside_at top (in_root path))))
 stops_before c top path left items place a b listed it to =
     subst (λ (l : List ExtraFinding). AppendsFront a.held b.held (texts l)) (sym (folder_is c top path left items listed it))
     (stops_here c path left (inside_at top (in_root path)) place a b to)
 
 -- of an object
-pub found_object : (c : Against) (top : Forest) (path : Path) (left : ℕ) (items : List Item) → listing_at top (in_root path) ≡ Some items → is_object items ≡ true
+pub found_object : (c : Against) (top : Forest) (path : Path) (left : ℕ) (items : List Item) → listing_at top (in_root path) ≡ Some items
+    → is_object items ≡ true
     → found_at c path left (inside_at top (in_root path)) ≡ of_object c path (id_of (inside_at top (in_root path)))
 found_object c top path left items listed object =
     let lists = inside_lists top (in_root path) items listed in
@@ -210,12 +267,14 @@ found_object c top path left items listed object =
     (ap is_object lists ∙ object)
 
 -- of one that is too deep or empty
-pub found_bare : (c : Against) (top : Forest) (path : Path) (left : ℕ) (items : List Item) → listing_at top (in_root path) ≡ Some items → is_object items ≡ false
+pub found_bare : (c : Against) (top : Forest) (path : Path) (left : ℕ) (items : List Item) → listing_at top (in_root path) ≡ Some items
+    → is_object items ≡ false
     → (left == 0 || length items == 0) ≡ true → found_at c path left (inside_at top (in_root path)) ≡ of_unnamed c path
 found_bare c top path left items listed object bare =
     let lists = inside_lists top (in_root path) items listed in
     let entries = of_entries c path left (inside_at top (in_root path)) in
-    ap (λ (t : Bool). cond t (of_object c path (id_of (inside_at top (in_root path)))) (cond (left == 0 || length (listing_of (inside_at top (in_root path))) == 0) (of_unnamed c path) entries)) (ap is_object lists ∙ object)
+    ap (λ (t : Bool). cond t (of_object c path (id_of (inside_at top (in_root path))))
+    (cond (left == 0 || length (listing_of (inside_at top (in_root path))) == 0) (of_unnamed c path) entries)) (ap is_object lists ∙ object)
     ∙ ap (λ (l : List Item). cond (left == 0 || length l == 0) (of_unnamed c path) entries) lists
     ∙ ap (λ (t : Bool). cond t (of_unnamed c path) entries) bare
 

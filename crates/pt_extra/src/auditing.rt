@@ -1,4 +1,5 @@
-//! An audit both ways: the objects of a store are held against the root, and the root against the store.
+//! An audit both ways: the objects of a store are held against the root, and the root against the
+//! store.
 ghost use Rattle.std.specs.Prelude.{◌≡◌, IfErr, IfOk, OnErr, OnOk};
 ghost use Rattle.std.specs.Io.KnownBytes.{Appends};
 ghost use Rattle.std.specs.Option.{ForSome};
@@ -39,10 +40,12 @@ pub struct AuditEnd<S, R, L> {
     pub devices: ExtraDevices<S, R, L>,
 }
 
-/// An audit, as `audit` of pt_audit makes it; where extras are wanted too, the log tells of what the root has and the store lacks, behind the
-/// lines of what the store has and before the end line, which counts both.
+/// An audit, as `audit` of pt_audit makes it; where extras are wanted too, the log tells of what
+/// the root has and the store lacks, behind the lines of what the store has and before the end
+/// line, which counts both.
 ///
-/// It answers the faults of `audit`, and those of a walk (`Extras::run`). After a fault the log has a front of what is told.
+/// It answers the faults of `audit`, and those of a walk (`Extras::run`). After a fault the log has
+/// a front of what is told.
 pub fn audit<S: Source, R: Source, L: Log, O: Observer<Counts>>(
     alloc: Global,
     devices: ExtraDevices<S, R, L>,

@@ -19,8 +19,9 @@ use std::alloc::Global;
 // How many bytes an inventory may have that is read.
 const MOST: usize = 1 << 30;
 
-/// The identifier that the inventory says in the folder of a root at a path, which lists these; None where it has no file
-/// `inventory.json` of at most 1 GiB that is a JSON object with a text at `id` that isn't empty.
+/// The identifier that the inventory says in the folder of a root at a path, which lists these;
+/// None where it has no file `inventory.json` of at most 1 GiB that is a JSON object with a text at
+/// `id` that isn't empty.
 ///
 /// `Device` where it can't be read, `Memory` where a growth was refused.
 pub(crate) fn identifier_at<R: Source>(

@@ -1,5 +1,5 @@
-//! The identifier in the text of an inventory, of which nothing else is kept: the text is read as `serde_json` reads it into a value, and each
-//! value is passed over.
+//! The identifier in the text of an inventory, of which nothing else is kept: the text is read as
+//! `serde_json` reads it into a value, and each value is passed over.
 ghost use Rattle.std.specs.Prelude.{◌≡◌, ◌<◌, ◌==◌, ℕ, IfOk, IfSome, IsTrue, List, OnErr, OnOk, None, Some, is_some, length, slice_index};
 ghost use Rattle.std.specs.Option.{option_and_then, option_map, unwrap_or};
 ghost use Rattle.std.specs.String.{string_bytes};
@@ -17,7 +17,8 @@ use std::alloc::Global;
 // How deep arrays and objects may stand one in another, as serde_json reads them.
 const MOST_DEPTH: usize = 127;
 
-/// The identifier in an inventory of this text; None where it is no JSON object with a text at `id` that isn't empty.
+/// The identifier in an inventory of this text; None where it is no JSON object with a text at `id`
+/// that isn't empty.
 pub(crate) fn identifier_in_text(alloc: Global, text: &str) -> Result<Option<String>, MemoryFault>
     ensures id { IfOk result (λ id. option_map string_bytes id
         ≡ id_by (unwrap_or (read text.now) null)) }
@@ -46,7 +47,8 @@ fn copy_unless_empty(alloc: Global, text: Option<&str>) -> Result<Option<String>
     }
 }
 
-// The text at `id` in the object that comes, of which the rest is passed over; None where it has none.
+// The text at `id` in the object that comes, of which the rest is passed over; None where it has
+// none.
 //
 // `Invalid` where no JSON object comes.
 fn read_inventory<'a>(reader: &mut Reader<'a>) -> Result<Option<&'a str>, Invalid>
@@ -64,9 +66,11 @@ fn read_inventory<'a>(reader: &mut Reader<'a>) -> Result<Option<&'a str>, Invali
     }
 }
 
-// Passes over the value that comes, in which arrays and objects may stand one in another so deep. Gives its text, if it is one.
+// Passes over the value that comes, in which arrays and objects may stand one in another so deep.
+// Gives its text, if it is one.
 //
-// `Invalid` where none comes, where it is deeper, and where a number in it is too large for a float.
+// `Invalid` where none comes, where it is deeper, and where a number in it is too large for a
+// float.
 #[cycle(read)]
 fn read_value<'a>(reader: &mut Reader<'a>, depth: usize) -> Result<Option<&'a str>, Invalid>
     ensures read { IfOk result (λ text. (it : Data)

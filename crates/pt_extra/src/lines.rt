@@ -1,4 +1,5 @@
-//! The lines of what a store lacks: each one compact JSON object with its keys in byte order, and LF.
+//! The lines of what a store lacks: each one compact JSON object with its keys in byte order, and
+//! LF.
 ghost use Rattle.std.specs.Prelude.{◌≡◌, IfOk};
 ghost use Rattle.std.specs.String.{string_bytes};
 ghost use Rattle.pt_extra.specs.Lines.{Extra, Stray, last_text, line_text};

@@ -22,7 +22,8 @@ pub(crate) fn is_object(listing: &Listing) -> bool
         || is_file(kind_in(listing, OLDER.as_bytes()))
 }
 
-/// Whether an entry of the folder at this path of a root is the root's own (OCFL 1.1, "Root Structure").
+/// Whether an entry of the folder at this path of a root is the root's own (OCFL 1.1, "Root
+/// Structure").
 pub(crate) fn is_part(path: &NamePath, name: &Name, kind: Kind) -> bool
     ensures { result ≡ is_part_of path.now name.now kind }
 {

@@ -16,9 +16,11 @@ use pt_plan::kinds::is_dir;
 use pt_tree::{NamePath, Source, TreeFault};
 use std::alloc::Global;
 
-/// Whether an object stands in a store, each of whose identifiers begins with this prefix, where this identifier belongs.
+/// Whether an object stands in a store, each of whose identifiers begins with this prefix, where
+/// this identifier belongs.
 ///
-/// Each folder on the way is looked at, and its site alone is listed. `Device` where one of these calls fails, `Memory` where a growth was refused.
+/// Each folder on the way is looked at, and its site alone is listed. `Device` where one of these
+/// calls fails, `Memory` where a growth was refused.
 pub(crate) fn has_object<S: Source>(
     alloc: Global,
     store: &mut S,

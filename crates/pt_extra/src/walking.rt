@@ -39,8 +39,8 @@ pub struct Extras<S, R, L> {
 }
 
 impl<S: Source, R: Source, L: Log> Extras<S, R, L> {
-    /// A walk over the root in a destination, held against a store, each of whose identifiers begins with this prefix, as a run with this
-    /// job sees it. Nothing is told yet.
+    /// A walk over the root in a destination, held against a store, each of whose identifiers
+    /// begins with this prefix, as a run with this job sees it. Nothing is told yet.
     pub fn new(
         alloc: Global,
         devices: ExtraDevices<S, R, L>,
@@ -65,8 +65,9 @@ impl<S: Source, R: Source, L: Log> Extras<S, R, L> {
 
     /// Walks the root, and tells what the store lacks. Gives how many lines there are.
     ///
-    /// `Source` where the store can't be listed, `Dest` where the root can't be listed or read, `Log` where a line couldn't be put, and
-    /// `Memory` where a growth was refused. The log has a front of the lines then.
+    /// `Source` where the store can't be listed, `Dest` where the root can't be listed or read,
+    /// `Log` where a line couldn't be put, and `Memory` where a growth was refused. The log has a
+    /// front of the lines then.
     pub fn run(&mut self) -> Result<ExtraNumbers, Fault>
         ensures told { OnOk result
             (Tells S.Source R.Source L.Log found_in self.old self.new) }
@@ -97,7 +98,8 @@ impl<S: Source, R: Source, L: Log> Extras<S, R, L> {
         }
     }
 
-    // A folder at a path of the root, below which so many names lead to an object, and all that stands in it.
+    // A folder at a path of the root, below which so many names lead to an object, and all that
+    // stands in it.
     fn visit(&mut self, path: &NamePath, left: usize) -> Result<(), Fault>
         requires { ForSome (tree_in (R.told self.old.root))
             (λ tree. IsSome (dir_at tree (in_root path.now))) }

@@ -1,5 +1,31 @@
 -- Blocks read by short reads.
-use Rattle.std.proofs.Common.{◌≡◌, ℕ, ◌+◌, ◌-◌, ◌≤◌, List, [], ◌++◌, None, Some, arith, length, take, drop, slice_range, sym, ap, ◌∙◌, subst, le_refl, drop_at, length-take-le, append-nil, inl, inr}
+use Rattle.std.proofs.Common.{
+  ◌≡◌,
+  ℕ,
+  ◌+◌,
+  ◌-◌,
+  ◌≤◌,
+  List,
+  [],
+  ◌++◌,
+  None,
+  Some,
+  arith,
+  length,
+  take,
+  drop,
+  slice_range,
+  sym,
+  ap,
+  ◌∙◌,
+  subst,
+  le_refl,
+  drop_at,
+  length-take-le,
+  append-nil,
+  inl,
+  inr,
+}
 use Rattle.std.proofs.Math.Nat.{eq-or-lt_of_le}
 use Rattle.std.proofs.lemmas.List.{drop_all, take_all}
 use Rattle.std.proofs.Math.Seq.{take-append_seam}
@@ -21,7 +47,8 @@ slice_range-put_mid : (a k n : ℕ) (xs ys : List ℕ) → a ≤ length xs → n
 slice_range-put_mid a k n xs ys within fits =
     let same : (a + n) - a ≡ n = omega arith in
     let after = post_of a k xs in
-    ap (take ((a + n) - a)) (drop_at (take a xs) (ys ++ after) a (length-take-le a xs within)) ∙ ap (λ m. take m (ys ++ after)) same ∙ take-append-le n ys after fits
+    ap (take ((a + n) - a)) (drop_at (take a xs) (ys ++ after) a (length-take-le a xs within)) ∙ ap (λ m. take m (ys ++ after)) same
+    ∙ take-append-le n ys after fits
 
 -- what is read behind what is done
 pub put_more : (done count room : ℕ) (buffer part : List ℕ) → done ≤ length buffer → count ≤ length part
@@ -40,7 +67,8 @@ take-front : (xs ys : List ℕ) (n : ℕ) → length xs ≡ n → take n (xs ++ 
 take-front xs ys n long = rw (← long) (take-append_seam xs ys)
 
 -- what was read until the buffer was full or the end was met is the next bytes
-pub takes_block : (n : ℕ) (old new : Option (List ℕ)) (count : ℕ) (buffer block : List ℕ) → length buffer ≡ n → Fills old new count buffer → block ≡ take count buffer
+pub takes_block : (n : ℕ) (old new : Option (List ℕ)) (count : ℕ) (buffer block : List ℕ) → length buffer ≡ n → Fills old new count buffer
+    → block ≡ take count buffer
     → IfSome old (λ bytes. (block ≡ take n bytes) × (new ≡ Some (drop n bytes)))
 takes_block n None new count buffer block long fills is = tt {0}
 takes_block n (Some bytes) None count buffer block long fills is = absurd fills.taken

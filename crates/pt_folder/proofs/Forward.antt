@@ -1,5 +1,29 @@
 -- Blocks read from the open file, by what its reads and goings give.
-use Rattle.std.proofs.Common.{◌≡◌, ℕ, ◌+◌, ◌<◌, ◌≤◌, ◌==◌, List, [], true, false, refl, sym, ap, subst, ◌∙◌, arith, length, take, drop, length-take-le, le_refl, inl, inr}
+use Rattle.std.proofs.Common.{
+  ◌≡◌,
+  ℕ,
+  ◌+◌,
+  ◌<◌,
+  ◌≤◌,
+  ◌==◌,
+  List,
+  [],
+  true,
+  false,
+  refl,
+  sym,
+  ap,
+  subst,
+  ◌∙◌,
+  arith,
+  length,
+  take,
+  drop,
+  length-take-le,
+  le_refl,
+  inl,
+  inr,
+}
 use Rattle.std.specs.Prelude.{◌⊎◌, Bool, nat_lt, Option, None, Some, IfSome, not}
 use Rattle.std.specs.Option.{option_map, ForSome}
 use Rattle.std.proofs.lemmas.List.{drop-drop, drop_all, take_all}
@@ -39,7 +63,8 @@ last_block ys part = elim (full_or_all ys) [
     differs : (n : ℕ) → (n == 8192) ≡ false → n ≡ 8192 → ⊥
     differs n other same = grind (arith, other, same)
 
-module _ {F : Type 0} (bytes left : F → Option (List ℕ)) (r : FileInReading F) (file : F) (block : List ℕ) (stands : Stands bytes left r) (there : r.lost ≡ false)
+module _ {F : Type 0} (bytes left : F → Option (List ℕ)) (r : FileInReading F) (file : F) (block : List ℕ) (stands : Stands bytes left r) (there : r.lost
+    ≡ false)
     (same : bytes file ≡ bytes r.file) (took : TakesBlock (left r.file) (left file) block) where
   took_at : (xs : List ℕ) → bytes r.file ≡ Some xs → (block ≡ take 8192 (drop r.place xs)) × (left file ≡ Some (drop 8192 (drop r.place xs)))
   took_at xs is = subst (λ (o : Option (List ℕ)). IfSome o (λ b. (block ≡ take 8192 b) × (left file ≡ Some (drop 8192 b)))) (stands.at_place there xs is) took
@@ -48,11 +73,13 @@ module _ {F : Type 0} (bytes left : F → Option (List ℕ)) (r : FileInReading 
   place_at xs is =
       sym (drop-drop (length block) r.place xs) ∙ ap (λ (b : List ℕ). drop (length b) (drop r.place xs)) (took_at xs is).0 ∙ behind_block (drop r.place xs)
 
-  pub read_stands : (full : Bool) → full ≡ (length block == 8192) → (place : ℕ) → place ≡ r.place + length block → (lost : Bool) → Stands bytes left (record { file = file; place = place; ended = not full; lost = lost })
+  pub read_stands : (full : Bool) → full ≡ (length block == 8192) → (place : ℕ) → place ≡ r.place + length block → (lost : Bool)
+      → Stands bytes left (record { file = file; place = place; ended = not full; lost = lost })
   read_stands full is_full place is_place lost = record {
     at_place = λ known xs is. (took_at xs (sym same ∙ is)).1 ∙ ap Some (sym (place_at xs (sym same ∙ is)) ∙ ap (λ n. drop n xs) (sym is_place));
     at_end = λ ends xs is.
-        let part : (length (take 8192 (drop r.place xs)) == 8192) ≡ false = ap (λ (b : List ℕ). length b == 8192) (sym (took_at xs (sym same ∙ is)).0) ∙ sym is_full ∙ turned full ends in
+        let part : (length (take 8192 (drop r.place xs)) == 8192) ≡ false = ap (λ (b : List ℕ). length b == 8192) (sym (took_at xs (sym same ∙ is)).0)
+        ∙ sym is_full ∙ turned full ends in
         ap (λ n. drop n xs) is_place ∙ place_at xs (sym same ∙ is) ∙ last_block (drop r.place xs) part;
   }
     where
@@ -67,13 +94,16 @@ module _ {F : Type 0} (bytes left : F → Option (List ℕ)) (r : FileInReading 
       by None is = λ ys at. absurd (cc)
       by (Some xs) is = λ ys at. let here : drop r.place xs ≡ ys = cc in (took_at xs is).0 ∙ ap (take 8192) here
 
-  pub read_moved : (full : Bool) (place : ℕ) → place ≡ r.place + length block → (lost : Bool) → unread_of bytes (record { file = file; place = place; ended = full; lost = lost }) ≡ option_map (drop 8192) (unread_of bytes r)
-  read_moved full place is_place lost = ap (λ n. option_map (drop n) (bytes file)) is_place ∙ ap (option_map (drop (r.place + length block))) same ∙ by (bytes r.file) refl
+  pub read_moved : (full : Bool) (place : ℕ) → place ≡ r.place + length block → (lost : Bool)
+      → unread_of bytes (record { file = file; place = place; ended = full; lost = lost }) ≡ option_map (drop 8192) (unread_of bytes r)
+  read_moved full place is_place lost = ap (λ n. option_map (drop n) (bytes file)) is_place ∙ ap (option_map (drop (r.place + length block))) same
+      ∙ by (bytes r.file) refl
     where
       by : (o : Option (List ℕ)) → bytes r.file ≡ o → option_map (drop (r.place + length block)) o ≡ option_map (drop 8192) (option_map (drop r.place) o)
       by None is = refl
       by (Some xs) is = ap Some (place_at xs is)
 
 -- what isn't read stays where only the open file changes, and of it no bytes
-pub unread_same : {F : Type 0} (bytes : F → Option (List ℕ)) (old new : FileInReading F) → new ≡ record old { file = new.file; lost = new.lost } → bytes new.file ≡ bytes old.file → unread_of bytes new ≡ unread_of bytes old
+pub unread_same : {F : Type 0} (bytes : F → Option (List ℕ)) (old new : FileInReading F) → new ≡ record old { file = new.file; lost = new.lost }
+    → bytes new.file ≡ bytes old.file → unread_of bytes new ≡ unread_of bytes old
 unread_same bytes old new still same = λ i. option_map (drop (still i).place) (same i)

@@ -21,11 +21,13 @@ use Rattle.pt_folder.specs.Listing.{AreAll, FailsToGet, FailsToList, FailsToLook
 use Rattle.pt_folder.specs.Names.{IsRefusedName}
 use Rattle.pt_folder.specs.Taking.{GetsAll}
 
-module _ {S F D : Type 0} (sys : OfSystem S F D) (input : OfInput D) (folder : List ℕ) (p : Path) (old mid : S) (text : List ℕ) (is : text ≡ entry_text folder p) where
+module _ {S F D : Type 0} (sys : OfSystem S F D) (input : OfInput D) (folder : List ℕ) (p : Path) (old mid : S) (text : List ℕ) (is : text
+    ≡ entry_text folder p) where
   -- the directory was opened, and all that it gives was taken, or that failed
   abbrev pub Asks : {A : Type 0} → (A → List (List ℕ) → Type 0) → (List (List ℕ) → List ℕ → Type 0) → A → Result (Unit {0}) TreeFault → Type 0
   Asks has refuses taken result =
-      (reply : Result D Error) × sys.opens_dir old text reply mid × MatchResult reply (λ dir. (after : D) × MatchResult result (λ done. GetsAll input has dir taken after) (λ fault. IsDueTo fault (FailsToGet input.reads refuses dir after)))
+      (reply : Result D Error) × sys.opens_dir old text reply mid × MatchResult reply (λ dir. (after : D)
+      × MatchResult result (λ done. GetsAll input has dir taken after) (λ fault. IsDueTo fault (FailsToGet input.reads refuses dir after)))
       (λ e. result ≡ Err (fault_of e))
 
   opened : (reply : Result D Error) → sys.opens_dir old text reply mid → sys.opens_dir old (entry_text folder p) reply mid
@@ -38,13 +40,15 @@ module _ {S F D : Type 0} (sys : OfSystem S F D) (input : OfInput D) (folder : L
   read_fails has refuses taken (Err e, asked, gives) = let device : fault_of e ≡ Device = cc in inr (inl (e, opened (Err e) asked, device))
 
   -- or it is
-  pub read_whole : {A : Type 0} (has : A → List (List ℕ) → Type 0) (refuses : List (List ℕ) → List ℕ → Type 0) (taken : A) (done : Unit {0}) → Asks has refuses taken (Ok done)
+  pub read_whole : {A : Type 0} (has : A → List (List ℕ) → Type 0) (refuses : List (List ℕ) → List ℕ → Type 0) (taken : A) (done : Unit {0})
+      → Asks has refuses taken (Ok done)
       → (dir : D) × (after : D) × sys.opens_dir old (entry_text folder p) (Ok dir) mid × GetsAll input has dir taken after
   read_whole has refuses taken done (Ok dir, asked, gives) = (dir, gives.0, opened (Ok dir) asked, gives.1)
   read_whole has refuses taken done (Err e, asked, gives) = absurd (cc)
 
   -- its names aren't had
-  pub names_fail : (names : Vec (List ℕ) Global) (fault : TreeFault) → Asks AreAll (IsRefusedName most_entries) names (Err fault) → IsDueTo fault (FailsToList sys input (entry_in folder p) (change_of old mid))
+  pub names_fail : (names : Vec (List ℕ) Global) (fault : TreeFault) → Asks AreAll (IsRefusedName most_entries) names (Err fault)
+      → IsDueTo fault (FailsToList sys input (entry_in folder p) (change_of old mid))
   names_fail names Memory asked = tt
   names_fail names Device asked = inl (read_fails AreAll (IsRefusedName most_entries) names asked)
 
@@ -58,7 +62,8 @@ module _ {S F D : Type 0} (sys : OfSystem S F D) (input : OfInput D) (folder : L
 
     module _ (order : List (List ℕ)) (ordered : IsPermutation names.items order) (front : List ℕ) (begins : front ≡ dir_front folder p) (new : S) where
       -- it is listed
-      pub listed_by : (result : Result (List Item) TreeFault) → IfOk result (λ listing. map (λ (item : Item). item.0) listing ≡ order) → IfOk result (λ listing. FoldsTo (LooksAt sys.looks front) mid listing new)
+      pub listed_by : (result : Result (List Item) TreeFault) → IfOk result (λ listing. map (λ (item : Item). item.0) listing ≡ order)
+          → IfOk result (λ listing. FoldsTo (LooksAt sys.looks front) mid listing new)
           → IfOk result (λ listing. IsListedBy sys input (entry_in folder p) (change_of old new) listing)
       listed_by (Err f) named looked = tt
       listed_by (Ok listing) named looked = record {
@@ -74,7 +79,8 @@ module _ {S F D : Type 0} (sys : OfSystem S F D) (input : OfInput D) (folder : L
       }
 
       -- one of its entries isn't had
-      pub entry_fails : {U : Type 0} (result : Result U TreeFault) → IsSorted (slice_cmp nat_cmp) order → IfErr result (λ fault. IsDueTo fault (FailsToLook sys.looks front order mid new))
+      pub entry_fails : {U : Type 0} (result : Result U TreeFault) → IsSorted (slice_cmp nat_cmp) order
+          → IfErr result (λ fault. IsDueTo fault (FailsToLook sys.looks front order mid new))
           → IfErr result (λ fault. IsDueTo fault (FailsToList sys input (entry_in folder p) (change_of old new)))
       entry_fails (Ok x) sorted failed = tt
       entry_fails (Err Memory) sorted failed = tt
@@ -92,7 +98,8 @@ module _ {S F D : Type 0} (sys : OfSystem S F D) (input : OfInput D) (folder : L
       })
 
 -- there are as many entries as names
-pub few_listed : (names order : List (List ℕ)) → length names ≤ most_entries → IsPermutation names order → (result : Result (List Item) TreeFault) → IfOk result (λ listing. map (λ (item : Item). item.0) listing ≡ order)
+pub few_listed : (names order : List (List ℕ)) → length names ≤ most_entries → IsPermutation names order → (result : Result (List Item) TreeFault)
+    → IfOk result (λ listing. map (λ (item : Item). item.0) listing ≡ order)
     → IfOk result (λ listing. length listing ≤ most_entries)
 few_listed names order few ordered (Err f) named = tt
 few_listed names order few ordered (Ok listing) named =

@@ -15,11 +15,13 @@ use Rattle.pt_folder.specs.declared.failure.Failure.{Failure}
 use Rattle.pt_folder.specs.Listing.{FailsToLook, LeadsToOwnKind, LooksAt, LooksIn}
 
 -- a look at the path of an entry, and its answer handed on
-pub looks_in : {S : Type 0} (looks : S → List ℕ → Result Kind Error → S → Type 0) (front : List ℕ) (old new : S) (name text : List ℕ) (result : Result Kind TreeFault) → text ≡ front ++ name
+pub looks_in : {S : Type 0} (looks : S → List ℕ → Result Kind Error → S
+    → Type 0) (front : List ℕ) (old new : S) (name text : List ℕ) (result : Result Kind TreeFault) → text ≡ front ++ name
     → ((reply : Result Kind Error) × looks old text reply new × LeadsToOwnKind reply result) → LooksIn looks front name old new result
 looks_in looks front old new name text result is (reply, asked, leads) = inr (reply, subst (λ t. looks old t reply new) is asked, leads)
 
-pub looks_err : {S : Type 0} (looks : S → List ℕ → Result Kind Error → S → Type 0) (front : List ℕ) (old new : S) (name : List ℕ) (r : Result Kind TreeFault) (fault : TreeFault) → IsErrAnd r (λ y. y ≡ fault)
+pub looks_err : {S : Type 0} (looks : S → List ℕ → Result Kind Error → S → Type 0) (front : List ℕ) (old new : S) (name : List ℕ) (r : Result Kind TreeFault)
+    (fault : TreeFault) → IsErrAnd r (λ y. y ≡ fault)
     → LooksIn looks front name old new (Err fault) → LooksIn looks front name old new r
 looks_err looks front old new name (Ok x) fault bad asked = absurd bad
 looks_err looks front old new name (Err y) fault same asked = subst (λ f. LooksIn looks front name old new (Err f)) (sym same) asked
@@ -34,18 +36,22 @@ looked_one looks front old new name kind (inr (Ok m, asked, leads)) =
 looked_one looks front old new name kind (inr (Err e, asked, leads)) = absurd leads
 
 -- a look that failed is kept as one at an entry
-pub kept_entry : {S T : Type 0} (looks : S → List ℕ → Result Kind Error → S → Type 0) (front name text : List ℕ) (r : Result T TreeFault) (fault : TreeFault) (last : Option Failure)
-    → IsErrAnd r (λ y. y ≡ fault) → text ≡ front ++ name → OnDevice {T = Kind} (Err fault) (IfSome last (IsOfCall text (FailsLook looks text))) → OnDevice r (IfSome last (IsOfEntry looks front))
+pub kept_entry : {S T : Type 0} (looks : S → List ℕ → Result Kind Error → S → Type 0) (front name text : List ℕ) (r : Result T TreeFault) (fault : TreeFault)
+    (last : Option Failure)
+    → IsErrAnd r (λ y. y ≡ fault) → text ≡ front ++ name → OnDevice {T = Kind} (Err fault) (IfSome last (IsOfCall text (FailsLook looks text)))
+    → OnDevice r (IfSome last (IsOfEntry looks front))
 kept_entry looks front name text (Ok x) fault last bad is kept = tt
 kept_entry looks front name text (Err Memory) fault last same is kept = tt
-kept_entry looks front name text (Err Device) fault last same is kept = go last (subst (λ f. OnDevice {T = Kind} (Err f) (IfSome last (IsOfCall text (FailsLook looks text)))) (sym same) kept)
+kept_entry looks front name text (Err Device) fault last same is kept = go last
+    (subst (λ f. OnDevice {T = Kind} (Err f) (IfSome last (IsOfCall text (FailsLook looks text)))) (sym same) kept)
   where
     go : (o : Option Failure) → IfSome o (IsOfCall text (FailsLook looks text)) → IfSome o (IsOfEntry looks front)
     go None k = tt
     go (Some f) k = inl (name, subst (λ t. IsOfCall t (FailsLook looks t) f) is k)
 
 -- the names of a listing with one more entry
-pub names_more : (listing new : List Item) (yielded : List (List ℕ)) (name : List ℕ) (kind : Kind) → map (λ (item : Item). item.0) listing ≡ yielded → new ≡ listing ++ (name, kind) ∷ []
+pub names_more : (listing new : List Item) (yielded : List (List ℕ)) (name : List ℕ) (kind : Kind) → map (λ (item : Item). item.0) listing ≡ yielded
+    → new ≡ listing ++ (name, kind) ∷ []
     → map (λ (item : Item). item.0) new ≡ yielded ++ name ∷ []
 names_more listing new yielded name kind same is = ap (map (λ (item : Item). item.0)) is ∙ mapped listing ∙ ap (λ (l : List (List ℕ)). l ++ name ∷ []) same
   where

@@ -23,7 +23,8 @@ use Rattle.pt_folder.proofs.Back.{back}
 use Rattle.pt_folder.proofs.DestTold.{told_at}
 use Rattle.pt_folder.proofs.UnsyncedTold.{none_back}
 
-path_left : {F : Type 0} (from : Path) (w : Option (Open F)) → option_map (λ w. w.path) (open_unless_within from w) ≡ open_unless_below from (option_map (λ w. w.path) w)
+path_left : {F : Type 0} (from : Path) (w : Option (Open F)) → option_map (λ w. w.path) (open_unless_within from w)
+    ≡ open_unless_below from (option_map (λ w. w.path) w)
 path_left from None = refl
 path_left {F} from (Some w) = by (rest_below from w.path) refl
   where
@@ -45,7 +46,8 @@ pub was_told : (o : Option Tree) (change : Tree → Tree) (t : Tree) → option_
 was_told None change t is = absurd (cc)
 was_told (Some s) change t is = (s, refl)
 
-told_moved : {F : Type 0} (w : Option (Open F)) (o : Option Tree) (from to : Path) → option_map (told_at (open_unless_within from w)) (option_map (λ t. moved t from to) o) ≡ option_map (after_rename from to) (option_map (told_at w) o)
+told_moved : {F : Type 0} (w : Option (Open F)) (o : Option Tree) (from to : Path)
+    → option_map (told_at (open_unless_within from w)) (option_map (λ t. moved t from to) o) ≡ option_map (after_rename from to) (option_map (told_at w) o)
 told_moved w None from to = refl
 told_moved w (Some t) from to = ap (λ x. Some (record { tree = moved t from to; writing = x })) (path_left from w)
 
@@ -59,23 +61,29 @@ HasMoved old new from to left (Ok x) = IsMoved old new from to × (left ≡ None
 HasMoved old new from to left (Err e) = ((new ≡ old) × (left ≡ None)) ⊎ (IsMoved old new from to × (left ≡ Some (unsynced.Moved from to)))
 
 module _ {S F : Type 0} (kept : S → List ℕ → Kept F) (folder : List ℕ) (old new : S) (from to : Path) where
-  pub rename_gives : (synced : Bool) {D : Type 0} (sys : OfSystem S F D) (syncs : F → Result (Unit {0}) Error → F → Type 0) → MoveLaw kept sys.renames → StillLaw kept sys.opens
-      → (left : Option UnsyncedChange) (result : Result (Unit {0}) TreeFault) → ForSome (kept old folder).tree (λ t. CanMove t from to) → MovesOnce sys syncs (record { folder = folder; from = from; to = to; synced = synced }) (change_of old new) left result
+  pub rename_gives : (synced : Bool) {D : Type 0} (sys : OfSystem S F D) (syncs : F → Result (Unit {0}) Error → F → Type 0) → MoveLaw kept sys.renames
+      → StillLaw kept sys.opens
+      → (left : Option UnsyncedChange) (result : Result (Unit {0}) TreeFault) → ForSome (kept old folder).tree (λ t. CanMove t from to)
+      → MovesOnce sys syncs (record { folder = folder; from = from; to = to; synced = synced }) (change_of old new) left result
       → HasMoved (kept old folder) (kept new folder) from to left result
   rename_gives synced sys syncs law still left (Ok x) can (inl none) = absurd none.2
   rename_gives synced sys syncs law still left (Err e) can (inl none) = inl (ap (λ s. kept s folder) none.0, none.1)
-  rename_gives synced sys syncs law still left result can (inr asked) = by asked.reply result asked.gives asked.left_unsynced (law old asked.mid folder from to asked.reply asked.named.0 asked.named.1 can asked.made)
+  rename_gives synced sys syncs law still left result can (inr asked) = by asked.reply result asked.gives asked.left_unsynced
+      (law old asked.mid folder from to asked.reply asked.named.0 asked.named.1 can asked.made)
     where
       -- syncing the directory changes nothing
-      after : (synced : Bool) (result : Result (Unit {0}) TreeFault) → AfterMove sys.opens syncs synced (entry_text folder to) asked.mid new result → kept new folder ≡ kept asked.mid folder
+      after : (synced : Bool) (result : Result (Unit {0}) TreeFault) → AfterMove sys.opens syncs synced (entry_text folder to) asked.mid new result
+          → kept new folder ≡ kept asked.mid folder
       after false result is = ap (λ s. kept s folder) is.0
       after true result is = still asked.mid new folder _ is.0 is.1
 
-      moved_on : kept new folder ≡ kept asked.mid folder → IsMoved (kept old folder) (kept asked.mid folder) from to → IsMoved (kept old folder) (kept new folder) from to
+      moved_on : kept new folder ≡ kept asked.mid folder → IsMoved (kept old folder) (kept asked.mid folder) from to
+          → IsMoved (kept old folder) (kept new folder) from to
       moved_on same is = subst (λ k. IsMoved (kept old folder) k from to) (sym same) is
 
       by : (reply : Result (Unit {0}) Error) (result : Result (Unit {0}) TreeFault)
-          → MatchResult reply (λ _. AfterMove sys.opens syncs synced (entry_text folder to) asked.mid new result) (λ e. (new ≡ asked.mid) × (result ≡ Err (fault_of e)))
+          → MatchResult reply (λ _. AfterMove sys.opens syncs synced (entry_text folder to) asked.mid new result) (λ e. (new ≡ asked.mid)
+          × (result ≡ Err (fault_of e)))
           → left ≡ unsynced_after reply (unsynced.Moved from to) result
           → Moves (kept old folder) (kept asked.mid folder) from to reply → HasMoved (kept old folder) (kept new folder) from to left result
       by (Ok x) (Ok y) gives stays is = (moved_on (after synced (Ok y) gives) is, stays)
@@ -85,7 +93,9 @@ module _ {S F : Type 0} (kept : S → List ℕ → Kept F) (folder : List ℕ) (
 
   -- where nothing is to be put onto the disk, nothing is unsynced
   pub rename_wanted : {D : Type 0} (sys : OfSystem S F D) (syncs : F → Result (Unit {0}) Error → F → Type 0) → (synced : Bool)
-      → (left : Option UnsyncedChange) (result : Result (Unit {0}) TreeFault) → MovesOnce sys syncs (record { folder = folder; from = from; to = to; synced = synced }) (change_of old new) left result → ForSome left (λ _. synced ≡ true)
+      → (left : Option UnsyncedChange) (result : Result (Unit {0}) TreeFault)
+      → MovesOnce sys syncs (record { folder = folder; from = from; to = to; synced = synced }) (change_of old new) left result
+      → ForSome left (λ _. synced ≡ true)
   rename_wanted sys syncs true left result asked = λ s at. refl
   rename_wanted sys syncs false left result (inl none) = λ s at. let free = none.1 in absurd (cc)
   rename_wanted sys syncs false left result (inr asked) = by asked.reply result asked.gives asked.left_unsynced
@@ -99,20 +109,26 @@ module _ {S F : Type 0} (kept : S → List ℕ → Kept F) (folder : List ℕ) (
 
   -- something is unsynced only where the device failed
   pub rename_device : {D : Type 0} (sys : OfSystem S F D) (syncs : F → Result (Unit {0}) Error → F → Type 0) → (synced : Bool)
-      → (left : Option UnsyncedChange) (result : Result (Unit {0}) TreeFault) → MovesOnce sys syncs (record { folder = folder; from = from; to = to; synced = synced }) (change_of old new) left result → ForSome left (λ _. result ≡ Err Device)
+      → (left : Option UnsyncedChange) (result : Result (Unit {0}) TreeFault)
+      → MovesOnce sys syncs (record { folder = folder; from = from; to = to; synced = synced }) (change_of old new) left result
+      → ForSome left (λ _. result ≡ Err Device)
   rename_device sys syncs synced left result (inl none) = λ s at. let free = none.1 in absurd (cc)
   rename_device sys syncs synced left result (inr asked) = by synced asked.reply result asked.gives asked.left_unsynced
     where
-      answered : (answer : Result (Unit {0}) Error) (result : Result (Unit {0}) TreeFault) (f : TreeFault) → result ≡ Err f → IsSyncAnswer answer result → result ≡ Err Device
+      answered : (answer : Result (Unit {0}) Error) (result : Result (Unit {0}) TreeFault) (f : TreeFault) → result ≡ Err f → IsSyncAnswer answer result
+          → result ≡ Err Device
       answered (Ok x) result f failed is = absurd (cc)
       answered (Err e) result f failed is = is
 
-      at_sync : (reply : Result F Error) (result : Result (Unit {0}) TreeFault) (f : TreeFault) → result ≡ Err f → MatchResult reply (λ file. (answer : Result (Unit {0}) Error) × (after : F) × syncs file answer after × IsSyncAnswer answer result) (λ e. result ≡ Err Device) → result ≡ Err Device
+      at_sync : (reply : Result F Error) (result : Result (Unit {0}) TreeFault) (f : TreeFault) → result ≡ Err f
+          → MatchResult reply (λ file. (answer : Result (Unit {0}) Error) × (after : F) × syncs file answer after × IsSyncAnswer answer result) (λ e. result
+          ≡ Err Device) → result ≡ Err Device
       at_sync (Ok file) result f failed is = answered is.0 result f failed is.3
       at_sync (Err e) result f failed is = is
 
       by : (synced : Bool) (reply : Result (Unit {0}) Error) (result : Result (Unit {0}) TreeFault)
-          → MatchResult reply (λ _. AfterMove sys.opens syncs synced (entry_text folder to) asked.mid new result) (λ e. (new ≡ asked.mid) × (result ≡ Err (fault_of e)))
+          → MatchResult reply (λ _. AfterMove sys.opens syncs synced (entry_text folder to) asked.mid new result) (λ e. (new ≡ asked.mid)
+          × (result ≡ Err (fault_of e)))
           → left ≡ unsynced_after reply (unsynced.Moved from to) result → ForSome left (λ _. result ≡ Err Device)
       by synced (Ok x) (Ok y) gives free = λ s at. absurd (cc)
       by false (Ok x) (Err f) gives free = let other = gives.1 in absurd (cc)
@@ -120,11 +136,13 @@ module _ {S F : Type 0} (kept : S → List ℕ → Kept F) (folder : List ℕ) (
       by synced (Err e) result gives free = λ s at. absurd (cc)
 
 -- what was moved is back, and a tree as it was
-module _ (o o' : Option Tree) (from to : Path) (law : (t : Tree) → o ≡ Some t → IsTree t) (can : ForSome o (λ t. CanMove t from to)) (is : o' ≡ option_map (λ t. moved t from to) o) where
+module _ (o o' : Option Tree) (from to : Path) (law : (t : Tree) → o ≡ Some t
+    → IsTree t) (can : ForSome o (λ t. CanMove t from to)) (is : o' ≡ option_map (λ t. moved t from to) o) where
   told_back : option_map (λ t. moved t to from) o' ≡ o
   told_back = ap (option_map (λ t. moved t to from)) is ∙ by o law can
     where
-      by : (o : Option Tree) → ((t : Tree) → o ≡ Some t → IsTree t) → ForSome o (λ t. CanMove t from to) → option_map (λ t. moved t to from) (option_map (λ t. moved t from to) o) ≡ o
+      by : (o : Option Tree) → ((t : Tree) → o ≡ Some t → IsTree t) → ForSome o (λ t. CanMove t from to)
+          → option_map (λ t. moved t to from) (option_map (λ t. moved t from to) o) ≡ o
       by None law can = refl
       by (Some t) law can = ap Some (back t from to (law t refl) (can t refl))
 
@@ -136,10 +154,13 @@ module _ (o o' : Option Tree) (from to : Path) (law : (t : Tree) → o ≡ Some 
 
 module _ {S F : Type 0} (kept : S → List ℕ → Kept F) (folder : List ℕ) (old new : S) (from to : Path) where
   module _ (w v : Option (Open F)) (left : Option UnsyncedChange) where
-    pub rename_moved : (result : Result (Unit {0}) TreeFault) → HasMoved (kept old folder) (kept new folder) from to left result → OnOk result (v ≡ open_unless_within from w)
+    pub rename_moved : (result : Result (Unit {0}) TreeFault) → HasMoved (kept old folder) (kept new folder) from to left result
+        → OnOk result (v ≡ open_unless_within from w)
         → OnOk result (told_with (kept new folder) left v ≡ option_map (after_rename from to) (told_of (kept old folder) w))
     rename_moved (Err e) is closes = tt
-    rename_moved (Ok x) is closes = ap (λ s. told_with (kept new folder) s v) is.1 ∙ ap (option_map (told_at v)) is.0.0 ∙ ap (λ (u : Option (Open F)). option_map (told_at u) (option_map (λ t. moved t from to) (kept old folder).tree)) closes ∙ told_moved w (kept old folder).tree from to
+    rename_moved (Ok x) is closes = ap (λ s. told_with (kept new folder) s v) is.1 ∙ ap (option_map (told_at v)) is.0.0
+        ∙ ap (λ (u : Option (Open F)). option_map (told_at u) (option_map (λ t. moved t from to) (kept old folder).tree)) closes
+        ∙ told_moved w (kept old folder).tree from to
 
     module _ (law : (t : Tree) → (kept old folder).tree ≡ Some t → IsTree t) (can : ForSome (kept old folder).tree (λ t. CanMove t from to)) where
       pub rename_same : (result : Result (Unit {0}) TreeFault) → HasMoved (kept old folder) (kept new folder) from to left result → OnErr result (v ≡ w)
@@ -147,16 +168,19 @@ module _ {S F : Type 0} (kept : S → List ℕ → Kept F) (folder : List ℕ) (
       rename_same (Ok x) is same = tt
       rename_same (Err e) (inl is) same = λ i. told_with (is.0 i) (is.1 i) (same i)
       rename_same (Err e) (inr is) same =
-          ap (λ s. told_with (kept new folder) s v) is.1 ∙ ap (option_map (told_at v)) (told_back (kept old folder).tree (kept new folder).tree from to law can is.0.0) ∙ ap (told_of (kept old folder)) same
+          ap (λ s. told_with (kept new folder) s v) is.1 ∙ ap (option_map (told_at v))
+          (told_back (kept old folder).tree (kept new folder).tree from to law can is.0.0) ∙ ap (told_of (kept old folder)) same
 
-      pub rename_back : (result : Result (Unit {0}) TreeFault) → HasMoved (kept old folder) (kept new folder) from to left result → ForSome left (IsBack (kept new folder))
+      pub rename_back : (result : Result (Unit {0}) TreeFault) → HasMoved (kept old folder) (kept new folder) from to left result
+          → ForSome left (IsBack (kept new folder))
       rename_back (Ok x) is = none_back (kept new folder) left is.1
       rename_back (Err e) (inl is) = none_back (kept new folder) left is.1
       rename_back (Err e) (inr is) = λ s at.
           let same : unsynced.Moved from to ≡ s = let both : Some (unsynced.Moved from to) ≡ Some s = sym is.1 ∙ at in cc in
           subst (IsBack (kept new folder)) same (held_back (kept old folder).tree (kept new folder).tree from to law can is.0.0)
 
-    pub rename_placed : (result : Result (Unit {0}) TreeFault) → HasMoved (kept old folder) (kept new folder) from to left result → OnOk result (v ≡ open_unless_within from w) → OnErr result (v ≡ w)
+    pub rename_placed : (result : Result (Unit {0}) TreeFault) → HasMoved (kept old folder) (kept new folder) from to left result
+        → OnOk result (v ≡ open_unless_within from w) → OnErr result (v ≡ w)
         → IsPlaced (kept old folder) w → ForNone left (IsPlaced (kept new folder) v)
     rename_placed (Err e) (inl is) closes same at = λ none. subst (λ (k : Kept F). IsPlaced k v) (sym is.0) (subst (IsPlaced (kept old folder)) (sym same) at)
     rename_placed (Err e) (inr is) closes same at = λ none. let other : Some (unsynced.Moved from to) ≡ None = sym is.1 ∙ none in absurd (cc)

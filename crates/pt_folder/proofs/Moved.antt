@@ -19,14 +19,17 @@ use Rattle.pt_folder.specs.declared.unsynced_change.UnsyncedChange.TheVariants a
 
 module _ {S F D : Type 0} (sys : OfSystem S F D) (syncs : F → Result (Unit {0}) Error → F → Type 0) (ready : ReadyMove) (old new : S) where
   -- a directory that could not be put onto the disk is kept as a part of the move
-  pub kept_sync : (mid : S) (text : List ℕ) (r : Result (Unit {0}) TreeFault) (fault : TreeFault) (last : Option Failure) → IsErrAnd r (λ y. y ≡ fault) → text ≡ string_bytes ready.holder
-      → OnDevice {T = Unit {0}} (Err fault) (IsSomeAnd last (IsOfCall text (FailsToSync sys.opens syncs text mid new))) → OnDevice r (IsSomeAnd last (IsOfGoing sys syncs ready (change_of old new)))
+  pub kept_sync : (mid : S) (text : List ℕ) (r : Result (Unit {0}) TreeFault) (fault : TreeFault) (last : Option Failure) → IsErrAnd r (λ y. y ≡ fault)
+      → text ≡ string_bytes ready.holder
+      → OnDevice {T = Unit {0}} (Err fault) (IsSomeAnd last (IsOfCall text (FailsToSync sys.opens syncs text mid new)))
+      → OnDevice r (IsSomeAnd last (IsOfGoing sys syncs ready (change_of old new)))
   kept_sync mid text (Ok x) fault last bad is kept = tt
   kept_sync mid text (Err Memory) fault last same is kept = tt
   kept_sync mid text (Err Device) fault last same is kept =
       go last (subst (λ f. OnDevice {T = Unit {0}} (Err f) (IsSomeAnd last (IsOfCall text (FailsToSync sys.opens syncs text mid new)))) (sym same) kept)
     where
-      go : (o : Option Failure) → IsSomeAnd o (IsOfCall text (FailsToSync sys.opens syncs text mid new)) → IsSomeAnd o (IsOfGoing sys syncs ready (change_of old new))
+      go : (o : Option Failure) → IsSomeAnd o (IsOfCall text (FailsToSync sys.opens syncs text mid new))
+          → IsSomeAnd o (IsOfGoing sys syncs ready (change_of old new))
       go None k = absurd k
       go (Some f) k = inr (mid, subst (λ t. IsOfCall t (FailsToSync sys.opens syncs t mid new) f) is k)
 
@@ -34,7 +37,9 @@ module _ {S F D : Type 0} (sys : OfSystem S F D) (syncs : F → Result (Unit {0}
     abbrev moved : FolderMove
     moved = record { folder = folder; from = p; to = q; synced = synced }
 
-    pub kept_move : (result : Result (Unit {0}) TreeFault) (last : Option Failure) → OnDevice result (IsSomeAnd last (IsOfGoing sys syncs ready (change_of old new))) → OnDevice result (IsSomeAnd last (IsOfMove sys syncs moved (change_of old new)))
+    pub kept_move : (result : Result (Unit {0}) TreeFault) (last : Option Failure)
+        → OnDevice result (IsSomeAnd last (IsOfGoing sys syncs ready (change_of old new)))
+        → OnDevice result (IsSomeAnd last (IsOfMove sys syncs moved (change_of old new)))
     kept_move (Ok x) last kept = tt
     kept_move (Err Memory) last kept = tt
     kept_move (Err Device) None kept = absurd kept
@@ -46,25 +51,30 @@ module _ {S F D : Type 0} (sys : OfSystem S F D) (syncs : F → Result (Unit {0}
     -- what came after it, by what it is while its directory isn't put onto the disk
     abbrev Done : S → Option UnsyncedChange → Result (Unit {0}) TreeFault → Option UnsyncedChange → Type 0
     Done mid after result left =
-        MatchOption left ((new ≡ mid) × (result ≡ Ok tt) × (after ≡ None)) (λ s. IsSynced sys.opens syncs (string_bytes ready.holder) mid new result × (after ≡ unless_done s result))
+        MatchOption left ((new ≡ mid) × (result ≡ Ok tt) × (after ≡ None)) (λ s. IsSynced sys.opens syncs (string_bytes ready.holder) mid new result
+        × (after ≡ unless_done s result))
 
     done : (mid : S) (after : Option UnsyncedChange) (result : Result (Unit {0}) TreeFault) (synced : Bool) → Done mid after result (move_to_sync synced p q)
         → AfterMove sys.opens syncs synced (entry_text folder q) mid new result × (after ≡ unless_done (unsynced.Moved p q) result)
     done mid after result true gives = (subst (λ t. IsSynced sys.opens syncs t mid new result) is.holder gives.0, gives.1)
     done mid after result false gives = ((gives.0, gives.1), gives.2 ∙ sym (ap (unless_done (unsynced.Moved p q)) gives.1))
 
-    pub move_gone : (before after : Option UnsyncedChange) (result : Result (Unit {0}) TreeFault) → before ≡ None → IsGone sys syncs ready (change_of old new) (change_of before after) result → MovesOnce sys syncs moved (change_of old new) after result
+    pub move_gone : (before after : Option UnsyncedChange) (result : Result (Unit {0}) TreeFault) → before ≡ None
+        → IsGone sys syncs ready (change_of old new) (change_of before after) result → MovesOnce sys syncs moved (change_of old new) after result
     move_gone before after result none gone = inr (record {
       reply = gone.reply;
       mid = gone.mid;
       filled = is.filled;
       named = is.named;
-      made = subst (λ b. sys.renames old (entry_text folder p) b gone.reply gone.mid) is.to (subst (λ a. sys.renames old a (string_bytes ready.to) gone.reply gone.mid) is.from gone.made);
+      made = subst (λ b. sys.renames old (entry_text folder p) b gone.reply gone.mid) is.to
+          (subst (λ a. sys.renames old a (string_bytes ready.to) gone.reply gone.mid) is.from gone.made);
       gives = (by gone.reply gone.gives).0;
       left_unsynced = (by gone.reply gone.gives).1;
     })
       where
-        by : (reply : Result (Unit {0}) Error) → MatchResult reply (λ _. Done gone.mid after result ready.left) (λ e. (new ≡ gone.mid) × (result ≡ Err (fault_of e)) × (after ≡ before))
-            → MatchResult reply (λ _. AfterMove sys.opens syncs synced (entry_text folder q) gone.mid new result) (λ e. (new ≡ gone.mid) × (result ≡ Err (fault_of e))) × (after ≡ unsynced_after reply (unsynced.Moved p q) result)
+        by : (reply : Result (Unit {0}) Error) → MatchResult reply (λ _. Done gone.mid after result ready.left) (λ e. (new ≡ gone.mid)
+            × (result ≡ Err (fault_of e)) × (after ≡ before))
+            → MatchResult reply (λ _. AfterMove sys.opens syncs synced (entry_text folder q) gone.mid new result) (λ e. (new ≡ gone.mid)
+            × (result ≡ Err (fault_of e))) × (after ≡ unsynced_after reply (unsynced.Moved p q) result)
         by (Ok x) gives = done gone.mid after result synced (subst (Done gone.mid after result) is.left gives)
         by (Err e) gives = ((gives.0, gives.1), gives.2 ∙ none)

@@ -1,5 +1,33 @@
 -- Names that a directory gives, one after another.
-use Rattle.std.proofs.Common.{◌≡◌, ℕ, true, false, List, [], ◌∷◌, ◌++◌, ◌+◌, ◌<◌, ◌≤◌, ◌==◌, length, take, drop, get_or, refl, arith, sym, ap, ◌∙◌, append_assoc, append-nil, cond, subst, inl, inr}
+use Rattle.std.proofs.Common.{
+  ◌≡◌,
+  ℕ,
+  true,
+  false,
+  List,
+  [],
+  ◌∷◌,
+  ◌++◌,
+  ◌+◌,
+  ◌<◌,
+  ◌≤◌,
+  ◌==◌,
+  length,
+  take,
+  drop,
+  get_or,
+  refl,
+  arith,
+  sym,
+  ap,
+  ◌∙◌,
+  append_assoc,
+  append-nil,
+  cond,
+  subst,
+  inl,
+  inr,
+}
 use Rattle.std.specs.Prelude.{Option, Some, None, nat_lt, Result, Ok, Err, IfErr}
 use Rattle.std.specs.Result.{IsErrAnd}
 use Rattle.std.specs.List.{filter, position, position_or_len}
@@ -49,7 +77,8 @@ splits rest end found =
     let facts = position-Some (λ b. b == 0) rest end 0 found in
     let nul : get_or rest end 0 ≡ 0 = is_nul (get_or rest end 0) facts.1 in
     let more = drop_more rest end 0 facts.0 in
-    sym (take-append-drop end rest) ∙ ap (λ l. take end rest ++ l) (more ∙ ap (λ b. b ∷ drop (end + 1) rest) nul) ∙ sym (append_assoc (take end rest) (0 ∷ []) (drop (end + 1) rest))
+    sym (take-append-drop end rest) ∙ ap (λ l. take end rest ++ l) (more ∙ ap (λ b. b ∷ drop (end + 1) rest) nul)
+    ∙ sym (append_assoc (take end rest) (0 ∷ []) (drop (end + 1) rest))
   where
     is_nul : (b : ℕ) → (b == 0) ≡ true → b ≡ 0
     is_nul b same = grind (arith, same)
@@ -78,12 +107,14 @@ adds_one piece rest name left old now new end (done, is, adds) found name_is lef
     )
 
 -- one more piece is read
-pub reads_one : (old mid new : Option (List ℕ)) (now after : List (List ℕ)) (piece part : List ℕ) → ((read : List ℕ) × Consumes old mid read × GivesNames read now)
+pub reads_one : (old mid new : Option (List ℕ)) (now after : List (List ℕ)) (piece part : List ℕ)
+    → ((read : List ℕ) × Consumes old mid read × GivesNames read now)
     → Consumes mid new part → piece ≡ part → AddsNames piece now after → (read : List ℕ) × Consumes old new read × GivesNames read after
 reads_one old mid new now after piece part (read, taken, gives) next same adds = (
   read ++ part,
   Consumes-trans old mid new read part taken next,
-  subst (λ names. GivesNames (read ++ part) names) (sym adds.added) (gives_both read part now adds.more gives (subst (λ bytes. GivesNames bytes adds.more) same adds.given)),
+  subst (λ names. GivesNames (read ++ part) names) (sym adds.added) (gives_both read part now adds.more gives
+      (subst (λ bytes. GivesNames bytes adds.more) same adds.given)),
 )
 
 -- what was read of a piece so far, and what it gave
@@ -91,7 +122,8 @@ abbrev pub Done : List ℕ → List ℕ → List (List ℕ) → List (List ℕ) 
 Done piece rest old now = (front : List ℕ) × (piece ≡ front ++ rest) × AddsNames front old now
 
 -- the next name isn't added
-pub refuses_one : (refuses : List (List ℕ) → List ℕ → Type 0) (piece rest name : List ℕ) (old now : List (List ℕ)) (end : ℕ) (fault : TreeFault) → Done piece rest old now
+pub refuses_one : (refuses : List (List ℕ) → List ℕ → Type 0) (piece rest name : List ℕ) (old now : List (List ℕ)) (end : ℕ) (fault : TreeFault)
+    → Done piece rest old now
     → position (λ b. b == 0) rest ≡ Some end → name ≡ take end rest → IsDueTo fault (refuses now name) → IsDueTo fault (RefusesBytes refuses old piece)
 refuses_one refuses piece rest name old now end Memory done found name_is cause = tt
 refuses_one refuses piece rest name old now end Device (front, is, added) found name_is cause = record {
@@ -131,6 +163,7 @@ refuses_rest refuses piece rest old now (front, is, added) none some = record {
         differs b other same = grind (arith, other, same)
 
 -- an error that is handed on has its cause
-pub err_due : {T : Type 0} (r : Result T TreeFault) (fault : TreeFault) (cause : Type 0) → IsErrAnd r (λ y. y ≡ fault) → IsDueTo fault cause → IfErr r (λ f. IsDueTo f cause)
+pub err_due : {T : Type 0} (r : Result T TreeFault) (fault : TreeFault) (cause : Type 0) → IsErrAnd r (λ y. y ≡ fault) → IsDueTo fault cause
+    → IfErr r (λ f. IsDueTo f cause)
 err_due (Ok x) fault cause is due = absurd is
 err_due (Err y) fault cause is due = subst (λ f. IsDueTo f cause) (sym is) due

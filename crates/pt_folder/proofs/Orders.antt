@@ -112,8 +112,11 @@ Kinds g (x ∷ xs) = (g x.0 ≡ Some x.1) × Kinds g xs
 kinds_behind : (name : List ℕ) (y : Node) (f : Forest) (items : List Item) → Before name (name_list items) → Kinds (λ n. option_map kind_of (find f n)) items
     → Kinds (λ n. option_map kind_of (cond (bytes_eq name n) (Some y) (find f n))) items
 kinds_behind name y f [] before kinds = tt
-kinds_behind name y f (x ∷ items) before kinds =
-    (ap (option_map kind_of) (cond-false (bytes_eq name x.0) (Some y) (find f x.0) (before_differs name x.0 before.0)) ∙ kinds.0, kinds_behind name y f items before.1 kinds.1)
+kinds_behind name y f (x ∷ items) before kinds = (
+  ap (option_map kind_of) (cond-false (bytes_eq name x.0) (Some y) (find f x.0) (before_differs name x.0 before.0))
+      ∙ kinds.0,
+  kinds_behind name y f items before.1 kinds.1,
+)
 
 here : (name : List ℕ) (y : Node) (o : Option Node) → option_map kind_of (cond (bytes_eq name name) (Some y) o) ≡ Some (kind_of y)
 here name y o = ap (option_map kind_of) (cond-true (bytes_eq name name) (Some y) o (name_itself name))
@@ -160,14 +163,19 @@ found f d p n is = node-append (Dir f) p (n ∷ []) (Dir d) (as_node (node_at (D
 
 kinds_seen : (f d : Forest) (p : Path) (items : List Item) → dir_at f p ≡ Some d → All (IsItem f p) items → Kinds (λ n. option_map kind_of (find d n)) items
 kinds_seen f d p [] is all = tt
-kinds_seen f d p (x ∷ items) is all =
-    (ap (option_map kind_of) (sym (found f d p x.0 is)) ∙ all zero x (omega arith), kinds_seen f d p items is (λ k e within. all (suc k) e (omega (arith, within))))
+kinds_seen f d p (x ∷ items) is all = (
+  ap (option_map kind_of) (sym (found f d p x.0 is)) ∙ all zero x (omega arith),
+  kinds_seen f d p items is
+      (λ k e within. all (suc k) e (omega (arith, within))),
+)
 
 -- a listing of a directory's names in their order, with the kinds that are seen, is the directory's
-pub listing_is : (f d : Forest) (p : Path) (names order : List (List ℕ)) (items : List Item) → is_proper d ≡ true → dir_at f p ≡ Some d → IsPermutation names (names_of d) → IsPermutation names order
+pub listing_is : (f d : Forest) (p : Path) (names order : List (List ℕ)) (items : List Item) → is_proper d ≡ true → dir_at f p ≡ Some d
+    → IsPermutation names (names_of d) → IsPermutation names order
     → name_list items ≡ order → names_rise items ≡ true → All (IsItem f p) items → listing_of d ≡ items
 listing_is f d p names order items proper is given ordered listed rise seen =
     let rises = rise_items (listing_of d) (names_rise-proper d proper) in
     let mine : Rise order = subst Rise listed (rise_items items rise) in
     let moved : IsPermutation order (names_of d) = IsPermutation-trans order names (names_of d) (IsPermutation-sym names order ordered) given in
-    same_items (λ n. option_map kind_of (find d n)) (listing_of d) items (sym (listed ∙ same_order order (names_of d) moved mine rises)) (kinds_listed d proper) (kinds_seen f d p items is seen)
+    same_items (λ n. option_map kind_of (find d n)) (listing_of d) items (sym (listed ∙ same_order order (names_of d) moved mine rises)) (kinds_listed d proper)
+    (kinds_seen f d p items is seen)

@@ -57,30 +57,37 @@ all_pass (x ∷ xs) are =
     by true is = refl
     by false is = absurd (cc)
 
-module _ {S D : Type 0} (kept : S → List ℕ → Option Forest) (input : OfInput D) (opens : S → List ℕ → Result D Error → S → Type 0) (law : NamesLaw kept input.left opens)
-    (folder : List ℕ) (p : Path) (old mid : S) (text : List ℕ) (path : IsPath p) (is : text ≡ entry_text folder p) (can : ForSome (kept old folder) (λ f. IsSome (dir_at f p))) where
+module _ {S D : Type 0} (kept : S → List ℕ → Option Forest) (input : OfInput D) (opens : S → List ℕ → Result D Error → S
+    → Type 0) (law : NamesLaw kept input.left opens)
+    (folder : List ℕ) (p : Path) (old mid : S) (text : List ℕ) (path : IsPath p) (is : text ≡ entry_text folder p)
+    (can : ForSome (kept old folder) (λ f. IsSome (dir_at f p))) where
   -- the names among what it gives are those of the directory
   pub parted_given : (parted : Parted) (done : Unit {0}) → ((f : Forest) → kept old folder ≡ Some f → is_proper f ≡ true)
-      → ((reply : Result D Error) × opens old text reply mid × MatchResult reply (λ d. (after : D) × GetsAll input HasParts d parted after) (λ e. let r : Result (Unit {0}) TreeFault = Ok done in r ≡ Err (fault_of e)))
+      → ((reply : Result D Error) × opens old text reply mid × MatchResult reply (λ d. (after : D) × GetsAll input HasParts d parted after)
+      (λ e. let r : Result (Unit {0}) TreeFault = Ok done in r ≡ Err (fault_of e)))
       → ForSome (kept old folder) (λ f. (d : Forest) → dir_at f p ≡ Some d → IsPermutation parted.names.items (names_of d))
   parted_given parted done proper asked = λ f known d at.
       let these = names_given kept input opens law folder p old mid text path is can HasParts parted done asked f known d at in
       let all = these.0 in
       let whole = names_proper d (proper_dir_at f p d (proper f known) at) in
-      let same : filter is_name all ≡ all = all_pass all (All-permutation (λ n. is_name n ≡ true) (names_of d) all (IsPermutation-sym all (names_of d) these.2) whole) in
+      let same : filter is_name all ≡ all = all_pass all (All-permutation (λ n. is_name n ≡ true) (names_of d) all (IsPermutation-sym all (names_of d) these.2)
+      whole) in
       subst (λ l. IsPermutation l (names_of d)) (sym (these.1.named ∙ same)) these.2
 
-module _ {S F D : Type 0} (sys : OfSystem S F D) (input : OfInput D) (folder : List ℕ) (p : Path) (old mid new : S) (text : List ℕ) (is : text ≡ entry_text folder p) where
+module _ {S F D : Type 0} (sys : OfSystem S F D) (input : OfInput D) (folder : List ℕ) (p : Path) (old mid new : S) (text : List ℕ) (is : text
+    ≡ entry_text folder p) where
   -- it was read so
   abbrev AsksParted : Parted → Result (Unit {0}) TreeFault → Type 0
   AsksParted parted result = Asks sys input folder p old mid text is HasParts IsOneTooMany parted result
 
   -- it isn't read to its end
-  pub parted_fails : (parted : Parted) (refused : List (Vec ℕ Global)) (fault : TreeFault) → AsksParted parted (Err fault) → FailsToListPast sys input (entry_in folder p) (change_of old mid) (change_of refused refused) fault
+  pub parted_fails : (parted : Parted) (refused : List (Vec ℕ Global)) (fault : TreeFault) → AsksParted parted (Err fault)
+      → FailsToListPast sys input (entry_in folder p) (change_of old mid) (change_of refused refused) fault
   parted_fails parted refused Memory asked = inl refl
   parted_fails parted refused Device asked = inl (refl, read_fails sys input folder p old mid text is HasParts IsOneTooMany parted asked)
 
-  module _ (parted : Parted) (done : Unit {0}) (asked : AsksParted parted (Ok done)) (refused : List (Vec ℕ Global)) (others : IsPermutation parted.refused.items refused) (order_is : IsSorted (λ x y. slice_cmp nat_cmp x.items y.items) refused) where
+  module _ (parted : Parted) (done : Unit {0}) (asked : AsksParted parted (Ok done)) (refused : List (Vec ℕ Global))
+      (others : IsPermutation parted.refused.items refused) (order_is : IsSorted (λ x y. slice_cmp nat_cmp x.items y.items) refused) where
     whole : (dir : D) × (after : D) × sys.opens_dir old (entry_text folder p) (Ok dir) mid × GetsAll input HasParts dir parted after
     whole = read_whole sys input folder p old mid text is HasParts IsOneTooMany parted done asked
 
@@ -102,7 +109,8 @@ module _ {S F D : Type 0} (sys : OfSystem S F D) (input : OfInput D) (folder : L
 
     module _ (order : List (List ℕ)) (front : List ℕ) (begins : front ≡ dir_front folder p) (ordered : IsPermutation parted.names.items order) where
       -- it is listed past what is no name
-      pub listed_past : (result : Result (List Item) TreeFault) → IfOk result (λ listing. map (λ (item : Item). item.0) listing ≡ order) → IfOk result (λ listing. FoldsTo (LooksAt sys.looks front) mid listing new)
+      pub listed_past : (result : Result (List Item) TreeFault) → IfOk result (λ listing. map (λ (item : Item). item.0) listing ≡ order)
+          → IfOk result (λ listing. FoldsTo (LooksAt sys.looks front) mid listing new)
           → IfOk result (IsListedPast sys input (entry_in folder p) (change_of old new) refused)
       listed_past (Err f) named looked = tt
       listed_past (Ok listing) named looked = record {
@@ -114,7 +122,8 @@ module _ {S F D : Type 0} (sys : OfSystem S F D) (input : OfInput D) (folder : L
       }
 
       -- one of its entries isn't had
-      pub fails_past : {U : Type 0} (before : List (Vec ℕ Global)) (result : Result U TreeFault) → IsSorted (slice_cmp nat_cmp) order → IfErr result (λ fault. IsDueTo fault (FailsToLook sys.looks front order mid new))
+      pub fails_past : {U : Type 0} (before : List (Vec ℕ Global)) (result : Result U TreeFault) → IsSorted (slice_cmp nat_cmp) order
+          → IfErr result (λ fault. IsDueTo fault (FailsToLook sys.looks front order mid new))
           → IfErr result (FailsToListPast sys input (entry_in folder p) (change_of old new) (change_of before refused))
       fails_past before (Ok x) sorted failed = tt
       fails_past before (Err Memory) sorted failed = inr (mid, parted, gives_apart)

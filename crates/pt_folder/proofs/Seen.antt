@@ -31,9 +31,11 @@ front_name folder (x ∷ p) n =
 All-one : {X : Type 0} (P : X → Type 0) (x : X) → P x → All P (x ∷ [])
 All-one P x is = All-cons P x [] is (All-nil P)
 
-module _ {S : Type 0} (kept : S → List ℕ → Option Forest) (looks : S → List ℕ → Result Kind Error → S → Type 0) (law : LookLaw kept looks) (front : List ℕ) (old mid new : S) where
+module _ {S : Type 0} (kept : S → List ℕ → Option Forest) (looks : S → List ℕ → Result Kind Error → S
+    → Type 0) (law : LookLaw kept looks) (front : List ℕ) (old mid new : S) where
   looked_at : (name : List ℕ) (reply : Result Kind Error) → is_name name ≡ true → looks mid (front ++ name) reply new
-      → (folder : List ℕ) (p : Path) → IsPath p → front ≡ dir_front folder p → ForSome (kept mid folder) (λ f. IsSome (dir_at f p)) → Looked (kept mid folder) (kept new folder) (p ++ name ∷ []) reply
+      → (folder : List ℕ) (p : Path) → IsPath p → front ≡ dir_front folder p → ForSome (kept mid folder) (λ f. IsSome (dir_at f p))
+      → Looked (kept mid folder) (kept new folder) (p ++ name ∷ []) reply
   looked_at name reply named asked folder p path begins can =
       law mid new folder (p ++ name ∷ []) reply (All-append (λ n. is_name n ≡ true) p (name ∷ []) path (All-one (λ n. is_name n ≡ true) name named))
       (λ f known. subst (λ q. IsSome (dir_at f q)) (sym (parent-push p name)) (can f known))
@@ -51,7 +53,8 @@ module _ {S : Type 0} (kept : S → List ℕ → Option Forest) (looks : S → L
         same = look.same ∙ before.same;
         seen = λ f known.
             let here : option_map kind_of (node_at (Dir f) (p ++ name ∷ [])) ≡ Some kind = look.shown f (before.same ∙ known) ∙ own in
-            subst (All (IsItem f p)) (sym more) (All-append (IsItem f p) listing ((name, kind) ∷ []) (before.seen f known) (All-one (IsItem f p) (name, kind) here));
+            subst (All (IsItem f p)) (sym more) (All-append (IsItem f p) listing ((name, kind) ∷ []) (before.seen f known)
+            (All-one (IsItem f p) (name, kind) here));
       }
 
   -- what is kept stays, whatever the look gave
@@ -62,7 +65,8 @@ module _ {S : Type 0} (kept : S → List ℕ → Option Forest) (looks : S → L
     seen = λ f known. λ k d within. absurd (omega arith);
   }
     where
-      stays : (folder : List ℕ) (p : Path) → IsPath p → front ≡ dir_front folder p → ForSome (kept mid folder) (λ f. IsSome (dir_at f p)) → LooksIn looks front name mid new r → kept new folder ≡ kept mid folder
+      stays : (folder : List ℕ) (p : Path) → IsPath p → front ≡ dir_front folder p → ForSome (kept mid folder) (λ f. IsSome (dir_at f p))
+          → LooksIn looks front name mid new r → kept new folder ≡ kept mid folder
       stays folder p path begins can (inl none) = ap (λ s. kept s folder) none.0
       stays folder p path begins can (inr (reply, asked, leads)) = (looked_at name reply named asked folder p path begins can).same
 

@@ -12,7 +12,8 @@ slashed = flat_map (λ name. 47 ∷ name)
 pub slashed_more : (front : List ℕ) (p : Path) (i : ℕ) (name : List ℕ) → i < length p → name ≡ get_or p i name
     → (front ++ slashed (take i p)) ++ 47 ∷ name ≡ front ++ slashed (take (i + 1) p)
 slashed_more front p i name within is =
-    flat_map_more (λ n. 47 ∷ n) front (take i p) name ∙ ap (λ (q : Path). front ++ slashed q) (ap (λ n. take i p ++ n ∷ []) is ∙ sym (take_more p i name within))
+    flat_map_more (λ n. 47 ∷ n) front (take i p) name ∙ ap (λ (q : Path). front ++ slashed q) (ap (λ n. take i p ++ n ∷ []) is
+    ∙ sym (take_more p i name within))
 
 -- of a path below the top that is a slash and its text
 slashed-below : (x : List ℕ) (p : Path) → slashed (x ∷ p) ≡ 47 ∷ joined (x ∷ p)

@@ -34,23 +34,27 @@ pub can_list : (unread : Option (List ℕ)) (o : Option Forest) (p : Path) → C
 unfolding CanList
 can_list unread o p h = λ f is. h (told_at unread f) (ap (option_map (told_at unread)) is)
 
-pub is_listed : (unread : Option (List ℕ)) (o : Option Forest) (p : Path) (items : List Item) → ForSome o (λ f. listing_at f p ≡ Some items) → IsListed (told_of o unread) p items
+pub is_listed : (unread : Option (List ℕ)) (o : Option Forest) (p : Path) (items : List Item) → ForSome o (λ f. listing_at f p ≡ Some items)
+    → IsListed (told_of o unread) p items
 unfolding IsListed
 is_listed unread None p items h = λ s is. absurd (cc)
 is_listed unread (Some f) p items h = λ s is. let same : told_at unread f ≡ s = cc in subst (λ (s : Told). listing_at s.tree p ≡ Some items) same (h f refl)
 
-pub can_look : (unread : Option (List ℕ)) (o : Option Forest) (p : Path) → CanLook (tree_in (told_of o unread)) p → ForSome o (λ f. IsSome (dir_at f (parent p)))
+pub can_look : (unread : Option (List ℕ)) (o : Option Forest) (p : Path) → CanLook (tree_in (told_of o unread)) p
+    → ForSome o (λ f. IsSome (dir_at f (parent p)))
 unfolding CanLook
 can_look unread None p h = λ f is. absurd (cc)
 can_look unread (Some f) p h = h
 
-pub is_seen : (unread : Option (List ℕ)) (o : Option Forest) (p : Path) (r : Result (Option Kind) TreeFault) → IfOk r (λ here. ForSome o (λ f. kind_at f p ≡ here))
+pub is_seen : (unread : Option (List ℕ)) (o : Option Forest) (p : Path) (r : Result (Option Kind) TreeFault)
+    → IfOk r (λ here. ForSome o (λ f. kind_at f p ≡ here))
     → IfOk r (λ here. IsSeen (tree_in (told_of o unread)) p here)
 is_seen unread None p (Ok here) h = λ f is. absurd (cc)
 is_seen unread (Some f) p (Ok here) h = h
 is_seen unread o p (Err e) h = tt
 
-pub is_read : (unread : Option (List ℕ)) (o : Option Forest) (block : List ℕ) → CanRead (told_of o unread) → IsNext unread block → IsRead (told_of o unread) block
+pub is_read : (unread : Option (List ℕ)) (o : Option Forest) (block : List ℕ) → CanRead (told_of o unread) → IsNext unread block
+    → IsRead (told_of o unread) block
 unfolding IsRead CanRead
 is_read unread None block can next = λ s is. absurd (cc)
 is_read None (Some f) block can next = λ s is. let none = can (told_at None f) refl in absurd (cc)
@@ -61,7 +65,8 @@ is_read (Some xs) (Some f) block can next = λ s is.
 -- a file stands in a directory
 above : (f : Forest) (p : Path) → IsSome (file_at f p) → IsSome (dir_at f (parent p))
 above f [] h = refl
-above f (n ∷ p) h = let d = stands_in f n p (stands (tree_of f (n ∷ p)) (subst (λ (o : Option (List ℕ)). IsSome o) (sym (bytes_at f (n ∷ p))) h)) in subst (λ (o : Option Forest). IsSome o) (sym d.1) refl
+above f (n ∷ p) h = let d = stands_in f n p (stands (tree_of f (n ∷ p)) (subst (λ (o : Option (List ℕ)). IsSome o) (sym (bytes_at f (n ∷ p))) h)) in subst
+    (λ (o : Option Forest). IsSome o) (sym d.1) refl
   where
     stands : (o : Option Entry) → IsSome (bytes_of o) → IsSome o
     stands None h = absurd (cc)
@@ -72,10 +77,12 @@ module _ {S F D : Type 0} (kept : S → List ℕ → Option Forest) (bytes left 
     (folder : List ℕ) (old new : S) (p : Path) (w v : Option (FileInReading F)) where
   -- a file is open at its start, or nothing is changed
   abbrev HasOpened : Result (Unit {0}) TreeFault → Type 0
-  HasOpened (Ok x) = (file : F) × (v ≡ Some (record { file = file; place = 0; ended = false; lost = false })) × (kept new folder ≡ kept old folder) × (left file ≡ bytes file) × ForSome (kept old folder) (λ f. bytes file ≡ file_at f p)
+  HasOpened (Ok x) = (file : F) × (v ≡ Some (record { file = file; place = 0; ended = false; lost = false })) × (kept new folder ≡ kept old folder)
+      × (left file ≡ bytes file) × ForSome (kept old folder) (λ f. bytes file ≡ file_at f p)
   HasOpened (Err e) = (kept new folder ≡ kept old folder) × (v ≡ w)
 
-  gives : (result : Result (Unit {0}) TreeFault) → ForSome (kept old folder) (λ f. IsSome (file_at f p)) → OpensOnce sys (entry_in folder p) (change_of w v) (change_of old new) result → OnErr result (v ≡ w) → HasOpened result
+  gives : (result : Result (Unit {0}) TreeFault) → ForSome (kept old folder) (λ f. IsSome (file_at f p))
+      → OpensOnce sys (entry_in folder p) (change_of w v) (change_of old new) result → OnErr result (v ≡ w) → HasOpened result
   gives (Ok x) can (inl none) same = absurd none.1
   gives (Err e) can (inl none) same = (ap (λ s. kept s folder) none.0, same)
   gives result can (inr asked) same = found asked.found asked.gives
@@ -83,17 +90,20 @@ module _ {S F D : Type 0} (kept : S → List ℕ → Option Forest) (bytes left 
       looked : kept asked.mid folder ≡ kept old folder
       looked = (look_law old asked.mid folder p asked.reply asked.named (λ f is. above f p (can f is)) asked.looked).same
 
-      found : (r : Result (Unit {0}) TreeFault) → MatchResult r (λ _. (answer : Result F Error) × sys.opens asked.mid (entry_text folder p) answer new × OpensAt w v answer result) (λ fault. (new ≡ asked.mid) × (v ≡ w) × (result ≡ Err fault)) → HasOpened result
+      found : (r : Result (Unit {0}) TreeFault) → MatchResult r (λ _. (answer : Result F Error) × sys.opens asked.mid (entry_text folder p) answer new
+          × OpensAt w v answer result) (λ fault. (new ≡ asked.mid) × (v ≡ w) × (result ≡ Err fault)) → HasOpened result
       found (Err fault) none = subst HasOpened (sym none.2) (ap (λ s. kept s folder) none.0 ∙ looked, none.1)
       found (Ok x) (answer, opened, leads) = by answer result leads (law asked.mid new folder p answer asked.named (λ f is. can f (sym looked ∙ is)) opened)
         where
-          by : (answer : Result F Error) (result : Result (Unit {0}) TreeFault) → OpensAt w v answer result → Opened bytes left (kept asked.mid folder) (kept new folder) p answer → HasOpened result
+          by : (answer : Result F Error) (result : Result (Unit {0}) TreeFault) → OpensAt w v answer result
+              → Opened bytes left (kept asked.mid folder) (kept new folder) p answer → HasOpened result
           by (Ok file) (Ok y) leads is = (file, leads.1, is.same ∙ looked, is.start, λ f known. is.given f (looked ∙ known))
           by (Ok file) (Err f) leads is = let other = leads.0 in absurd (cc)
           by (Err e) (Ok y) leads is = let other = leads.0 in absurd (cc)
           by (Err e) (Err f) leads is = (is.same ∙ looked, leads.1)
 
-  module _ (result : Result (Unit {0}) TreeFault) (can : ForSome (kept old folder) (λ f. IsSome (file_at f p))) (asked : OpensOnce sys (entry_in folder p) (change_of w v) (change_of old new) result) (same : OnErr result (v ≡ w)) where
+  module _ (result : Result (Unit {0}) TreeFault) (can : ForSome (kept old folder) (λ f. IsSome (file_at f p)))
+      (asked : OpensOnce sys (entry_in folder p) (change_of w v) (change_of old new) result) (same : OnErr result (v ≡ w)) where
     pub open_told : OnOk result (told_of (kept new folder) (unread_open bytes v) ≡ option_map (after_open p) (told_of (kept old folder) (unread_open bytes w)))
     open_told = by result (gives result can asked same)
       where
@@ -101,18 +111,21 @@ module _ {S F D : Type 0} (kept : S → List ℕ → Option Forest) (bytes left 
         from_start None = refl
         from_start (Some xs) = refl
 
-        on : (o : Option Forest) (file : F) → ForSome o (λ f. bytes file ≡ file_at f p) → told_of o (option_map (drop 0) (bytes file)) ≡ option_map (after_open p) (told_of o (unread_open bytes w))
+        on : (o : Option Forest) (file : F) → ForSome o (λ f. bytes file ≡ file_at f p)
+            → told_of o (option_map (drop 0) (bytes file)) ≡ option_map (after_open p) (told_of o (unread_open bytes w))
         on None file given = refl
         on (Some f) file given = ap (λ (u : Option (List ℕ)). Some (told_at u f)) (from_start (bytes file) ∙ given f refl)
 
-        by : (result : Result (Unit {0}) TreeFault) → HasOpened result → OnOk result (told_of (kept new folder) (unread_open bytes v) ≡ option_map (after_open p) (told_of (kept old folder) (unread_open bytes w)))
+        by : (result : Result (Unit {0}) TreeFault) → HasOpened result
+            → OnOk result (told_of (kept new folder) (unread_open bytes v) ≡ option_map (after_open p) (told_of (kept old folder) (unread_open bytes w)))
         by (Err e) is = tt
         by (Ok x) is = (λ i. told_of (is.2 i) (unread_open bytes (is.1 i))) ∙ on (kept old folder) is.0 is.4
 
     pub open_same : OnErr result (told_of (kept new folder) (unread_open bytes v) ≡ told_of (kept old folder) (unread_open bytes w))
     open_same = by result (gives result can asked same)
       where
-        by : (result : Result (Unit {0}) TreeFault) → HasOpened result → OnErr result (told_of (kept new folder) (unread_open bytes v) ≡ told_of (kept old folder) (unread_open bytes w))
+        by : (result : Result (Unit {0}) TreeFault) → HasOpened result
+            → OnErr result (told_of (kept new folder) (unread_open bytes v) ≡ told_of (kept old folder) (unread_open bytes w))
         by (Ok x) is = tt
         by (Err e) is = λ i. told_of (is.0 i) (unread_open bytes (is.1 i))
 

@@ -1,5 +1,30 @@
 -- What a directory gives is taken, one name after another.
-use Rattle.std.proofs.Common.{◌≡◌, ℕ, arith, length, true, false, List, [], ◌∷◌, ◌++◌, ◌+◌, ◌==◌, ◌≤◌, take, drop, length-drop, refl, sym, ap, ◌∙◌, append-nil, cond, subst, suc}
+use Rattle.std.proofs.Common.{
+  ◌≡◌,
+  ℕ,
+  arith,
+  length,
+  true,
+  false,
+  List,
+  [],
+  ◌∷◌,
+  ◌++◌,
+  ◌+◌,
+  ◌==◌,
+  ◌≤◌,
+  take,
+  drop,
+  length-drop,
+  refl,
+  sym,
+  ap,
+  ◌∙◌,
+  append-nil,
+  cond,
+  subst,
+  suc,
+}
 use Rattle.std.specs.Prelude.{Option, None, Some, IfSome, IfErr, OnOk, MatchResult, Result, Ok, Err}
 use Rattle.std.specs.List.{position}
 use Rattle.std.specs.Result.{IsErrAnd}
@@ -30,21 +55,25 @@ module _ {A : Type 0} (has : A → List (List ℕ) → Type 0) (piece rest : Lis
             some n h = grind (arith, h)
 
     -- bytes are left, and no NUL behind them
-    pub rest_refused : (refuses : List (List ℕ) → List ℕ → Type 0) → position (λ b. b == 0) rest ≡ None → (length rest == 0) ≡ false → (all : List (List ℕ)) → has old all → RefusesBytes refuses all piece
+    pub rest_refused : (refuses : List (List ℕ) → List ℕ → Type 0) → position (λ b. b == 0) rest ≡ None → (length rest == 0) ≡ false → (all : List (List ℕ))
+        → has old all → RefusesBytes refuses all piece
     rest_refused refuses none some all is = let now = took all is in refuses_rest refuses piece rest all now.0 now.1 none some
 
     module _ (end : ℕ) (found : position (λ b. b == 0) rest ≡ Some end) where
       -- the next name was too
-      pub took_one : (new : A) → HasOneMore has mid new (take end rest) → (left : List ℕ) → left ≡ drop (end + 1) rest → (all : List (List ℕ)) → has old all → (now : List (List ℕ)) × Done piece left all now × has new now
+      pub took_one : (new : A) → HasOneMore has mid new (take end rest) → (left : List ℕ) → left ≡ drop (end + 1) rest → (all : List (List ℕ)) → has old all
+          → (now : List (List ℕ)) × Done piece left all now × has new now
       took_one new taken left left_is all is =
           let now = took all is in
           let after = cond (is_entry (take end rest)) (now.0 ++ take end rest ∷ []) now.0 in
           (after, adds_one piece rest (take end rest) left all now.0 after end now.1 found refl left_is refl, taken now.0 now.2)
 
       -- the next name isn't taken
-      pub name_refused : (refuses : List (List ℕ) → List ℕ → Type 0) (fault : TreeFault) → ((all : List (List ℕ)) → has mid all → IsDueTo fault (refuses all (take end rest)))
+      pub name_refused : (refuses : List (List ℕ) → List ℕ → Type 0) (fault : TreeFault)
+          → ((all : List (List ℕ)) → has mid all → IsDueTo fault (refuses all (take end rest)))
           → (all : List (List ℕ)) → has old all → IsDueTo fault (RefusesBytes refuses all piece)
-      name_refused refuses fault cause all is = let now = took all is in refuses_one refuses piece rest (take end rest) all now.0 end fault now.1 found refl (cause now.0 now.2)
+      name_refused refuses fault cause all is = let now = took all is in refuses_one refuses piece rest (take end rest) all now.0 end fault now.1 found refl
+          (cause now.0 now.2)
 
 -- what is left is no longer than the piece
 pub left_short : (piece rest left : List ℕ) (n : ℕ) → length rest ≤ length piece → left ≡ drop n rest → length left ≤ length piece
@@ -58,7 +87,8 @@ took_none has piece old all is =
     (all, ([], refl, adds), is)
 
 -- at the end all was read
-pub all_given : (old mid new : Option (List ℕ)) (all : List (List ℕ)) (buffer : List ℕ) (n : ℕ) → ((read : List ℕ) × Consumes old mid read × GivesNames read all) → Gives mid new n buffer
+pub all_given : (old mid new : Option (List ℕ)) (all : List (List ℕ)) (buffer : List ℕ) (n : ℕ)
+    → ((read : List ℕ) × Consumes old mid read × GivesNames read all) → Gives mid new n buffer
     → n ≡ 0 → length buffer ≡ 8192 → IfSome old (λ bytes. GivesNames bytes all)
 all_given None mid new all buffer n so_far gives is long = tt
 all_given (Some xs) None new all buffer n (read, taken, given) gives is long = absurd taken

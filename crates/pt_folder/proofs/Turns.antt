@@ -1,5 +1,32 @@
 -- Reads and writes, one after another.
-use Rattle.std.proofs.Common.{◌≡◌, ℕ, ◌+◌, ◌-◌, ◌^◌, ◌<◌, ◌≤◌, List, [], ◌∷◌, ◌++◌, ◌⊎◌, arith, length, length-drop, take, drop, refl, sym, ap, ◌∙◌, subst, length-take-le, le_refl, inl, inr}
+use Rattle.std.proofs.Common.{
+  ◌≡◌,
+  ℕ,
+  ◌+◌,
+  ◌-◌,
+  ◌^◌,
+  ◌<◌,
+  ◌≤◌,
+  List,
+  [],
+  ◌∷◌,
+  ◌++◌,
+  ◌⊎◌,
+  arith,
+  length,
+  length-drop,
+  take,
+  drop,
+  refl,
+  sym,
+  ap,
+  ◌∙◌,
+  subst,
+  length-take-le,
+  le_refl,
+  inl,
+  inr,
+}
 use Rattle.std.proofs.lemmas.List.{drop-drop, take_rest, length_push}
 use Rattle.std.proofs.lemmas.Fn.{FoldsTo-push}
 use Rattle.std.specs.List.{FoldsTo}
@@ -35,7 +62,8 @@ writes_more writes old mid new bytes done taken (counts, chain) some written =
 -- why writing ends: a write of what was left answered so
 pub write_fails : {F : Type 0} (writes : F → List ℕ → Result ℕ Error → F → Type 0) (old mid new : F) (bytes : List ℕ) (done : ℕ) (e : Error)
     → ((counts : List ℕ) × FoldsTo (WritesMore writes) (old, bytes) counts (mid, drop done bytes)) → done < length bytes
-    → writes mid (take (length bytes - done) (drop done bytes)) (Err e) new ⊎ (writes mid (take (length bytes - done) (drop done bytes)) (Ok 0) new × (error_kind e ≡ WriteZero))
+    → writes mid (take (length bytes - done) (drop done bytes)) (Err e) new ⊎ (writes mid (take (length bytes - done) (drop done bytes)) (Ok 0) new
+    × (error_kind e ≡ WriteZero))
     → FailsToWrite writes bytes old e new
 write_fails {F} writes old mid new bytes done e (counts, chain) short failed = record {
   counts = counts;
@@ -47,7 +75,8 @@ write_fails {F} writes old mid new bytes done e (counts, chain) short failed = r
 }
 
 -- what a read of a part of a buffer gave
-pub gives_piece : {F : Type 0} (reads : F → List ℕ → Result ℕ Error → F → Type 0) (room : ℕ) (old new : F) (part : List ℕ) (count : ℕ) → length part ≡ room → count ≤ length part
+pub gives_piece : {F : Type 0} (reads : F → List ℕ → Result ℕ Error → F → Type 0) (room : ℕ) (old new : F) (part : List ℕ) (count : ℕ) → length part ≡ room
+    → count ≤ length part
     → (count ≡ 0 → ⊥) → reads old part (Ok count) new → GivesPiece reads room old (take count part) new
 gives_piece {F} reads room old new part count whole fits some read =
     let size : length (take count part) ≡ count = length-take-le count part fits in
@@ -63,7 +92,8 @@ gives_piece {F} reads room old new part count whole fits some read =
     positive n some = grind (arith, some)
 
 -- the room that is left behind what was read
-room_left : (n done : ℕ) (buffer part : List ℕ) → length buffer ≡ n → done ≤ length buffer → length part ≡ length buffer - done → length part ≡ n - length (take done buffer)
+room_left : (n done : ℕ) (buffer part : List ℕ) → length buffer ≡ n → done ≤ length buffer → length part ≡ length buffer - done
+    → length part ≡ n - length (take done buffer)
 room_left n done buffer part long within whole = omega (arith, long, whole, length-take-le done buffer within)
 
 module _ {F : Type 0} (reads : F → List ℕ → Result ℕ Error → F → Type 0) (n : ℕ) (old mid new : F) (buffer part : List ℕ) (done : ℕ)
@@ -95,16 +125,19 @@ module _ {F : Type 0} (reads : F → List ℕ → Result ℕ Error → F → Typ
 abbrev pub Got : {D : Type 0} → (D → List ℕ → Result ℕ Error → D → Type 0) → D → D → List (List ℕ) → ℕ → Type 0
 Got reads old mid names count = (pieces : List (List ℕ)) × (length pieces ≡ count) × FoldsTo (ReadsNames reads) (old, []) pieces (mid, names)
 
-module _ {D : Type 0} (reads : D → List ℕ → Result ℕ Error → D → Type 0) (refuses : List (List ℕ) → List ℕ → Type 0) (old mid new : D) (names : List (List ℕ)) (part : List ℕ) (turns : ℕ)
+module _ {D : Type 0} (reads : D → List ℕ → Result ℕ Error → D → Type 0) (refuses : List (List ℕ) → List ℕ
+    → Type 0) (old mid new : D) (names : List (List ℕ)) (part : List ℕ) (turns : ℕ)
     (before : Got reads old mid names turns) (whole : length part ≡ 8192) where
   -- one more piece
-  pub names_more : (count : ℕ) (after : List (List ℕ)) (piece : List ℕ) → count ≤ length part → (count ≡ 0 → ⊥) → reads mid part (Ok count) new → piece ≡ take count part
+  pub names_more : (count : ℕ) (after : List (List ℕ)) (piece : List ℕ) → count ≤ length part → (count ≡ 0 → ⊥) → reads mid part (Ok count) new
+      → piece ≡ take count part
       → AddsNames piece names after → Got reads old new after (turns + 1)
   names_more count after piece fits some read is adds =
       let gives = gives_piece reads 8192 mid new part count whole fits some read in (
         before.0 ++ take count part ∷ [],
         length_push before.0 (take count part) ∙ ap (λ n. n + 1) before.1,
-        FoldsTo-push (ReadsNames reads) (old, []) before.0 (mid, names) (take count part) (new, after) before.2 (gives, subst (λ bytes. AddsNames bytes names after) is adds),
+        FoldsTo-push (ReadsNames reads) (old, []) before.0 (mid, names) (take count part) (new, after) before.2
+            (gives, subst (λ bytes. AddsNames bytes names after) is adds),
       )
 
   -- a read of nothing ends it
@@ -117,7 +150,8 @@ module _ {D : Type 0} (reads : D → List ℕ → Result ℕ Error → D → Typ
   names_fail e Device read is = record { pieces = before.0; names = names; last = mid; read = before.2; failed = inl (e, (part, whole, read), sym is) }
 
   -- a piece has what isn't added
-  pub names_refused : (count : ℕ) (fault : TreeFault) (piece : List ℕ) → count ≤ length part → (count ≡ 0 → ⊥) → reads mid part (Ok count) new → piece ≡ take count part
+  pub names_refused : (count : ℕ) (fault : TreeFault) (piece : List ℕ) → count ≤ length part → (count ≡ 0 → ⊥) → reads mid part (Ok count) new
+      → piece ≡ take count part
       → IsDueTo fault (RefusesBytes refuses names piece) → IsDueTo fault (FailsToGet reads refuses old new)
   names_refused count Memory piece fits some read is refused = tt
   names_refused count Device piece fits some read is refused = record {
@@ -129,7 +163,8 @@ module _ {D : Type 0} (reads : D → List ℕ → Result ℕ Error → D → Typ
   }
 
 -- as many reads as a count has room for
-pub names_spent : {D : Type 0} (reads : D → List ℕ → Result ℕ Error → D → Type 0) (refuses : List (List ℕ) → List ℕ → Type 0) (old mid : D) (names : List (List ℕ)) (turns : ℕ) → Got reads old mid names turns
+pub names_spent : {D : Type 0} (reads : D → List ℕ → Result ℕ Error → D → Type 0) (refuses : List (List ℕ) → List ℕ
+    → Type 0) (old mid : D) (names : List (List ℕ)) (turns : ℕ) → Got reads old mid names turns
     → turns ≡ 2 ^ 64 - 1 → FailsToGet reads refuses old mid
 names_spent reads refuses old mid names turns before spent = record {
   pieces = before.0;

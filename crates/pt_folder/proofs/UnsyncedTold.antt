@@ -44,7 +44,8 @@ kept_free (Err Device) o P Q none kept = inr (none, kept)
 pub none_risen : (n : ℕ) (o : Option UnsyncedChange) → o ≡ None → ForSome o (λ _. 1 ≤ n)
 none_risen n o none = λ s is. absurd (cc)
 
-pub device_risen : (before after : ℕ) (o : Option UnsyncedChange) (result : Result (Unit {0}) TreeFault) → IsCounted before after result → ForSome o (λ _. result ≡ Err Device) → ForSome o (λ _. 1 ≤ after)
+pub device_risen : (before after : ℕ) (o : Option UnsyncedChange) (result : Result (Unit {0}) TreeFault) → IsCounted before after result
+    → ForSome o (λ _. result ≡ Err Device) → ForSome o (λ _. 1 ≤ after)
 device_risen before after o result counted device = λ s is.
     let risen : HasRisen before after = subst (IsCounted before after) (device s is) counted in
     omega (arith, risen)
@@ -58,13 +59,15 @@ module _ {F : Type 0} (kept : Kept F) (s : Option UnsyncedChange) (w : Option (O
 
 -- where nothing is to be put onto the disk, nothing is unsynced after a file is closed
 module _ {F : Type 0} (syncs : F → Result (Unit {0}) Error → F → Type 0) where
-  closed_wanted : (synced : Bool) (w : Option (Open F)) (result : Result (Unit {0}) TreeFault) → ClosesBy syncs synced w result → ForSome (unsynced_by_close None w result) (λ _. synced ≡ true)
+  closed_wanted : (synced : Bool) (w : Option (Open F)) (result : Result (Unit {0}) TreeFault) → ClosesBy syncs synced w result
+      → ForSome (unsynced_by_close None w result) (λ _. synced ≡ true)
   closed_wanted true w result closed = λ s at. refl
   closed_wanted false None result closed = λ s at. absurd (cc)
   closed_wanted false (Some w) (Ok x) closed = λ s at. absurd (cc)
   closed_wanted false (Some w) (Err e) closed = absurd (cc)
 
-  pub finish_wanted : (synced : Bool) (w : Option (Open F)) (result : Result (Unit {0}) TreeFault) (before after : Option UnsyncedChange) → before ≡ None → after ≡ unsynced_by_close before w result → ClosesBy syncs synced w result
+  pub finish_wanted : (synced : Bool) (w : Option (Open F)) (result : Result (Unit {0}) TreeFault) (before after : Option UnsyncedChange) → before ≡ None
+      → after ≡ unsynced_by_close before w result → ClosesBy syncs synced w result
       → ForSome after (λ _. synced ≡ true)
   finish_wanted synced w result before after none is closed =
       subst (λ o. ForSome o (λ _. synced ≡ true)) (sym (is ∙ ap (λ s. unsynced_by_close s w result) none)) (closed_wanted synced w result closed)
@@ -84,16 +87,19 @@ part_of_nothing o piece = record { count = 0; left = by o }
     by (Some s) = ap Some (same s.tree s.writing)
 
 module _ {S F D : Type 0} {sys : OfSystem S F D} {handle : OfHandle F} {file : OfInput F} {dir : OfInput D} (old new : HostDest S F D sys handle file dir) where
-  pub told_same : new.folder ≡ old.folder → new.syscalls.system ≡ old.syscalls.system → new.writing ≡ old.writing → new.unsynced ≡ old.unsynced → told new ≡ told old
+  pub told_same : new.folder ≡ old.folder → new.syscalls.system ≡ old.syscalls.system → new.writing ≡ old.writing → new.unsynced ≡ old.unsynced
+      → told new ≡ told old
   told_same folder system writing unsynced = λ i. told_with (sys.kept (system i) (folder i).path.now) (unsynced i) (writing i)
 
   pub part_refused : (piece : List ℕ) (result : Result (Unit {0}) TreeFault) → told new ≡ told old → OnErr result (LeavesPart (told old) (told new) piece)
   part_refused piece (Ok x) same = tt
   part_refused piece (Err e) same = subst (λ o. LeavesPart (told old) o piece) (sym same) (part_of_nothing (told old) piece)
 
-  pub block_peeked : PeekLaw sys.kept file.left sys.opens → (p : Path) (block : List ℕ) (result : Result (Unit {0}) TreeFault) → CanPeek (told old) p → Peeks old new p block result → OnOk result (IsPeeked (told old) p block)
+  pub block_peeked : PeekLaw sys.kept file.left sys.opens → (p : Path) (block : List ℕ) (result : Result (Unit {0}) TreeFault) → CanPeek (told old) p
+      → Peeks old new p block result → OnOk result (IsPeeked (told old) p block)
   block_peeked law p block result can (inl refused) = subst (λ r. OnOk r (IsPeeked (told old) p block)) (sym refused.4) tt
   block_peeked law p block result can (inr (none, asked)) =
       let kept = sys.kept old.syscalls.system old.folder.path.now in
       subst (λ s. OnOk result (IsPeeked (told_with kept s old.writing) p block)) (sym none)
-      (peek_tells sys.kept old.folder.path.now file.left file.reads sys.opens law old.syscalls.system new.syscalls.system p block old.writing (subst (λ s. CanPeek (told_with kept s old.writing) p) none can) result asked)
+      (peek_tells sys.kept old.folder.path.now file.left file.reads sys.opens law old.syscalls.system new.syscalls.system p block old.writing
+      (subst (λ s. CanPeek (told_with kept s old.writing) p) none can) result asked)

@@ -1,5 +1,28 @@
 -- The failure that a folder keeps.
-use Rattle.std.specs.Prelude.{◌≡◌, ◌⊎◌, ℕ, ◌<◌, ◌≤◌, ◌++◌, ⊤, false, [], List, length, Option, None, Some, IfSome, IsSomeAnd, Result, Ok, Err, String, Vec, string_bytes}
+use Rattle.std.specs.Prelude.{
+  ◌≡◌,
+  ◌⊎◌,
+  ℕ,
+  ◌<◌,
+  ◌≤◌,
+  ◌++◌,
+  ⊤,
+  false,
+  [],
+  List,
+  length,
+  Option,
+  None,
+  Some,
+  IfSome,
+  IsSomeAnd,
+  Result,
+  Ok,
+  Err,
+  String,
+  Vec,
+  string_bytes,
+}
 use Rattle.std.specs.Option.{option_map}
 use Rattle.std.specs.Global.{Global}
 use Rattle.std.specs.declared.io.Error.{Error}

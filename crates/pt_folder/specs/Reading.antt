@@ -1,5 +1,29 @@
 -- The open file of a folder that is read.
-use Rattle.std.specs.Prelude.{◌≡◌, ◌⊎◌, ◌<◌, ℕ, ◌==◌, ◌+◌, ◌-◌, ◌^◌, not, true, false, length, take, drop, List, [], Option, Some, None, Result, Ok, Err, MatchBool}
+use Rattle.std.specs.Prelude.{
+  ◌≡◌,
+  ◌⊎◌,
+  ◌<◌,
+  ℕ,
+  ◌==◌,
+  ◌+◌,
+  ◌-◌,
+  ◌^◌,
+  not,
+  true,
+  false,
+  length,
+  take,
+  drop,
+  List,
+  [],
+  Option,
+  Some,
+  None,
+  Result,
+  Ok,
+  Err,
+  MatchBool,
+}
 use Rattle.std.specs.IoError.{error_kind}
 use Rattle.std.specs.Option.{option_map, option_and_then, ForSome}
 use Rattle.std.specs.declared.io.Error.{Error}

@@ -10,11 +10,11 @@ use std::io;
 /// What is read into before it is known how much that is.
 pub type ReadBuffer = [u8; BLOCK];
 
-/// The block becomes the next bytes of a file: as many as it holds, unless the file ends first. A short read isn't
-/// taken for the end. On an error the block is empty.
+/// The block becomes the next bytes of a file: as many as it holds, unless the file ends first. A
+/// short read isn't taken for the end. On an error the block is empty.
 ///
-/// A full block is read into as it is; for any other the bytes are read into `room`, and so many as there are copied: no room of
-/// a block is filled for it to be read into.
+/// A full block is read into as it is; for any other the bytes are read into `room`, and so many as
+/// there are copied: no room of a block is filled for it to be read into.
 pub fn read_block<F: Input>(
     file: &mut F,
     block: &mut Block,
@@ -77,7 +77,8 @@ fn fill<F: Input>(file: &mut F, buffer: &mut [u8]) -> io::Result<usize>
     Ok(done)
 }
 
-/// Writes all the bytes. An error, or zero for a piece that isn't empty, ends it; nothing is tried again.
+/// Writes all the bytes. An error, or zero for a piece that isn't empty, ends it; nothing is tried
+/// again.
 pub fn write_pieces<S: System>(system: &mut S, file: &mut S::File, bytes: &[u8]) -> io::Result<()>
     ensures writes { OnOk result (WritesAll (on_pairs S.writes) bytes.now
         (system.old, file.old) (system.new, file.new)) }

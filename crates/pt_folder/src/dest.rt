@@ -20,10 +20,12 @@ use crate::writing::{FileInWriting, add, close, close_moved, create};
 use pt_tree::{Block, Dest, Kind, NamePath, TreeFault};
 use std::alloc::Global;
 
-/// A folder of the system as a destination. It tells the tree that the system keeps there, where it keeps one.
+/// A folder of the system as a destination. It tells the tree that the system keeps there, where it
+/// keeps one.
 ///
-/// Where files are put onto the disk, a call may fail though the system did its part: the file is closed, or the entry moved.
-/// Then that is unsynced: what was told before is told on, and each further call is refused.
+/// Where files are put onto the disk, a call may fail though the system did its part: the file is
+/// closed, or the entry moved. Then that is unsynced: what was told before is told on, and each
+/// further call is refused.
 #[derive(Drop)]
 pub struct HostDest<'a, S: System> {
     syscalls: Syscalls<S>,
@@ -43,7 +45,8 @@ pub struct HostDest<'a, S: System> {
 impl<'a, S: System> HostDest<'a, S> {
     ghost use Rattle.pt_folder.specs.HostDest.{IsOtherCall, failure_of, folder_path, lasting, system_of};
 
-    /// A destination over the folder at a path of a system, as the runtime's. It calls nothing and takes no memory.
+    /// A destination over the folder at a path of a system, as the runtime's. It calls nothing and
+    /// takes no memory.
     pub fn new(system: S, alloc: Global, path: &'a str) -> HostDest<'a, S>
         ensures failures { result.failures ≡ 0 }
         ensures path { folder_path result ≡ path.now }
@@ -66,7 +69,8 @@ impl<'a, S: System> HostDest<'a, S> {
         }
     }
 
-    /// The same destination, in which no directory or file is made whose path, the folder's before it, has more bytes.
+    /// The same destination, in which no directory or file is made whose path, the folder's before
+    /// it, has more bytes.
     pub fn with_longest(mut self, longest: usize) -> HostDest<'a, S>
         ensures longest { result.longest ≡ longest }
         ensures writing { result.writing ≡ self.entry.writing }
@@ -78,8 +82,9 @@ impl<'a, S: System> HostDest<'a, S> {
         self
     }
 
-    /// The same destination, with no open file and nothing unsynced, whose files are put onto the disk before they are closed, and
-    /// so is, after a rename, the directory that holds what was moved.
+    /// The same destination, with no open file and nothing unsynced, whose files are put onto the
+    /// disk before they are closed, and so is, after a rename, the directory that holds what was
+    /// moved.
     pub fn with_sync(mut self, synced: bool) -> HostDest<'a, S>
         ensures synced { result.synced ≡ synced }
         ensures writing { result.writing ≡ None }
@@ -93,7 +98,8 @@ impl<'a, S: System> HostDest<'a, S> {
         self
     }
 
-    /// The last failure, if there was one, and where it was a write's or a sync's at closing, memory for its path.
+    /// The last failure, if there was one, and where it was a write's or a sync's at closing,
+    /// memory for its path.
     pub fn last_failure(&self) -> Option<&Failure>
         ensures { option_map (λ f. f.now) result ≡ failure_of self.now }
     {
@@ -114,8 +120,9 @@ impl<'a, S: System> HostDest<'a, S> {
         self.syscalls.system
     }
 
-    /// Whether `mkdir` and `create` would ask the system to make this entry: `Device` where its path is too long or the
-    /// folder's is empty, `Memory` where a growth was refused. The system isn't asked.
+    /// Whether `mkdir` and `create` would ask the system to make this entry: `Device` where its
+    /// path is too long or the folder's is empty, `Memory` where a growth was refused. The system
+    /// isn't asked.
     pub fn may_make(&mut self, path: &NamePath) -> Result<(), TreeFault>
         ensures fits { OnOk result (length (entry_text (folder_path self.old) path.now)
             ≤ self.old.longest) }
@@ -136,8 +143,8 @@ impl<'a, S: System> HostDest<'a, S> {
 impl<'a, S: System> HostDest<'a, S> {
     ghost use Rattle.pt_folder.specs.HostDest.{IsOtherCall, KeepsLook, KeepsPeek, Looks, Peeks};
 
-    /// Whether the folder itself is there: `Device` where the system doesn't find it, or finds no directory, or where something
-    /// is unsynced, `Memory` where a growth was refused.
+    /// Whether the folder itself is there: `Device` where the system doesn't find it, or finds no
+    /// directory, or where something is unsynced, `Memory` where a growth was refused.
     pub fn look_at_folder(&mut self) -> Result<(), TreeFault>
         ensures asked { Looks IsThere self.old self.new [] result }
         ensures kept { OnDevice result (KeepsLook self.old self.new []) }
@@ -151,8 +158,9 @@ impl<'a, S: System> HostDest<'a, S> {
         count_failure(&mut self.failures, there)
     }
 
-    /// The block becomes the first bytes of what stands at a path, up to 8,192, whatever that is. On a fault the block is
-    /// empty: `Device` where the system can't give them, or where something is unsynced, `Memory` where a growth was refused.
+    /// The block becomes the first bytes of what stands at a path, up to 8,192, whatever that is.
+    /// On a fault the block is empty: `Device` where the system can't give them, or where something
+    /// is unsynced, `Memory` where a growth was refused.
     pub fn first_bytes(&mut self, path: &NamePath, block: &mut Block) -> Result<(), TreeFault>
         ensures empty { OnErr result (block.new.items ≡ []) }
         ensures asked { Peeks self.old self.new path.now block.new.items result }
@@ -171,8 +179,8 @@ impl<'a, S: System> HostDest<'a, S> {
 impl<'a, S: System> HostDest<'a, S> {
     ghost use Rattle.pt_folder.specs.HostDest.{IsOtherCall, failure_of, system_of};
 
-    /// Refuses a call, as one that was asked of another device over this one, or where something is unsynced: `Device` always. It
-    /// counts as a failure, without a path; the system isn't asked.
+    /// Refuses a call, as one that was asked of another device over this one, or where something is
+    /// unsynced: `Device` always. It counts as a failure, without a path; the system isn't asked.
     pub fn refuse<T>(&mut self) -> Result<T, TreeFault>
         ensures refused { result ≡ Err Device }
         ensures system { system_of self.new ≡ system_of self.old }

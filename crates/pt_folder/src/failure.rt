@@ -70,7 +70,8 @@ impl Failure {
         }
     }
 
-    /// A failure of a listing at a directory's path, for these bytes, which are no name that an entry may have.
+    /// A failure of a listing at a directory's path, for these bytes, which are no name that an
+    /// entry may have.
     pub fn for_name(path: String, name: Vec<u8>) -> Failure
         ensures { result ≡ failure_for_name path name }
     {
@@ -131,8 +132,8 @@ impl Last {
         };
     }
 
-    /// Keeps a failure at a copy of a directory's path, for a copy of these bytes, which are no name that an entry may have; none is kept
-    /// where there is no memory for the copies.
+    /// Keeps a failure at a copy of a directory's path, for a copy of these bytes, which are no
+    /// name that an entry may have; none is kept where there is no memory for the copies.
     pub fn keep_name(&mut self, path: &str, name: &[u8])
         ensures { IfSome self.new.failure (IsForName path.now name.now) }
     {
@@ -142,7 +143,8 @@ impl Last {
         };
     }
 
-    /// Keeps the system's error at a path, and gives what it is answered: `Memory` for want of memory, else `Device`.
+    /// Keeps the system's error at a path, and gives what it is answered: `Memory` for want of
+    /// memory, else `Device`.
     pub fn record_error(&mut self, path: String, error: io::Error) -> TreeFault
         ensures fault { result ≡ fault_of_kind (error_kind error) }
         ensures kept { self.new.failure ≡ Some (failure_at path (FailureReason.System error)) }
@@ -160,8 +162,9 @@ impl Last {
         fault_of(error)
     }
 
-    /// Keeps the system's error at a path where a sync failed, and gives what that is answered: `Device`, whatever the error.
-    /// The system has done its part by then, and no growth of ours was refused.
+    /// Keeps the system's error at a path where a sync failed, and gives what that is answered:
+    /// `Device`, whatever the error. The system has done its part by then, and no growth of ours
+    /// was refused.
     pub fn record_unsynced(&mut self, path: String, error: io::Error) -> TreeFault
         ensures fault { result ≡ Device }
         ensures kept { self.new.failure ≡ Some (failure_at path (FailureReason.System error)) }

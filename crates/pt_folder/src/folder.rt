@@ -1,4 +1,5 @@
-//! What the folders of a run share: texts of paths, and how the system's errors are answered and counted.
+//! What the folders of a run share: texts of paths, and how the system's errors are answered and
+//! counted.
 ghost use Rattle.std.specs.Prelude.{◌≡◌, ◌≢◌, ◌↔◌, ◌+◌, ◌≤◌, Err, IfOk, IfSome, IsSomeAnd, OnOk, IsErrOf};
 ghost use Rattle.std.specs.Prelude.{IsTrue, length, min, string_bytes, string_capacity, string_len, true};
 ghost use Rattle.pt_tree.specs.Name.{is_name};
@@ -15,7 +16,8 @@ use pt_tree::{MemoryFault, Name, NamePath, TreeFault};
 use std::alloc::{AllocError, Global};
 use std::io;
 
-// How many bytes of a path's text are asked for with each of its names: as many as most have with their slash.
+// How many bytes of a path's text are asked for with each of its names: as many as most have with
+// their slash.
 const NAME_ROOM: usize = 22;
 
 /// A folder of the system, by its path.
@@ -25,9 +27,9 @@ pub struct Folder<'a> {
 }
 
 impl<'a> Folder<'a> {
-    /// The system's path of an entry: the folder's, `/`, the names with `/` between. `Device` where the folder's is
-    /// empty, since the path would lead to the top of the file system, which is kept as the last failure; else `Memory`
-    /// where a growth was refused.
+    /// The system's path of an entry: the folder's, `/`, the names with `/` between. `Device` where
+    /// the folder's is empty, since the path would lead to the top of the file system, which is
+    /// kept as the last failure; else `Memory` where a growth was refused.
     pub fn text(&self, path: &NamePath, last: &mut Last) -> Result<String, TreeFault>
         ensures text { IfOk result
             (λ text. string_bytes text ≡ entry_text self.now.path.now path.now) }
@@ -59,7 +61,8 @@ impl<'a> Folder<'a> {
         Ok(path_text(last.alloc, self.path, path, room)?)
     }
 
-    /// The same of an entry that is to be made: `Device` also where its path is longer than any that may be made.
+    /// The same of an entry that is to be made: `Device` also where its path is longer than any
+    /// that may be made.
     pub fn text_to_make(
         &self,
         path: &NamePath,
@@ -84,8 +87,8 @@ impl<'a> Folder<'a> {
         Ok(text)
     }
 
-    /// Keeps the system's error at the path of an entry, and gives what it is answered. None is kept where there is no
-    /// memory for the path.
+    /// Keeps the system's error at the path of an entry, and gives what it is answered. None is
+    /// kept where there is no memory for the path.
     pub fn record_error_at(&self, path: &NamePath, error: io::Error, last: &mut Last) -> TreeFault
         ensures fault { result ≡ fault_of_kind (error_kind error) }
         ensures kept { IfSome last.new.failure
@@ -99,8 +102,9 @@ impl<'a> Folder<'a> {
     }
 }
 
-// The path of an entry, with room for so many bytes more. The bytes of the folder and of the names are text, and so are all of them with
-// `/` between. The text grows where names are long: to ask each for its length first takes nearly as long as to write it.
+// The path of an entry, with room for so many bytes more. The bytes of the folder and of the names
+// are text, and so are all of them with `/` between. The text grows where names are long: to ask
+// each for its length first takes nearly as long as to write it.
 fn path_text(
     alloc: Global,
     folder: &str,
@@ -137,7 +141,8 @@ fn kept_text(alloc: Global, folder: &str, path: &NamePath) -> Result<String, All
     Ok(text)
 }
 
-// How many bytes the path of an entry has, up to 2^64 - 1: each name has a slash before it, and the top has one too.
+// How many bytes the path of an entry has, up to 2^64 - 1: each name has a slash before it, and the
+// top has one too.
 fn text_len(folder: &str, path: &NamePath) -> usize
     ensures { result ≡ min (length (entry_text folder.now path.now)) greatest_length }
 {

@@ -27,11 +27,12 @@ pub(crate) const MOST: usize = 16_777_216;
 
 pub(crate) const LONGEST_NAME: usize = 255;
 
-/// The names and kinds in a directory of a folder, in the order of the names' bytes; links aren't followed.
+/// The names and kinds in a directory of a folder, in the order of the names' bytes; links aren't
+/// followed.
 ///
-/// `Device` where the folder's path is empty, opening, a read or a look at an entry failed, a name comes twice, is none
-/// that an entry may have or has no NUL behind it, there are more than 16,777,216 entries, or 2^64 - 1 reads found no end.
-/// `Memory` where a growth was refused.
+/// `Device` where the folder's path is empty, opening, a read or a look at an entry failed, a name
+/// comes twice, is none that an entry may have or has no NUL behind it, there are more than
+/// 16,777,216 entries, or 2^64 - 1 reads found no end. `Memory` where a growth was refused.
 pub fn list<S: System>(
     syscalls: &mut Syscalls<S>,
     folder: &Folder<'_>,
@@ -100,7 +101,8 @@ impl Takes for Vec<Name> {
     }
 }
 
-// The entries of these names, in their order, with their kinds. The text is the directory's path, with `/` behind.
+// The entries of these names, in their order, with their kinds. The text is the directory's path,
+// with `/` behind.
 pub(crate) fn with_kinds<S: System>(
     syscalls: &mut Syscalls<S>,
     text: String,
@@ -129,7 +131,8 @@ pub(crate) fn with_kinds<S: System>(
     Ok(listing)
 }
 
-// The kind of an entry in the directory whose path, with `/` behind, is the text; links aren't followed.
+// The kind of an entry in the directory whose path, with `/` behind, is the text; links aren't
+// followed.
 fn kind_in<S: System>(
     syscalls: &mut Syscalls<S>,
     text: &mut String,

@@ -1,4 +1,5 @@
-// How something is moved in a folder: what is made ready before anything is asked, the move, and what comes after it.
+// How something is moved in a folder: what is made ready before anything is asked, the move, and
+// what comes after it.
 ghost use Rattle.std.specs.Prelude.{◌≡◌, None, IfErr, IfOk, IsSomeAnd, length, string_bytes};
 ghost use Rattle.pt_folder.specs.Calls.{IsDueTo, change_of};
 ghost use Rattle.pt_folder.specs.Failure.{IsUnasked, OnDevice};
@@ -13,7 +14,8 @@ use crate::unsynced_change::UnsyncedChange;
 use pt_tree::{MemoryFault, NamePath, TreeFault};
 use std::alloc::{AllocError, Global};
 
-/// A move within a folder, and whether the directory that then holds what was moved is put onto the disk.
+/// A move within a folder, and whether the directory that then holds what was moved is put onto the
+/// disk.
 #[derive(Drop)]
 pub struct Move<'a> {
     pub from: &'a NamePath,
@@ -21,8 +23,8 @@ pub struct Move<'a> {
     pub synced: bool,
 }
 
-/// A move that is ready: the system's paths of its ends, and of the directory that holds the second, and what it is while that
-/// directory isn't put onto the disk yet.
+/// A move that is ready: the system's paths of its ends, and of the directory that holds the
+/// second, and what it is while that directory isn't put onto the disk yet.
 #[derive(Drop)]
 pub struct ReadyMove {
     pub from: String,
@@ -52,7 +54,8 @@ impl<'a> Move<'a> {
         })
     }
 
-    // What the move is while its directory isn't put onto the disk yet; None where that isn't asked for.
+    // What the move is while its directory isn't put onto the disk yet; None where that isn't asked
+    // for.
     fn to_sync(&self) -> Result<Option<UnsyncedChange>, MemoryFault>
         ensures { IfOk result (λ unsynced. unsynced
             ≡ move_to_sync self.now.synced self.now.from.now self.now.to.now) }
@@ -65,7 +68,8 @@ impl<'a> Move<'a> {
 }
 
 impl ReadyMove {
-    // Moves what stands at the first path to the second. The move is unsynced where its directory couldn't be put onto the disk.
+    // Moves what stands at the first path to the second. The move is unsynced where its directory
+    // couldn't be put onto the disk.
     fn go<S: System>(
         self,
         syscalls: &mut Syscalls<S>,
@@ -91,7 +95,8 @@ impl ReadyMove {
     }
 }
 
-/// Moves what stands at one path to another. Nothing is asked where a growth was refused or the folder's path is empty.
+/// Moves what stands at one path to another. Nothing is asked where a growth was refused or the
+/// folder's path is empty.
 pub(crate) fn move_entry<S: System>(
     syscalls: &mut Syscalls<S>,
     folder: &Folder<'_>,

@@ -27,10 +27,12 @@ pub struct Parted {
     pub refused: Vec<Vec<u8>>,
 }
 
-/// The names and kinds in a directory of a folder as `listing::list` gives them, but for bytes that are no name: these become `refused`, in
-/// their order, also where looking at an entry fails then. Where the directory isn't read to its end, `refused` stays as it is.
+/// The names and kinds in a directory of a folder as `listing::list` gives them, but for bytes that
+/// are no name: these become `refused`, in their order, also where looking at an entry fails then.
+/// Where the directory isn't read to its end, `refused` stays as it is.
 ///
-/// `Device` and `Memory` as there; `Device` too where more is given once there are 16,777,216 names, or as many that are none.
+/// `Device` and `Memory` as there; `Device` too where more is given once there are 16,777,216
+/// names, or as many that are none.
 pub fn list_named<S: System>(
     syscalls: &mut Syscalls<S>,
     folder: &Folder<'_>,

@@ -12,7 +12,8 @@ use std::io;
 // Behind this place no whole block can be counted.
 const LAST: u64 = u64::MAX - BLOCK as u64;
 
-/// A file, the place where its next block begins, whether its end was met, and whether it may stand elsewhere.
+/// A file, the place where its next block begins, whether its end was met, and whether it may stand
+/// elsewhere.
 #[derive(Drop)]
 pub struct FileInReading<F> {
     pub file: F,
@@ -34,8 +35,9 @@ impl<F: Handle> FileInReading<F> {
         }
     }
 
-    /// The block becomes the next bytes, which may be read into `room` first; behind the end the system isn't asked again. On an
-    /// error the block is empty, and the next call goes back to where this one began.
+    /// The block becomes the next bytes, which may be read into `room` first; behind the end the
+    /// system isn't asked again. On an error the block is empty, and the next call goes back to
+    /// where this one began.
     pub fn read(&mut self, block: &mut Block, room: &mut ReadBuffer) -> io::Result<()>
         requires { Stands F.bytes F.left self.old }
         ensures stands { Stands F.bytes F.left self.new }

@@ -20,8 +20,8 @@ use crate::{listing, parting};
 use pt_tree::{BLOCK, Block, Kind, Listing, ListsNamed, NamePath, Source, TreeFault};
 use std::alloc::Global;
 
-/// A folder of the system as a source. It tells the tree that the system keeps there, where it keeps one. It doesn't tell
-/// where it fails.
+/// A folder of the system as a source. It tells the tree that the system keeps there, where it
+/// keeps one. It doesn't tell where it fails.
 #[derive(Drop)]
 pub struct HostSource<'a, S: System> {
     syscalls: Syscalls<S>,
@@ -39,7 +39,8 @@ pub struct HostSource<'a, S: System> {
 impl<'a, S: System> HostSource<'a, S> {
     ghost use Rattle.pt_folder.specs.HostSource.{failure_of, folder_path, system_of};
 
-    /// A source over the folder at a path of a system, as the runtime's. It calls nothing and takes no memory.
+    /// A source over the folder at a path of a system, as the runtime's. It calls nothing and takes
+    /// no memory.
     pub fn new(system: S, alloc: Global, path: &'a str) -> HostSource<'a, S>
         ensures failures { result.failures ≡ 0 }
         ensures calls { result.calls ≡ 0 }
@@ -61,7 +62,8 @@ impl<'a, S: System> HostSource<'a, S> {
         }
     }
 
-    /// The last failure, if there was one, and where it was a listing's or a read's, memory for its path.
+    /// The last failure, if there was one, and where it was a listing's or a read's, memory for its
+    /// path.
     pub fn last_failure(&self) -> Option<&Failure>
         ensures { option_map (λ f. f.now) result ≡ failure_of self.now }
     {
@@ -230,8 +232,8 @@ impl<'a, S: System> ListsNamed for HostSource<'a, S> {
     }
 }
 
-// Opens an entry for reading, and makes it the open file. It is looked at first: what is no file now isn't opened, since
-// opening a pipe waits for its writer.
+// Opens an entry for reading, and makes it the open file. It is looked at first: what is no file
+// now isn't opened, since opening a pipe waits for its writer.
 fn open<S: System>(
     syscalls: &mut Syscalls<S>,
     folder: &Folder<'_>,
@@ -261,9 +263,10 @@ fn open<S: System>(
     }
 }
 
-// The block becomes the next bytes of the open file; behind its end the system isn't asked again. Where no file is
-// open, it is a failure. After an error of the system the file stays open, and is read on from where it was. On a fault
-// the block is empty. The bytes may be read into `room` first. `at` is the file's path, with which a failure is kept.
+// The block becomes the next bytes of the open file; behind its end the system isn't asked again.
+// Where no file is open, it is a failure. After an error of the system the file stays open, and is
+// read on from where it was. On a fault the block is empty. The bytes may be read into `room`
+// first. `at` is the file's path, with which a failure is kept.
 fn read_on<F: Handle + Drop>(
     reading: &mut Option<FileInReading<F>>,
     block: &mut Block,

@@ -37,8 +37,8 @@ impl<S: System> Syscalls<S> {
         }
     }
 
-    /// The kind of an entry, links not followed; None where nothing is there, or a parent isn't a directory. `at` becomes
-    /// the entry's path, unless that is a fault.
+    /// The kind of an entry, links not followed; None where nothing is there, or a parent isn't a
+    /// directory. `at` becomes the entry's path, unless that is a fault.
     pub fn kind_at(
         &mut self,
         folder: &Folder<'_>,
@@ -84,7 +84,8 @@ impl<S: System> Syscalls<S> {
         }
     }
 
-    /// Makes a directory at the path of an entry, unless the path is longer than any that may be made.
+    /// Makes a directory at the path of an entry, unless the path is longer than any that may be
+    /// made.
     pub fn make_dir(
         &mut self,
         folder: &Folder<'_>,
@@ -145,7 +146,8 @@ impl<S: System> Syscalls<S> {
         }
     }
 
-    /// Whether a file is at one of the system's paths, links not followed: that none is, is a failure. The path is given back.
+    /// Whether a file is at one of the system's paths, links not followed: that none is, is a
+    /// failure. The path is given back.
     pub fn look_at_file(&mut self, text: String) -> Result<String, TreeFault>
         ensures same { IfOk result (λ path. path ≡ text) }
         ensures asked { (reply : _) × S.looks self.old.system (string_bytes text) reply
@@ -163,7 +165,8 @@ impl<S: System> Syscalls<S> {
         }
     }
 
-    /// Has the directory at one of the system's paths put onto its disk, so that the names in it stay.
+    /// Has the directory at one of the system's paths put onto its disk, so that the names in it
+    /// stay.
     pub fn sync_dir(&mut self, text: String) -> Result<(), TreeFault>
         ensures asked { IsSynced S.opens S.File.Handle.syncs (string_bytes text)
             self.old.system self.new.system result }

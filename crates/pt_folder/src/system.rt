@@ -1,6 +1,7 @@
-//! The calls of the system that folders make. Each trait says of each call, by a ghost word, what it may answer and
-//! leave; a contract over them then says which calls are made, in which order, and what becomes of their answers. A system
-//! may also keep trees: then its calls keep to laws, as POSIX has them, from which follows what folders over it hold.
+//! The calls of the system that folders make. Each trait says of each call, by a ghost word, what
+//! it may answer and leave; a contract over them then says which calls are made, in which order,
+//! and what becomes of their answers. A system may also keep trees: then its calls keep to laws, as
+//! POSIX has them, from which follows what folders over it hold.
 ghost use Rattle.std.specs.Prelude.{◌≡◌, ℕ, List, Option, IfOk, OnOk};
 ghost use Rattle.std.specs.declared.result.Result.{Result};
 ghost use Rattle.std.specs.declared.io.Error.{Error};
@@ -58,7 +59,8 @@ pub trait System {
 
     type Dir: Input + Drop;
 
-    /// What it keeps below the path of a folder that is only read, where it tells that. No call of reading changes it.
+    /// What it keeps below the path of a folder that is only read, where it tells that. No call of
+    /// reading changes it.
     ghost forest: { Self → List ℕ → Option Forest };
 
     /// What it keeps below the path of a folder that is written, where it tells that.

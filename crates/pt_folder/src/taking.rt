@@ -28,11 +28,11 @@ pub trait Takes {
         ensures kept { OnDevice result (IfSome last.new.failure (IsOfNames text.now)) };
 }
 
-/// Opens the directory at a path, and takes all that it gives, in its order, but for `.` and `..`, read into `piece` one piece after
-/// another. What fails is kept at that path.
+/// Opens the directory at a path, and takes all that it gives, in its order, but for `.` and `..`,
+/// read into `piece` one piece after another. What fails is kept at that path.
 ///
-/// `Device` where opening or a read failed, bytes aren't taken or have no NUL behind them, or 2^64 - 1 reads found no end. `Memory` where a
-/// growth was refused.
+/// `Device` where opening or a read failed, bytes aren't taken or have no NUL behind them, or 2^64
+/// - 1 reads found no end. `Memory` where a growth was refused.
 pub fn take_dir<S: System, T: Takes>(
     syscalls: &mut Syscalls<S>,
     text: &str,

@@ -80,8 +80,8 @@ pub(crate) fn add<S: System>(
     }
 }
 
-// Closes the open file, which is put onto the disk first where that is asked for: where that isn't possible, it is unsynced. Where
-// none is open, it is a failure.
+// Closes the open file, which is put onto the disk first where that is asked for: where that isn't
+// possible, it is unsynced. Where none is open, it is a failure.
 pub(crate) fn close<F: Handle + Drop>(
     last: &mut Last,
     folder: &Folder<'_>,

@@ -18,7 +18,8 @@ pub enum CountedStep {
     Peek(&'static str, Result<(), TreeFault>),
     /// The block that `Peek` gives has so many bytes.
     Holds(usize),
-    /// So often has the system been asked to look, to change something, and to put something onto the disk.
+    /// So often has the system been asked to look, to change something, and to put something onto
+    /// the disk.
     Looks(u32),
     Changes(u32),
     Syncs(u32),
@@ -45,8 +46,8 @@ impl CountedStep {
     }
 }
 
-/// The first of these steps over the folder `f` that goes otherwise, where files are put onto the disk, or aren't, and paths
-/// have so many bytes at most.
+/// The first of these steps over the folder `f` that goes otherwise, where files are put onto the
+/// disk, or aren't, and paths have so many bytes at most.
 pub fn find_wrong_in_folder(
     alloc: Global,
     sync: bool,

@@ -1,4 +1,5 @@
-//! Folders over a system of which one call fails, and which reads and writes by short pieces: what is answered, and what stays.
+//! Folders over a system of which one call fails, and which reads and writes by short pieces: what
+//! is answered, and what stays.
 use crate::failing_system::{FailingSystem, LEN, SystemState};
 use crate::steps::{Answer, DONE, DestStep, FAILS, Outcome, Row, SourceStep, try_dest, try_source};
 use pt_tree::{Kind, TreeFault};
@@ -6,7 +7,8 @@ use std::alloc::Global;
 use std::io::ErrorKind;
 use std::test::Fail;
 
-// What goes otherwise of a destination over a system that writes so many bytes at a time, and fails with this error.
+// What goes otherwise of a destination over a system that writes so many bytes at a time, and fails
+// with this error.
 fn try_failing_dest(
     alloc: Global,
     at_a_time: usize,
@@ -17,8 +19,8 @@ fn try_failing_dest(
     try_dest(&FailingSystem { state: &state }, &state, alloc, "f", rows)
 }
 
-// What goes otherwise of a source over a system that reads so many bytes at a time, fails with this error, and gives these
-// names.
+// What goes otherwise of a source over a system that reads so many bytes at a time, fails with this
+// error, and gives these names.
 fn try_failing_source(
     alloc: Global,
     at_a_time: usize,
@@ -109,11 +111,12 @@ fn a_destination_goes_on_past_short_writes_and_failures(rt: HostRuntime) -> Resu
     Ok(())
 }
 
-// A step, the call of the system that fails in it, if any, and how many bytes are in the block then.
+// A step, the call of the system that fails in it, if any, and how many bytes are in the block
+// then.
 type Turn = (DestStep, u64, usize);
 
-// What goes otherwise where a step is taken with an open file, and a call fails with this error: what the step answers, and
-// how many calls it makes.
+// What goes otherwise where a step is taken with an open file, and a call fails with this error:
+// what the step answers, and how many calls it makes.
 fn try_turn(
     alloc: Global,
     error: ErrorKind,
@@ -133,8 +136,8 @@ fn try_turn(
     try_failing_dest(alloc, 4096, error, &rows)
 }
 
-// A step, what it answers, how many calls of the system it makes at 4,096 bytes a time, and how many bytes stay in the block
-// where one fails.
+// A step, what it answers, how many calls of the system it makes at 4,096 bytes a time, and how
+// many bytes stay in the block where one fails.
 const CALLS: &[(DestStep, Answer, u64, usize)] = &[
     (DestStep::Kind("a"), Ok(Some(Kind::File)), 1, 8192),
     (DestStep::Peek("a"), DONE, 3, 0),
@@ -144,8 +147,8 @@ const CALLS: &[(DestStep, Answer, u64, usize)] = &[
     (DestStep::Rename("a", "b"), DONE, 1, 8192),
 ];
 
-// The first of these calls that fails otherwise, or isn't the last one: a failure of the device counts, and want of memory
-// doesn't.
+// The first of these calls that fails otherwise, or isn't the last one: a failure of the device
+// counts, and want of memory doesn't.
 fn find_wrong_call(
     alloc: Global,
     step: DestStep,
@@ -307,8 +310,8 @@ fn a_source_reads_on_past_short_reads_and_failures(rt: HostRuntime) -> Result<()
     Ok(())
 }
 
-// What the system gives, each name ended by a NUL, what is answered, and how many failures that makes; a name that ends in
-// `d` is a directory, one in `l` a link.
+// What the system gives, each name ended by a NUL, what is answered, and how many failures that
+// makes; a name that ends in `d` is a directory, one in `l` a link.
 const LISTINGS: &[(&[u8], SourceStep, u64)] = &[
     (b"", SourceStep::List("x", Ok(&[])), 0),
     (b".\0..\0", SourceStep::List("x", Ok(&[])), 0),

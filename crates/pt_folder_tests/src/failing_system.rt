@@ -10,8 +10,8 @@ use std::rt::Files;
 // So many bytes has each file that is opened.
 pub const LEN: u64 = 20_000;
 
-/// What the system did, and what it is to do: which call fails with which error (0 none, 1 the next one), whether
-/// seeking does, and how many bytes are read or written at a time.
+/// What the system did, and what it is to do: which call fails with which error (0 none, 1 the next
+/// one), whether seeking does, and how many bytes are read or written at a time.
 #[derive(Drop)]
 pub struct SystemState {
     pub no_seek: Cell<bool>,
@@ -36,7 +36,8 @@ impl SystemState {
         }
     }
 
-    /// Whether what isn't asked of a destination goes: what is found is so, and what changes in the system is changed.
+    /// Whether what isn't asked of a destination goes: what is found is so, and what changes in the
+    /// system is changed.
     pub fn is_so_for_dest(&self, step: DestStep) -> bool {
         match step {
             DestStep::CallFails(call) => self.failing.set(call),

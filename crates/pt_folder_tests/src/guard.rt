@@ -1,4 +1,5 @@
-//! Whether a run or an audit may begin between two folders: they lie apart, none is a root itself, and the lock can be had.
+//! Whether a run or an audit may begin between two folders: they lie apart, none is a root itself,
+//! and the lock can be had.
 ghost use Rattle.std.specs.Prelude.{⊤};
 
 use pt_guard::{Claim, FileFault, FileId, GuardFault, LockAttempt, Places, begin, judge_file};
@@ -117,7 +118,8 @@ fn begin_audit(alloc: Global, paths: &FakePlaces) -> Result<io::Result<u8>, Guar
     begin(&mut &*paths, alloc, Claim::Shared, "s", "d")
 }
 
-// What comes of it where the lock can be had: the lock that it begins with, if it has one, or what it is refused for.
+// What comes of it where the lock can be had: the lock that it begins with, if it has one, or what
+// it is refused for.
 fn find_lock(alloc: Global, leads: Leads, numbers: Numbers) -> Result<Option<u8>, GuardFault> {
     begin_run(alloc, &make_places(leads, numbers, Lock::Held)).map(io::Result::ok)
 }
@@ -128,7 +130,8 @@ fn is_refused_before_the_lock(alloc: Global, leads: Leads) -> bool {
     matches!(begin_run(alloc, &paths), Err(GuardFault::Overlap)) && !paths.asked.get()
 }
 
-// Whether it begins where it has the lock, or can't ask for it, and is refused where another has it or memory is wanting for it.
+// Whether it begins where it has the lock, or can't ask for it, and is refused where another has it
+// or memory is wanting for it.
 fn begins_by_its_lock(alloc: Global, leads: Leads, numbers: Numbers) -> bool {
     let held = begin_run(alloc, &make_places(leads, numbers, Lock::Held));
     let taken = begin_run(alloc, &make_places(leads, numbers, Lock::Taken));
@@ -285,8 +288,8 @@ fn what_stands_and_has_no_place_is_refused(rt: HostRuntime) {
     }
 }
 
-// Places that are asked for where memory is wanting: of a path's place, of a folder's number, and of the number of what
-// has no place.
+// Places that are asked for where memory is wanting: of a path's place, of a folder's number, and
+// of the number of what has no place.
 const WANTING_MEMORY: &[(Leads, Numbers)] = &[
     (&[("d", NO_MEMORY_AT)], &[("s", 1), ("d", 2)]),
     (&[("s", NO_MEMORY_AT), ("d", "/y")], &[("s", 1), ("d", 2)]),
@@ -313,7 +316,8 @@ fn want_of_memory_is_told_as_such(rt: HostRuntime) {
     }
 }
 
-// A file beside the folders `s` and `d`, where paths lead, what is known of them, and whether the file may be made.
+// A file beside the folders `s` and `d`, where paths lead, what is known of them, and whether the
+// file may be made.
 struct FileRow {
     file: &'static str,
     leads: Leads,

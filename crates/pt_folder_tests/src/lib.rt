@@ -1,6 +1,6 @@
-//! Tests of folders by their public calls: folders of the disk, and of systems in memory that fail, count or keep the
-//! laws; what is put onto the disk, rehearsals, and whether a run may begin between two folders. No code of the program
-//! stands on this crate.
+//! Tests of folders by their public calls: folders of the disk, and of systems in memory that fail,
+//! count or keep the laws; what is put onto the disk, rehearsals, and whether a run may begin
+//! between two folders. No code of the program stands on this crate.
 #![tactic(auto)]
 
 #[cfg(test)]

@@ -251,8 +251,8 @@ fn write_staged(system: &mut MemorySystem<'_>) -> io::Result<()> {
     file.sync()
 }
 
-// What the seven calls fail for where each call after so many fails, how many were made, and whether half of what is
-// written is left.
+// What the seven calls fail for where each call after so many fails, how many were made, and
+// whether half of what is written is left.
 fn fail_calls(alloc: Global, passing: u64) -> Result<(Option<ErrorKind>, u64, bool), Fail> {
     let at = path(alloc, "staging/a")?;
     let faults = Faults::new();
@@ -309,7 +309,8 @@ fn look_after(dest: Rehearsal<'_, MemorySystem<'_>>, at: &NamePath) -> Option<Ki
     root.kind_at(at)
 }
 
-// What a rehearsal sees where the root's declaration and `staging` would be, and what is at the first of these after it.
+// What a rehearsal sees where the root's declaration and `staging` would be, and what is at the
+// first of these after it.
 fn look_in_rehearsal(alloc: Global) -> Result<[Option<Kind>; 3], Fail> {
     let declared = path(alloc, "0=ocfl_1.1")?;
     let faults = Faults::new();

@@ -1,4 +1,5 @@
-//! Folders of the disk as source and destination: each test makes one below the folder for temporary files, and removes it.
+//! Folders of the disk as source and destination: each test makes one below the folder for
+//! temporary files, and removes it.
 use crate::failing_system::SystemState;
 use crate::steps::{
     DONE, DestStep, FAILS, Outcome, Row, SourceStep, is_part, piece, try_dest, try_source,
@@ -83,8 +84,8 @@ fn try_dest_at(rt: &HostRuntime, folder: &str, rows: &[Row]) -> Result<Outcome, 
     try_dest(rt, &no_faults(), rt.alloc(), folder, rows)
 }
 
-// What is asked of a new folder with these entries: of a destination over it, then of a source over it, each with how many
-// failures that makes, and then of its files.
+// What is asked of a new folder with these entries: of a destination over it, then of a source over
+// it, each with how many failures that makes, and then of its files.
 struct FolderCase {
     name: &'static str,
     entries: Entries,

@@ -41,8 +41,8 @@ pub type Row = (DestStep, Answer);
 /// The first step that goes otherwise, if any, and how many failures there are.
 pub type Outcome = (Option<usize>, u64);
 
-/// The first row of a destination over a folder that goes otherwise, or leaves the count of failures at another number
-/// than that of the steps that failed for the device.
+/// The first row of a destination over a folder that goes otherwise, or leaves the count of
+/// failures at another number than that of the steps that failed for the device.
 pub fn try_dest<R: Files>(
     system: &R,
     state: &SystemState,
@@ -165,7 +165,8 @@ pub enum SourceStep {
     Calls(u64),
 }
 
-/// The first step of a source over a folder that goes otherwise, and how many failures there are then.
+/// The first step of a source over a folder that goes otherwise, and how many failures there are
+/// then.
 pub fn try_source<R: Files>(
     system: &R,
     state: &SystemState,

@@ -1,4 +1,5 @@
-//! Files are put onto the disk where that is asked, and nothing is asked of a folder after a sync that failed.
+//! Files are put onto the disk where that is asked, and nothing is asked of a folder after a sync
+//! that failed.
 use crate::counted_steps::{CountedStep, find_wrong_in_folder};
 use pt_tree::TreeFault;
 

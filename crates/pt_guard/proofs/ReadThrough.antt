@@ -9,12 +9,14 @@ use Rattle.pt_guard.specs.Declaration.{HasPart, IsDeclared, mark}
 abbrev pub HasRead : Option (List ℕ) → Option (List ℕ) → List ℕ → Type 0
 HasRead old now names = (read : List ℕ) × Consumes old now read × (names ≡ 0 ∷ read)
 
-pub reads_more : (old now next : Option (List ℕ)) (names new piece : List ℕ) → HasRead old now names → Consumes now next piece → new ≡ names ++ piece → HasRead old next new
+pub reads_more : (old now next : Option (List ℕ)) (names new piece : List ℕ) → HasRead old now names → Consumes now next piece → new ≡ names ++ piece
+    → HasRead old next new
 reads_more old now next names new piece (read, read-so, names-are) more new-is =
     (read ++ piece, Consumes-trans old now next read piece read-so more, new-is ∙ ap (λ l. l ++ piece) names-are)
 
 -- at its end all its names were looked through
-pub looked_through : (old now last : Option (List ℕ)) (names : List ℕ) (found : Bool) → HasRead old now names → Consumes now last [] → IsAtEnd last → (IsTrue found ↔ HasPart mark names)
+pub looked_through : (old now last : Option (List ℕ)) (names : List ℕ) (found : Bool) → HasRead old now names → Consumes now last [] → IsAtEnd last
+    → (IsTrue found ↔ HasPart mark names)
     → IfSome old (λ all. IsTrue found ↔ IsDeclared all)
 looked_through None now last names found has none end looked = tt
 looked_through (Some all) now last names found has none end looked =

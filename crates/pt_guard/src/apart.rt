@@ -1,4 +1,5 @@
-//! Whether one folder lies in another: by where their paths lead, links resolved, and by what the folders are, whatever leads to them.
+//! Whether one folder lies in another: by where their paths lead, links resolved, and by what the
+//! folders are, whatever leads to them.
 ghost use Rattle.std.specs.Prelude.{◌≡◌, ◌++◌, IfErr, IfOk, string_bytes};
 ghost use Rattle.std.specs.IoError.{error_kind};
 ghost use Rattle.std.specs.Path.{path_buf_bytes};
@@ -48,7 +49,8 @@ struct AncestorSearch {
     left: usize,
 }
 
-// Whether a path leads to a folder, or to something that lies in it; asked of the path and of each folder above.
+// Whether a path leads to a folder, or to something that lies in it; asked of the path and of each
+// folder above.
 fn has_ancestor<S: Places>(system: &mut S, path: PathBuf, search: AncestorSearch) -> Nesting
     ensures { SearchesAncestors S.does search (path_buf_bytes path) system.old system.new result }
 {
@@ -86,7 +88,8 @@ fn held_against<S: Places>(system: &mut S, inner: PathBuf, outer: &str) -> Nesti
     }
 }
 
-// What is said of a path that can't be resolved, for this error: memory was wanting, nothing lies there, or it isn't known where it is.
+// What is said of a path that can't be resolved, for this error: memory was wanting, nothing lies
+// there, or it isn't known where it is.
 fn judge_unresolved<S: Places>(system: &mut S, path: &str, error: io::Error) -> Nesting
     ensures { IsUnresolved S.does path.now error system.old system.new result }
 {
@@ -118,8 +121,9 @@ fn lies_in<S: Places>(system: &mut S, alloc: Global, inner: &str, outer: &str) -
     }
 }
 
-/// How a destination lies to a store and to its `pairtree_root`, and these two to what the destination is to hold; the first answer that
-/// isn't `Apart`. An error where memory for the paths was refused; then nothing was asked.
+/// How a destination lies to a store and to its `pairtree_root`, and these two to what the
+/// destination is to hold; the first answer that isn't `Apart`. An error where memory for the paths
+/// was refused; then nothing was asked.
 pub(crate) fn overlap<S: Places>(
     system: &mut S,
     alloc: Global,
@@ -135,8 +139,9 @@ pub(crate) fn overlap<S: Places>(
     Ok(paths.first_found(system, alloc))
 }
 
-/// How the folder that a file is to be made in lies to a store, to its `pairtree_root` and to what the destination is to hold; and where the file
-/// has the name of one of these, to the destination. The first answer that isn't `Apart`. An error where memory for the paths was refused; then
+/// How the folder that a file is to be made in lies to a store, to its `pairtree_root` and to what
+/// the destination is to hold; and where the file has the name of one of these, to the destination.
+/// The first answer that isn't `Apart`. An error where memory for the paths was refused; then
 /// nothing was asked.
 pub(crate) fn surroundings<S: Places>(
     system: &mut S,
@@ -155,7 +160,8 @@ pub(crate) fn surroundings<S: Places>(
     Ok(paths.first_around(system, alloc, file))
 }
 
-/// Where a file is to be made: its folder, and whether it has the name of what a destination is to hold.
+/// Where a file is to be made: its folder, and whether it has the name of what a destination is to
+/// hold.
 #[derive(Clone, Copy)]
 pub(crate) struct FilePlace<'a> {
     /// The folder.
@@ -218,7 +224,8 @@ impl<'a> RunPaths<'a> {
     }
 }
 
-// How what a path leads to lies to the first of two folders, and where it is apart from that, to the second.
+// How what a path leads to lies to the first of two folders, and where it is apart from that, to
+// the second.
 fn in_either<S: Places>(system: &mut S, alloc: Global, inner: &str, outers: (&str, &str)) -> Nesting
     ensures { InEither S.does inner.now (outers.entry.0.now, outers.entry.1.now)
         system.old system.new result }
@@ -231,7 +238,8 @@ fn in_either<S: Places>(system: &mut S, alloc: Global, inner: &str, outers: (&st
     }
 }
 
-// How a file that has the name of what a destination is to hold lies to the destination; another is apart from it.
+// How a file that has the name of what a destination is to hold lies to the destination; another is
+// apart from it.
 fn nesting_by_name<S: Places>(
     system: &mut S,
     alloc: Global,

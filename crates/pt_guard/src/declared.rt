@@ -13,8 +13,9 @@ const MARK: &[u8] = b"\x000=ocfl_";
 // How many bytes of names one read takes at most.
 const ROOM: usize = 8192;
 
-/// Whether the folder at a path has an entry whose name begins as the declaration of a storage root or of an object does, with `0=ocfl_`
-/// (OCFL 1.1, "Root Structure", "Object Conformance Declaration"). An error where its names can't be read.
+/// Whether the folder at a path has an entry whose name begins as the declaration of a storage root
+/// or of an object does, with `0=ocfl_` (OCFL 1.1, "Root Structure", "Object Conformance
+/// Declaration"). An error where its names can't be read.
 pub(crate) fn declares<R: Files + AllocGlobal>(rt: &R, path: &str) -> io::Result<bool>
     ensures { TellsOfOne R.Dir.remaining result }
 {
@@ -22,7 +23,8 @@ pub(crate) fn declares<R: Files + AllocGlobal>(rt: &R, path: &str) -> io::Result
     is_declared(rt.alloc(), &mut dir)
 }
 
-// Whether a directory has such an entry. It is read as its names, each ended by a NUL, into room for the longest, since no read ends inside one.
+// Whether a directory has such an entry. It is read as its names, each ended by a NUL, into room
+// for the longest, since no read ends inside one.
 fn is_declared<D: Read>(alloc: Global, dir: &mut D) -> io::Result<bool>
     ensures { TellsDeclared D.remaining dir.old result }
 {

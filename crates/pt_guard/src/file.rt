@@ -12,7 +12,8 @@ use thiserror::Error;
 /// Why a file may not be made at a path. Nothing was made.
 #[derive(Clone, Copy, Debug, PartialEq, Eq, Error)]
 pub enum FileFault {
-    /// It would lie in the store, or in `ocfl` or `staging` of the destination, or be one of these two.
+    /// It would lie in the store, or in `ocfl` or `staging` of the destination, or be one of these
+    /// two.
     #[error("FILE of --event lies in SOURCE, DEST/ocfl or DEST/staging")]
     Inside,
     /// The system can't tell where its folder is.
@@ -34,11 +35,14 @@ impl From<AllocError> for FileFault {
     }
 }
 
-/// Whether a file may be made at a path, beside a run or an audit between two folders. What stands at the path isn't asked for.
+/// Whether a file may be made at a path, beside a run or an audit between two folders. What stands
+/// at the path isn't asked for.
 ///
-/// `Inside` where its folder, links resolved, is the store, its `pairtree_root`, or `ocfl` or `staging` of the destination, or lies in one, or is so by
-/// what the system knows it by; and where the file has the name `ocfl` or `staging` in the destination or below. `Hidden` where one of these
-/// stands and that can't be found out. `Memory` where a growth was refused: of a path, before anything is asked, or by the system.
+/// `Inside` where its folder, links resolved, is the store, its `pairtree_root`, or `ocfl` or
+/// `staging` of the destination, or lies in one, or is so by what the system knows it by; and where
+/// the file has the name `ocfl` or `staging` in the destination or below. `Hidden` where one of
+/// these stands and that can't be found out. `Memory` where a growth was refused: of a path, before
+/// anything is asked, or by the system.
 pub fn judge_file<S: Places>(
     system: &mut S,
     alloc: Global,

@@ -11,16 +11,19 @@ use thiserror::Error;
 /// Why a run may not begin. Nothing was read or made.
 #[derive(Clone, Copy, Debug, PartialEq, Eq, Error)]
 pub enum GuardFault {
-    /// The destination is the store or lies in it, or the store lies in `ocfl` or `staging` of the destination.
+    /// The destination is the store or lies in it, or the store lies in `ocfl` or `staging` of the
+    /// destination.
     #[error("SOURCE and DEST lie in one another")]
     Overlap,
     /// One of the two stands, and the system can't tell where.
     #[error("the system cannot tell where SOURCE and DEST lie")]
     Hidden,
-    /// The destination is a storage root or an object itself: it has an entry whose name begins as their declarations do.
+    /// The destination is a storage root or an object itself: it has an entry whose name begins as
+    /// their declarations do.
     #[error("DEST is a storage root itself: name the folder that holds it")]
     Root,
-    /// Another run or rehearsal holds the destination, or, where it is asked for alone, an audit does.
+    /// Another run or rehearsal holds the destination, or, where it is asked for alone, an audit
+    /// does.
     #[error("another run has the destination")]
     Taken,
     /// A growth was refused, of ours or of the system's.
@@ -39,14 +42,18 @@ impl From<AllocError> for GuardFault {
     }
 }
 
-/// Sees to it that a run or an audit may begin: its folders lie apart, and nobody holds the destination who keeps it from the lock that
-/// it asks for. What it gives holds the destination's folder until it is dropped, or says why that can't be locked.
+/// Sees to it that a run or an audit may begin: its folders lie apart, and nobody holds the
+/// destination who keeps it from the lock that it asks for. What it gives holds the destination's
+/// folder until it is dropped, or says why that can't be locked.
 ///
-/// `Overlap` where the folders, links resolved, lie in one another, or are so by what the system knows them by, whatever leads to them
-/// (as a second mount); `Hidden` where one stands and that can't be found out. This is asked first. `Root` where the destination is a storage
-/// root or an object itself (OCFL 1.1, "Root Structure", "Object Conformance Declaration"), so that its lock isn't asked for; else `Taken` where
-/// another holds the lock so that it can't be had as it is asked for. `Memory` where a growth was refused: of a path, before anything is
-/// asked, or by the system, as its answer to what it was asked last, which is then neither `Hidden` nor a reason to go on without the lock.
+/// `Overlap` where the folders, links resolved, lie in one another, or are so by what the system
+/// knows them by, whatever leads to them (as a second mount); `Hidden` where one stands and that
+/// can't be found out. This is asked first. `Root` where the destination is a storage root or an
+/// object itself (OCFL 1.1, "Root Structure", "Object Conformance Declaration"), so that its lock
+/// isn't asked for; else `Taken` where another holds the lock so that it can't be had as it is
+/// asked for. `Memory` where a growth was refused: of a path, before anything is asked, or by the
+/// system, as its answer to what it was asked last, which is then neither `Hidden` nor a reason to
+/// go on without the lock.
 pub fn begin<S: Places>(
     system: &mut S,
     alloc: Global,

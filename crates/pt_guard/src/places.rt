@@ -1,5 +1,6 @@
-//! The calls of the system that look where folders are and lock them. One ghost word says of each call what it may come to, so that a
-//! contract over it says which calls are made and what becomes of their answers.
+//! The calls of the system that look where folders are and lock them. One ghost word says of each
+//! call what it may come to, so that a contract over it says which calls are made and what becomes
+//! of their answers.
 ghost use Rattle.std.specs.Prelude.{◌≡◌, ◌↔◌, ⊤, Bool, IsTrue, MatchResult};
 ghost use Rattle.std.specs.declared.io.Error.{Error};
 ghost use Rattle.std.specs.declared.result.Result.{Result};
@@ -33,13 +34,16 @@ pub enum LockAttempt<L> {
     Held(L),
     /// Another holds it, so that it can't be had as it was asked for.
     Taken,
-    /// It wasn't asked for: the folder is a storage root or an object itself, by an entry whose name begins with `0=ocfl_`.
+    /// It wasn't asked for: the folder is a storage root or an object itself, by an entry whose
+    /// name begins with `0=ocfl_`.
     Root,
-    /// It can't be asked for, for this reason: there is no folder, or it can't be opened, or its file system has no locks.
+    /// It can't be asked for, for this reason: there is no folder, or it can't be opened, or its
+    /// file system has no locks.
     Unknown(io::Error),
 }
 
-/// What the system knows a file or folder by, whatever path leads to it: its device, and its number there.
+/// What the system knows a file or folder by, whatever path leads to it: its device, and its number
+/// there.
 #[derive(Clone, Copy, Debug, PartialEq, Eq)]
 pub struct FileId {
     /// The number of the device.
@@ -53,8 +57,8 @@ pub trait Lockable {
     /// Asking so for the lock may be answered so.
     ghost answers: { Claim → Self → Result Bool Error → Type 0 };
 
-    /// Asks for the lock, and doesn't wait: false where another has it, so that it can't be had as it is asked for; `Err`
-    /// where there are no locks.
+    /// Asks for the lock, and doesn't wait: false where another has it, so that it can't be had as
+    /// it is asked for; `Err` where there are no locks.
     fn ask_lock(&self, claim: Claim) -> io::Result<bool>
         ensures { answers claim self.now result };
 }
@@ -75,8 +79,9 @@ impl Lockable for File {
     }
 }
 
-/// A system with folders that are somewhere and can be locked. A lock that is held can't be let go of but by giving it back. Where a path leads, and
-/// what is there, is answered with an error where the system gives one, as where nothing stands there.
+/// A system with folders that are somewhere and can be locked. A lock that is held can't be let go
+/// of but by giving it back. Where a path leads, and what is there, is answered with an error where
+/// the system gives one, as where nothing stands there.
 pub trait Places {
     type Lock;
 
@@ -95,7 +100,8 @@ pub trait Places {
     fn look(&mut self, path: &str) -> io::Result<()>
         ensures { does self.old (Look path.now result) self.new };
 
-    /// Asks for the lock of the folder at a path, unless that is a storage root or an object itself. What is no folder isn't opened.
+    /// Asks for the lock of the folder at a path, unless that is a storage root or an object
+    /// itself. What is no folder isn't opened.
     fn hold(&mut self, path: &str, claim: Claim) -> LockAttempt<Self::Lock>
         ensures { does self.old (Hold claim path.now result) self.new };
 
@@ -145,7 +151,8 @@ fn leads_to_folder<R: Files>(rt: &R, path: &str) -> io::Result<bool> {
     Ok(metadata.is_dir())
 }
 
-// What asking so for the lock of the folder at a path comes to, by whether that is a folder. What isn't may be a pipe, whose opening would wait.
+// What asking so for the lock of the folder at a path comes to, by whether that is a folder. What
+// isn't may be a pipe, whose opening would wait.
 fn held_by_kind<R: Files + AllocGlobal>(
     rt: &R,
     is_folder: io::Result<bool>,

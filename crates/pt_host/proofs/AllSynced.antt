@@ -14,7 +14,8 @@ use Rattle.pt_host.specs.declared.options.AllowedLines.{AllowedLines}
 pub unsynced_by : (synced : Bool) (allowed : AllowedLines) (before after : ℕ) (ran : Result Report Fault) (unsynced : Option UnsyncedChange)
     → ForSome unsynced (λ _. synced ≡ true) → ForSome unsynced (λ _. 1 ≤ after) → Counts 2 before after ran
     → IsUnsyncedBy synced before (run_status allowed ran) unsynced
-unsynced_by synced allowed before after (Ok report) unsynced wanted risen counts = λ s is. (wanted s is, λ none. let rose = risen s is in absurd (omega (arith, rose, counts, none)))
+unsynced_by synced allowed before after (Ok report) unsynced wanted risen counts = λ s is.
+    (wanted s is, λ none. let rose = risen s is in absurd (omega (arith, rose, counts, none)))
 unsynced_by synced allowed before after (Err f) unsynced wanted risen counts = λ s is. (wanted s is, λ none. refl)
 
 pub none_unsynced_by : (synced : Bool) (before status : ℕ) (unsynced : Option UnsyncedChange) → unsynced ≡ None → IsUnsyncedBy synced before status unsynced

@@ -15,7 +15,8 @@ use Rattle.pt_state.specs.declared.job.Job as own
 use Rattle.pt_tree.specs.Forest.{Forest}
 
 -- what is open for reading changes no tree
-pub tree_of_store : (ignored : List (List ℕ)) (tree : Option Forest) (reading : Option (List ℕ)) → tree_in (told_without ignored (source_told tree reading)) ≡ store_tree ignored tree
+pub tree_of_store : (ignored : List (List ℕ)) (tree : Option Forest) (reading : Option (List ℕ))
+    → tree_in (told_without ignored (source_told tree reading)) ≡ store_tree ignored tree
 tree_of_store ignored None reading = refl
 tree_of_store ignored (Some f) reading = refl
 
@@ -25,14 +26,18 @@ tree_of_root (Some f) reading = refl
 
 -- the trees of a source and a root, by the systems that keep them
 module _ {S : Type 0} (forest : S → List ℕ → Option Forest) where
-  pub store_is : {ignored names : List (List ℕ)} {system own : S} {path store : List ℕ} (reading : Option (List ℕ)) → names ≡ ignored → own ≡ system → path ≡ store → tree_in (told_without names (source_told (forest own path) reading)) ≡ store_tree ignored (forest system store)
-  store_is {names = names} {own = own} {path = path} reading names_are same at = tree_of_store names (forest own path) reading ∙ (λ i. store_tree (names_are i) (forest (same i) (at i)))
+  pub store_is : {ignored names : List (List ℕ)} {system own : S} {path store : List ℕ} (reading : Option (List ℕ)) → names ≡ ignored → own ≡ system
+      → path ≡ store → tree_in (told_without names (source_told (forest own path) reading)) ≡ store_tree ignored (forest system store)
+  store_is {names = names} {own = own} {path = path} reading names_are same at = tree_of_store names (forest own path) reading
+      ∙ (λ i. store_tree (names_are i) (forest (same i) (at i)))
 
-  pub root_is : {system own : S} {path folder : List ℕ} (reading : Option (List ℕ)) → own ≡ system → path ≡ folder → tree_in (source_told (forest own path) reading) ≡ root_tree (forest system folder)
+  pub root_is : {system own : S} {path folder : List ℕ} (reading : Option (List ℕ)) → own ≡ system → path ≡ folder
+      → tree_in (source_told (forest own path) reading) ≡ root_tree (forest system folder)
   root_is {own = own} {path = path} reading same at = tree_of_root (forest own path) reading ∙ (λ i. root_tree (forest (same i) (at i)))
 
 -- an audit ends as it did, whatever its trees and its log are called
-pub ends_as : (extra : Bool) (ran : Result AuditCounts Fault) (job : Job) {source store root folder : Option Forest} {first begun now last : Option (List ℕ)} → source ≡ store → root ≡ folder → first ≡ begun → now ≡ last → AuditLogs extra job (start_over source root first) now ran
+pub ends_as : (extra : Bool) (ran : Result AuditCounts Fault) (job : Job) {source store root folder : Option Forest} {first begun now last : Option (List ℕ)}
+    → source ≡ store → root ≡ folder → first ≡ begun → now ≡ last → AuditLogs extra job (start_over source root first) now ran
     → AuditLogs extra job (start_over store folder begun) last ran
 ends_as extra ran job {source} {store} {root} {folder} {first} {begun} {now} {last} source_is root_is first_is now_is ends =
     subst (λ (l : Option (List ℕ)). AuditLogs extra job (start_over store folder begun) l ran) now_is
@@ -41,6 +46,7 @@ ends_as extra ran job {source} {store} {root} {folder} {first} {begun} {now} {la
     (subst (λ (t : Option Forest). AuditLogs extra job (start_over t root first) now ran) source_is ends)))
 
 -- so does what it says
-pub says_as : (ran : Result AuditCounts Fault) (job : own.Job) {source store root folder : Option Forest} → source ≡ store → root ≡ folder → IfErr ran (AuditSays job source root) → IfErr ran (AuditSays job store folder)
+pub says_as : (ran : Result AuditCounts Fault) (job : own.Job) {source store root folder : Option Forest} → source ≡ store → root ≡ folder
+    → IfErr ran (AuditSays job source root) → IfErr ran (AuditSays job store folder)
 says_as ran job {source} {store} {root} {folder} source_is root_is says =
     subst (λ (t : Option Forest). IfErr ran (AuditSays job store t)) root_is (subst (λ (t : Option Forest). IfErr ran (AuditSays job t root)) source_is says)

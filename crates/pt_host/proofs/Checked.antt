@@ -23,7 +23,8 @@ checks_as (Ok numbers) call a b {wants} {was = was} wants_are same untold unfail
     λ t is. (
       b,
       held_is,
-      subst (λ (s : Seen). Checks says_anything (wants_of call.options) t numbers s b) begun (subst (λ (w : Wants). Checks says_anything w t numbers a b) wants_are (checks t (same ∙ is))),
+      subst (λ (s : Seen). Checks says_anything (wants_of call.options) t numbers s b) begun
+          (subst (λ (w : Wants). Checks says_anything w t numbers a b) wants_are (checks t (same ∙ is))),
     )
 
 -- whichever fault it answers, it is one of a check

@@ -8,7 +8,8 @@ use Rattle.pt_host.specs.declared.event.EventFile.{EventFile}
 
 module _ {H : Type 0} (words : MachineWords H) (at : List ℕ × List ℕ) (makes : H → H → ℕ → Type 0) where
   -- an event that was begun, if one is wanted, what was made then, and its end are a record of it
-  pub recorded : (path : Option (List ℕ)) (event : Option EventFile) (old mid after new : H) (ran status : ℕ) → BeginsEvent words at path old mid (Ok event) → makes mid after ran → EndsEvent words event ran after new status
+  pub recorded : (path : Option (List ℕ)) (event : Option EventFile) (old mid after new : H) (ran status : ℕ) → BeginsEvent words at path old mid (Ok event)
+      → makes mid after ran → EndsEvent words event ran after new status
       → IsRecorded words at path makes old new status
   recorded None None old mid after new ran status (none, begun) made (ended, closed) =
       subst (λ (h : H). makes h new status) begun (subst (λ (h : H). makes mid h status) (sym closed) (subst (λ (n : ℕ). makes mid after n) (sym ended) made))
@@ -18,12 +19,14 @@ module _ {H : Type 0} (words : MachineWords H) (at : List ℕ × List ℕ) (make
       (Ok tt, mid, begun, (ran, after, made, subst (λ (p : List ℕ × List ℕ). EndsRecord words p ran after new status) paths ended))
 
   -- and one that couldn't begin is all
-  pub unbegun : (path : Option (List ℕ)) (why : EventFault) (old new : H) (status : ℕ) → BeginsEvent words at path old new (Err why) → status ≡ event_status why → IsRecorded words at path makes old new status
+  pub unbegun : (path : Option (List ℕ)) (why : EventFault) (old new : H) (status : ℕ) → BeginsEvent words at path old new (Err why) → status ≡ event_status why
+      → IsRecorded words at path makes old new status
   unbegun None why old new status (none, begun) is = absurd (cc)
   unbegun (Some path) why old new status begun is = (Err why, new, begun, (is, refl))
 
 -- an event whose file was made, at the paths that it has, is begun
-pub begun_event : {H : Type 0} (words : MachineWords H) (at : List ℕ × List ℕ) (path : Option (List ℕ)) (bytes : List ℕ) (file : EventFile) (p q : List ℕ) (old new : H) → path ≡ Some bytes → file.path ≡ bytes → file.part ≡ bytes ++ codes ".part"
+pub begun_event : {H : Type 0} (words : MachineWords H) (at : List ℕ × List ℕ) (path : Option (List ℕ)) (bytes : List ℕ) (file : EventFile) (p q : List ℕ)
+    (old new : H) → path ≡ Some bytes → file.path ≡ bytes → file.part ≡ bytes ++ codes ".part"
     → p ≡ file.path → q ≡ file.part → MakesEvent words at (p, q) old new (Ok tt) → BeginsEvent words at path old new (Ok (Some file))
 begun_event words at None bytes file p q old new given is-path is-part p-is q-is made = absurd (cc)
 begun_event words at (Some path) bytes file p q old new given is-path is-part p-is q-is made =

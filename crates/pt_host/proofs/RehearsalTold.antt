@@ -24,7 +24,8 @@ whole : (job : Job) (s : Forest) (t : Tree) (now : Writing) (old new : DeviceSta
 unfolding EndsWhole
 whole job s t now old new report first last m source dest plays began ended = m.ends s t now first last source dest plays began ended
 
-same_end : (allowed : AllowedLines) (line : Line) (r r' : Report) → End r.done r.present r.skipped ≡ line → End r'.done r'.present r'.skipped ≡ line → run_status allowed (Ok r) ≡ run_status allowed (Ok r')
+same_end : (allowed : AllowedLines) (line : Line) (r r' : Report) → End r.done r.present r.skipped ≡ line → End r'.done r'.present r'.skipped ≡ line
+    → run_status allowed (Ok r) ≡ run_status allowed (Ok r')
 same_end allowed line r r' is is' = λ i. if counted_unless allowed.present (present i) + counted_unless allowed.skips (skipped i) == 0 then 0 else 1
   where
     both : End r.done r.present r.skipped ≡ End r'.done r'.present r'.skipped
@@ -37,12 +38,15 @@ same_end allowed line r r' is is' = λ i. if counted_unless allowed.present (pre
     skipped = cc
 
 pub rehearsal_told : RehearsalTellsTheRun
-rehearsal_told job allowed s t was old new old' new' report report' now first last first' last' rehearsed run source source' dest played began ended began' ended' = by rehearsed.plays refl
+rehearsal_told job allowed s t was old new old' new' report report' now first last first' last' rehearsed run source source' dest played began ended began'
+    ended' = by rehearsed.plays refl
   where
-    by : (o : Option Writing) → rehearsed.plays ≡ o → ((told : List ℕ) × (last ≡ first ++ told) × (last' ≡ first' ++ told)) × (run_status allowed (Ok report) ≡ run_status allowed (Ok report'))
+    by : (o : Option Writing) → rehearsed.plays ≡ o → ((told : List ℕ) × (last ≡ first ++ told) × (last' ≡ first' ++ told))
+        × (run_status allowed (Ok report) ≡ run_status allowed (Ok report'))
     by None none = absurd (let tells = rehearsed.tells in let some : is_some {T = Writing} None ≡ true = ap is_some (sym none) ∙ tells in cc)
     by (Some plays) some =
-        let here = whole job s t plays (record old { dest = Some (record { tree = t; writing = None }) }) (record new { dest = rehearsed.plays }) report first last rehearsed.promises source refl some began ended in
+        let here = whole job s t plays (record old { dest = Some (record { tree = t; writing = None }) }) (record new { dest = rehearsed.plays }) report first
+        last rehearsed.promises source refl some began ended in
         let there = whole job s t now old' new' report' first' last' run.promises source' dest played began' ended' in
         let same = here.0.2.log ∙ sym there.0.2.log in (
           (here.0.0, here.0.1, there.0.1 ∙ ap (λ (l : List ℕ). first' ++ l) (sym same)),

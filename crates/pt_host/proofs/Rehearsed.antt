@@ -30,10 +30,12 @@ module _ {S F D : Type 0} {sys : OfSystem S F D} {handle : OfHandle F} {file : O
   -- a rehearsal tells at its end if it told at its start
   pub tells_still : (begun ended : Rehearsal S F D sys handle file dir) → SameFolder begun.dest ended.dest → is_some (told ended) ≡ is_some (told begun)
   tells_still begun ended stays =
-      over_told (told_by ended.dest) ended.played.steps ∙ ap is_some (told_still begun.dest ended.dest stays) ∙ sym (over_told (told_by begun.dest) begun.played.steps)
+      over_told (told_by ended.dest) ended.played.steps ∙ ap is_some (told_still begun.dest ended.dest stays)
+      ∙ sym (over_told (told_by begun.dest) begun.played.steps)
 
 -- what is left of a folder is left at the same path
-pub leaves_at : {S F : Type 0} (kept : S → List ℕ → Kept F) (rehearse : Bool) (was : Kept F) (system : S) {path path' : List ℕ} → path' ≡ path → LeavesKept rehearse was (kept system path') → LeavesKept rehearse was (kept system path)
+pub leaves_at : {S F : Type 0} (kept : S → List ℕ → Kept F) (rehearse : Bool) (was : Kept F) (system : S) {path path' : List ℕ} → path' ≡ path
+    → LeavesKept rehearse was (kept system path') → LeavesKept rehearse was (kept system path)
 leaves_at kept rehearse was system same leaves = rw same at leaves
 
 module _ (job : Job) (was : Option Writing) (s s' : Option Reading) (l l' : Option (List ℕ)) (sf sf' lf lf' : ℕ) (ran : Result Report Fault) where

@@ -26,7 +26,8 @@ made_length : (dest : List ℕ) (logical : Path) → is_logical logical ≡ true
 made_length dest [] is = absurd (cc)
 made_length dest (name ∷ path) is =
     let own = joined (name ∷ path) in
-    let whole : length (made_at dest (name ∷ path)) ≡ length dest + length (codes "/staging/v1/content/" ++ own) = length-append dest (codes "/staging/v1/content/" ++ own) in
+    let whole : length (made_at dest (name ∷ path)) ≡ length dest + length (codes "/staging/v1/content/" ++ own) = length-append dest
+    (codes "/staging/v1/content/" ++ own) in
     let front : length (codes "/staging/v1/content/" ++ own) ≡ 20 + length own = length-append (codes "/staging/v1/content/") own in
     omega (arith, whole, front)
 

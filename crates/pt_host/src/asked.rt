@@ -1,4 +1,5 @@
-//! What was asked for, a run or an audit: which lock that wants, what is told of it, and what its event records.
+//! What was asked for, a run or an audit: which lock that wants, what is told of it, and what its
+//! event records.
 ghost use Rattle.std.specs.Prelude.{◌≡◌, ◌⊎◌, Ok, None, option_map};
 ghost use Rattle.std.specs.Option.{IsSome};
 ghost use Rattle.pt_host.specs.Asked.{claim_of, event_of, list_of};
@@ -40,7 +41,8 @@ impl Asked {
         }
     }
 
-    /// What it is to meet of a list of identifiers, where it has one. An error where that can't be had.
+    /// What it is to meet of a list of identifiers, where it has one. An error where that can't be
+    /// had.
     pub(crate) fn sought_identifiers(&self) -> Result<Option<SoughtIdentifiers>, AllocError>
         ensures { IsSome (list_of self.now) ⊎ (result ≡ Ok None) }
     {
@@ -67,8 +69,8 @@ impl Asked {
         }
     }
 
-    /// Every option by its name, with what it says or means where it isn't given; one that has nothing to say is left out. An error where
-    /// a growth was refused.
+    /// Every option by its name, with what it says or means where it isn't given; one that has
+    /// nothing to say is left out. An error where a growth was refused.
     pub(crate) fn options(&self, alloc: Global) -> Result<Members, AllocError> {
         match self {
             Asked::Run(options) => options_of_run(alloc, options),

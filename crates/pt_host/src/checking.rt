@@ -17,11 +17,12 @@ use pt_tree::{Ignoring, ListsNamed, MemoryFault, NamePath, Source, TreeFault};
 use std::alloc::{AllocGlobal, Global};
 use std::io::Write;
 
-/// Checks the store in a folder on a machine, and gives the exit status: 0 nothing was told; 1 the output has lines that tell of something;
-/// 3 a fault, of which standard error tells.
+/// Checks the store in a folder on a machine, and gives the exit status: 0 nothing was told; 1 the
+/// output has lines that tell of something; 3 a fault, of which standard error tells.
 ///
-/// The machine is asked for no lock and no file. What it lends is given back, that of a destination as it was. What the source fails at is
-/// told on the output, and passed; so a fault is the output's, or want of memory.
+/// The machine is asked for no lock and no file. What it lends is given back, that of a destination
+/// as it was. What the source fails at is told on the output, and passed; so a fault is the
+/// output's, or want of memory.
 pub fn check_store<R, H: Host>(rt: &R, host: &mut H, options: CheckOptions, store: &str) -> u8
 where
     R: Eprint + AllocGlobal,
@@ -121,8 +122,8 @@ impl<'a, S: System> Explains<Ignoring<HostSource<'a, S>>> for LastFailure {
         }
     }
 
-    // A folder that can't be listed since bytes in it are no name is listed without them, and each such one is a reason. Where that fails
-    // too, why is one more.
+    // A folder that can't be listed since bytes in it are no name is listed without them, and each
+    // such one is a reason. Where that fails too, why is one more.
     fn explain_listing(
         &self,
         alloc: Global,
@@ -168,8 +169,8 @@ fn is_for_name(failure: Option<&Failure>) -> bool
     }
 }
 
-// The first reason and the further ones for which a folder couldn't be listed in which these bytes are no names: each of them is one, and
-// this reason alone where there are none.
+// The first reason and the further ones for which a folder couldn't be listed in which these bytes
+// are no names: each of them is one, and this reason alone where there are none.
 fn reasons_of(
     alloc: Global,
     reason: String,
@@ -196,8 +197,8 @@ fn reason_of(alloc: Global, failure: &Failure) -> Result<String, MemoryFault> {
     }
 }
 
-// A cause, and behind it bytes that are no name: each that is no printable character of ASCII is escaped, as `\xe9`, and `\`, `'` and `"` get
-// a `\` in front.
+// A cause, and behind it bytes that are no name: each that is no printable character of ASCII is
+// escaped, as `\xe9`, and `\`, `'` and `"` get a `\` in front.
 fn reason_for(alloc: Global, cause: FailureReason, name: &[u8]) -> Result<String, MemoryFault> {
     Ok(format!(in alloc; "{cause}: {}", name.escape_ascii())?)
 }

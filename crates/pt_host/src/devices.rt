@@ -13,7 +13,8 @@ use pt_tree::{Ignored, Ignoring};
 use std::alloc::Global;
 use std::io::Write;
 
-/// What devices are made of: what a machine lends, and the file that the log goes to, where that is to be put onto its disk.
+/// What devices are made of: what a machine lends, and the file that the log goes to, where that is
+/// to be put onto its disk.
 #[derive(Drop)]
 pub(crate) struct Lent<S, D, W, F> {
     pub host_io: HostIo<S, D, W>,
@@ -31,8 +32,9 @@ pub(crate) struct RunDevices<'a, S: System, D: System, W: Write, F: SyncsOutput<
     pub log: DurableLog<W, F>,
 }
 
-/// The devices of a run over these, from a store to a folder. Paths for which there is no room at the longest place are refused; and files
-/// are put onto the disk where the options say so, as the log is where its file is given.
+/// The devices of a run over these, from a store to a folder. Paths for which there is no room at
+/// the longest place are refused; and files are put onto the disk where the options say so, as the
+/// log is where its file is given.
 pub(crate) fn open_devices<'a, S: System, D: System, W: Write, F: SyncsOutput<W> + Drop>(
     alloc: Global,
     lent: Lent<S, D, W, F>,
@@ -69,7 +71,8 @@ pub(crate) struct Sides<'a, S: System, D: System, W: Write, F: SyncsOutput<W> + 
     pub log: DurableLog<W, F>,
 }
 
-/// The sides of an audit over these, of a store and of the root in a folder. The entries of the store that have these names are left out.
+/// The sides of an audit over these, of a store and of the root in a folder. The entries of the
+/// store that have these names are left out.
 pub(crate) fn both_sides<'a, S: System, D: System, W: Write, F: SyncsOutput<W> + Drop>(
     alloc: Global,
     lent: Lent<S, D, W, F>,

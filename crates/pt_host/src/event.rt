@@ -1,4 +1,5 @@
-//! The file in which a run or an audit is recorded as an event: made before it, and replaced after it.
+//! The file in which a run or an audit is recorded as an event: made before it, and replaced after
+//! it.
 ghost use Rattle.std.specs.Prelude.{◌≡◌, ◌++◌, Err, IfOk, codes, option_map};
 ghost use Rattle.pt_host.specs.Events.{BeginsEvent, EndsEvent, EndsFile, MakesEvent, MakesNew};
 ghost use Rattle.pt_host.specs.Events.{MakesBy, MakesUnlessLeft, MovesOver, Replaces, event_status};
@@ -50,7 +51,8 @@ pub enum EventFault {
     /// Something stands at this path of it.
     #[error("FILE of --event stands already, or FILE.part does")]
     Stands(EventPath),
-    /// The system can't tell what stands at its path with `.part` behind it, as where that has too long a name.
+    /// The system can't tell what stands at its path with `.part` behind it, as where that has too
+    /// long a name.
     #[error("FILE.part of --event cannot be looked at")]
     Unseen(io::Error),
     /// It can't be written at this path, or moved there.
@@ -73,7 +75,8 @@ impl EventFault {
         }
     }
 
-    // Its text, and behind that, where it has these, the path that it speaks of and the system's reason. An error where a growth was refused.
+    // Its text, and behind that, where it has these, the path that it speaks of and the system's
+    // reason. An error where a growth was refused.
     fn text_with_path(&self, alloc: Global, file: &str) -> Result<String, AllocError> {
         let file = escape(alloc, file)?;
         match self {
@@ -120,7 +123,8 @@ impl From<FileFault> for EventFault {
     }
 }
 
-/// An event whose file was made: the file's path, that of what is to replace it, its text as it was made, and what is recorded.
+/// An event whose file was made: the file's path, that of what is to replace it, its text as it was
+/// made, and what is recorded.
 #[derive(Drop)]
 pub(crate) struct EventFile {
     path: Text,
@@ -130,7 +134,8 @@ pub(crate) struct EventFile {
 }
 
 impl EventFile {
-    // The file of what is asked for between two folders, as it begins; nothing is made. `Memory` where a growth was refused.
+    // The file of what is asked for between two folders, as it begins; nothing is made. `Memory`
+    // where a growth was refused.
     fn of<R: Reads + Clock + AllocGlobal>(
         rt: &R,
         path: &str,
@@ -201,7 +206,8 @@ impl<'a> EventPaths<'a> {
         }
     }
 
-    // The same where the look for what is to replace it gave this error: it is made where that says that nothing stands there.
+    // The same where the look for what is to replace it gave this error: it is made where that says
+    // that nothing stands there.
     fn make_by<H: Host>(self, host: &mut H, text: &str, error: io::Error) -> Result<(), EventFault>
         ensures { MakesBy ⟦<H as Machine>⟧.words self.entry.file.now (Err error)
             host.old host.new result }
@@ -269,12 +275,14 @@ fn move_over<H: Host>(host: &mut H, from: &str, to: &str) -> Result<(), EventFau
     }
 }
 
-/// Begins the event of what is asked for between a store and a destination, where a file is named for it: makes the file, with what is known as
-/// the run or the audit begins.
+/// Begins the event of what is asked for between a store and a destination, where a file is named
+/// for it: makes the file, with what is known as the run or the audit begins.
 ///
-/// `Memory` where a growth was refused: of a text, before anything is asked, or by the system. `Place` as of `judge_file`; then `Stands`, where
-/// something stands at the path with `.part` behind it, also a link that leads nowhere, or at the file's; `Unseen`, where the system can't tell what
-/// stands at the first; and `Unwritten`, where the file can't be made or written, of which a part may then be left.
+/// `Memory` where a growth was refused: of a text, before anything is asked, or by the system.
+/// `Place` as of `judge_file`; then `Stands`, where something stands at the path with `.part`
+/// behind it, also a link that leads nowhere, or at the file's; `Unseen`, where the system can't
+/// tell what stands at the first; and `Unwritten`, where the file can't be made or written, of
+/// which a part may then be left.
 pub(crate) fn begin_event<R, H: Host>(
     rt: &R,
     host: &mut H,
@@ -296,8 +304,8 @@ where
     Ok(Some(file))
 }
 
-/// Ends an event, where one was begun, with the status and the outcome of what it records, and gives the status: that, or 3 where the end can't
-/// be recorded, of which standard error is told.
+/// Ends an event, where one was begun, with the status and the outcome of what it records, and
+/// gives the status: that, or 3 where the end can't be recorded, of which standard error is told.
 pub(crate) fn end_event<R: Clock + Eprint + AllocGlobal, H: Host>(
     rt: &R,
     host: &mut H,
@@ -339,7 +347,8 @@ fn end_unrecorded<R: Eprint + AllocGlobal>(rt: &R, fault: &EventFault, file: &st
     }
 }
 
-// Says why an event isn't recorded in this file, behind a text. Where there is no memory for the path it isn't told.
+// Says why an event isn't recorded in this file, behind a text. Where there is no memory for the
+// path it isn't told.
 fn tell<R: Eprint + AllocGlobal>(rt: &R, front: &str, fault: &EventFault, file: &str) {
     let _ = match fault.text_with_path(rt.alloc(), file) {
         Ok(text) => eprintln!(rt; "pairtree2ocfl: {front}{text}"),

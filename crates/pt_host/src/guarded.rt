@@ -1,4 +1,5 @@
-//! What is alike in a run and an audit on a machine: the guard before it, with its lock, and the event that records it.
+//! What is alike in a run and an audit on a machine: the guard before it, with its lock, and the
+//! event that records it.
 ghost use Rattle.pt_guard.specs.Guard.{Begins};
 ghost use Rattle.pt_host.specs.Asked.{Makes, MakesAlone, MakesGuarded, Records, claim_of};
 ghost use Rattle.pt_messages.specs.Expected.{AsksEnd};
@@ -18,7 +19,8 @@ use std::alloc::AllocGlobal;
 use std::io;
 use std::rt::Clock;
 
-/// Makes what is asked for between two folders, where the guard lets it begin, and gives the exit status.
+/// Makes what is asked for between two folders, where the guard lets it begin, and gives the exit
+/// status.
 pub(crate) fn make_guarded<R, H: Host>(
     rt: &R,
     host: &mut H,
@@ -41,8 +43,9 @@ where
     }
 }
 
-// Asks the guard whether it may begin, with the lock that it asks for. Where it may, and that is wanted, standard error is told of a prefix that reads
-// otherwise than it looks, and of a destination that can't be locked.
+// Asks the guard whether it may begin, with the lock that it asks for. Where it may, and that is
+// wanted, standard error is told of a prefix that reads otherwise than it looks, and of a
+// destination that can't be locked.
 fn check_guard<R: Reads + Eprint + AllocGlobal, H: Host>(
     rt: &R,
     host: &mut H,

@@ -25,18 +25,21 @@ use std::alloc::{AllocError, AllocGlobal};
 use std::io::Write;
 use std::rt::Clock;
 
-/// Holds the root in a destination against a store on a machine, and gives the exit status: 0 each object stands as a run makes
-/// it, and, where extras are told too, the log has no line of these; 1 the log has lines that tell of others, or no object was met of
-/// an identifier of the list; 2 the folders lie in one another, or it isn't known where, or the destination is a storage root itself; 3 a
-/// fault, or a run holds the destination. Standard error tells of 2 and 3, and of these identifiers.
+/// Holds the root in a destination against a store on a machine, and gives the exit status: 0 each
+/// object stands as a run makes it, and, where extras are told too, the log has no line of these; 1
+/// the log has lines that tell of others, or no object was met of an identifier of the list; 2 the
+/// folders lie in one another, or it isn't known where, or the destination is a storage root
+/// itself; 3 a fault, or a run holds the destination. Standard error tells of 2 and 3, and of these
+/// identifiers.
 ///
-/// The guard is asked first, and for a lock that other audits may share. Where the audit may begin it is made over what the machine
-/// lends, which is given back then; and at last the lock is given back. Where it ends well the output has got its log, of both folders
-/// as their systems keep them.
-/// Nothing is made or changed in either folder. Where a file is named for its event, that is made and replaced as of a run.
+/// The guard is asked first, and for a lock that other audits may share. Where the audit may begin
+/// it is made over what the machine lends, which is given back then; and at last the lock is given
+/// back. Where it ends well the output has got its log, of both folders as their systems keep them.
+/// Nothing is made or changed in either folder. Where a file is named for its event, that is made
+/// and replaced as of a run.
 ///
-/// Skip lines count as others, unless the options say that they are well. The log that is expected to be as long may be one of a
-/// rehearsal, a run or an audit.
+/// Skip lines count as others, unless the options say that they are well. The log that is expected
+/// to be as long may be one of a rehearsal, a run or an audit.
 pub fn audit_guarded<R, H: Host>(
     rt: &R,
     host: &mut H,
@@ -82,7 +85,8 @@ where
     Ending { status, outcome }
 }
 
-// Holds the root in a folder against a store, watched as that is wanted, and tells standard error of a fault.
+// Holds the root in a folder against a store, watched as that is wanted, and tells standard error
+// of a fault.
 fn compare<R, S: System, D: System, W: Write, F: SyncsOutput<W> + Drop>(
     rt: &R,
     lent: Lent<S, D, W, F>,
@@ -154,7 +158,8 @@ struct AuditSides<'r, 'a, S: System, D: System> {
     folders: Folders<'r>,
 }
 
-// Says what an audit came to, if a fault ended it, and why, if that is asked for or is at the top of a folder; and gives why.
+// Says what an audit came to, if a fault ended it, and why, if that is asked for or is at the top
+// of a folder; and gives why.
 fn report_outcome<R: Reads + Eprint + AllocGlobal, S: System, D: System>(
     rt: &R,
     ran: &Result<AuditCounts, Fault>,

@@ -18,15 +18,18 @@ use std::io;
 use std::io::ErrorKind;
 use std::rt::Clock;
 
-/// Carries a store into a destination on a machine, or rehearses that, and gives the exit status: 0 all was carried; 1 the log has lines
-/// that tell of what was not, or no object was met of an identifier of the list; 2 the folders lie in one another, or it isn't known where,
-/// or the destination is a storage root itself; 3 a fault, or another run or an audit holds the destination. Standard error tells of 2 and
-/// 3, and of these identifiers.
+/// Carries a store into a destination on a machine, or rehearses that, and gives the exit status: 0
+/// all was carried; 1 the log has lines that tell of what was not, or no object was met of an
+/// identifier of the list; 2 the folders lie in one another, or it isn't known where, or the
+/// destination is a storage root itself; 3 a fault, or another run or an audit holds the
+/// destination. Standard error tells of 2 and 3, and of these identifiers.
 ///
-/// The guard is asked first, and the lock for this run alone. Where the run may begin, the log that is expected to be as long
-/// is looked at, if one is named, and the run is made over what the machine lends, which is given back then; and at last the lock
-/// is given back. Where a file is named for its event, that is made once the lock is held, before all else, and replaced before the lock is
-/// given back; where it can't begin no run is made: 2 where the file may not lie there or stands, else 3. Where its end can't be recorded: 3.
+/// The guard is asked first, and the lock for this run alone. Where the run may begin, the log that
+/// is expected to be as long is looked at, if one is named, and the run is made over what the
+/// machine lends, which is given back then; and at last the lock is given back. Where a file is
+/// named for its event, that is made once the lock is held, before all else, and replaced before
+/// the lock is given back; where it can't begin no run is made: 2 where the file may not lie there
+/// or stands, else 3. Where its end can't be recorded: 3.
 pub fn run_guarded<R, H: Host>(
     rt: &R,
     host: &mut H,
@@ -86,8 +89,8 @@ fn end_unsynced(rt: &impl Eprint) -> Ending
     }
 }
 
-// The file that the machine's output goes to, where there is one and it is to be put onto its disk. Where that can't be had it is told; an
-// error where it fails.
+// The file that the machine's output goes to, where there is one and it is to be put onto its disk.
+// Where that can't be had it is told; an error where it fails.
 fn synced_output<R: Eprint, H: Host>(
     rt: &R,
     host: &mut H,

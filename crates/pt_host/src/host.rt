@@ -1,5 +1,5 @@
-//! The machine that a run is made on. One ghost word says of each call what it may come to, so that a contract over it says which
-//! calls are made, in which order, and what becomes of their answers.
+//! The machine that a run is made on. One ghost word says of each call what it may come to, so that
+//! a contract over it says which calls are made, in which order, and what becomes of their answers.
 ghost use Rattle.std.specs.Prelude.{⊤};
 ghost use Rattle.pt_host.specs.HostCall.{HostCall, Lend, MakeFile, MoveFile, OpenOutput, TakeBack};
 ghost use Rattle.pt_host.specs.declared.host.HostIo.{HostIo};
@@ -17,7 +17,8 @@ use std::rt::Files;
 // Where the system shows a program its own standard output.
 const OUTPUT: &str = "/dev/stdout";
 
-/// What a run is made over: the system that keeps the store, the one that keeps the destination, and what takes the log.
+/// What a run is made over: the system that keeps the store, the one that keeps the destination,
+/// and what takes the log.
 #[derive(Drop)]
 pub struct HostIo<S, D, W> {
     /// The system that keeps the store.
@@ -42,7 +43,8 @@ pub trait Host: Places {
     ghost does: { Self → HostCall Self.File (HostIo Self.Store Self.Folder Self.Output) → Self
         → Type 0 };
 
-    /// The file that its output goes to, opened once more; nothing where it goes to what isn't a file, as a terminal or a pipe.
+    /// The file that its output goes to, opened once more; nothing where it goes to what isn't a
+    /// file, as a terminal or a pipe.
     fn output_file(&mut self) -> io::Result<Option<Self::File>>
         ensures { does self.old (OpenOutput result) self.new };
 
@@ -54,18 +56,20 @@ pub trait Host: Places {
     fn take_back(&mut self, host_io: HostIo<Self::Store, Self::Folder, Self::Output>)
         ensures { does self.old (TakeBack host_io) self.new };
 
-    /// Makes a file at a path where nothing stands, not even a link, with this text, and has it put onto the disk. Nothing else is made or
-    /// changed; where it fails a part of the file may be left.
+    /// Makes a file at a path where nothing stands, not even a link, with this text, and has it put
+    /// onto the disk. Nothing else is made or changed; where it fails a part of the file may be
+    /// left.
     fn create_new(&mut self, path: &str, text: &str) -> io::Result<()>
         ensures { does self.old (MakeFile path.now text.now result) self.new };
 
-    /// Renames the file at a path to another, and so replaces what stands there. Nothing else is made or changed.
+    /// Renames the file at a path to another, and so replaces what stands there. Nothing else is
+    /// made or changed.
     fn move_file(&mut self, from: &str, to: &str) -> io::Result<()>
         ensures { does self.old (MoveFile from.now to.now result) self.new };
 }
 
-/// A file that standard output goes to, opened once more. Having one opening of a file put onto its disk does that for what was written
-/// through any other.
+/// A file that standard output goes to, opened once more. Having one opening of a file put onto its
+/// disk does that for what was written through any other.
 #[derive(Drop)]
 pub struct OutputFile<F>(pub F);
 

@@ -20,8 +20,9 @@ pub trait Syncs {
         ensures synced { syncs self.old result self.new };
 }
 
-/// What can have all that a writer has written put onto its disk: each thing that syncs, for any writer to its output. What is proved
-/// over these holds whatever `puts` means, and so says behind which writing a sync came.
+/// What can have all that a writer has written put onto its disk: each thing that syncs, for any
+/// writer to its output. What is proved over these holds whatever `puts` means, and so says behind
+/// which writing a sync came.
 pub trait SyncsOutput<W: Write>: Syncs {
     /// Having all that this writer has written put onto the disk may answer so, and leave it so.
     ghost puts: { Self → W → Result (Unit {0}) Error → Self → Type 0 };
@@ -85,7 +86,8 @@ impl<W: Write, F: SyncsOutput<W> + Drop> Log for DurableLog<W, F> {
 
     ghost failed = { λ l. l.failures };
 
-    // Where its output is put onto the disk it goes on to be; and unless it failed all of it is there, once something was put.
+    // Where its output is put onto the disk it goes on to be; and unless it failed all of it is
+    // there, once something was put.
     ghost keeps = { LogStays F.puts };
 
     ghost is_kept = { stays_itself F.puts };

@@ -4,8 +4,9 @@ ghost use Rattle.pt_host.specs.Served.{Serves};
 
 use crate::{Host, SyncsOutput};
 
-/// A machine by all its words: those of its own calls, and those of what it lends. Each host is one, and this alone is where
-/// it gets them, so that `⟦<H as Machine>⟧.words` in a contract is the words of `H`, whatever `H` is.
+/// A machine by all its words: those of its own calls, and those of what it lends. Each host is
+/// one, and this alone is where it gets them, so that `⟦<H as Machine>⟧.words` in a contract is the
+/// words of `H`, whatever `H` is.
 pub trait Machine: Host {
     /// All of them.
     ghost words: { MachineWords Self };

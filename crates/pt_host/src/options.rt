@@ -1,4 +1,5 @@
-//! What the options of a run, an audit and a check say, whoever asks for one: the command line, a test, or a program of its own.
+//! What the options of a run, an audit and a check say, whoever asks for one: the command line, a
+//! test, or a program of its own.
 ghost use Rattle.std.specs.Prelude.{◌≡◌, is_some, option_map};
 
 use crate::Text;
@@ -14,7 +15,8 @@ pub struct RunOptions {
     pub job: Job,
     /// The names of the entries of the store that are left out.
     pub ignored: Ignored,
-    /// Whether files are put onto the disk before they are closed, and each line of the log as it is written.
+    /// Whether files are put onto the disk before they are closed, and each line of the log as it
+    /// is written.
     pub sync: bool,
     /// Whether it is rehearsed only: nothing is made or changed.
     pub rehearse: bool,
@@ -55,13 +57,15 @@ pub struct CheckOptions {
     pub reads: bool,
     /// The names of the entries of the store that are left out.
     pub ignored: Ignored,
-    /// The path of the folder in which a run would make the root, if one is named. Nothing of it is looked at.
+    /// The path of the folder in which a run would make the root, if one is named. Nothing of it is
+    /// looked at.
     pub dest: Option<Text>,
     /// How the places in a destination would be cut, whether one is named or not.
     pub layout: Layout,
 }
 
-/// What is told of a run or an audit beside its log: what standard error shows, and the file of its event.
+/// What is told of a run or an audit beside its log: what standard error shows, and the file of its
+/// event.
 #[derive(Debug, Drop)]
 pub struct Feedback {
     /// Whether the reason of a fault is told too, and a summary at the end.
@@ -78,7 +82,8 @@ pub struct Feedback {
     pub event: Option<Text>,
 }
 
-// What is wanted of a fault's reason: that it is told, wherever the fault came, and that it is recorded in an event.
+// What is wanted of a fault's reason: that it is told, wherever the fault came, and that it is
+// recorded in an event.
 #[derive(Clone, Copy)]
 pub(crate) struct Telling {
     pub verbose: bool,
@@ -116,7 +121,8 @@ impl Feedback {
         }
     }
 
-    // How what has this feedback is watched: its log has lines of this kind, and so many, where that is known.
+    // How what has this feedback is watched: its log has lines of this kind, and so many, where
+    // that is known.
     pub(crate) fn watching(&self, words: Words, expected: Option<u64>) -> Watching
         ensures { result ≡ record {
           when = self.now.progress;

@@ -44,8 +44,9 @@ pub(crate) struct Ending {
     pub outcome: Outcome,
 }
 
-/// Makes the run that is asked for over its devices, or rehearses it, watched as its options say, and tells standard error of a fault.
-/// `expected` is how many lines its log may come to, where that is known, and `folders` has the paths that are told.
+/// Makes the run that is asked for over its devices, or rehearses it, watched as its options say,
+/// and tells standard error of a fault. `expected` is how many lines its log may come to, where
+/// that is known, and `folders` has the paths that are told.
 pub(crate) fn run<R, S: System, D: System, W: Write, F: SyncsOutput<W> + Drop>(
     rt: &R,
     devices: RunDevices<'_, S, D, W, F>,
@@ -114,7 +115,8 @@ where
     }
 }
 
-// What a run has to do: its job, whether it is only rehearsed, and what is told after each turn how far it is.
+// What a run has to do: its job, whether it is only rehearsed, and what is told after each turn how
+// far it is.
 struct Task<'t> {
     job: Job,
     rehearse: bool,
@@ -172,7 +174,8 @@ struct RunSides<'r, 'a, S: System, D: System> {
     folders: Folders<'r>,
 }
 
-// Says what a run over these folders came to, if a fault ended it, and why, if that is asked for or is at the top of one; and gives why.
+// Says what a run over these folders came to, if a fault ended it, and why, if that is asked for or
+// is at the top of one; and gives why.
 fn report_outcome<R: Reads + Eprint + AllocGlobal, S: System, D: System>(
     rt: &R,
     ran: &Result<Report, Fault>,

@@ -1,4 +1,5 @@
-//! What standard error is told of a list's identifiers of which no object was met, and the status of that.
+//! What standard error is told of a list's identifiers of which no object was met, and the status
+//! of that.
 ghost use Rattle.std.specs.Prelude.{◌≡◌, ◌⊎◌, None, Ok, false};
 
 use crate::status::{DONE, INCOMPLETE};
@@ -6,8 +7,8 @@ use pt_messages::escape;
 use pt_name::SoughtIdentifiers;
 use std::alloc::{AllocError, AllocGlobal};
 
-/// The status of a run or an audit that ended with this one: 1 in place of 0, where it ended well and no object was met of an identifier of
-/// its list. Standard error is told of each.
+/// The status of a run or an audit that ended with this one: 1 in place of 0, where it ended well
+/// and no object was met of an identifier of its list. Standard error is told of each.
 pub(crate) fn end_with_unmet<R: Eprint + AllocGlobal>(
     rt: &R,
     sought: &Result<Option<SoughtIdentifiers>, AllocError>,
@@ -25,7 +26,8 @@ pub(crate) fn end_with_unmet<R: Eprint + AllocGlobal>(
     status
 }
 
-// Tells of the identifiers of which no object was met, and whether there are some. Where that can't be known it is told, as if there were.
+// Tells of the identifiers of which no object was met, and whether there are some. Where that can't
+// be known it is told, as if there were.
 fn tells_unmet<R: Eprint + AllocGlobal>(
     rt: &R,
     sought: &Result<Option<SoughtIdentifiers>, AllocError>,
@@ -56,7 +58,8 @@ fn tells_each<R: Eprint + AllocGlobal>(rt: &R, sought: &SoughtIdentifiers) -> bo
     some
 }
 
-// Tells of an identifier of which no object was met. Where there is no memory for its text as that may be shown, the line says so.
+// Tells of an identifier of which no object was met. Where there is no memory for its text as that
+// may be shown, the line says so.
 fn tell<R: Eprint + AllocGlobal>(rt: &R, id: &str) {
     let _ = match escape(rt.alloc(), id) {
         Ok(id) => eprintln!(rt; "pairtree2ocfl: no object was met: {id}"),

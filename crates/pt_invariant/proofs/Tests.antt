@@ -31,13 +31,15 @@ pub all_true : {X : Type 0} → (test : X → Bool) → ((x : X) → test x ≡ 
 all_true test each [] = refl
 all_true test each (x ∷ xs) = and_from (test x) (list_all test xs) (each x) (all_true test each xs)
 
-pub all_then : {X : Type 0} → (test other : X → Bool) → ((x : X) → test x ≡ true → other x ≡ true) → (xs : List X) → list_all test xs ≡ true → list_all other xs ≡ true
+pub all_then : {X : Type 0} → (test other : X → Bool) → ((x : X) → test x ≡ true → other x ≡ true) → (xs : List X) → list_all test xs ≡ true
+    → list_all other xs ≡ true
 all_then test other each [] h = refl
 all_then test other each (x ∷ xs) h =
     let parts = and_parts (test x) (list_all test xs) h in
     and_from (other x) (list_all other xs) (each x parts.0) (all_then test other each xs parts.1)
 
-pub all_both : {X : Type 0} → (one two both : X → Bool) → ((x : X) → one x ≡ true → two x ≡ true → both x ≡ true) → (xs : List X) → list_all one xs ≡ true → list_all two xs ≡ true → list_all both xs ≡ true
+pub all_both : {X : Type 0} → (one two both : X → Bool) → ((x : X) → one x ≡ true → two x ≡ true → both x ≡ true) → (xs : List X) → list_all one xs ≡ true
+    → list_all two xs ≡ true → list_all both xs ≡ true
 all_both one two both each [] h g = refl
 all_both one two both each (x ∷ xs) h g =
     let first = and_parts (one x) (list_all one xs) h in

@@ -1,5 +1,30 @@
 -- What of an object is made in `staging` before each of its parts, and that a run stands where the next content may be made.
-use Rattle.std.specs.Prelude.{◌≡◌, ◌<◌, ◌≤◌, ℕ, ◌+◌, Bool, true, codes, List, [], ◌∷◌, ◌++◌, drop, filter, is_some, length, map, not, Option, None, Some, slice_get, take, ⊤}
+use Rattle.std.specs.Prelude.{
+  ◌≡◌,
+  ◌<◌,
+  ◌≤◌,
+  ℕ,
+  ◌+◌,
+  Bool,
+  true,
+  codes,
+  List,
+  [],
+  ◌∷◌,
+  ◌++◌,
+  drop,
+  filter,
+  is_some,
+  length,
+  map,
+  not,
+  Option,
+  None,
+  Some,
+  slice_get,
+  take,
+  ⊤,
+}
 use Rattle.std.specs.List.{list_all, list_any}
 use Rattle.pt_object.specs.Distinct.{distinct}
 use Rattle.pt_object.specs.FilePaths.{File}

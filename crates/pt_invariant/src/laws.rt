@@ -1,7 +1,7 @@
 //! Laws on a run in progress. Each is the contract of a function that does nothing.
 //!
-//! The turns are those of the start, of the walk, of the scan of an object, those that make one, and those of placing, which bring it to its place
-//! and tell of it and of the end.
+//! The turns are those of the start, of the walk, of the scan of an object, those that make one,
+//! and those of placing, which bring it to its place and tell of it and of the end.
 ghost use Rattle.pt_invariant.specs.InvariantLaws.{InvariantEnables, NewRunHoldsInvariant, TurnEndsInvariant, TurnKeepsInvariant};
 ghost use Rattle.pt_invariant.specs.BoundLaws.{HaltedIsWithinBound, TurnIsWithinBound};
 ghost use Rattle.pt_invariant.specs.DestLaws.{MakingKeepsDest, PlacingKeepsDest, ScanningKeepsDest, StartingKeepsDest, WalkingKeepsDest};
@@ -30,19 +30,21 @@ pub fn turn_keeps_invariant()
     ensures { TurnKeepsInvariant }
 {}
 
-/// A turn that halts the run leaves it ended, and what is left in a destination that tells may be kept.
+/// A turn that halts the run leaves it ended, and what is left in a destination that tells may be
+/// kept.
 pub fn turn_ends_invariant()
     ensures { TurnEndsInvariant }
 {}
 
-/// After the turn that ends a run, where all devices tell, the start was a good one, the destination holds the root with all objects that are carried
-/// and is as it was elsewhere, the log has got all lines, and the counts are the end line's.
+/// After the turn that ends a run, where all devices tell, the start was a good one, the
+/// destination holds the root with all objects that are carried and is as it was elsewhere, the log
+/// has got all lines, and the counts are the end line's.
 pub fn ends_well()
     ensures { EndsWell }
 {}
 
-/// And the state of the version of each object that is carried is its files, where no two of them whose bytes differ have one
-/// digest (OCFL 1.1, "Version Block").
+/// And the state of the version of each object that is carried is its files, where no two of them
+/// whose bytes differ have one digest (OCFL 1.1, "Version Block").
 pub fn ends_with_states()
     ensures { EndsWithStates }
 {}
@@ -62,17 +64,20 @@ pub fn turn_is_within_bound()
     ensures { TurnIsWithinBound }
 {}
 
-/// From a good start, where no device fails, a turn halts a run for want of memory alone, where source and destination tell.
+/// From a good start, where no device fails, a turn halts a run for want of memory alone, where
+/// source and destination tell.
 pub fn nothing_is_refused()
     ensures { NothingIsRefused }
 {}
 
-/// Where the source tells, it is refused as no pairtree or for its prefix only where that is so, and never as changed.
+/// Where the source tells, it is refused as no pairtree or for its prefix only where that is so,
+/// and never as changed.
 pub fn refuses_rightly()
     ensures { RefusesRightly }
 {}
 
-/// Where the destination tells, a run halts for what stands at `staging` only where something stood there at the start.
+/// Where the destination tells, a run halts for what stands at `staging` only where something stood
+/// there at the start.
 pub fn finds_staging()
     ensures { FindsStaging }
 {}
@@ -152,8 +157,8 @@ pub fn placing_keeps_held()
     ensures { PlacingKeepsHeld }
 {}
 
-/// The turns of the start keep what holds of the items that are done, of the counts and of the log, where the devices tell
-/// these.
+/// The turns of the start keep what holds of the items that are done, of the counts and of the log,
+/// where the devices tell these.
 pub fn starting_keeps_items()
     ensures { StartingKeepsItems }
 {}
@@ -178,7 +183,8 @@ pub fn placing_keeps_items()
     ensures { PlacingKeepsItems }
 {}
 
-/// Between any two turns, where all devices tell, the destination and the log are such as a fault may leave of the source.
+/// Between any two turns, where all devices tell, the destination and the log are such as a fault
+/// may leave of the source.
 pub fn stops_leave()
     ensures { StopsLeave }
 {}
@@ -188,8 +194,9 @@ pub fn halts_leave()
     ensures { HaltsLeave }
 {}
 
-/// Where the destination tells, a run halts for it only where nothing stood at `staging` and its root can't be gone on with: it is no folder, or has
-/// other files than the layout's, or something is in the way to an object's place.
+/// Where the destination tells, a run halts for it only where nothing stood at `staging` and its
+/// root can't be gone on with: it is no folder, or has other files than the layout's, or something
+/// is in the way to an object's place.
 pub fn finds_target()
     ensures { FindsTarget }
 {}
@@ -199,7 +206,8 @@ pub fn finds_target_of()
     ensures { FindsTargetOf }
 {}
 
-/// After a halt for what the source is, or for what stands at `staging`, a destination that tells is as it was at the start.
+/// After a halt for what the source is, or for what stands at `staging`, a destination that tells
+/// is as it was at the start.
 pub fn early_leaves_dest()
     ensures { EarlyLeavesDest }
 {}
@@ -209,8 +217,9 @@ pub fn early_leaves_log()
     ensures { EarlyLeavesLog }
 {}
 
-/// In whatever a run leaves of a destination that tells, what stood at the start stands with what it held, and what is new stands at `ocfl` or below
-/// it, or, if nothing stood at `staging`, there or below it.
+/// In whatever a run leaves of a destination that tells, what stood at the start stands with what
+/// it held, and what is new stands at `ocfl` or below it, or, if nothing stood at `staging`, there
+/// or below it.
 pub fn left_behind_stands_still()
     ensures { LeftBehindStandsStill }
 {}
@@ -225,7 +234,8 @@ pub fn bad_target_is_none()
     ensures { BadTargetIsNone }
 {}
 
-/// Where the log fails at a phase at which lines are told, nothing stands at `staging`, where the destination tells.
+/// Where the log fails at a phase at which lines are told, nothing stands at `staging`, where the
+/// destination tells.
 pub fn failed_log_leaves_no_staging()
     ensures { FailedLogLeavesNoStaging }
 {}

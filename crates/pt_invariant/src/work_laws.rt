@@ -23,7 +23,8 @@ pub fn turn_is_left()
     ensures { TurnIsLeft }
 {}
 
-/// After any turn, whatever it answers, no more turns were made than the work, where source and destination told.
+/// After any turn, whatever it answers, no more turns were made than the work, where source and
+/// destination told.
 pub fn turns_are_within_work()
     ensures { TurnsAreWithinWork }
 {}

@@ -5,12 +5,14 @@ ghost use Rattle.std.specs.Prelude.{◌≤◌, length};
 use crate::draw::Draw;
 use std::alloc::{AllocError, Global};
 
-// So many places of the pool are one where files begin, and so many bytes are given at a time at most.
+// So many places of the pool are one where files begin, and so many bytes are given at a time at
+// most.
 const PLACES: usize = 65_536;
 
 const PIECE: usize = 8192;
 
-/// The bytes of a file: so many, those of the pool from a place on; its first eight are a number of its own.
+/// The bytes of a file: so many, those of the pool from a place on; its first eight are a number of
+/// its own.
 #[derive(Clone, Copy)]
 pub struct Content {
     pub len: u64,
@@ -42,7 +44,8 @@ impl Content {
         }
     }
 
-    /// Puts the bytes from a place on into a buffer, and gives how many they are: none only at the end.
+    /// Puts the bytes from a place on into a buffer, and gives how many they are: none only at the
+    /// end.
     pub fn fill(&self, pool: &[u8], from: u64, buffer: &mut [u8]) -> usize
         ensures { result ≤ length buffer.new }
     {

@@ -9,8 +9,8 @@ use crate::tree::{Held, Tree};
 use pt_tree::Kind as Entry;
 use std::alloc::AllocGlobal;
 
-/// A job: what is done, over how many stores one after another, of which kind, of how many objects, files or sites each, made from which
-/// numbers, the first of which is this.
+/// A job: what is done, over how many stores one after another, of which kind, of how many objects,
+/// files or sites each, made from which numbers, the first of which is this.
 #[derive(Clone, Copy)]
 pub struct Asked {
     what: What,
@@ -25,9 +25,11 @@ pub struct Asked {
 enum What {
     // The store is carried.
     Carry,
-    // That is rehearsed, and then made with divided sites gathered; and what desktops leave behind is left out.
+    // That is rehearsed, and then made with divided sites gathered; and what desktops leave behind
+    // is left out.
     Rehearse,
-    // The store is carried, the root held against it, and again with one file in a hundred altered, and the store carried again.
+    // The store is carried, the root held against it, and again with one file in a hundred altered,
+    // and the store carried again.
     Audit,
 }
 

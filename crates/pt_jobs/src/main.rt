@@ -1,5 +1,6 @@
-//! The jobs that a user waits for, over stores that are made from a number, by the program's own calls. It prints a digest of the
-//! calls that the machine was asked for, with their paths, of what was written, of the log, and of the statuses.
+//! The jobs that a user waits for, over stores that are made from a number, by the program's own
+//! calls. It prints a digest of the calls that the machine was asked for, with their paths, of what
+//! was written, of the log, and of the statuses.
 #![tactic(auto)]
 
 mod builder;

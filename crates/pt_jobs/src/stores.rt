@@ -1,4 +1,5 @@
-//! Stores as they are met: books, many small objects, one wide one, deep ones, and those that nobody looked after.
+//! Stores as they are met: books, many small objects, one wide one, deep ones, and those that
+//! nobody looked after.
 
 use crate::builder::Builder;
 use crate::content::Content;
@@ -38,7 +39,8 @@ pub fn made(alloc: Global, kind: Kind, size: u64, seed: u64) -> Result<Tree, All
     }
 }
 
-// Books by names of archival resource keys: sites some 14 shorties deep, each with its METS file, page images and texts.
+// Books by names of archival resource keys: sites some 14 shorties deep, each with its METS file,
+// page images and texts.
 fn books(alloc: Global, size: u64, seed: u64) -> Result<Tree, AllocError> {
     let mut store = Builder::start(alloc, seed, "uc2.")?;
     for i in 0..size {
@@ -209,7 +211,8 @@ fn long_name(i: u64) -> &'static str {
     LONG.get((i % 3) as usize).copied().unwrap_or("long")
 }
 
-// Sites of most causes, three in four without an object as it should be, with what desktops leave behind beside everything.
+// Sites of most causes, three in four without an object as it should be, with what desktops leave
+// behind beside everything.
 fn neglected(alloc: Global, size: u64, seed: u64) -> Result<Tree, AllocError> {
     let mut store = Builder::start(alloc, seed, "")?;
     store.file("README.txt", 100)?;

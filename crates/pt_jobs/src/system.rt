@@ -11,7 +11,8 @@ use std::alloc::Global;
 use std::io;
 use std::io::ErrorKind;
 
-/// A folder, by its path: what stands below it, and the bytes that were written there, if they are kept.
+/// A folder, by its path: what stands below it, and the bytes that were written there, if they are
+/// kept.
 #[derive(Drop)]
 pub struct MadeSystem<'a> {
     alloc: Global,
@@ -54,7 +55,8 @@ impl<'a> MadeSystem<'a> {
         taken
     }
 
-    /// Changes the last byte of one in a hundred of the files whose bytes are kept, none of which is the root's own.
+    /// Changes the last byte of one in a hundred of the files whose bytes are kept, none of which
+    /// is the root's own.
     pub fn alter(&mut self) {
         for (i, bytes) in self.kept.iter_mut().enumerate() {
             if i % 100 == 50

@@ -5,7 +5,45 @@ use Rattle.std.specs.Option.{option_map, option_map_or}
 use Rattle.std.specs.Str.{bytes_eq}
 use Rattle.std.proofs.lemmas.Bool.{le-ltb, lt-ltb}
 use Rattle.std.proofs.lemmas.List.{take_all}
-use Rattle.pt_state.proofs.Words.{Content, HasBeenFed, MakeFolder, Row, Writing, MayMake, Path, Reading, CanOpen, after_open, Answer, Did, FailsPartway, Make, FailsUnchanged, content_at, in_pairtree, Answers, Calls, Changes, Creates, Makes, NewFile, Opens, Puts, DeviceStates, asks, dest_tree, does, tree_in, Fault, Object, Part, Position, KeepsAll, held_of, Turned}
+use Rattle.pt_state.proofs.Words.{
+  Content,
+  HasBeenFed,
+  MakeFolder,
+  Row,
+  Writing,
+  MayMake,
+  Path,
+  Reading,
+  CanOpen,
+  after_open,
+  Answer,
+  Did,
+  FailsPartway,
+  Make,
+  FailsUnchanged,
+  content_at,
+  in_pairtree,
+  Answers,
+  Calls,
+  Changes,
+  Creates,
+  Makes,
+  NewFile,
+  Opens,
+  Puts,
+  DeviceStates,
+  asks,
+  dest_tree,
+  does,
+  tree_in,
+  Fault,
+  Object,
+  Part,
+  Position,
+  KeepsAll,
+  held_of,
+  Turned,
+}
 use Rattle.pt_state.proofs.Words.part
 use Rattle.pt_state.proofs.Words.phase
 use Rattle.pt_state.proofs.Words.stage
@@ -22,28 +60,35 @@ use Rattle.pt_make.specs.declared.contents.ObjectContent.{ObjectContent}
 -- ---- what is next
 
 -- the content's digest tells whether the row is stored there
-pub told_stored : (rows : List Row) (contents : List Content) (position : Position) (row : Row) (content : Content) → DigestTells rows contents position → slice_get rows position.row ≡ Some row → Some content ≡ slice_get contents position.stored
+pub told_stored : (rows : List Row) (contents : List Content) (position : Position) (row : Row) (content : Content) → DigestTells rows contents position
+    → slice_get rows position.row ≡ Some row → Some content ≡ slice_get contents position.stored
     → bytes_eq content.digest row.digest ≡ is_stored contents position.stored row.path
 unfolding DigestTells
 told_stored rows contents position row content tells at is = ap (λ (o : Option Content). option_map_or (has_digest row.digest) o false) is ∙ tells row at
 
 -- so does there being none
-pub told_absent : (rows : List Row) (contents : List Content) (position : Position) (row : Row) → DigestTells rows contents position → slice_get rows position.row ≡ Some row → None ≡ slice_get contents position.stored
+pub told_absent : (rows : List Row) (contents : List Content) (position : Position) (row : Row) → DigestTells rows contents position
+    → slice_get rows position.row ≡ Some row → None ≡ slice_get contents position.stored
     → false ≡ is_stored contents position.stored row.path
 unfolding DigestTells
 told_absent rows contents position row tells at is = ap (λ (o : Option Content). option_map_or (has_digest row.digest) o false) is ∙ tells row at
 
-pub is_passed : (s : State) (position : Position) (row : Row) (next : Part) → Some row ≡ slice_get s.rows position.row → false ≡ is_stored s.contents position.stored row.path → next ≡ content_at s.rows (behind position) → IsPassed s position next
+pub is_passed : (s : State) (position : Position) (row : Row) (next : Part) → Some row ≡ slice_get s.rows position.row
+    → false ≡ is_stored s.contents position.stored row.path → next ≡ content_at s.rows (behind position) → IsPassed s position next
 unfolding IsPassed
 is_passed s position row next at other then = (row, (sym at, sym other, then))
 
-pub is_next_folder : (s : State) (position : Position) (row : Row) (path : Path) (names : ℕ) → Some row ≡ slice_get s.rows position.row → true ≡ is_stored s.contents position.stored row.path → names ≡ length row.path → names < 2 ^ 64 → position.directories < names → path ≡ staged_content (take position.directories row.path) → IsNextFolder s position path
+pub is_next_folder : (s : State) (position : Position) (row : Row) (path : Path) (names : ℕ) → Some row ≡ slice_get s.rows position.row
+    → true ≡ is_stored s.contents position.stored row.path → names ≡ length row.path → names < 2 ^ 64 → position.directories < names
+    → path ≡ staged_content (take position.directories row.path) → IsNextFolder s position path
 unfolding IsNextFolder
 is_next_folder s position row path names at stored long few less is =
     let within : position.directories < length row.path = omega (arith, less, long) in
     (row, (sym at, sym stored, lt-ltb position.directories (length row.path) within, omega (arith, few, less), is))
 
-pub is_next_copy : (s : State) (content : ObjectContent) (row : Row) (to from : Path) (left names : ℕ) → Some row ≡ slice_get s.rows content.position.row → true ≡ is_stored s.contents content.position.stored row.path → names ≡ length row.path → names ≤ content.position.directories → to ≡ staged_content (take names row.path) → from ≡ in_pairtree (path_of_source content.object s.trail ++ row.path) → left ≡ row.length
+pub is_next_copy : (s : State) (content : ObjectContent) (row : Row) (to from : Path) (left names : ℕ) → Some row ≡ slice_get s.rows content.position.row
+    → true ≡ is_stored s.contents content.position.stored row.path → names ≡ length row.path → names ≤ content.position.directories
+    → to ≡ staged_content (take names row.path) → from ≡ in_pairtree (path_of_source content.object s.trail ++ row.path) → left ≡ row.length
     → IsNextCopy s content (record { to = to; from = from; length = left })
 unfolding IsNextCopy
 is_next_copy s content row to from left names at stored long most is source same =
@@ -53,7 +98,8 @@ is_next_copy s content row to from left names at stored long most is source same
 
 -- ---- a row that is passed
 
-pub passed_row : (s : State) (w : DeviceStates) (object : Object) (position : Position) (next : Part) → IsPassed s position next → Turned (phase.Carrying object (stage.Make (part.Content position))) s s w w (Ok (phase.Carrying object (stage.Make next)))
+pub passed_row : (s : State) (w : DeviceStates) (object : Object) (position : Position) (next : Part) → IsPassed s position next
+    → Turned (phase.Carrying object (stage.Make (part.Content position))) s s w w (Ok (phase.Carrying object (stage.Make next)))
 unfolding IsPassed
 passed_row s w object position next (row, (at, other, then)) =
     rw then
@@ -65,18 +111,22 @@ pub few_folders : (s : State) (position : Position) (path : Path) → IsNextFold
 unfolding IsNextFolder
 few_folders s position path (row, (at, stored, less, few, is)) = few
 
-pub may_folder : (s : State) (reading : Option Reading) (writing : Option Writing) (object : Object) (position : Position) (path : Path) → MayMakeContent reading writing object (held_of s []) position → IsNextFolder s position path → MayMake writing path
+pub may_folder : (s : State) (reading : Option Reading) (writing : Option Writing) (object : Object) (position : Position) (path : Path)
+    → MayMakeContent reading writing object (held_of s []) position → IsNextFolder s position path → MayMake writing path
 unfolding MayMakeContent IsNextFolder
 may_folder s reading writing object position path may (row, (at, stored, less, few, is)) = rw is ((may row at stored).0 less)
 
-pub made_folder : (s : State) (a b : DeviceStates) (object : Object) (position : Position) (path : Path) → Did (does (Makes (MakeFolder path))) a b → IsNextFolder s position path → Turned (phase.Carrying object (stage.Make (part.Content position))) s s a b (Ok (phase.Carrying object (stage.Make (part.Content (with_folder position)))))
+pub made_folder : (s : State) (a b : DeviceStates) (object : Object) (position : Position) (path : Path) → Did (does (Makes (MakeFolder path))) a b
+    → IsNextFolder s position path → Turned (phase.Carrying object (stage.Make (part.Content position))) s s a b
+    (Ok (phase.Carrying object (stage.Make (part.Content (with_folder position)))))
 unfolding IsNextFolder
 made_folder s a b object position path did (row, (at, stored, less, few, is)) =
     went a b (λ fed. fed) (λ fed _. Make (MakesFolder _ object position row at stored less)) (rw is at did) refl (λ fed was. was) keeps_same
 
 -- ---- a file, and the one that it is copied from
 
-pub may_create : (s : State) (reading : Option Reading) (writing : Option Writing) (content : ObjectContent) (copied : Copied) → MayMakeContent reading writing content.object (held_of s []) content.position → IsNextCopy s content copied → MayMake writing copied.to
+pub may_create : (s : State) (reading : Option Reading) (writing : Option Writing) (content : ObjectContent) (copied : Copied)
+    → MayMakeContent reading writing content.object (held_of s []) content.position → IsNextCopy s content copied → MayMake writing copied.to
 unfolding MayMakeContent IsNextCopy
 may_create s reading writing content copied may (row, (at, stored, most, there, here, same)) = rw there ((may row at stored).1 most).0
 
@@ -99,7 +149,8 @@ both_did to from a b c made opened = (
   opened.1 ∙ made.1,
 )
 
-pub copy_opened : (s s' : State) (a b c : DeviceStates) (content : ObjectContent) (copied : Copied) → Did (does (Creates copied.to)) a b → Did (asks (Opens copied.from)) b c → IsNextCopy s content copied → HasBeenFed s.job.algorithm s'.hasher [] → KeepsAll s s'
+pub copy_opened : (s s' : State) (a b c : DeviceStates) (content : ObjectContent) (copied : Copied) → Did (does (Creates copied.to)) a b
+    → Did (asks (Opens copied.from)) b c → IsNextCopy s content copied → HasBeenFed s.job.algorithm s'.hasher [] → KeepsAll s s'
     → Turned (content_phase content) s s' a c (Ok (copy_phase content copied.length))
 unfolding IsNextCopy
 copy_opened s s' a b c content copied created opened (row, (at, stored, most, there, here, same)) started keeps =
@@ -122,15 +173,32 @@ left_new to from f a b c created stays = (
   stays.4,
 )
 
-pub copy_unopened : (s s' : State) (a b c : DeviceStates) (content : ObjectContent) (copied : Copied) (f : Fault) (result : Answer) → IsErrAnd result (λ h. h ≡ f) → Did (does (Creates copied.to)) a b → FailsUnchanged f b c → IsNextCopy s content copied → KeepsAll s s'
+pub copy_unopened : (s s' : State) (a b c : DeviceStates) (content : ObjectContent) (copied : Copied) (f : Fault) (result : Answer)
+    → IsErrAnd result (λ h. h ≡ f) → Did (does (Creates copied.to)) a b → FailsUnchanged f b c → IsNextCopy s content copied → KeepsAll s s'
     → Turned (content_phase content) s s' a c result
 unfolding IsNextCopy
 copy_unopened s s' a b c content copied f result is created stays (row, (at, stored, most, there, here, same)) keeps =
     left_some a c f result is (λ fed. Make (OpensCopy _ content.object content.position row at stored most))
     (left_new _ _ f a b c (rw there at created) stays) keeps
 
-pub may_open_copy : (s : State) (w : DeviceStates) (content : ObjectContent) (copied : Copied) → MayMakeContent w.source w.dest content.object (held_of s []) content.position → IsNextCopy s content copied → CanOpen w.source copied.from
+pub may_open_copy : (s : State) (w : DeviceStates) (content : ObjectContent) (copied : Copied)
+    → MayMakeContent w.source w.dest content.object (held_of s []) content.position → IsNextCopy s content copied → CanOpen w.source copied.from
 unfolding MayMakeContent MayOpenRow IsNextCopy
 may_open_copy s w content copied may (row, (at, stored, most, there, here, same)) = rw here ((may row at stored).1 most).1
 
-pub ruleset next_parts = (told_stored, told_absent, is_passed, is_next_folder, is_next_copy, passed_row, few_folders, may_folder, made_folder, may_create, may_open_copy, can_open_still, copy_opened, copy_unopened)
+pub ruleset next_parts = (
+  told_stored,
+  told_absent,
+  is_passed,
+  is_next_folder,
+  is_next_copy,
+  passed_row,
+  few_folders,
+  may_folder,
+  made_folder,
+  may_create,
+  may_open_copy,
+  can_open_still,
+  copy_opened,
+  copy_unopened,
+)

@@ -8,7 +8,35 @@ use Rattle.pt_object.proofs.Ways.{path_itself}
 use Rattle.pt_object.specs.InPieces.{InPieces, TakesPiece}
 use Rattle.pt_object.specs.Script.{done}
 use Rattle.pt_plan.specs.DeviceStates.{LeavesPart, OfFile, after_make}
-use Rattle.pt_state.proofs.Words.{Adds, Answers, Bytes, Change, Changes, Creates, Did, Fault, Finishes, HasBeenFed, Hasher, Algorithm, FailsPartway, MakeFile, Makes, OfPiece, Path, Puts, FailsUnchanged, Tree, Untouched, DeviceStates, Writing, dest_tree, does, same_path, tree_in}
+use Rattle.pt_state.proofs.Words.{
+  Adds,
+  Answers,
+  Bytes,
+  Change,
+  Changes,
+  Creates,
+  Did,
+  Fault,
+  Finishes,
+  HasBeenFed,
+  Hasher,
+  Algorithm,
+  FailsPartway,
+  MakeFile,
+  Makes,
+  OfPiece,
+  Path,
+  Puts,
+  FailsUnchanged,
+  Tree,
+  Untouched,
+  DeviceStates,
+  Writing,
+  dest_tree,
+  does,
+  same_path,
+  tree_in,
+}
 use Rattle.pt_state.proofs.Words.fault
 use Rattle.pt_tree.specs.Dest.{CanWrite, added_to, after_append, after_finish}
 use Rattle.pt_tree.specs.Tree.{edited_by, put}
@@ -29,11 +57,13 @@ holds_more t p given piece = λ i q. by q (same_path q p) i
     there : edited_by (λ old. old ++ piece) (put t p (Bytes given) p) ≡ Some (Bytes (given ++ piece))
     there = ap (λ b. edited_by (λ old. old ++ piece) (cond b (Some (Bytes given)) (t p))) (path_itself p)
 
-    by : (q : Path) (b : Bool) → cond b (edited_by (λ old. old ++ piece) (put t p (Bytes given) p)) (cond b (Some (Bytes given)) (t q)) ≡ cond b (Some (Bytes (given ++ piece))) (t q)
+    by : (q : Path) (b : Bool) → cond b (edited_by (λ old. old ++ piece) (put t p (Bytes given) p)) (cond b (Some (Bytes given)) (t q))
+        ≡ cond b (Some (Bytes (given ++ piece))) (t q)
     by q true = there
     by q false = refl
 
-added_at : (o : Option Writing) (p : Path) (given piece : List ℕ) → option_map (after_append piece) (option_map (writing_at p given) o) ≡ option_map (writing_at p (given ++ piece)) o
+added_at : (o : Option Writing) (p : Path) (given piece : List ℕ) → option_map (after_append piece) (option_map (writing_at p given) o)
+    ≡ option_map (writing_at p (given ++ piece)) o
 added_at None p given piece = refl
 added_at (Some s) p given piece = ap (λ (t : Tree). Some (record { tree = t; writing = Some p })) (holds_more s.tree p given piece)
 
@@ -41,7 +71,8 @@ tree_at : (o : Option Writing) (p : Path) (given : List ℕ) → dest_tree (opti
 tree_at None p given = refl
 tree_at (Some s) p given = refl
 
-finished_at : (o : Option Writing) (p : Path) (given : List ℕ) → option_map after_finish (option_map (writing_at p given) o) ≡ option_map (after_make (MakeFile p given)) o
+finished_at : (o : Option Writing) (p : Path) (given : List ℕ) → option_map after_finish (option_map (writing_at p given) o)
+    ≡ option_map (after_make (MakeFile p given)) o
 finished_at None p given = refl
 finished_at (Some s) p given = refl
 
@@ -79,11 +110,13 @@ fed_both : (h h' h'' : Option Hasher) (xs ys : List ℕ) → IsFedMore h h' xs �
 unfolding IsFedMore
 fed_both h h' h'' xs ys first next = λ here algorithm fed was. rw (← append_assoc) (next here algorithm (fed ++ xs) (first here algorithm fed was))
 
-pub fed_one : (h h' : Hasher) (bytes : List ℕ) → ((algorithm : Algorithm) (fed : List ℕ) → HasBeenFed algorithm h fed → HasBeenFed algorithm h' (fed ++ bytes)) → IsFedMore (Some h) (Some h') bytes
+pub fed_one : (h h' : Hasher) (bytes : List ℕ) → ((algorithm : Algorithm) (fed : List ℕ) → HasBeenFed algorithm h fed → HasBeenFed algorithm h' (fed ++ bytes))
+    → IsFedMore (Some h) (Some h') bytes
 unfolding IsFedMore HasFedAt
 fed_one h h' bytes feeds = λ here algorithm fed was. by here algorithm fed was
   where
-    by : (here : InventoryFolder) (algorithm : Algorithm) (fed : List ℕ) → HasFedAt here algorithm (Some h) fed → HasFedAt here algorithm (Some h') (fed ++ bytes)
+    by : (here : InventoryFolder) (algorithm : Algorithm) (fed : List ℕ) → HasFedAt here algorithm (Some h) fed
+        → HasFedAt here algorithm (Some h') (fed ++ bytes)
     by folder.Version algorithm fed was = feeds algorithm fed was
     by folder.Top algorithm fed was = was
 
@@ -109,7 +142,8 @@ begun p text h a b did = record {
   fed = fed_nothing h;
 }
 
-pub one_more_piece : (p : Path) (text rest piece rest' : List ℕ) (h h' h'' : Option Hasher) (a b c : DeviceStates) → HasPut p text rest h h' a b → rest ≡ piece ++ rest' → Did (does (Adds piece)) b c → IsFedMore h' h'' piece → HasPut p text rest' h h'' a c
+pub one_more_piece : (p : Path) (text rest piece rest' : List ℕ) (h h' h'' : Option Hasher) (a b c : DeviceStates) → HasPut p text rest h h' a b
+    → rest ≡ piece ++ rest' → Did (does (Adds piece)) b c → IsFedMore h' h'' piece → HasPut p text rest' h h'' a c
 unfolding Did Answers Changes Puts
 one_more_piece p text rest piece rest' h h' h'' a b c put is did fed = record {
   given = put.given ++ piece;
@@ -144,12 +178,14 @@ answers_with (Err h) f P is here = rw is here
 all_given : (text given rest : List ℕ) → text ≡ given ++ rest → rest ≡ [] → given ≡ text
 all_given text given rest whole none = sym (whole ∙ ap (λ (l : List ℕ). given ++ l) none ∙ append-nil given)
 
-pub all_put : (p : Path) (text rest : List ℕ) (h h' : Option Hasher) (a b c : DeviceStates) → HasPut p text rest h h' a b → rest ≡ [] → Did (does Finishes) b c → Did (makes_file p text) a c
+pub all_put : (p : Path) (text rest : List ℕ) (h h' : Option Hasher) (a b c : DeviceStates) → HasPut p text rest h h' a b → rest ≡ [] → Did (does Finishes) b c
+    → Did (makes_file p text) a c
 unfolding Did Answers Changes Puts
 all_put p text rest h h' a b c put none did = (
   record {
     source = did.0.source ∙ put.source;
-    dest = did.0.dest ∙ ap (option_map after_finish) put.dest ∙ finished_at a.dest p put.given ∙ ap (λ (l : List ℕ). option_map (after_make (MakeFile p l)) a.dest) (all_given text put.given rest put.whole none);
+    dest = did.0.dest ∙ ap (option_map after_finish) put.dest ∙ finished_at a.dest p put.given
+        ∙ ap (λ (l : List ℕ). option_map (after_make (MakeFile p l)) a.dest) (all_given text put.given rest put.whole none);
     log = did.0.log ∙ put.log;
   },
   did.1 ∙ put.failures,
@@ -159,12 +195,15 @@ pub all_fed : (p : Path) (text rest : List ℕ) (h h' : Option Hasher) (a b : De
 all_fed p text rest h h' a b put none = rw (← all_given text put.given rest put.whole none) put.fed
 
 -- a front of the text is there
-front_left : (o o' : Option Writing) (p : Path) (text front more : List ℕ) → text ≡ front ++ more → dest_tree o' ≡ option_map (done (MakeFile p front)) (dest_tree o) → LeavesPart o o' (Makes (MakeFile p text))
+front_left : (o o' : Option Writing) (p : Path) (text front more : List ℕ) → text ≡ front ++ more
+    → dest_tree o' ≡ option_map (done (MakeFile p front)) (dest_tree o) → LeavesPart o o' (Makes (MakeFile p text))
 front_left o o' p text front more whole is =
-    OfFile p text (length front) (is ∙ ap (λ (l : List ℕ). option_map (done (MakeFile p l)) (dest_tree o)) (sym (ap (take (length front)) whole ∙ take-append_seam front more)))
+    OfFile p text (length front) (is ∙ ap (λ (l : List ℕ). option_map (done (MakeFile p l)) (dest_tree o))
+    (sym (ap (take (length front)) whole ∙ take-append_seam front more)))
 
 -- a call that changes nothing failed
-pub stopped : (p : Path) (text rest : List ℕ) (h h' : Option Hasher) (a b c : DeviceStates) (f : Fault) → HasPut p text rest h h' a b → FailsUnchanged f b c → FailsPartway (makes_file p text) f a c
+pub stopped : (p : Path) (text rest : List ℕ) (h h' : Option Hasher) (a b c : DeviceStates) (f : Fault) → HasPut p text rest h h' a b → FailsUnchanged f b c
+    → FailsPartway (makes_file p text) f a c
 unfolding FailsUnchanged FailsPartway
 stopped p text rest h h' a b c f put stays = (
   record {
@@ -179,21 +218,28 @@ stopped p text rest h h' a b c f put stays = (
 )
 
 -- memory was short before a further piece
-pub stopped_short : (p : Path) (text rest : List ℕ) (h h' : Option Hasher) (a b : DeviceStates) → HasPut p text rest h h' a b → FailsPartway (makes_file p text) fault.Memory a b
+pub stopped_short : (p : Path) (text rest : List ℕ) (h h' : Option Hasher) (a b : DeviceStates) → HasPut p text rest h h' a b
+    → FailsPartway (makes_file p text) fault.Memory a b
 unfolding FailsUnchanged
 stopped_short p text rest h h' a b put = stopped p text rest h h' a b b fault.Memory put (refl, refl, refl, refl, tt)
 
 -- a part of a piece was added
-part_left : (o b c : Option Writing) (p : Path) (text given rest piece rest' : List ℕ) (part : Change) → part ≡ Adds piece → text ≡ given ++ rest → rest ≡ piece ++ rest' → b ≡ option_map (writing_at p given) o → LeavesPart b c part → LeavesPart o c (Makes (MakeFile p text))
-part_left o b c p text given rest piece rest' part is whole next at (Untouched change same) = front_left o c p text given rest whole (same ∙ ap dest_tree at ∙ tree_at o p given)
+part_left : (o b c : Option Writing) (p : Path) (text given rest piece rest' : List ℕ) (part : Change) → part ≡ Adds piece → text ≡ given ++ rest
+    → rest ≡ piece ++ rest' → b ≡ option_map (writing_at p given) o → LeavesPart b c part → LeavesPart o c (Makes (MakeFile p text))
+part_left o b c p text given rest piece rest' part is whole next at (Untouched change same) = front_left o c p text given rest whole (same ∙ ap dest_tree at
+    ∙ tree_at o p given)
 part_left o b c p text given rest piece rest' part is whole next at (OfPiece bytes count same) =
     let it : bytes ≡ piece = cc in
     let front : List ℕ = given ++ take count bytes in
-    let all : text ≡ front ++ (drop count bytes ++ rest') = whole ∙ ap (λ (l : List ℕ). given ++ l) (next ∙ ap (λ (l : List ℕ). l ++ rest') (sym it ∙ sym (take-append-drop count bytes)) ∙ append_assoc (take count bytes) (drop count bytes) rest') ∙ sym (append_assoc given (take count bytes) (drop count bytes ++ rest')) in
-    front_left o c p text front (drop count bytes ++ rest') all (ap dest_tree (same ∙ ap (option_map (after_append (take count bytes))) at ∙ added_at o p given (take count bytes)) ∙ tree_at o p front)
+    let all : text ≡ front ++ (drop count bytes ++ rest') = whole ∙ ap (λ (l : List ℕ). given ++ l) (next
+    ∙ ap (λ (l : List ℕ). l ++ rest') (sym it ∙ sym (take-append-drop count bytes)) ∙ append_assoc (take count bytes) (drop count bytes) rest')
+    ∙ sym (append_assoc given (take count bytes) (drop count bytes ++ rest')) in
+    front_left o c p text front (drop count bytes ++ rest') all (ap dest_tree (same ∙ ap (option_map (after_append (take count bytes))) at
+    ∙ added_at o p given (take count bytes)) ∙ tree_at o p front)
 part_left _ _ _ _ _ _ _ _ _ _ is _ _ _ _ = absurd (cc)
 
-pub stopped_within : (p : Path) (text rest piece rest' : List ℕ) (h h' : Option Hasher) (a b c : DeviceStates) (f : Fault) → HasPut p text rest h h' a b → rest ≡ piece ++ rest' → FailsPartway (does (Adds piece)) f b c → FailsPartway (makes_file p text) f a c
+pub stopped_within : (p : Path) (text rest piece rest' : List ℕ) (h h' : Option Hasher) (a b c : DeviceStates) (f : Fault) → HasPut p text rest h h' a b
+    → rest ≡ piece ++ rest' → FailsPartway (does (Adds piece)) f b c → FailsPartway (makes_file p text) f a c
 unfolding FailsPartway
 stopped_within p text rest piece rest' h h' a b c f put next left = (
   record {

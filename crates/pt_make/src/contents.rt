@@ -1,5 +1,6 @@
-//! The turns that make an object's contents: a row whose content is stored is passed; of any other the folders on the
-//! way are made, one a turn, and then its file, for which the source's is opened.
+//! The turns that make an object's contents: a row whose content is stored is passed; of any other
+//! the folders on the way are made, one a turn, and then its file, for which the source's is
+//! opened.
 ghost use Rattle.std.specs.Prelude.{◌≡◌, [], IfOk, Some, slice_get};
 ghost use Rattle.pt_plan.specs.Enabled.{MayMakeContent};
 ghost use Rattle.pt_plan.specs.TurnMake.{content_at, is_stored as is_stored_of};
@@ -43,7 +44,8 @@ enum Step {
     File(Copied),
 }
 
-/// Passes a row whose content is stored already; else makes the next folder of its content path, or its file.
+/// Passes a row whose content is stored already; else makes the next folder of its content path, or
+/// its file.
 pub(crate) fn make_content<O: Io>(
     state: &mut State,
     content: ObjectContent,
@@ -99,8 +101,8 @@ pub(crate) fn next_content(rows: &Rows, position: Position) -> Part
     }
 }
 
-// Whether the content of a row is the one at its position, so that it is stored at the row's path. Their digests tell what their paths would,
-// which may be long.
+// Whether the content of a row is the one at its position, so that it is stored at the row's path.
+// Their digests tell what their paths would, which may be long.
 fn is_stored(state: &State, position: Position, row: &Row) -> bool
     requires row { slice_get state.now.rows position.row ≡ Some row.now }
     requires tells { DigestTells state.now.rows state.now.contents position }

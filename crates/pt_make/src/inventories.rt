@@ -1,5 +1,6 @@
-//! The turns that make an object's inventory and its sidecar, in the version's folder and at the top: the turn that
-//! makes the inventory in the version's folder feeds its text to the hasher, whose digest stands in both sidecars.
+//! The turns that make an object's inventory and its sidecar, in the version's folder and at the
+//! top: the turn that makes the inventory in the version's folder feeds its text to the hasher,
+//! whose digest stands in both sidecars.
 ghost use Rattle.std.specs.Prelude.{◌≡◌, ◌∷◌, [], IfOk, OnOk};
 ghost use Rattle.pt_object.specs.Algorithm.{digest_of};
 ghost use Rattle.pt_object.specs.Files.{sidecar_text};
@@ -32,8 +33,8 @@ pub(crate) enum InventoryFolder {
     Top,
 }
 
-/// Makes the inventory in a folder (OCFL 1.1, "Inventory"), piece by piece. The hasher is fed the text of the version's,
-/// which is that of the one at the top too.
+/// Makes the inventory in a folder (OCFL 1.1, "Inventory"), piece by piece. The hasher is fed the
+/// text of the version's, which is that of the one at the top too.
 pub(crate) fn make_inventory<O: Io>(
     state: &mut State,
     object: Object,
@@ -84,8 +85,9 @@ fn text_of<'a>(state: &'a State, object: &'a Object) -> Result<InventoryPieces<'
     InventoryPieces::of(state.alloc, whole)
 }
 
-// Makes a file of the destination with a text, and feeds it to the hasher, if there is one. Each piece is written and fed
-// before the next is made, so that a text of many pieces is nowhere as a whole.
+// Makes a file of the destination with a text, and feeds it to the hasher, if there is one. Each
+// piece is written and fed before the next is made, so that a text of many pieces is nowhere as a
+// whole.
 fn put_text<O: Io>(
     path: &NamePath,
     mut text: InventoryPieces<'_>,

@@ -20,12 +20,13 @@ use pt_state::files::put_file;
 use pt_state::{Io, State};
 use pt_tree::NamePath;
 
-/// Makes a part of an object: its folder in `staging`, the declaration, the version's folder, the contents one after
-/// another, and the inventory with its sidecar, first in the version's folder and then at the top (OCFL 1.1, "Object
-/// Structure").
+/// Makes a part of an object: its folder in `staging`, the declaration, the version's folder, the
+/// contents one after another, and the inventory with its sidecar, first in the version's folder
+/// and then at the top (OCFL 1.1, "Object Structure").
 ///
-/// Halts for `Source` where the file that a content is copied from can't be opened, for `Dest` where the part can't be made, and for
-/// `Memory` where a growth is refused. What is held stays then; a file that was begun may be left.
+/// Halts for `Source` where the file that a content is copied from can't be opened, for `Dest`
+/// where the part can't be made, and for `Memory` where a growth is refused. What is held stays
+/// then; a file that was begun may be left.
 pub fn make<O: Io>(
     state: &mut State,
     object: Object,

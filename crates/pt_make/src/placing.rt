@@ -21,8 +21,9 @@ use std::alloc::Global;
 
 /// Makes a tuple directory on the way to an object's place, where it is absent (extension 0003).
 ///
-/// Halts for `Target` where what stands there is no directory, for `Dest` where that can't be asked or the directory not be made, and for
-/// `Memory` where a growth is refused; nothing is changed then.
+/// Halts for `Target` where what stands there is no directory, for `Dest` where that can't be asked
+/// or the directory not be made, and for `Memory` where a growth is refused; nothing is changed
+/// then.
 pub fn make_tuple<O: Io>(
     state: &State,
     object: Object,
@@ -78,7 +79,8 @@ fn after_tuple(state: &State, object: Object, index: usize) -> Phase
 
 /// Renames `staging` to an object's place.
 ///
-/// Halts for `Dest` where it can't be renamed, and for `Memory` where a growth is refused; what the destination tells is as it was then.
+/// Halts for `Dest` where it can't be renamed, and for `Memory` where a growth is refused; what the
+/// destination tells is as it was then.
 pub fn rename<O: Io>(state: &State, object: Object, out: &mut O) -> Result<Phase, Fault>
     requires may { MayMove (O.states out.old).dest staging (in_root object.place) }
     ensures turn { TakesTurn O.Io (0, 0) (phase.Carrying object stage.Rename)
@@ -91,7 +93,8 @@ pub fn rename<O: Io>(state: &State, object: Object, out: &mut O) -> Result<Phase
 
 /// Renames `staging` to a path of the destination.
 ///
-/// Halts for `Dest` where it can't be renamed, and for `Memory` where a growth is refused; what the destination tells is as it was then.
+/// Halts for `Dest` where it can't be renamed, and for `Memory` where a growth is refused; what the
+/// destination tells is as it was then.
 pub(crate) fn rename_staging<O: Io>(alloc: Global, to: &NamePath, out: &mut O) -> Result<(), Fault>
     requires { MayMove (O.states out.old).dest staging to.now }
     ensures { Called O.states (O.within 0 0) (does (Renames staging to.now))

@@ -1,4 +1,5 @@
-//! The destination has to hold a storage root of this program and layout, or none, which is then made.
+//! The destination has to hold a storage root of this program and layout, or none, which is then
+//! made.
 #![tactic(auto, using(crate::proofs::RootTurns::root_rules))]
 
 ghost use Rattle.std.specs.Prelude.{◌≡◌, ◌<◌, None, Some, IfErr, IfOk, OnOk, false, true};
@@ -31,7 +32,8 @@ const CONFIGURATION: usize = 2;
 
 /// Asks whether `staging` is there.
 ///
-/// Halts for `StagingLeft` where it is, for `Dest` where that can't be asked, and for `Memory` where a growth is refused.
+/// Halts for `StagingLeft` where it is, for `Dest` where that can't be asked, and for `Memory`
+/// where a growth is refused.
 pub fn look_at_staging<O: Io>(state: &State, out: &mut O) -> Result<Phase, Fault>
     ensures turn { TakesTurn O.Io (0, 1) (phase.Opening opening.Staging)
         (state.now, out.old) (state.now, out.new) result }
@@ -45,8 +47,8 @@ pub fn look_at_staging<O: Io>(state: &State, out: &mut O) -> Result<Phase, Fault
 
 /// Asks whether the storage root is there.
 ///
-/// Halts for `Target` where what stands there is no directory, for `Dest` where that can't be asked, and for `Memory` where a growth is
-/// refused.
+/// Halts for `Target` where what stands there is no directory, for `Dest` where that can't be
+/// asked, and for `Memory` where a growth is refused.
 pub fn look_at_root<O: Io>(state: &State, out: &mut O) -> Result<Phase, Fault>
     ensures turn { TakesTurn O.Io (0, 1) (phase.Opening opening.Root)
         (state.now, out.old) (state.now, out.new) result }
@@ -59,10 +61,11 @@ pub fn look_at_root<O: Io>(state: &State, out: &mut O) -> Result<Phase, Fault>
     }
 }
 
-/// Makes one item of a storage root in `staging`: first the directories of the layout's configuration, then the three
-/// files, of which the declaration comes last.
+/// Makes one item of a storage root in `staging`: first the directories of the layout's
+/// configuration, then the three files, of which the declaration comes last.
 ///
-/// Halts for `Dest` where the item can't be made, and for `Memory` where a growth is refused. A file that was begun may be left then.
+/// Halts for `Dest` where the item can't be made, and for `Memory` where a growth is refused. A
+/// file that was begun may be left then.
 pub fn make_root<O: Io>(state: &State, item: u8, out: &mut O) -> Result<Phase, Fault>
     requires may { MayMakeRootItem (O.states out.old).dest state.now.job.layout item }
     requires item { item < 6 }
@@ -142,7 +145,8 @@ fn after_item(item: u8) -> Phase
 
 /// Renames `staging` to the storage root.
 ///
-/// Halts for `Dest` where it can't be renamed, and for `Memory` where a growth is refused; what the destination tells is as it was then.
+/// Halts for `Dest` where it can't be renamed, and for `Memory` where a growth is refused; what the
+/// destination tells is as it was then.
 pub fn rename_root<O: Io>(state: &State, out: &mut O) -> Result<Phase, Fault>
     requires { MayMove (O.states out.old).dest staging_path storage_root }
     ensures turn { TakesTurn O.Io (0, 0) (phase.Opening opening.RootRename)
@@ -155,9 +159,10 @@ pub fn rename_root<O: Io>(state: &State, out: &mut O) -> Result<Phase, Fault>
 
 /// Compares one of the three files of the storage root that stands with what this program writes.
 ///
-/// Halts for `Target` where no file stands there, or one with other bytes, or where one of the folders on the way to it is none itself, as
-/// a link to one is; for `Dest` where that can't be asked or the file not be read, and for `Memory` where a growth is refused. What is held
-/// stays then, but for the block.
+/// Halts for `Target` where no file stands there, or one with other bytes, or where one of the
+/// folders on the way to it is none itself, as a link to one is; for `Dest` where that can't be
+/// asked or the file not be read, and for `Memory` where a growth is refused. What is held stays
+/// then, but for the block.
 pub fn check_root<O: Io>(state: &mut State, file: usize, out: &mut O) -> Result<Phase, Fault>
     requires { file < 3 }
     ensures turn { TakesTurn O.Io (0, looks_at_file file) (phase.Opening (opening.RootCheck file))
@@ -174,8 +179,9 @@ pub fn check_root<O: Io>(state: &mut State, file: usize, out: &mut O) -> Result<
     compare(state, file, &whole, bytes, out)
 }
 
-// The same of the layout's configuration, the last of these files, with the folders that it lies in. Each is asked for itself: by the
-// configuration's path the system would go through a link that stands in a folder's place.
+// The same of the layout's configuration, the last of these files, with the folders that it lies
+// in. Each is asked for itself: by the configuration's path the system would go through a link that
+// stands in a folder's place.
 fn check_configuration<O: Io>(
     state: &mut State,
     path: &NamePath,
@@ -204,7 +210,8 @@ fn check_configuration<O: Io>(
     compare(state, CONFIGURATION, path, bytes, out)
 }
 
-// Whether the two folders that the layout's configuration lies in stand in the destination, the outer one asked first.
+// Whether the two folders that the layout's configuration lies in stand in the destination, the
+// outer one asked first.
 fn has_folders<O: Io>(outer: &NamePath, inner: &NamePath, out: &mut O) -> Result<bool, Fault>
     requires outer { outer.now ≡ outer_folder }
     requires inner { inner.now ≡ inner_folder }

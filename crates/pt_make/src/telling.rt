@@ -11,8 +11,8 @@ use pt_state::{Io, State, as_told};
 
 /// Tells that an object is done, and walks on from its site.
 ///
-/// Halts for `Log` where the line can't be put, and for `Memory` where a growth is refused. What is held stays then; a part of the line
-/// may stand in the log.
+/// Halts for `Log` where the line can't be put, and for `Memory` where a growth is refused. What is
+/// held stays then; a part of the line may stand in the log.
 pub fn tell_done<O: Io>(state: &mut State, object: Object, out: &mut O) -> Result<Phase, Fault>
     requires { CanTellDone state.old }
     ensures turn { TakesTurn O.Io (0, 0) (phase.Carrying object stage.Line)
@@ -26,7 +26,8 @@ pub fn tell_done<O: Io>(state: &mut State, object: Object, out: &mut O) -> Resul
 
 /// Tells that the run is done.
 ///
-/// Halts for `Log` where the line can't be put, and for `Memory` where a growth is refused. A part of the line may stand in the log then.
+/// Halts for `Log` where the line can't be put, and for `Memory` where a growth is refused. A part
+/// of the line may stand in the log then.
 pub fn tell_end<O: Io>(state: &State, out: &mut O) -> Result<Phase, Fault>
     ensures turn { TakesTurn O.Io (0, 0) phase.End
         (state.now, out.old) (state.now, out.new) result }

@@ -10,7 +10,8 @@ use Rattle.pt_memory.specs.Opening.{moved_on}
 pub take_min : (xs : List ℕ) (n : ℕ) → take (min (length xs) n) xs ≡ take n xs
 take_min xs n = elim (cases_lt n (length xs)) [
   | inl below ↦ let same : min (length xs) n ≡ n = omega arith in ap (λ k. take k xs) same
-  | inr past ↦ let same : min (length xs) n ≡ length xs = omega arith in ap (λ k. take k xs) same ∙ take_all (length xs) xs (omega arith) ∙ sym (take_all n xs past)
+  | inr past ↦ let same : min (length xs) n ≡ length xs = omega arith in ap (λ k. take k xs) same ∙ take_all (length xs) xs (omega arith)
+      ∙ sym (take_all n xs past)
 ]
 
 -- the open file is below a directory
@@ -20,7 +21,8 @@ moved_inside name None moved after n found is = absurd (true≢false found)
 moved_inside name (Some o) moved after n found is = ap (λ m. option_or (option_map (λ o. (name ∷ o.0, o.1)) m) after) is
 
 -- or after it
-pub moved_behind : (name : List ℕ) (inside same after moved : Option (Path × ℕ)) (n m : ℕ) → false ≡ is_some inside → same ≡ moved_on inside m → moved ≡ moved_on after n
+pub moved_behind : (name : List ℕ) (inside same after moved : Option (Path × ℕ)) (n m : ℕ) → false ≡ is_some inside → same ≡ moved_on inside m
+    → moved ≡ moved_on after n
     → option_or (option_map (λ o. (name ∷ o.0, o.1)) same) moved ≡ moved_on (option_or (option_map (λ o. (name ∷ o.0, o.1)) inside) after) n
 moved_behind name None same after moved n m found unmoved is = ap (λ s. option_or (option_map (λ o. (name ∷ o.0, o.1)) s) moved) unmoved ∙ is
 moved_behind name (Some o) same after moved n m found unmoved is = absurd (false≢true found)

@@ -17,7 +17,8 @@ lent_is_some : (r : Option (Bor (List ℕ))) (o : Option (List ℕ)) → option_
 lent_is_some None o is = ap is_some is
 lent_is_some (Some b) o is = ap is_some is
 
-pub can_open : (s : Reading) (p : Path) (r : Option (Bor (List ℕ))) (answer : Bool) → answer ≡ is_some r → option_copied r ≡ file_at s.tree p → IsTrue answer ↔ CanOpen (Some s) p
+pub can_open : (s : Reading) (p : Path) (r : Option (Bor (List ℕ))) (answer : Bool) → answer ≡ is_some r → option_copied r ≡ file_at s.tree p
+    → IsTrue answer ↔ CanOpen (Some s) p
 unfolding CanOpen
 can_open s p r answer says is =
     let same : answer ≡ is_some (file_at s.tree p) = says ∙ lent_is_some r _ is in (
@@ -32,7 +33,8 @@ can_list s p answer same = (
   λ can. same ∙ can s refl,
 )
 
-pub can_peek : (s : Writing) (p : Path) (r : Option (Bor (List ℕ))) (answer : Bool) → answer ≡ is_some r → option_copied r ≡ bytes_of (s.tree p) → IsTrue answer ↔ CanPeek (Some s) p
+pub can_peek : (s : Writing) (p : Path) (r : Option (Bor (List ℕ))) (answer : Bool) → answer ≡ is_some r → option_copied r ≡ bytes_of (s.tree p)
+    → IsTrue answer ↔ CanPeek (Some s) p
 unfolding CanPeek
 can_peek s p r answer says is =
     let same : answer ≡ is_some (bytes_of (s.tree p)) = says ∙ lent_is_some r _ is in (
@@ -43,10 +45,12 @@ can_peek s p r answer says is =
 not_true : (a b : Bool) → a ≡ not b → b ≡ true → a ≡ false
 not_true a b is so = is ∙ ap not so
 
-pub may_make : (s : Writing) (p : Path) (why : Option PlantFault) (answer : Bool) → is_some why ≡ not answer → why ≡ plant_refusal s.tree p → IsTrue answer ↔ MayMake (Some s) p
+pub may_make : (s : Writing) (p : Path) (why : Option PlantFault) (answer : Bool) → is_some why ≡ not answer → why ≡ plant_refusal s.tree p
+    → IsTrue answer ↔ MayMake (Some s) p
 unfolding MayMake
 may_make s p why answer says is = (
-  λ so. λ x e. let here : s ≡ x = cc in subst (λ (x : Writing). CanMake x.tree p) here (can_plant s.tree p (sym is ∙ none_there why (not_true _ answer says so))),
+  λ so. λ x e. let here : s ≡ x = cc in subst (λ (x : Writing). CanMake x.tree p) here
+      (can_plant s.tree p (sym is ∙ none_there why (not_true _ answer says so))),
   λ can. back answer (sym says ∙ ap is_some (is ∙ not_refused s.tree p (can s refl))),
 )
   where
@@ -64,7 +68,8 @@ unfolding MayMove
 stays_apart s from to within = (λ so. absurd (cc), λ can. absurd (let it = can s refl in cc (within, it.apart)))
 
 -- nor where nothing stands
-pub nothing_moves : (s : Writing) (from to : Path) (kind : Option Kind) → kind ≡ option_map kind_of_entry (s.tree from) → is_some kind ≡ false → IsTrue false ↔ MayMove (Some s) from to
+pub nothing_moves : (s : Writing) (from to : Path) (kind : Option Kind) → kind ≡ option_map kind_of_entry (s.tree from) → is_some kind ≡ false
+    → IsTrue false ↔ MayMove (Some s) from to
 unfolding MayMove
 nothing_moves s from to kind is none = (λ so. absurd (cc), λ can. absurd (by (s.tree from) (can s refl).stands (sym (ap is_some is) ∙ none)))
   where
@@ -72,14 +77,20 @@ nothing_moves s from to kind is none = (λ so. absurd (cc), λ can. absurd (by (
     by None some none = absurd (cc)
     by (Some x) some none = absurd (cc)
 
-pub may_move : (s : Writing) (from to : Path) (kind : Option Kind) (why : Option PlantFault) (answer : Bool) → is_some why ≡ not answer → why ≡ plant_refusal s.tree to → kind ≡ option_map kind_of_entry (s.tree from) → is_some kind ≡ true → rest_below from to ≡ None
+pub may_move : (s : Writing) (from to : Path) (kind : Option Kind) (why : Option PlantFault) (answer : Bool) → is_some why ≡ not answer
+    → why ≡ plant_refusal s.tree to → kind ≡ option_map kind_of_entry (s.tree from) → is_some kind ≡ true → rest_below from to ≡ None
     → IsTrue answer ↔ MayMove (Some s) from to
 unfolding MayMake MayMove
 may_move s from to kind why answer says is kind_is some apart =
     let make = may_make s to why answer says is in (
       λ so. λ x e.
           let here : s ≡ x = cc in
-          subst (λ (x : Writing). CanMove x.tree from to) here (record { stands = some_from (s.tree from) kind_of_entry (sym (ap is_some kind_is) ∙ some); target = can_plant s.tree to (sym is ∙ none_there why (not_true _ answer says so)); apart = apart }),
+          subst (λ (x : Writing). CanMove x.tree from to) here (record {
+            stands = some_from (s.tree from) kind_of_entry (sym (ap is_some kind_is) ∙ some);
+            target = can_plant s.tree to (sym is
+                ∙ none_there why (not_true _ answer says so));
+            apart = apart;
+          }),
       λ can. make.1 (makes s to (can s refl).target),
     )
   where

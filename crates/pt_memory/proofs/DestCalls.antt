@@ -22,11 +22,13 @@ pub file_told : (f : Forest) (w : Option Path) (p : Path) → CanPeek (Some (rec
 unfolding CanPeek
 file_told f w p can h = let some = can (record { tree = tree_of f; writing = w }) refl in let none = ap is_some (bytes_at f p ∙ sym h) in cc
 
-pub peek_told : (f : Forest) (w : Option Path) (p : Path) (bytes block : List ℕ) → Some bytes ≡ file_at f p → block ≡ take 8192 bytes → IsPeeked (Some (record { tree = tree_of f; writing = w })) p block
+pub peek_told : (f : Forest) (w : Option Path) (p : Path) (bytes block : List ℕ) → Some bytes ≡ file_at f p → block ≡ take 8192 bytes
+    → IsPeeked (Some (record { tree = tree_of f; writing = w })) p block
 unfolding IsPeeked
 peek_told f w p bytes block is b = λ x e.
     let same : record { tree = tree_of f; writing = w } ≡ x = cc in
-    ap (λ (s : Writing). option_map (take 8192) (bytes_of (s.tree p))) (sym same) ∙ ap (option_map (take 8192)) (bytes_at f p ∙ sym is) ∙ ap (λ (l : List ℕ). Some l) (sym b)
+    ap (λ (s : Writing). option_map (take 8192) (bytes_of (s.tree p))) (sym same) ∙ ap (option_map (take 8192)) (bytes_at f p ∙ sym is)
+    ∙ ap (λ (l : List ℕ). Some l) (sym b)
 
 may_make : (s : Writing) (p : Path) → MayMake (Some s) p → CanMake s.tree p
 unfolding MayMake
@@ -64,7 +66,8 @@ added_nothing t (Some p) = λ i q. at q (same_path q p) refl i
     at q false is = refl
 
 -- where memory runs out, nothing of the piece is left
-pub leaves_nothing : (t s : Tree) (w : Option Path) (piece : List ℕ) → s ≡ t → LeavesPart (Some (record { tree = t; writing = w })) (Some (record { tree = s; writing = w })) piece
+pub leaves_nothing : (t s : Tree) (w : Option Path) (piece : List ℕ) → s ≡ t
+    → LeavesPart (Some (record { tree = t; writing = w })) (Some (record { tree = s; writing = w })) piece
 leaves_nothing t s w piece is = record { count = 0; left = λ i. Some (record { tree = (is ∙ added_nothing t w) i; writing = w }) }
 
 -- the call passes the fuse

@@ -27,25 +27,33 @@ opened-file f [] h = absurd (cc)
 opened-file none (n ∷ path) h = absurd (cc)
 opened-file (file m b f) (n ∷ path) h = by (opened-file f (n ∷ path)) (bytes_eq m n) refl h
   where
-    here : (path : Path) → bytes_eq m n ≡ true → IsSome (option_and_then as_file (node_at (File b) path)) → option_or (cond (is_just (n ∷ path) m) (Some (m ∷ [], 0)) None) (opened f (n ∷ path)) ≡ Some (n ∷ path, 0)
-    here [] same h = ap (λ t. option_or (cond (t && true) (Some (m ∷ [], 0)) None) (opened f (n ∷ []))) (bytes_eq-sym m n true same) ∙ ap (λ (l : List ℕ). Some (l ∷ [], 0)) (same_name m n same)
+    here : (path : Path) → bytes_eq m n ≡ true → IsSome (option_and_then as_file (node_at (File b) path))
+        → option_or (cond (is_just (n ∷ path) m) (Some (m ∷ [], 0)) None) (opened f (n ∷ path)) ≡ Some (n ∷ path, 0)
+    here [] same h = ap (λ t. option_or (cond (t && true) (Some (m ∷ [], 0)) None) (opened f (n ∷ []))) (bytes_eq-sym m n true same)
+        ∙ ap (λ (l : List ℕ). Some (l ∷ [], 0)) (same_name m n same)
     here (k ∷ path) same h = absurd (cc)
 
-    by : (IsSome (file_at f (n ∷ path)) → opened f (n ∷ path) ≡ Some (n ∷ path, 0)) → (t : Bool) → bytes_eq m n ≡ t → IsSome (option_and_then as_file (option_and_then (λ node. node_at node path) (cond t (Some (File b)) (find f n)))) → option_or (cond (is_just (n ∷ path) m) (Some (m ∷ [], 0)) None) (opened f (n ∷ path)) ≡ Some (n ∷ path, 0)
+    by : (IsSome (file_at f (n ∷ path)) → opened f (n ∷ path) ≡ Some (n ∷ path, 0)) → (t : Bool) → bytes_eq m n ≡ t
+        → IsSome (option_and_then as_file (option_and_then (λ node. node_at node path) (cond t (Some (File b)) (find f n))))
+        → option_or (cond (is_just (n ∷ path) m) (Some (m ∷ [], 0)) None) (opened f (n ∷ path)) ≡ Some (n ∷ path, 0)
     by later true same h = here path same h
-    by later false apart h = ap (λ t. option_or (cond (t && same_path path []) (Some (m ∷ [], 0)) None) (opened f (n ∷ path))) (bytes_eq-sym m n false apart) ∙ later h
+    by later false apart h = ap (λ t. option_or (cond (t && same_path path []) (Some (m ∷ [], 0)) None) (opened f (n ∷ path))) (bytes_eq-sym m n false apart)
+        ∙ later h
 opened-file (other m f) (n ∷ path) h = by (opened-file f (n ∷ path)) (bytes_eq m n) h
   where
     here : (path : Path) → IsSome (option_and_then as_file (node_at Other path)) → ⊥
     here [] h = cc
     here (k ∷ path) h = cc
 
-    by : (IsSome (file_at f (n ∷ path)) → opened f (n ∷ path) ≡ Some (n ∷ path, 0)) → (t : Bool) → IsSome (option_and_then as_file (option_and_then (λ node. node_at node path) (cond t (Some Other) (find f n)))) → opened f (n ∷ path) ≡ Some (n ∷ path, 0)
+    by : (IsSome (file_at f (n ∷ path)) → opened f (n ∷ path) ≡ Some (n ∷ path, 0)) → (t : Bool)
+        → IsSome (option_and_then as_file (option_and_then (λ node. node_at node path) (cond t (Some Other) (find f n))))
+        → opened f (n ∷ path) ≡ Some (n ∷ path, 0)
     by later true h = absurd (here path h)
     by later false h = later h
 opened-file (dir m d f) (n ∷ path) h = by (opened-file d path) (opened-file f (n ∷ path)) (bytes_eq m n) refl h
   where
-    by : (IsSome (file_at d path) → opened d path ≡ Some (path, 0)) → (IsSome (file_at f (n ∷ path)) → opened f (n ∷ path) ≡ Some (n ∷ path, 0)) → (t : Bool) → bytes_eq m n ≡ t
+    by : (IsSome (file_at d path) → opened d path ≡ Some (path, 0)) → (IsSome (file_at f (n ∷ path)) → opened f (n ∷ path) ≡ Some (n ∷ path, 0)) → (t : Bool)
+        → bytes_eq m n ≡ t
         → IsSome (option_and_then as_file (option_and_then (λ node. node_at node path) (cond t (Some (Dir d)) (find f n))))
         → option_or (option_map (λ (x : Path × ℕ). (m ∷ x.0, x.1)) (opened d (below (n ∷ path) m))) (opened f (n ∷ path)) ≡ Some (n ∷ path, 0)
     by inside later true same h =
@@ -62,13 +70,16 @@ unmarked : (e : Entries) → open_of e ≡ None → marked_of e ≡ None
 unmarked End is = refl
 unmarked (File' name held p after) is = by (unmarked after) held.place refl is
   where
-    by : (open_of after ≡ None → marked_of after ≡ None) → (place : Option ℕ) → held.place ≡ place → option_or (option_map (λ k. (name ∷ [], k)) place) (open_of after) ≡ None → option_or (option_map (λ k. (held.bytes.items, k)) held.place) (marked_of after) ≡ None
+    by : (open_of after ≡ None → marked_of after ≡ None) → (place : Option ℕ) → held.place ≡ place
+        → option_or (option_map (λ k. (name ∷ [], k)) place) (open_of after) ≡ None
+        → option_or (option_map (λ k. (held.bytes.items, k)) held.place) (marked_of after) ≡ None
     by later None at is = ap (λ k. option_or (option_map (λ place. (held.bytes.items, place)) k) (marked_of after)) at ∙ later is
     by later (Some k) at is = absurd (cc)
 unmarked (Other' name p after) is = unmarked after is
 unmarked (Dir' name p inside q after) is = by (unmarked inside) (unmarked after) (open_of inside) refl is
   where
-    by : (open_of inside ≡ None → marked_of inside ≡ None) → (open_of after ≡ None → marked_of after ≡ None) → (i : Option (Path × ℕ)) → open_of inside ≡ i → option_or (option_map (λ (x : Path × ℕ). (name ∷ x.0, x.1)) i) (open_of after) ≡ None → option_or (marked_of inside) (marked_of after) ≡ None
+    by : (open_of inside ≡ None → marked_of inside ≡ None) → (open_of after ≡ None → marked_of after ≡ None) → (i : Option (Path × ℕ)) → open_of inside ≡ i
+        → option_or (option_map (λ (x : Path × ℕ). (name ∷ x.0, x.1)) i) (open_of after) ≡ None → option_or (marked_of inside) (marked_of after) ≡ None
     by within later None at is = ap (λ i. option_or i (marked_of after)) (within at) ∙ later is
     by within later (Some i) at is = absurd (cc)
 
@@ -79,11 +90,13 @@ pub record IsMarked (e : Entries) (o : Path × ℕ) : Type 0 where
   pub found : file_at (forest_of e) o.0 ≡ Some bytes
 
 -- a file that is found behind the first entry is found past it
-found_past : (m : List ℕ) (x : Node) (f : Forest) (p : Path) (b : List ℕ) → ((n : List ℕ) (path : Path) (y : Node) → option_and_then (λ node. node_at node path) (find f n) ≡ Some y → bytes_eq m n ≡ false)
+found_past : (m : List ℕ) (x : Node) (f : Forest) (p : Path) (b : List ℕ)
+    → ((n : List ℕ) (path : Path) (y : Node) → option_and_then (λ node. node_at node path) (find f n) ≡ Some y → bytes_eq m n ≡ false)
     → (whole : Forest) → ((n : List ℕ) → find whole n ≡ cond (bytes_eq m n) (Some x) (find f n)) → file_at f p ≡ Some b → file_at whole p ≡ Some b
 found_past m x f [] b apart whole first is = absurd (cc)
 found_past m x f (n ∷ path) b apart whole first is =
-    ap (λ o. option_and_then as_file (option_and_then (λ node. node_at node path) o)) (first n ∙ cond-false (bytes_eq m n) (Some x) (find f n) (by (option_and_then (λ node. node_at node path) (find f n)) refl is)) ∙ is
+    ap (λ o. option_and_then as_file (option_and_then (λ node. node_at node path) o)) (first n
+    ∙ cond-false (bytes_eq m n) (Some x) (find f n) (by (option_and_then (λ node. node_at node path) (find f n)) refl is)) ∙ is
   where
     by : (o : Option Node) → option_and_then (λ node. node_at node path) (find f n) ≡ o → option_and_then as_file o ≡ Some b → bytes_eq m n ≡ false
     by None at h = absurd (cc)
@@ -103,7 +116,8 @@ is_marked (File' name held p after) o proper is = by (is_marked after o (proper_
     parts : (is_name name ≡ true) × (comes_before name (forest_of after) ≡ true) × (is_proper (forest_of after) ≡ true)
     parts = proper_file name held.bytes.items (forest_of after) proper
 
-    by : (open_of after ≡ Some o → IsMarked after o) → (place : Option ℕ) → held.place ≡ place → option_or (option_map (λ k. (name ∷ [], k)) place) (open_of after) ≡ Some o → IsMarked (File' name held p after) o
+    by : (open_of after ≡ Some o → IsMarked after o) → (place : Option ℕ) → held.place ≡ place
+        → option_or (option_map (λ k. (name ∷ [], k)) place) (open_of after) ≡ Some o → IsMarked (File' name held p after) o
     by later None at is =
         marked_later (File' name held p after) after name (File held.bytes.items) o (later is)
         (λ n path y. behind name (forest_of after) n path y parts.1 parts.2) (λ n. refl)
@@ -113,7 +127,8 @@ is_marked (File' name held p after) o proper is = by (is_marked after o (proper_
         subst (IsMarked (File' name held p after)) same (record {
           bytes = held.bytes.items;
           marked = ap (λ k. option_or (option_map (λ place. (held.bytes.items, place)) k) (marked_of after)) at;
-          found = ap (λ o. option_and_then as_file (option_and_then (λ node. node_at node []) o)) (cond-true (bytes_eq name name) (Some (File held.bytes.items)) _ (name_itself name));
+          found = ap (λ o. option_and_then as_file (option_and_then (λ node. node_at node []) o))
+              (cond-true (bytes_eq name name) (Some (File held.bytes.items)) _ (name_itself name));
         })
 is_marked (Other' name p after) o proper is =
     let parts = proper_other name (forest_of after) proper in
@@ -125,7 +140,8 @@ is_marked (Dir' name p inside q after) o proper is =
     parts : (is_name name ≡ true) × (comes_before name (forest_of after) ≡ true) × (is_proper (forest_of after) ≡ true) × (is_proper (forest_of inside) ≡ true)
     parts = proper_dir name (forest_of inside) (forest_of after) proper
 
-    by : ((o : Path × ℕ) → open_of inside ≡ Some o → IsMarked inside o) → (open_of after ≡ Some o → IsMarked after o) → (i : Option (Path × ℕ)) → open_of inside ≡ i
+    by : ((o : Path × ℕ) → open_of inside ≡ Some o → IsMarked inside o) → (open_of after ≡ Some o → IsMarked after o) → (i : Option (Path × ℕ))
+        → open_of inside ≡ i
         → option_or (option_map (λ (x : Path × ℕ). (name ∷ x.0, x.1)) i) (open_of after) ≡ Some o → IsMarked (Dir' name p inside q after) o
     by within later None at is =
         marked_later (Dir' name p inside q after) after name (Dir (forest_of inside)) o (later is)
@@ -137,5 +153,6 @@ is_marked (Dir' name p inside q after) o proper is =
         subst (IsMarked (Dir' name p inside q after)) same (record {
           bytes = m.bytes;
           marked = ap (λ i. option_or i (marked_of after)) m.marked;
-          found = ap (λ o. option_and_then as_file (option_and_then (λ node. node_at node i.0) o)) (cond-true (bytes_eq name name) (Some (Dir (forest_of inside))) _ (name_itself name)) ∙ m.found;
+          found = ap (λ o. option_and_then as_file (option_and_then (λ node. node_at node i.0) o))
+              (cond-true (bytes_eq name name) (Some (Dir (forest_of inside))) _ (name_itself name)) ∙ m.found;
         })

@@ -26,7 +26,8 @@ pub can_plant : (t : Tree) (p : Path) → plant_refusal t p ≡ None → CanMake
 can_plant t [] h = absurd (cc)
 can_plant t (n ∷ p) h = by (is_folder (t (parent (n ∷ p)))) (is_some (t (n ∷ p))) refl refl h
   where
-    by : (folder taken : Bool) → is_folder (t (parent (n ∷ p))) ≡ folder → is_some (t (n ∷ p)) ≡ taken → cond folder (cond taken (Some fault.Taken) None) (Some fault.NoParent) ≡ None → CanMake t (n ∷ p)
+    by : (folder taken : Bool) → is_folder (t (parent (n ∷ p))) ≡ folder → is_some (t (n ∷ p)) ≡ taken
+        → cond folder (cond taken (Some fault.Taken) None) (Some fault.NoParent) ≡ None → CanMake t (n ∷ p)
     by true false folder free h = record { absent = none_there _ free; in_folder = folder_is _ folder }
     by true true folder taken h = absurd (cc)
     by false b other taken h = absurd (cc)
@@ -36,7 +37,8 @@ pub not_refused : (t : Tree) (p : Path) → CanMake t p → plant_refusal t p �
 not_refused t [] can = absurd (cc (can.absent, can.in_folder))
 not_refused t (n ∷ p) can = by (t (parent (n ∷ p))) (t (n ∷ p)) can.in_folder can.absent
   where
-    by : (above here : Option Entry) → above ≡ Some Folder → here ≡ None → cond (is_folder above) (cond (is_some here) (Some fault.Taken) None) (Some fault.NoParent) ≡ None
+    by : (above here : Option Entry) → above ≡ Some Folder → here ≡ None
+        → cond (is_folder above) (cond (is_some here) (Some fault.Taken) None) (Some fault.NoParent) ≡ None
     by None here folder absent = absurd (cc)
     by (Some (Bytes b)) here folder absent = absurd (cc)
     by (Some Special) here folder absent = absurd (cc)
@@ -77,7 +79,8 @@ pub tree_planted : (f leaf : Forest) (path : Path) → plant_refusal (tree_of f)
     → tree_of (changed (inserted leaf) f (parent path)) ≡ put (tree_of f) path (leaf_entry leaf)
 tree_planted f leaf path free is =
     let e = leaf_entry leaf in
-    tree-planted leaf f path (node_of_entry e) (can_plant (tree_of f) path free) (ap first_name is.alone ∙ named (last_name path) e) (ap first_node is.alone ∙ holds (last_name path) e) (leaf_is e)
+    tree-planted leaf f path (node_of_entry e) (can_plant (tree_of f) path free) (ap first_name is.alone ∙ named (last_name path) e) (ap first_node is.alone
+    ∙ holds (last_name path) e) (leaf_is e)
     ∙ ap (put (tree_of f) path) (shown e)
 
 pub proper_planted : (f leaf : Forest) (path : Path) → plant_refusal (tree_of f) path ≡ None → IsLeafOf (last_name path) leaf → is_proper f ≡ true

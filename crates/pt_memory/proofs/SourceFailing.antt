@@ -41,10 +41,13 @@ found {T} {X} {Goal} old new needed r P there none gives so = by old.fuse.left n
     by None None has there gives = absurd (cc)
     by None (Some x) has there gives = so x gives
 
-pub lists : (failing : Failing) (old new : SourceState) (p : Path) (r : Result (List Item) TreeFault) → failing.at p ≡ false → CanList (Some (reading_of old)) p → ListGives old new p r
+pub lists : (failing : Failing) (old new : SourceState) (p : Path) (r : Result (List Item) TreeFault) → failing.at p ≡ false → CanList (Some (reading_of old)) p
+    → ListGives old new p r
     → ListsAs (fuse_failing failing old.fuse) (fuse_failing failing new.fuse) p r
 unfolding CanList ListsAs
-lists failing old new p r readable can gives = told_so failing old.fuse _ (λ none. found old new (listing_at old.tree p) r _ (there (dir_at old.tree p) (can (reading_of old) refl)) none gives (λ items g. (ap (λ s. fuse_failing failing s.fuse) g.0 ∙ still_so failing old.fuse none, well items r g.1)))
+lists failing old new p r readable can gives = told_so failing old.fuse _
+    (λ none. found old new (listing_at old.tree p) r _ (there (dir_at old.tree p) (can (reading_of old) refl)) none gives
+    (λ items g. (ap (λ s. fuse_failing failing s.fuse) g.0 ∙ still_so failing old.fuse none, well items r g.1)))
   where
     there : (o : Option Forest) → IsSome o → IsSome (option_map listing_of o)
     there None is = absurd (cc)
@@ -55,50 +58,68 @@ lists failing old new p r readable can gives = told_so failing old.fuse _ (λ no
     well items (Err Device) is = absurd (cc)
     well items (Err Memory) is = tt
 
-pub looks : (failing : Failing) (old new : SourceState) (p : Path) (r : Result (Option Kind) TreeFault) → KindGives old new p r → LooksAs (fuse_failing failing old.fuse) (fuse_failing failing new.fuse) p r
+pub looks : (failing : Failing) (old new : SourceState) (p : Path) (r : Result (Option Kind) TreeFault) → KindGives old new p r
+    → LooksAs (fuse_failing failing old.fuse) (fuse_failing failing new.fuse) p r
 unfolding LooksAs
-looks failing old new p r gives = told_so failing old.fuse _ (λ none. (ap (λ s. fuse_failing failing s.fuse) gives.state ∙ still_so failing old.fuse none, rw gives.answer (well old.fuse.left none)))
+looks failing old new p r gives = told_so failing old.fuse _ (λ none. (
+  ap (λ s. fuse_failing failing s.fuse) gives.state
+      ∙ still_so failing old.fuse none,
+  rw gives.answer (well old.fuse.left none),
+))
   where
-    well : (left : Option ℕ) → is_some left ≡ false → LooksWith {T = Option Kind} (failing.at (parent p)) (cond (option_map_or (λ n. n == 0) left false) (Err Device) (Ok (kind_at old.tree p)))
+    well : (left : Option ℕ) → is_some left ≡ false → LooksWith {T = Option Kind} (failing.at (parent p))
+        (cond (option_map_or (λ n. n == 0) left false) (Err Device) (Ok (kind_at old.tree p)))
     well None none = tt
     well (Some n) none = absurd (cc)
 
 -- `after` is where it fails once the file is open
-pub opens : (failing after : Failing) (old new : SourceState) (p : Path) (r : Result (Unit {0}) TreeFault) → after ≡ record failing { reading = failing.at p } → CanOpen (Some (reading_of old)) p → OpenGives old new p r
+pub opens : (failing after : Failing) (old new : SourceState) (p : Path) (r : Result (Unit {0}) TreeFault) → after ≡ record failing { reading = failing.at p }
+    → CanOpen (Some (reading_of old)) p → OpenGives old new p r
     → OpensAs (fuse_failing failing old.fuse) (fuse_failing after new.fuse) p r
 unfolding CanOpen OpensAs
-opens failing after old new p r follows can gives = told_so failing old.fuse _ (λ none. found old new (file_at old.tree p) r _ (can (reading_of old) refl) none gives (λ bytes g. rw g.0 (ap (λ s. fuse_failing after s.fuse) g.1 ∙ still_so after old.fuse none ∙ ap (λ f. Some f) follows)))
+opens failing after old new p r follows can gives = told_so failing old.fuse _
+    (λ none. found old new (file_at old.tree p) r _ (can (reading_of old) refl) none gives
+    (λ bytes g. rw g.0 (ap (λ s. fuse_failing after s.fuse) g.1 ∙ still_so after old.fuse none ∙ ap (λ f. Some f) follows)))
 
 -- where a file that is there isn't opened, there is a fuse
-pub opens_not : {T : Type 0} (failing : Failing) (after : Option Failing) (old new : SourceState) (p : Path) (fault : TreeFault) (r : Result T TreeFault) → CanOpen (Some (reading_of old)) p → OpenGives old new p (Err fault)
+pub opens_not : {T : Type 0} (failing : Failing) (after : Option Failing) (old new : SourceState) (p : Path) (fault : TreeFault) (r : Result T TreeFault)
+    → CanOpen (Some (reading_of old)) p → OpenGives old new p (Err fault)
     → OpensAs (fuse_failing failing old.fuse) after p r
 unfolding CanOpen OpensAs
-opens_not failing after old new p fault r can gives = told_so failing old.fuse _ (λ none. found old new (file_at old.tree p) (Err fault) _ (can (reading_of old) refl) none gives (λ bytes g. absurd (cc)))
+opens_not failing after old new p fault r can gives = told_so failing old.fuse _
+    (λ none. found old new (file_at old.tree p) (Err fault) _ (can (reading_of old) refl) none gives (λ bytes g. absurd (cc)))
 
-pub reads : (failing : Failing) (old new : SourceState) (block : List ℕ) (r : Result (Unit {0}) TreeFault) → failing.reading ≡ false → CanRead (Some (reading_of old)) → NextGives old new block r
+pub reads : (failing : Failing) (old new : SourceState) (block : List ℕ) (r : Result (Unit {0}) TreeFault) → failing.reading ≡ false
+    → CanRead (Some (reading_of old)) → NextGives old new block r
     → ReadsAs (fuse_failing failing old.fuse) (fuse_failing failing new.fuse) block r
 unfolding CanRead ReadsAs
-reads failing old new block r closed can gives = told_so failing old.fuse _ (λ none. found old new (unread_of old) r _ (can (reading_of old) refl) none gives (λ bytes g. (ap (λ s. fuse_failing failing s.fuse) g.2 ∙ still_so failing old.fuse none, rw g.0 (λ _. closed))))
+reads failing old new block r closed can gives = told_so failing old.fuse _
+    (λ none. found old new (unread_of old) r _ (can (reading_of old) refl) none gives
+    (λ bytes g. (ap (λ s. fuse_failing failing s.fuse) g.2 ∙ still_so failing old.fuse none, rw g.0 (λ _. closed))))
 
 -- a call that is refused leaves a device without a fuse without one
 refused : (failing : Failing) (old new : SourceState) → new ≡ after_refusal old → has_fuse old.fuse ≡ false → fuse_failing failing new.fuse ≡ Some failing
 refused failing old new is none = ap (λ s. fuse_failing failing s.fuse) is ∙ by old.fuse.left none
   where
-    by : (left : Option ℕ) → is_some left ≡ false → fuse_failing failing (after_refusal (record old { fuse = record { left = left; failures = old.fuse.failures } })).fuse ≡ Some failing
+    by : (left : Option ℕ) → is_some left ≡ false → fuse_failing failing
+        (after_refusal (record old { fuse = record { left = left; failures = old.fuse.failures } })).fuse ≡ Some failing
     by None none = refl
     by (Some n) none = absurd (cc)
 
-pub refuses_list : (T : Type 0) (failing : Failing) (old new : SourceState) (p : Path) (fault : TreeFault) → failing.at p ≡ true → new ≡ after_refusal old → fault ≡ Device
+pub refuses_list : (T : Type 0) (failing : Failing) (old new : SourceState) (p : Path) (fault : TreeFault) → failing.at p ≡ true → new ≡ after_refusal old
+    → fault ≡ Device
     → ListsAs {T = T} (fuse_failing failing old.fuse) (fuse_failing failing new.fuse) p (Err fault)
 unfolding ListsAs
 refuses_list T failing old new p fault spoiled is told = rw told (told_so failing old.fuse _ (λ none. (refused failing old new is none, spoiled)))
 
-pub refuses_look : (T : Type 0) (failing : Failing) (old new : SourceState) (p : Path) (fault : TreeFault) → failing.at (parent p) ≡ true → new ≡ after_refusal old → fault ≡ Device
+pub refuses_look : (T : Type 0) (failing : Failing) (old new : SourceState) (p : Path) (fault : TreeFault) → failing.at (parent p) ≡ true
+    → new ≡ after_refusal old → fault ≡ Device
     → LooksAs {T = T} (fuse_failing failing old.fuse) (fuse_failing failing new.fuse) p (Err fault)
 unfolding LooksAs
 refuses_look T failing old new p fault spoiled is told = rw told (told_so failing old.fuse _ (λ none. (refused failing old new is none, spoiled)))
 
-pub refuses_next : (T : Type 0) (failing : Failing) (old new : SourceState) (block : List ℕ) (fault : TreeFault) → failing.reading ≡ true → new ≡ after_refusal old → fault ≡ Device
+pub refuses_next : (T : Type 0) (failing : Failing) (old new : SourceState) (block : List ℕ) (fault : TreeFault) → failing.reading ≡ true
+    → new ≡ after_refusal old → fault ≡ Device
     → ReadsAs {T = T} (fuse_failing failing old.fuse) (fuse_failing failing new.fuse) block (Err fault)
 unfolding ReadsAs
 refuses_next T failing old new block fault spoiled is told = rw told (told_so failing old.fuse _ (λ none. (refused failing old new is none, spoiled)))

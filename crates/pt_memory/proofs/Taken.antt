@@ -8,7 +8,8 @@ pub piece : (bytes rest part buffer : List ℕ) (place count : ℕ) → rest ≡
     → count ≤ length rest → drop place bytes ≡ take count (part ++ drop count buffer) ++ drop (place + count) bytes
 piece bytes rest part buffer place count rest_is part_is most =
     let size : length part ≡ count = ap length part_is ∙ full in
-    let front : take count (part ++ drop count buffer) ≡ part = ap (λ n. take n (part ++ drop count buffer)) (sym size) ∙ take-append_seam part (drop count buffer) in
+    let front : take count (part ++ drop count buffer) ≡ part = ap (λ n. take n (part ++ drop count buffer)) (sym size)
+    ∙ take-append_seam part (drop count buffer) in
     let all : drop place bytes ≡ part ++ drop count (drop place bytes) =
     sym (take-append-drop count (drop place bytes)) ∙ ap (λ l. l ++ drop count (drop place bytes)) (ap (take count) (sym rest_is) ∙ sym part_is) in
     all ∙ ap (λ l. l ++ drop count (drop place bytes)) (sym front) ∙ ap (λ l. take count (part ++ drop count buffer) ++ l) behind

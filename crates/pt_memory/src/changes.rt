@@ -83,7 +83,8 @@ fn put_first(entries: &mut Entries, leaf: Entries)
     drop(others);
 }
 
-/// Takes the entry of a name out of the directory at a path, and gives it alone; nothing where there is none.
+/// Takes the entry of a name out of the directory at a path, and gives it alone; nothing where
+/// there is none.
 pub fn remove(entries: &mut Entries, dir: &[Name], name: &Name) -> Entries
     ensures forest { forest_of entries.new
         ≡ changed (removed name.now) (forest_of entries.old) dir.now }
@@ -157,7 +158,8 @@ pub enum Edit<'a> {
     Replace(Vec<u8>),
 }
 
-/// Edits the file of a name in the directory at a path, if there is one. It stays open, if it is, at its place.
+/// Edits the file of a name in the directory at a path, if there is one. It stays open, if it is,
+/// at its place.
 pub fn edit_bytes(
     entries: &mut Entries,
     dir: &[Name],

@@ -4,7 +4,8 @@ ghost use Rattle.pt_tree.specs.declared.faults.TreeFault.TheVariants.{Device};
 
 use pt_tree::TreeFault;
 
-/// A fuse of so many calls, if there is one, and the count of failures, which stays at its greatest value.
+/// A fuse of so many calls, if there is one, and the count of failures, which stays at its greatest
+/// value.
 #[derive(Clone, Copy, Debug)]
 pub struct Fuse {
     pub left: Option<u64>,

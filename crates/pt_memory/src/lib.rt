@@ -1,19 +1,27 @@
-//! A source, a destination and a log in memory, which tell what they hold; a source whose tree changes; and one of which something can't be read.
+//! A source, a destination and a log in memory, which tell what they hold; a source whose tree
+//! changes; and one of which something can't be read.
 //!
 //! Devices in memory, which no code of the program needs.
 //!
-//! - `MemSource`, `MemDest`, `MemLog`: tell what they hold, and meet the traits. Each call's contract gives the exact new state, by the fuse
-//!   too (clauses `gives` and `puts`): which calls pass, and that a failing `append` leaves half of its piece, a failing `put` what fits.
-//! - `take_away`, `plant_file`, `plant_dir`, `plant_other`: give the exact new tree, or refuse in order and leave all.
-//! - `kind_at`, `listing`: exactly what stands at a path, by no call of the trait. `add_to`, `add_part`: exactly the tree with a piece, or its
-//!   first bytes, behind a file's, whichever file is open.
+//! - `MemSource`, `MemDest`, `MemLog`: tell what they hold, and meet the traits. Each call's
+//!   contract gives the exact new state, by the fuse too (clauses `gives` and `puts`): which calls
+//!   pass, and that a failing `append` leaves half of its piece, a failing `put` what fits.
+//! - `take_away`, `plant_file`, `plant_dir`, `plant_other`: give the exact new tree, or refuse in
+//!   order and leave all.
+//! - `kind_at`, `listing`: exactly what stands at a path, by no call of the trait. `add_to`,
+//!   `add_part`: exactly the tree with a piece, or its first bytes, behind a file's, whichever file
+//!   is open.
 //! - `pieces`: exactly the next bytes of a file, and names as a directory of the system gives them.
-//! - `same`: true exactly where the trees are equal. `has_file`, `has_dir`, `may_make`, `may_move`: true exactly where the calls that need it
-//!   may be made.
-//! - `LooseSource`: tells nothing; its file changes after a given number of calls (`swap_after`), and each call's effect on it is exact.
-//! - `SpoiledSource`: a `MemSource` of which what stands at some paths can't be listed or read, and no entry there looked at; each call's
-//!   effect on it is exact.
-//! - Without a fuse a `MemSource` tells that it never fails, and a `SpoiledSource` that it fails at these paths and nowhere else.
+//! - `same`: true exactly where the trees are equal. `has_file`, `has_dir`, `may_make`, `may_move`:
+//!   true exactly where the calls that need it may be made.
+//! - `LooseSource`: tells nothing; its file changes after a given number of calls (`swap_after`),
+//!   and each call's effect on it is exact.
+//! - `SpoiledSource`: a `MemSource` of which what stands at some paths can't be listed or read, and
+//!   no entry there looked at; each call's effect on it is exact.
+//! - Without a fuse a `MemSource` tells that it never fails, and a `SpoiledSource` that it fails at
+//!   these paths and nowhere else.
+//!
+//! No guarantee of README rests on its definitions.
 #![tactic(auto)]
 
 mod changes;

@@ -67,11 +67,12 @@ impl LooseSource {
         LooseSource { source, swap: None }
     }
 
-    /// Lets the file at a path hold these bytes once so many more calls of the trait were made, failed or not: from
-    /// before the next one on, or at once for 0. An open file is read on from the same place in the new bytes.
+    /// Lets the file at a path hold these bytes once so many more calls of the trait were made,
+    /// failed or not: from before the next one on, or at once for 0. An open file is read on from
+    /// the same place in the new bytes.
     ///
-    /// `Absent` where no file is at the path, tested first; then `Memory`. Refused, an earlier swap stays; else this
-    /// one takes its place.
+    /// `Absent` where no file is at the path, tested first; then `Memory`. Refused, an earlier swap
+    /// stays; else this one takes its place.
     pub fn swap_after(&mut self, calls: u64, path: &NamePath, bytes: &[u8]) -> Result<(), SwapFault>
         ensures answer { Answers (swap_refusal (loose_state self.old).source.tree path.now)
             SwapFault.Memory result

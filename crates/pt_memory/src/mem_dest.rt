@@ -64,8 +64,9 @@ impl MemDest {
         }
     }
 
-    /// Plants a file with these bytes. Refused, in this order, as `NoParent` where the path's parent is no directory,
-    /// as `Taken` where something stands at the path, the top among it, and as `Memory`. Refused, it changes nothing.
+    /// Plants a file with these bytes. Refused, in this order, as `NoParent` where the path's
+    /// parent is no directory, as `Taken` where something stands at the path, the top among it, and
+    /// as `Memory`. Refused, it changes nothing.
     pub fn plant_file(&mut self, path: &NamePath, bytes: &[u8]) -> Result<(), PlantFault>
         ensures answer { Answers (plant_refusal (dest_tree self.old) path.now)
             PlantFault.Memory result
@@ -92,8 +93,8 @@ impl MemDest {
         Ok(())
     }
 
-    /// Removes what stands at a path, with all below, and closes a file that is open there. `Absent` where nothing
-    /// stands, and for the top; then nothing is changed.
+    /// Removes what stands at a path, with all below, and closes a file that is open there.
+    /// `Absent` where nothing stands, and for the top; then nothing is changed.
     pub fn take_away(&mut self, path: &NamePath) -> Result<(), TakeFault>
         ensures answer { Answers (take_refusal (dest_tree self.old) path.now)
             TakeFault.Absent result
@@ -123,8 +124,8 @@ impl MemDest {
         kind_in(&self.entries, path)
     }
 
-    /// Adds a piece to the file at a path, whichever is open; without memory for it nothing is changed. Where no file
-    /// is there, nothing is.
+    /// Adds a piece to the file at a path, whichever is open; without memory for it nothing is
+    /// changed. Where no file is there, nothing is.
     pub fn add_to(&mut self, path: &NamePath, piece: &[u8]) -> Result<(), MemoryFault>
         ensures added { OnOk result (dest_state self.new
             ≡ with_tree (added (dest_tree self.old) path.now piece.now) (dest_state self.old)) }
@@ -158,8 +159,9 @@ impl MemDest {
         same(&self.entries, &other.entries)
     }
 
-    /// After `Some(k)` the next k calls of the trait pass and every later one answers `Device`, a failing `append`
-    /// leaving half of its piece, rounded down; `None` takes the fuse out. `failures` is never counted.
+    /// After `Some(k)` the next k calls of the trait pass and every later one answers `Device`, a
+    /// failing `append` leaving half of its piece, rounded down; `None` takes the fuse out.
+    /// `failures` is never counted.
     pub fn fuse(&mut self, calls: Option<u64>)
         ensures { dest_state self.new ≡ dest_fused calls (dest_state self.old) }
     {
@@ -363,7 +365,8 @@ impl MemDest {
         refusal(&self.entries, path).is_none()
     }
 
-    /// Whether what is at `from` may be moved to `to`: something is there, and `to` may be made and isn't at or below it.
+    /// Whether what is at `from` may be moved to `to`: something is there, and `to` may be made and
+    /// isn't at or below it.
     pub fn may_move(&self, from: &NamePath, to: &NamePath) -> bool
         ensures { IsTrue result ↔ MayMove (dest_told self.now) from.now to.now }
     {

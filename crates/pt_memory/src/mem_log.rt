@@ -38,8 +38,9 @@ impl MemLog {
         &self.bytes
     }
 
-    /// After `Some(k)` it takes k more bytes, over all later puts: a put that needs more leaves what fits and answers
-    /// `Device`, and from then on only an empty put fits. `None` takes the fuse out.
+    /// After `Some(k)` it takes k more bytes, over all later puts: a put that needs more leaves
+    /// what fits and answers `Device`, and from then on only an empty put fits. `None` takes the
+    /// fuse out.
     pub fn fuse(&mut self, bytes: Option<u64>)
         ensures { log_state self.new ≡ record (log_state self.old) { left = bytes } }
     {

@@ -15,7 +15,8 @@ use crate::planting::{dir_in, dir_leaf, file_in, file_leaf, free_name, other_lea
 use pt_tree::{Block, Kind, Listing, MemoryFault, NamePath, Source, TreeFault};
 use std::alloc::Global;
 
-/// A tree of files in memory, to read from. It always tells; and without a fuse, that it never fails.
+/// A tree of files in memory, to read from. It always tells; and without a fuse, that it never
+/// fails.
 #[derive(Debug, Drop)]
 pub struct MemSource {
     alloc: Global,
@@ -46,8 +47,9 @@ impl MemSource {
         }
     }
 
-    /// Plants a file with these bytes. Refused, in this order, as `NoParent` where the path's parent is no directory,
-    /// as `Taken` where something stands at the path, the top among it, and as `Memory`. Refused, it changes nothing.
+    /// Plants a file with these bytes. Refused, in this order, as `NoParent` where the path's
+    /// parent is no directory, as `Taken` where something stands at the path, the top among it, and
+    /// as `Memory`. Refused, it changes nothing.
     pub fn plant_file(&mut self, path: &NamePath, bytes: &[u8]) -> Result<(), PlantFault>
         ensures answer { Answers (plant_refusal (tree_of (source_tree self.old)) path.now)
             PlantFault.Memory result
@@ -117,8 +119,8 @@ impl MemSource {
         }
     }
 
-    /// After `Some(k)` the next k calls of the trait pass and every later one answers `Device`; `None` takes the fuse
-    /// out. `failures` is never counted.
+    /// After `Some(k)` the next k calls of the trait pass and every later one answers `Device`;
+    /// `None` takes the fuse out. `failures` is never counted.
     pub fn fuse(&mut self, calls: Option<u64>)
         ensures { source_state self.new ≡ fused calls (source_state self.old) }
     {

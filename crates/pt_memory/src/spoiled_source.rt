@@ -5,11 +5,12 @@ ghost use Rattle.std.specs.Option.{option_map};
 use crate::MemSource;
 use pt_tree::{Block, Kind, Listing, NamePath, Source, TreeFault};
 
-/// A tree of files in memory of which what stands at some paths can't be listed or read. It always tells; and without a
-/// fuse, that it fails at these paths and nowhere else.
+/// A tree of files in memory of which what stands at some paths can't be listed or read. It always
+/// tells; and without a fuse, that it fails at these paths and nowhere else.
 ///
-/// A file at one of them is opened as any other, so that whoever only opens it sees no failure; but each `next` of it
-/// fails, and leaves it where it was. A look at an entry of a directory at one of them fails. A call that fails so is a call like any other, also for a fuse, and answers
+/// A file at one of them is opened as any other, so that whoever only opens it sees no failure; but
+/// each `next` of it fails, and leaves it where it was. A look at an entry of a directory at one of
+/// them fails. A call that fails so is a call like any other, also for a fuse, and answers
 /// `Device`.
 #[derive(Debug, Drop)]
 pub struct SpoiledSource {
@@ -22,8 +23,9 @@ impl SpoiledSource {
     ghost use Rattle.pt_memory.specs.SpoiledSource.{is_spoiled};
     ghost use Rattle.pt_tree.specs.Path.{parent};
 
-    /// Takes a tree over as it is, with its fuse and its counts. What stands at these paths can't be listed, or opened
-    /// and read, from now on; nothing has to stand there. A file that is open already is read on, wherever it stands.
+    /// Takes a tree over as it is, with its fuse and its counts. What stands at these paths can't
+    /// be listed, or opened and read, from now on; nothing has to stand there. A file that is open
+    /// already is read on, wherever it stands.
     pub fn new(source: MemSource, paths: Vec<NamePath>) -> SpoiledSource
         ensures source { result.source ≡ source }
         ensures paths { result.spoiled ≡ paths }
@@ -50,7 +52,8 @@ impl SpoiledSource {
         self.spoiled.contains(path)
     }
 
-    // Whether the directory above a path can't be listed; the top has none above, and stands for it.
+    // Whether the directory above a path can't be listed; the top has none above, and stands for
+    // it.
     fn is_spoiled_above(&self, path: &NamePath) -> bool
         ensures { result ≡ is_spoiled self.now.spoiled.items (parent path.now) }
     {

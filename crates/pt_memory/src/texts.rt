@@ -1,6 +1,7 @@
 //! Paths, stores and trees from texts, for tests.
 //!
-//! Each function answers `Memory` where a growth was refused, and `Device` where its text says nothing that can stand.
+//! Each function answers `Memory` where a growth was refused, and `Device` where its text says
+//! nothing that can stand.
 #![tactic(auto)]
 
 mod paths;

@@ -1,5 +1,33 @@
 -- Names with a NUL behind each are cut in one way.
-use Rattle.std.proofs.Common.{◌≡◌, ◌++◌, ◌∙◌, ◌==◌, ℕ, Bool, List, [], ◌∷◌, ap, append_assoc, arith, cond, false, get_or, map, refl, subst, sym, take, drop, true, zero, suc, ◌+◌, add-one, append-nil}
+use Rattle.std.proofs.Common.{
+  ◌≡◌,
+  ◌++◌,
+  ◌∙◌,
+  ◌==◌,
+  ℕ,
+  Bool,
+  List,
+  [],
+  ◌∷◌,
+  ap,
+  append_assoc,
+  arith,
+  cond,
+  false,
+  get_or,
+  map,
+  refl,
+  subst,
+  sym,
+  take,
+  drop,
+  true,
+  zero,
+  suc,
+  ◌+◌,
+  add-one,
+  append-nil,
+}
 use Rattle.std.proofs.lemmas.List.Sorted.{IsPermutation-refl}
 use Rattle.std.proofs.lemmas.List.Elements.{All-head, All-tail}
 use Rattle.std.specs.Prelude.{◌||◌, slice_get, IfSome, IsPermutation, None, Option, Some, Result, Ok, Err, IfOk}
@@ -57,7 +85,8 @@ no_nul x h = by (list_any (λ b. b == 0) x) refl
 
 lacks : (x : List ℕ) → list_any (λ b. b == 0) x ≡ false → LacksNul x
 lacks [] h k d within = absurd (omega (arith, within))
-lacks (b ∷ x) h zero d within = λ is. let here : (0 == 0 || list_any (λ b. b == 0) x) ≡ false = subst (λ c. (c == 0 || list_any (λ b. b == 0) x) ≡ false) is h in absurd (cc)
+lacks (b ∷ x) h zero d within = λ is. let here : (0 == 0 || list_any (λ b. b == 0) x)
+    ≡ false = subst (λ c. (c == 0 || list_any (λ b. b == 0) x) ≡ false) is h in absurd (cc)
 lacks (b ∷ x) h (suc k) d within = lacks x (behind (b == 0) (list_any (λ b. b == 0) x) h) k d (omega (arith, within))
   where
     behind : (s t : Bool) → (s || t) ≡ false → t ≡ false
@@ -126,7 +155,8 @@ pub names_given : (f : Forest) (folder text : List ℕ) (path : Path) (items : L
 names_given f folder text path items (Err e) proper leads listed start bytes = λ p named is. tt
 names_given f folder text path items (Ok d) proper leads listed start bytes = λ p named is.
     let all : drop d.place d.bytes.items ≡ flat_map ended (map (λ (item : Item). item.0) items) = ap (λ n. drop n d.bytes.items) start ∙ bytes in
-    subst (λ q. GivesAll (names_left d) (dir_at f q)) (leads p named is) (gives_names f path (drop d.place d.bytes.items) proper (of_dir (dir_at f path) listed all))
+    subst (λ q. GivesAll (names_left d) (dir_at f q)) (leads p named is)
+    (gives_names f path (drop d.place d.bytes.items) proper (of_dir (dir_at f path) listed all))
   where
     of_dir : (o : Option Forest) → Some items ≡ option_map listing_of o → drop d.place d.bytes.items ≡ flat_map ended (map (λ (item : Item). item.0) items)
         → IfSome o (λ d'. drop d.place d.bytes.items ≡ flat_map ended (names_of d'))

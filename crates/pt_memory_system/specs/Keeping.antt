@@ -16,7 +16,23 @@ use Rattle.pt_folder.specs.Folder.{entry_text}
 use Rattle.pt_folder.specs.Laws.{LooksRight}
 use Rattle.pt_folder.specs.SourceLaws as source
 use Rattle.pt_memory_system.specs.Folders.{told_at, told_is, told_changed, told_same}
-use Rattle.pt_memory_system.specs.System.{IsAdded, Looks, MakesDir, MakesFile, Moves, Opens, OpensDir, SameFolders, Writes, bytes_in, forest_in, kept_in, kept_of, left_in, names_left}
+use Rattle.pt_memory_system.specs.System.{
+  IsAdded,
+  Looks,
+  MakesDir,
+  MakesFile,
+  Moves,
+  Opens,
+  OpensDir,
+  SameFolders,
+  Writes,
+  bytes_in,
+  forest_in,
+  kept_in,
+  kept_of,
+  left_in,
+  names_left,
+}
 use Rattle.pt_memory_system.specs.declared.file.MemFile.{MemFile}
 use Rattle.pt_memory_system.specs.declared.system.MemorySystem.{MemorySystem}
 

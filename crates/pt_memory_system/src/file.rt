@@ -8,7 +8,8 @@ use pt_memory::pieces::take_next;
 use pt_tree::NamePath;
 use std::io;
 
-/// An open file: its bytes and the place where it stands; or one that was made, to write to, with its path.
+/// An open file: its bytes and the place where it stands; or one that was made, to write to, with
+/// its path.
 #[derive(Drop)]
 pub struct MemFile<'a> {
     bytes: Vec<u8>,

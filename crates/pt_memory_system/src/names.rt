@@ -10,7 +10,8 @@ use pt_tree::Listing;
 use std::alloc::{AllocError, Global};
 use std::io;
 
-/// The names in a directory, a NUL behind each, and the place where they are read on. A read gives whole names.
+/// The names in a directory, a NUL behind each, and the place where they are read on. A read gives
+/// whole names.
 #[derive(Drop)]
 pub struct MemNames<'a> {
     bytes: Vec<u8>,

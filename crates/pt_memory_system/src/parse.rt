@@ -11,8 +11,8 @@ use pt_tree::{NameFault, NamePath};
 use std::alloc::Global;
 use std::io;
 
-/// The path of the entry of a folder that a text leads to. `NotFound` only where the text leads to none; `OutOfMemory` where a
-/// growth was refused.
+/// The path of the entry of a folder that a text leads to. `NotFound` only where the text leads to
+/// none; `OutOfMemory` where a growth was refused.
 pub fn entry_of(alloc: Global, folder: &str, text: &str) -> io::Result<NamePath>
     ensures path { IfOk result (λ path. (p : Path) → IsPath p
         → text.now ≡ entry_text folder.now p → path ≡ p) }

@@ -13,7 +13,8 @@ use pt_tree::{Dest, Kind, NamePath, TreeFault};
 use std::alloc::Global;
 use std::{io, mem};
 
-/// A system in memory: the folder at one path is only read, and the folder at another is written. Nothing is elsewhere.
+/// A system in memory: the folder at one path is only read, and the folder at another is written.
+/// Nothing is elsewhere.
 #[derive(Drop)]
 pub struct MemorySystem<'a> {
     alloc: Global,
@@ -33,7 +34,8 @@ impl<'a> MemorySystem<'a> {
     ghost use Rattle.pt_tree.specs.Forest.{Dir, dir_at, file_at, kind_of, node_at};
     ghost use Rattle.pt_tree.specs.Tree.{bytes_of, kind_of_entry};
 
-    /// A system with these two folders, each at its path; None where one path begins with the other.
+    /// A system with these two folders, each at its path; None where one path begins with the
+    /// other.
     pub fn new(
         alloc: Global,
         faults: &'a Faults,

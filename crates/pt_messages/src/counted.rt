@@ -31,7 +31,8 @@ pub struct LineCounts {
     skipped: [u64; 9],
 }
 
-/// A log whose lines are counted where that is wanted, and is the log in all else. Each piece that it gets is a line.
+/// A log whose lines are counted where that is wanted, and is the log in all else. Each piece that
+/// it gets is a line.
 #[derive(Drop)]
 pub struct CountedLog<L: Log> {
     log: L,
@@ -132,8 +133,8 @@ impl LineCounts {
         }
     }
 
-    /// Puts into a record how many lines there are of each kind, skips by their cause and differing objects by their reason, and what the objects
-    /// that were carried, or are the same, hold.
+    /// Puts into a record how many lines there are of each kind, skips by their cause and differing
+    /// objects by their reason, and what the objects that were carried, or are the same, hold.
     pub(crate) fn put_into(&self, record: &mut Members, words: Words) -> Result<(), AllocError> {
         let mut lines = record.empty();
         match words {
@@ -161,8 +162,8 @@ impl LineCounts {
         record.put_number("bytes", self.bytes)
     }
 
-    /// How many lines there are of each kind, and what the objects that were carried, or are the same, hold: as
-    /// `200 done, 1 present, 9 skipped (split 7, other 2), 1,560 files, 7.1 MB`.
+    /// How many lines there are of each kind, and what the objects that were carried, or are the
+    /// same, hold: as `200 done, 1 present, 9 skipped (split 7, other 2), 1,560 files, 7.1 MB`.
     pub(crate) fn summary(&self, alloc: Global, words: Words) -> Result<String, AllocError> {
         let well = group_digits(alloc, self.well)?;
         let skipped = with_words(alloc, "skipped", &CAUSES, &self.skipped)?;
@@ -201,7 +202,8 @@ fn kind_of(line: &str) -> Option<(&str, &str)> {
     line.strip_prefix("{\"as\":\"")?.split_once('"')
 }
 
-// The number behind a comma and a key, 0 where there is none. In a text of JSON no `"` stands right behind a comma, so what is found is the key.
+// The number behind a comma and a key, 0 where there is none. In a text of JSON no `"` stands right
+// behind a comma, so what is found is the key.
 fn number_at(rest: &str, key: &str) -> u64 {
     match rest.split_once(key) {
         Some((_, after)) => match after.split_once(',') {

@@ -1,5 +1,6 @@
-//! The record of a run or an audit beside its log: what an archive's record of preservation events wants of it (PREMIS 3.0, "Event"), as one
-//! JSON object on a line. It has two texts: as the run begins, and with how it ended.
+//! The record of a run or an audit beside its log: what an archive's record of preservation events
+//! wants of it (PREMIS 3.0, "Event"), as one JSON object on a line. It has two texts: as the run
+//! begins, and with how it ended.
 use crate::counted::LineCounts;
 use crate::members::Members;
 use crate::reads::Reads;
@@ -23,7 +24,8 @@ const HOST: &str = "/proc/sys/kernel/hostname";
 // How many bytes that may have.
 const LONGEST: u64 = 1024;
 
-/// The record of a run or an audit. Each call that puts something into it or makes its line gives an error where a growth was refused.
+/// The record of a run or an audit. Each call that puts something into it or makes its line gives
+/// an error where a growth was refused.
 #[derive(Drop)]
 pub struct Event {
     members: Members,
@@ -39,8 +41,8 @@ pub struct Outcome {
 }
 
 impl Outcome {
-    /// It put so many lines, and ended with this fault, if with any; why that came is given where it has a path, and is an error where
-    /// a growth was refused for it.
+    /// It put so many lines, and ended with this fault, if with any; why that came is given where
+    /// it has a path, and is an error where a growth was refused for it.
     pub fn new(
         words: Words,
         counts: LineCounts,
@@ -62,7 +64,8 @@ impl Outcome {
 }
 
 impl Event {
-    /// The record of what is done under this word with these options, as it begins. An error where a growth was refused.
+    /// The record of what is done under this word with these options, as it begins. An error where
+    /// a growth was refused.
     pub fn begin<R: Reads + Clock + AllocGlobal>(
         rt: &R,
         word: &str,
@@ -81,7 +84,8 @@ impl Event {
         Ok(Event { members })
     }
 
-    /// Puts a folder at a key: its path as it was given, and where that leads, links resolved, if it leads anywhere.
+    /// Puts a folder at a key: its path as it was given, and where that leads, links resolved, if
+    /// it leads anywhere.
     pub fn put_folder<R: Reads + AllocGlobal>(
         &mut self,
         rt: &R,
@@ -121,7 +125,8 @@ impl Event {
 }
 
 impl Outcome {
-    // What is told of its fault: the number and the text, and the path and the reason where it has these.
+    // What is told of its fault: the number and the text, and the path and the reason where it has
+    // these.
     fn fault_members(&self, alloc: Global, fault: &Fault) -> Result<Members, AllocError> {
         let mut told = Members::new(alloc);
         told.put_number("number", u64::from(fault.number()))?;
@@ -156,7 +161,8 @@ fn put_host<R: Reads>(rt: &R, members: &mut Members) -> Result<(), AllocError> {
     }
 }
 
-// Puts at a key the clock's moment to the second, in UTC, as RFC 3339 writes it. None is put where there is no clock.
+// Puts at a key the clock's moment to the second, in UTC, as RFC 3339 writes it. None is put where
+// there is no clock.
 fn put_moment<R: Clock + AllocGlobal>(
     rt: &R,
     members: &mut Members,

@@ -9,7 +9,8 @@ use std::alloc::AllocGlobal;
 // How many bytes at a log's end are read; an end line has fewer.
 const TAIL: usize = 256;
 
-/// The number of lines on the store that a log's end line counts, if a log is named. Standard error is told where it can't be read, or has no end line.
+/// The number of lines on the store that a log's end line counts, if a log is named. Standard error
+/// is told where it can't be read, or has no end line.
 pub fn lines_expected<R: Reads + Eprint + AllocGlobal>(rt: &R, log: Option<&str>) -> Option<u64>
     ensures { AsksEnd R.ends rt.now (option_map (λ path. path.now) log.entry) }
 {
@@ -30,7 +31,8 @@ pub fn lines_expected<R: Reads + Eprint + AllocGlobal>(rt: &R, log: Option<&str>
     counted
 }
 
-// What the last line of these bytes counts, if they end with an end line. They may begin inside of a character.
+// What the last line of these bytes counts, if they end with an end line. They may begin inside of
+// a character.
 fn count_in(bytes: &[u8]) -> Option<u64> {
     let begin = bytes.iter().position(|byte| byte & 0xc0 != 0x80)?;
     match str::from_utf8(bytes.get(begin..)?) {
@@ -39,8 +41,8 @@ fn count_in(bytes: &[u8]) -> Option<u64> {
     }
 }
 
-// What the last line of a text counts of the store, if it is an end line, of a run's log or of an audit's. How far an audit is doesn't count
-// what the root has beside.
+// What the last line of a text counts of the store, if it is an end line, of a run's log or of an
+// audit's. How far an audit is doesn't count what the root has beside.
 fn last_count(text: &str) -> Option<u64> {
     match text.rsplit_once("{\"as\":\"end\",\"done\":") {
         Some((_, counts)) => {

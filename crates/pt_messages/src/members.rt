@@ -3,7 +3,8 @@ use pt_tree::Name;
 use serde_json::{Map, Value};
 use std::alloc::{AllocError, Global};
 
-/// The members of a JSON object. Each call that puts one or makes the line gives an error where a growth was refused.
+/// The members of a JSON object. Each call that puts one or makes the line gives an error where a
+/// growth was refused.
 #[derive(Drop)]
 pub struct Members {
     alloc: Global,

@@ -12,7 +12,8 @@ pub fn time(alloc: Global, millis: u64) -> Result<String, AllocError> {
     format!(in alloc; "{hours} h {left} min")
 }
 
-/// So many bytes: `117 bytes`, and from a thousand on with one decimal of the largest unit that it fills, `7.1 MB`.
+/// So many bytes: `117 bytes`, and from a thousand on with one decimal of the largest unit that it
+/// fills, `7.1 MB`.
 pub fn size(alloc: Global, bytes: u64) -> Result<String, AllocError> {
     let (tenth, unit) = match bytes {
         0..=999 => return count_text(alloc, bytes, "byte", "bytes"),

@@ -9,7 +9,8 @@ const NAME: &str = "/pairtree_prefix";
 // How many bytes the file of a prefix may have.
 const LONGEST: u64 = 1024;
 
-/// Tells standard error of a store whose prefix holds a control character, a blank at an end, or a byte order mark.
+/// Tells standard error of a store whose prefix holds a control character, a blank at an end, or a
+/// byte order mark.
 pub fn tell<R: Reads + Eprint + AllocGlobal>(rt: &R, store: &str) {
     let Ok(path) = path_in(rt.alloc(), store) else {
         return;
@@ -30,7 +31,8 @@ fn path_in(alloc: Global, store: &str) -> Result<String, AllocError> {
     Ok(path)
 }
 
-// Whether a file holds such a prefix. What can't be read, or isn't a prefix, is the run's own to tell.
+// Whether a file holds such a prefix. What can't be read, or isn't a prefix, is the run's own to
+// tell.
 fn has_doubtful<R: Reads + AllocGlobal>(rt: &R, path: &str) -> bool {
     match rt.read_small(path, LONGEST) {
         Ok(Some(bytes)) => match read_prefix(rt.alloc(), bytes.as_slice()) {

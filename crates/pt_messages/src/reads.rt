@@ -15,34 +15,37 @@ const ROOT: &str = "pairtree_root";
 
 const VERSION: &str = "pairtree_version0_1";
 
-/// What can be read of files beside a run. No call changes anything. An error is answered where the system gives one, as where nothing stands at
-/// the path, or where a growth was refused.
+/// What can be read of files beside a run. No call changes anything. An error is answered where the
+/// system gives one, as where nothing stands at the path, or where a growth was refused.
 pub trait Reads {
     type Opened: Input + Drop;
 
-    /// Reading the end of the file at a path may be answered so, and leave these bytes in the room for it.
+    /// Reading the end of the file at a path may be answered so, and leave these bytes in the room
+    /// for it.
     ghost ends: { Self → List ℕ → List ℕ → Result ℕ Error → Type 0 };
 
     /// Opening the file at a path may be answered so.
     ghost opens: { Self → List ℕ → Result Self.Opened Error → Type 0 };
 
-    /// Reads the last bytes of the file at a path, links followed, and gives how many there are: as many as there is room for, or all. What is no
-    /// file isn't opened, and that is an error.
+    /// Reads the last bytes of the file at a path, links followed, and gives how many there are: as
+    /// many as there is room for, or all. What is no file isn't opened, and that is an error.
     fn read_end(&self, path: &str, end: &mut [u8]) -> io::Result<usize>
         ensures { ends self.now path.now end.new result };
 
-    /// The file at a path, links followed, opened to be read from its start on, piece by piece. It may be a pipe.
+    /// The file at a path, links followed, opened to be read from its start on, piece by piece. It
+    /// may be a pipe.
     fn open(&self, path: &str) -> io::Result<Self::Opened>
         ensures { opens self.now path.now result };
 
-    /// What the file at a path holds, links not followed; none where it is no file, or has more bytes than `most`.
+    /// What the file at a path holds, links not followed; none where it is no file, or has more
+    /// bytes than `most`.
     fn read_small(&self, path: &str, most: u64) -> io::Result<Option<Vec<u8>>>;
 
     /// Where a path leads, from the top, links resolved.
     fn find_place(&self, alloc: Global, path: &str) -> io::Result<PathBuf>;
 
-    /// The folder of the store whose `pairtree_root` a path leads to, links resolved; none where it leads to no such folder, or that can't
-    /// be told.
+    /// The folder of the store whose `pairtree_root` a path leads to, links resolved; none where it
+    /// leads to no such folder, or that can't be told.
     fn store_above(&self, alloc: Global, path: &str) -> Option<PathBuf>;
 }
 

@@ -1,5 +1,5 @@
-//! Why a run failed, in a line of its own: the path of the call that failed, and the system's text, or the program's where no
-//! call failed.
+//! Why a run failed, in a line of its own: the path of the call that failed, and the system's text,
+//! or the program's where no call failed.
 use crate::members::Members;
 use crate::reads::Reads;
 use crate::shown::escape;
@@ -19,7 +19,8 @@ const NO_PREFIX: &str =
 
 const CHANGED: &str = "it was not the same at its second reading";
 
-/// Why a run or an audit failed: the path of the call that failed or of what was found, and the reason.
+/// Why a run or an audit failed: the path of the call that failed or of what was found, and the
+/// reason.
 #[derive(Drop)]
 pub struct FaultReason {
     path: String,
@@ -54,7 +55,8 @@ impl FaultReason {
     }
 }
 
-/// Why a run over these folders ended with a fault, where that has a path. An error where a growth was refused.
+/// Why a run over these folders ended with a fault, where that has a path. An error where a growth
+/// was refused.
 pub fn of_run<R: Reads + AllocGlobal, S: System, D: System>(
     rt: &R,
     fault: &Fault,
@@ -74,7 +76,8 @@ pub fn of_run<R: Reads + AllocGlobal, S: System, D: System>(
     }
 }
 
-/// Why an audit of the root in a folder ended with a fault, where that has a path. An error where a growth was refused.
+/// Why an audit of the root in a folder ended with a fault, where that has a path. An error where a
+/// growth was refused.
 pub fn of_audit<R: Reads + AllocGlobal, S: System, D: System>(
     rt: &R,
     fault: &Fault,

@@ -1,8 +1,9 @@
 //! Texts as they may be shown on a terminal.
 use std::alloc::{AllocError, Global};
 
-/// A text on one line in which each character is seen: a control or format character, a blank that is no space, and a space at an end of the
-/// text are `\u{..}` with their number in hex, and `\` is doubled, so that two texts are never shown alike. An error where a growth was refused.
+/// A text on one line in which each character is seen: a control or format character, a blank that
+/// is no space, and a space at an end of the text are `\u{..}` with their number in hex, and `\` is
+/// doubled, so that two texts are never shown alike. An error where a growth was refused.
 pub fn escape(alloc: Global, text: &str) -> Result<String, AllocError> {
     let begin = text.len().saturating_sub(text.trim_start().len());
     let end = text.trim_end().len();
@@ -26,7 +27,8 @@ fn is_seen(c: char) -> bool {
     !c.is_control() && !c.is_whitespace() && !is_format(c)
 }
 
-// Whether a character only tells how others are shown, as one that sets their direction: Unicode's category Cf.
+// Whether a character only tells how others are shown, as one that sets their direction: Unicode's
+// category Cf.
 fn is_format(c: char) -> bool {
     matches!(c,
         '\u{ad}'

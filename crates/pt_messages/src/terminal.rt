@@ -12,8 +12,9 @@ pub trait Terminals {
     /// Whether standard error is a terminal.
     fn errors_are_terminal(&self) -> bool;
 
-    /// How many columns a line of the terminal has, where that is told: by `COLUMNS` in the environment, and where `TERM` names no terminal that
-    /// understands more than text, as the usual 80. None where the terminal itself may be told to cut a longer line.
+    /// How many columns a line of the terminal has, where that is told: by `COLUMNS` in the
+    /// environment, and where `TERM` names no terminal that understands more than text, as the
+    /// usual 80. None where the terminal itself may be told to cut a longer line.
     fn columns(&self) -> Option<usize>;
 }
 

@@ -108,8 +108,9 @@ impl<'a, R: Clock + Eprint + Terminals> Watch<'a, R> {
         self.sums
     }
 
-    /// Ends what is shown: the line on a terminal is taken away. Then comes, where one is wanted, the summary of the log's lines, where these are
-    /// given; else, where it was shown how far the run is, how far it was.
+    /// Ends what is shown: the line on a terminal is taken away. Then comes, where one is wanted,
+    /// the summary of the log's lines, where these are given; else, where it was shown how far the
+    /// run is, how far it was.
     pub fn end(&self, counts: Option<&LineCounts>) {
         if !self.sums {
             return;
@@ -155,7 +156,8 @@ impl<'a, R: Clock + Eprint + Terminals> Watch<'a, R> {
         }
     }
 
-    // What writes a line over the one that a terminal shows: it wraps none meanwhile, and so cuts what is longer.
+    // What writes a line over the one that a terminal shows: it wraps none meanwhile, and so cuts
+    // what is longer.
     fn over(&self, line: &str) -> Result<String, AllocError> {
         let room = match self.columns {
             Some(columns) => columns.saturating_sub(1),
@@ -169,7 +171,8 @@ impl<'a, R: Clock + Eprint + Terminals> Watch<'a, R> {
         Ok(text)
     }
 
-    // How far the run is after so many milliseconds, and how fast it was, on one line, what matters most in front.
+    // How far the run is after so many milliseconds, and how fast it was, on one line, what matters
+    // most in front.
     fn line(&self, passed: u64) -> Result<String, AllocError> {
         let alloc = self.alloc;
         let (done, present, skipped) = (
@@ -192,7 +195,8 @@ impl<'a, R: Clock + Eprint + Terminals> Watch<'a, R> {
         format!(in alloc; "{ahead}{done} {carried}, {present} {other}, {skipped} skipped, {spent}")
     }
 
-    // The time that passed, the lines and bytes a second, the bytes that were read, and what is read just now.
+    // The time that passed, the lines and bytes a second, the bytes that were read, and what is
+    // read just now.
     fn rate_text(&self, lines: u64, passed: u64) -> Result<String, AllocError> {
         let alloc = self.alloc;
         let bytes = self.tally.bytes();
@@ -208,7 +212,8 @@ impl<'a, R: Clock + Eprint + Terminals> Watch<'a, R> {
     }
 }
 
-// The share that is done after so many lines of those that are expected, and the time that is left, by the time that passed.
+// The share that is done after so many lines of those that are expected, and the time that is left,
+// by the time that passed.
 fn ahead(alloc: Global, lines: u64, expected: u64, passed: u64) -> Result<String, AllocError> {
     let done = lines.min(expected);
     let percent = done.saturating_mul(100) / expected.max(1);

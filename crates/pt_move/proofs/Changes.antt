@@ -2,7 +2,35 @@
 use Rattle.std.proofs.Common.{◌≡◌, ℕ, ◌+◌, ◌==◌, Bool, true, false, List, [], ◌∷◌, ◌++◌, drop, refl, ◌∙◌, inl, inr, cond, zero, suc}
 use Rattle.std.specs.Prelude.{Option, None, Some, Ok, Err, nat_lt, ⊤}
 use Rattle.pt_object.specs.Contents.{content_of, is_noted, noted}
-use Rattle.pt_state.proofs.Words.{Content, is_first, Item, Path, advanced, entered, names_to, parent, sought, Cause, Frame, Answer, Job, Line, End, Skipped, Counts, Held, Next, Make, Place, Scan, Start, Walk, Calls, Fault, Phase}
+use Rattle.pt_state.proofs.Words.{
+  Content,
+  is_first,
+  Item,
+  Path,
+  advanced,
+  entered,
+  names_to,
+  parent,
+  sought,
+  Cause,
+  Frame,
+  Answer,
+  Job,
+  Line,
+  End,
+  Skipped,
+  Counts,
+  Held,
+  Next,
+  Make,
+  Place,
+  Scan,
+  Start,
+  Walk,
+  Calls,
+  Fault,
+  Phase,
+}
 use Rattle.pt_state.proofs.Words.cause
 use Rattle.pt_state.proofs.Words.fault
 use Rattle.pt_state.proofs.Words.opening
@@ -110,7 +138,8 @@ changes_trail moves rows contents = record { trail = moves; rows = gains_same ro
 changes_back : {held new : Held} → Moves held.trail new.trail → new.rows ≡ [] → new.contents ≡ [] → Changes held new
 changes_back {held} moves rows contents = record { trail = moves; rows = rw rows (gains_empty held.rows); contents = rw contents (gains_empty held.contents) }
 
-pub follows_change : {job : Job} {counts : Counts} {here : Phase} {prefix read : List ℕ} {held new : Held} {calls : Calls} {answer : Answer} → Next job counts here prefix held read new calls answer → Changes held new
+pub follows_change : {job : Job} {counts : Counts} {here : Phase} {prefix read : List ℕ} {held new : Held} {calls : Calls} {answer : Answer}
+    → Next job counts here prefix held read new calls answer → Changes held new
 follows_change {held} (Walk (walk.OpensRoot _ items)) = changes_trail (moves_entered items held.trail) refl refl
 follows_change {held} (Walk (walk.IsNew _ index _ _)) = changes_trail (moves_object index held.trail) refl refl
 follows_change {held} (Walk (walk.IsPast _ _ _ _ _)) = changes_trail (moves_advanced held.trail) refl refl
@@ -129,7 +158,12 @@ follows_change {held} (Scan (scan.MeetsOther _ _ _ _)) = changes_back (moves_lef
 follows_change {held} (Scan (scan.EndsObject _ _ _ _ _)) = changes_trail (moves_parent held.trail) refl refl
 follows_change {held} (Scan (scan.LeavesDirectory _ _ _ _ _)) = changes_trail (moves_past held.trail) refl refl
 follows_change {held} (Scan (scan.IsTooLong _ _ _ _ _ _)) = changes_back (moves_left 0 _ held.trail) refl refl
-follows_change {held} (Scan (scan.EndsFile _ _ _)) = record { trail = moves_advanced held.trail; rows = gains_one held.rows _; contents = gains_noted held.contents _ _ }
+follows_change {held} (Scan (scan.EndsFile _ _ _)) = record {
+  trail = moves_advanced held.trail;
+  rows = gains_one held.rows _;
+  contents = gains_noted
+      held.contents _ _;
+}
 follows_change {held} (Make (make.MakesStaging _ _)) = changes_trail (moves_same held.trail) refl refl
 follows_change {held} (Place (place.TellsDone _ _)) = changes_back (moves_sought 0 held.trail) refl refl
 follows_change {held} _ = changes_trail (moves_same held.trail) refl refl
@@ -144,7 +178,8 @@ IsRefusal fault.Log = ⊥
 IsRefusal fault.Memory = ⊥
 IsRefusal _ = ⊤
 
-pub follows_refuse : {job : Job} {counts : Counts} {here : Phase} {prefix read : List ℕ} {held new : Held} {calls : Calls} {why : Fault} → Next job counts here prefix held read new calls (Err why) → IsRefusal why × (calls.line ≡ None)
+pub follows_refuse : {job : Job} {counts : Counts} {here : Phase} {prefix read : List ℕ} {held new : Held} {calls : Calls} {why : Fault}
+    → Next job counts here prefix held read new calls (Err why) → IsRefusal why × (calls.line ≡ None)
 follows_refuse (Start (start.IsNoStore _ _ _)) = (tt, refl)
 follows_refuse (Walk walks) = elim walks [ ]
 follows_refuse (Scan scans) = elim scans [ ]
@@ -164,7 +199,8 @@ skip_line : (counts : Counts) (told : Bool) (at : Path) (why : Cause) → LineOf
 skip_line counts true at why = tt
 skip_line counts false at why = tt
 
-pub follows_line : {job : Job} {counts : Counts} {here : Phase} {prefix read : List ℕ} {held new : Held} {calls : Calls} {answer : Answer} → Next job counts here prefix held read new calls answer → LineOf counts calls.line
+pub follows_line : {job : Job} {counts : Counts} {here : Phase} {prefix read : List ℕ} {held new : Held} {calls : Calls} {answer : Answer}
+    → Next job counts here prefix held read new calls answer → LineOf counts calls.line
 follows_line (Start (start.IsStore _ _ _)) = tt
 follows_line {job} {counts} {held} (Walk (walk.IsPast _ _ _ _ _)) = skip_line counts (is_first job.share) (names_to held.trail) cause.Past
 follows_line {job} {counts} {held} (Walk (walk.IsDeep _ _ _ _ _ _)) = skip_line counts (is_first job.share) (names_to held.trail) cause.Limit
@@ -180,17 +216,24 @@ abbrev pub EndsWith : Counts → Phase → Option Line → Type 0
 EndsWith counts phase.Ended line = line ≡ Some (last_line counts)
 EndsWith counts _ line = ⊤
 
-either_end : (counts : Counts) (is : Bool) (first second : Phase) → EndsWith counts first None → EndsWith counts second None → EndsWith counts (cond is first second) None
+either_end : (counts : Counts) (is : Bool) (first second : Phase) → EndsWith counts first None → EndsWith counts second None
+    → EndsWith counts (cond is first second) None
 either_end counts true first second ends _ = ends
 either_end counts false first second _ ends = ends
 
-pub follows_end : {job : Job} {counts : Counts} {here : Phase} {prefix read : List ℕ} {held new : Held} {calls : Calls} {next : Phase} → Next job counts here prefix held read new calls (Ok next) → EndsWith counts next calls.line
-follows_end {counts} (Start (start.MakesRoot _ number _ _)) = either_end counts (number == 5) (phase.Opening opening.RootRename) (phase.Opening (opening.RootMake (number + 1))) tt tt
-follows_end {counts} (Start (start.IsSame _ number _ _ _)) = either_end counts (number == 2) (phase.Opening opening.OpenRoot) (phase.Opening (opening.RootCheck (number + 1))) tt tt
+pub follows_end : {job : Job} {counts : Counts} {here : Phase} {prefix read : List ℕ} {held new : Held} {calls : Calls} {next : Phase}
+    → Next job counts here prefix held read new calls (Ok next) → EndsWith counts next calls.line
+follows_end {counts} (Start (start.MakesRoot _ number _ _)) = either_end counts (number == 5) (phase.Opening opening.RootRename)
+    (phase.Opening (opening.RootMake (number + 1))) tt tt
+follows_end {counts} (Start (start.IsSame _ number _ _ _)) = either_end counts (number == 2) (phase.Opening opening.OpenRoot)
+    (phase.Opening (opening.RootCheck (number + 1))) tt tt
 follows_end (Walk (walk.OpensRoot _ _)) = tt
 follows_end (Scan (scan.StartsInSite _ _ _)) = tt
-follows_end {job} {counts} (Make (make.MakesSidecar _ object)) = either_end counts (job.tuples.count == 0) (phase.Carrying object stage.Rename) (phase.Carrying object (stage.Tuples 0)) tt tt
-follows_end {job} {counts} (Place (place.MakesTuple _ object number)) = either_end counts (nat_lt (number + 1) job.tuples.count) (phase.Carrying object (stage.Tuples (number + 1))) (phase.Carrying object stage.Rename) tt tt
-follows_end {job} {counts} (Place (place.FindsTuple _ object number)) = either_end counts (nat_lt (number + 1) job.tuples.count) (phase.Carrying object (stage.Tuples (number + 1))) (phase.Carrying object stage.Rename) tt tt
+follows_end {job} {counts} (Make (make.MakesSidecar _ object)) = either_end counts (job.tuples.count == 0) (phase.Carrying object stage.Rename)
+    (phase.Carrying object (stage.Tuples 0)) tt tt
+follows_end {job} {counts} (Place (place.MakesTuple _ object number)) = either_end counts (nat_lt (number + 1) job.tuples.count)
+    (phase.Carrying object (stage.Tuples (number + 1))) (phase.Carrying object stage.Rename) tt tt
+follows_end {job} {counts} (Place (place.FindsTuple _ object number)) = either_end counts (nat_lt (number + 1) job.tuples.count)
+    (phase.Carrying object (stage.Tuples (number + 1))) (phase.Carrying object stage.Rename) tt tt
 follows_end (Place (place.TellsEnd _)) = refl
 follows_end _ = tt

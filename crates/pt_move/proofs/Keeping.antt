@@ -18,7 +18,18 @@ use Rattle.pt_state.proofs.Whole.{holds_nothing_else}
 use Rattle.pt_state.specs.Outside.{FedAfter}
 use Rattle.pt_state.specs.declared.job.Job as own
 use Rattle.pt_move.specs.Turning.{CountedTurn}
-use Rattle.pt_move.specs.Outcome.{FaultStateTold, HoldsWithinBound, IfEarly, IfLog, LeavesAll, LeavesNoStaging, MadeWithinWork, SaysRightly, StandsStillIn, WantsMemory}
+use Rattle.pt_move.specs.Outcome.{
+  FaultStateTold,
+  HoldsWithinBound,
+  IfEarly,
+  IfLog,
+  LeavesAll,
+  LeavesNoStaging,
+  MadeWithinWork,
+  SaysRightly,
+  StandsStillIn,
+  WantsMemory,
+}
 use Rattle.pt_move.specs.Promises.{IfHalted, Keeps, TurnKeeps, UnlessEnded}
 use Rattle.pt_move.specs.Running.{BeganSomewhere, FedUntilEnd, InProgress, IsBegun, Running, as_told, run_of}
 use Rattle.pt_move.specs.declared.mover.Turn.TheVariants as turn
@@ -29,7 +40,8 @@ use Rattle.pt_move.proofs.Outcomes.{reading_of, turn_keeps, within_after}
 
 -- ---- the source's tree stays
 
-pub tree_stays : (here : Phase) (s s' : State) (old new : DeviceStates) (answer : Answer) → here ≢ phase.Ended → BeganSomewhere old (record { phase = here; state = s })
+pub tree_stays : (here : Phase) (s s' : State) (old new : DeviceStates) (answer : Answer) → here ≢ phase.Ended
+    → BeganSomewhere old (record { phase = here; state = s })
     → CountedTurn here s s' old new answer → tree_in new.source ≡ tree_in old.source
 unfolding CountedTurn
 tree_stays here s s' old new answer going begun turned =
@@ -38,7 +50,8 @@ tree_stays here s s' old new answer going begun turned =
 
 -- ---- the turn in a step
 
-fed_after : (answer : Answer) (s s' : State) (fed : List ℕ) → s'.job ≡ s.job → FedAfter answer s.job.algorithm s'.hasher fed → FedUntilEnd (phase_after answer) s'.job.algorithm s'.hasher fed
+fed_after : (answer : Answer) (s s' : State) (fed : List ℕ) → s'.job ≡ s.job → FedAfter answer s.job.algorithm s'.hasher fed
+    → FedUntilEnd (phase_after answer) s'.job.algorithm s'.hasher fed
 fed_after (Ok next) s s' fed job was = fed_to_end next s'.job.algorithm s'.hasher fed (rw job was)
 fed_after (Err why) s s' fed job was = tt
 
@@ -53,7 +66,8 @@ keeps_after here s s' old new answer going turned start is =
       fed = made.0;
       was = fed_after answer s s' made.0 turned.0 made.1.0;
       begun = rw turned.0
-          (to_told (job_of s.job) start new (record { phase = phase_after answer; kept = kept_of s' made.0 }) (within_after s s' here is.fed made.0 old new start within going_on answer made.1.1));
+          (to_told (job_of s.job) start new (record { phase = phase_after answer; kept = kept_of s' made.0 })
+          (within_after s s' here is.fed made.0 old new start within going_on answer made.1.1));
     } in
     turn_keeps s s' here is.fed made.0 old new start within going_on answer made.1.1 turned.0 begun
 
@@ -70,12 +84,28 @@ unless_ended _ _ p = p
 
 module _ (start : Start) (old new : DeviceStates) (before : Running) (s' : State) where
   -- there is more to do
-  pub keeps_more : (next : Phase) → TurnKeeps start old new before.state s' (Ok next) → Keeps start old new before (record { phase = next; state = s' }) (Ok turn.More)
+  pub keeps_more : (next : Phase) → TurnKeeps start old new before.state s' (Ok next)
+      → Keeps start old new before (record { phase = next; state = s' }) (Ok turn.More)
   unfolding Keeps TurnKeeps
-  keeps_more next kept = record { begun = kept.begun; leaves = kept.leaves; stands = kept.stands; work = kept.work; bound = kept.bound; holds = holds_nothing_else s'; left = kept.left; ends = tt; states = tt; early = tt; unstaged = tt; says = tt; good = tt }
+  keeps_more next kept = record {
+    begun = kept.begun;
+    leaves = kept.leaves;
+    stands = kept.stands;
+    work = kept.work;
+    bound = kept.bound;
+    holds = holds_nothing_else s';
+    left = kept.left;
+    ends = tt;
+    states = tt;
+    early = tt;
+    unstaged = tt;
+    says = tt;
+    good = tt;
+  }
 
   -- it was the last turn
-  pub keeps_finished : (next : Phase) → next ≡ phase.Ended → TurnKeeps start old new before.state s' (Ok next) → Keeps start old new before (record { phase = phase.Ended; state = s' }) (Ok turn.Finished)
+  pub keeps_finished : (next : Phase) → next ≡ phase.Ended → TurnKeeps start old new before.state s' (Ok next)
+      → Keeps start old new before (record { phase = phase.Ended; state = s' }) (Ok turn.Finished)
   unfolding Keeps TurnKeeps
   keeps_finished next ended kept = record {
     begun = rw ended at kept.begun;
@@ -94,7 +124,8 @@ module _ (start : Start) (old new : DeviceStates) (before : Running) (s' : State
   }
 
   -- it halted the run
-  pub keeps_halted : (why : Fault) → TurnKeeps start old new before.state s' (Err why) → Keeps start old new before (record { phase = phase.Ended; state = s' }) (Err why)
+  pub keeps_halted : (why : Fault) → TurnKeeps start old new before.state s' (Err why)
+      → Keeps start old new before (record { phase = phase.Ended; state = s' }) (Err why)
   unfolding Keeps TurnKeeps
   keeps_halted why kept = record {
     begun = kept.begun;
@@ -114,7 +145,8 @@ module _ (start : Start) (old new : DeviceStates) (before : Running) (s' : State
 
 -- ---- no turn was made
 
-so_far : (job : Job) (start : Start) (now : DeviceStates) (run : Run) {s : Reading} {t : Tree} → InvariantWithinWork job start now run → now.source ≡ Some s → start.dest ≡ Some t → run.kept.counts.turns ≤ work job s.tree (root_in t)
+so_far : (job : Job) (start : Start) (now : DeviceStates) (run : Run) {s : Reading} {t : Tree} → InvariantWithinWork job start now run → now.source ≡ Some s
+    → start.dest ≡ Some t → run.kept.counts.turns ≤ work job s.tree (root_in t)
 unfolding InvariantWithinWork
 so_far job start now run {s} {t} (past, is, within) source_is start_is = let few = (within s source_is t start_is).within in omega (arith, few)
 
@@ -157,7 +189,8 @@ module _ (start : Start) (now : DeviceStates) (r : Running) (is : IsBegun start 
       (stops_leave job start (as_told now) run reading.0 t w first last begun reading.1 start_is dest_is first_is last_is)
 
   -- a limit that was made is less than the work
-  limit_there : r.phase ≢ phase.Ended → r.state.job.limits.turns ≤ r.state.counts.turns → (s : Forest) (t : Tree) → tree_in now.source ≡ Some s → start.dest ≡ Some t → r.state.job.limits.turns < work job s (root_in t)
+  limit_there : r.phase ≢ phase.Ended → r.state.job.limits.turns ≤ r.state.counts.turns → (s : Forest) (t : Tree) → tree_in now.source ≡ Some s
+      → start.dest ≡ Some t → r.state.job.limits.turns < work job s (root_in t)
   limit_there going made = λ f t source_is start_is.
       let reading = reading_of now.source source_is in
       let less : r.state.counts.turns < work job f (root_in t) =
@@ -165,17 +198,20 @@ module _ (start : Start) (now : DeviceStates) (r : Running) (is : IsBegun start 
       omega (arith, less, made)
 
   -- so one of at least the work isn't made
-  good_there : r.phase ≢ phase.Ended → r.state.job.limits.turns ≤ r.state.counts.turns → WantsMemory r.state.job (tree_in now.source) start.dest now.failures now.failures fault.Turns
+  good_there : r.phase ≢ phase.Ended → r.state.job.limits.turns ≤ r.state.counts.turns
+      → WantsMemory r.state.job (tree_in now.source) start.dest now.failures now.failures fault.Turns
   unfolding WantsMemory
   good_there going made = λ f t source_is start_is good free enough none.
       let less = limit_there going made f t source_is start_is in
       absurd (omega (arith, less, enough))
 
-same_counts : (job : own.Job) (source : Option Forest) (start : Option Tree) {s : State} (s' : State) → s' ≡ s → MadeWithinWork job source start s.counts → MadeWithinWork job source start s'.counts
+same_counts : (job : own.Job) (source : Option Forest) (start : Option Tree) {s : State} (s' : State) → s' ≡ s → MadeWithinWork job source start s.counts
+    → MadeWithinWork job source start s'.counts
 same_counts job source start s' same made = rw same made
 
 -- the limit of turns was made
-pub keeps_at_limit : (start : Start) (now : DeviceStates) (before after : Running) → before.phase ≢ phase.Ended → before.state.job.limits.turns ≤ before.state.counts.turns → after.phase ≡ phase.Ended → after.state ≡ before.state → IsBegun start now before
+pub keeps_at_limit : (start : Start) (now : DeviceStates) (before after : Running) → before.phase ≢ phase.Ended
+    → before.state.job.limits.turns ≤ before.state.counts.turns → after.phase ≡ phase.Ended → after.state ≡ before.state → IsBegun start now before
     → Keeps start now now before after (Err fault.Turns)
 unfolding Keeps SaysRightly
 keeps_at_limit start now before after going made ended same is = record {
@@ -195,7 +231,8 @@ keeps_at_limit start now before after going made ended same is = record {
 }
 
 -- it had ended
-pub keeps_ended : (start : Start) (now : DeviceStates) (before after : Running) → after ≡ before → IsBegun start now before → Keeps start now now before after (Err fault.Ended)
+pub keeps_ended : (start : Start) (now : DeviceStates) (before after : Running) → after ≡ before → IsBegun start now before
+    → Keeps start now now before after (Err fault.Ended)
 unfolding Keeps
 keeps_ended start now before after same is = record {
   begun = same_begun start now same is;

@@ -2,7 +2,31 @@
 use Rattle.std.proofs.Common.{◌≡◌, ℕ, List, true, refl}
 use Rattle.std.specs.Prelude.{Option, None, Some, Ok, Err, ⊤}
 use Rattle.pt_invariant.specs.LogLaws.{may_tell}
-use Rattle.pt_state.proofs.Words.{Answer, Job, Line, Counts, Held, Kept, FailsAtFirst, FailsLater, Next, GoesOn, IsRefused, FailsPartway, Make, Place, Scan, Start, FailsUnchanged, Turn, Walk, Calls, DeviceStates, Fault, Phase}
+use Rattle.pt_state.proofs.Words.{
+  Answer,
+  Job,
+  Line,
+  Counts,
+  Held,
+  Kept,
+  FailsAtFirst,
+  FailsLater,
+  Next,
+  GoesOn,
+  IsRefused,
+  FailsPartway,
+  Make,
+  Place,
+  Scan,
+  Start,
+  FailsUnchanged,
+  Turn,
+  Walk,
+  Calls,
+  DeviceStates,
+  Fault,
+  Phase,
+}
 use Rattle.pt_state.proofs.Words.fault
 use Rattle.pt_plan.specs.TurnMake as make
 use Rattle.pt_plan.specs.TurnPlace as place
@@ -19,7 +43,8 @@ BlamesLogLate here (Err fault.Log) = may_tell here ≡ true
 BlamesLogLate here (Err why) = ⊤
 
 -- a turn that tells a line is made where lines may be told
-told_late : {job : Job} {counts : Counts} {here : Phase} {prefix read : List ℕ} {held new : Held} {calls : Calls} {answer : Answer} {line : Line} → Next job counts here prefix held read new calls answer → calls.line ≡ Some line → may_tell here ≡ true
+told_late : {job : Job} {counts : Counts} {here : Phase} {prefix read : List ℕ} {held new : Held} {calls : Calls} {answer : Answer} {line : Line}
+    → Next job counts here prefix held read new calls answer → calls.line ≡ Some line → may_tell here ≡ true
 told_late (Start (start.IsStore _ _ _)) tells = absurd (cc)
 told_late (Start _) tells = absurd (cc)
 told_late (Walk (walk.OpensRoot _ _)) _ = refl
@@ -45,11 +70,13 @@ there_late : (here : Phase) (why : Fault) → may_tell here ≡ true → BlamesL
 there_late here fault.Log tells = tells
 there_late here _ tells = tt
 
-by_line : (here : Phase) (line : Option Line) (why : Fault) → ((told : Line) → line ≡ Some told → may_tell here ≡ true) → MayBlame line why → BlamesLogLate here (Err why)
+by_line : (here : Phase) (line : Option Line) (why : Fault) → ((told : Line) → line ≡ Some told → may_tell here ≡ true) → MayBlame line why
+    → BlamesLogLate here (Err why)
 by_line here None why tells blames = other_late here why blames
 by_line here (Some line) why tells blames = there_late here why (tells line refl)
 
-pub turn_late : {job : Job} {here : Phase} {before after : Kept} {old new : DeviceStates} {answer : Answer} → Turn job here before after old new answer → BlamesLogLate here answer
+pub turn_late : {job : Job} {here : Phase} {before after : Kept} {old new : DeviceStates} {answer : Answer} → Turn job here before after old new answer
+    → BlamesLogLate here answer
 unfolding FailsUnchanged FailsPartway
 turn_late (GoesOn _ _ _ _ _) = tt
 turn_late {here} (IsRefused _ _ _ why follows _ _) = other_late here why (refusal_not_log why (follows_refuse follows).0)

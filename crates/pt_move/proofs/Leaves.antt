@@ -1,7 +1,33 @@
 -- What a turn of the run's definitions leaves.
 use Rattle.std.proofs.Common.{◌≡◌, ℕ, ◌+◌, List, refl, ap, ◌∙◌, inl, inr, arith}
 use Rattle.std.specs.Prelude.{Option, None, Some, Err}
-use Rattle.pt_state.proofs.Words.{Row, Answer, Job, Line, End, Counts, turning, Did, FailsAtFirst, FailsLater, GoesOn, HasFailed, IsHalted, IsRefused, FailsPartway, FailsUnchanged, Turn, counted, Failures, Puts, DeviceStates, Fault, Phase, counts_of, kept_of}
+use Rattle.pt_state.proofs.Words.{
+  Row,
+  Answer,
+  Job,
+  Line,
+  End,
+  Counts,
+  turning,
+  Did,
+  FailsAtFirst,
+  FailsLater,
+  GoesOn,
+  HasFailed,
+  IsHalted,
+  IsRefused,
+  FailsPartway,
+  FailsUnchanged,
+  Turn,
+  counted,
+  Failures,
+  Puts,
+  DeviceStates,
+  Fault,
+  Phase,
+  counts_of,
+  kept_of,
+}
 use Rattle.pt_state.proofs.Words.fault
 use Rattle.pt_state.proofs.Words.phase
 use Rattle.pt_state.specs.declared.job.Report.{Report}
@@ -32,7 +58,8 @@ failed_blames _ _ _ failed = absurd failed
 
 -- ---- the log
 
-same_lines : (c c' : Report) {counts : Counts} → counts_of c' ≡ counts → counts.done ≡ c.done → counts.present ≡ c.present → counts.skipped ≡ c.skipped → SameLines c c'
+same_lines : (c c' : Report) {counts : Counts} → counts_of c' ≡ counts → counts.done ≡ c.done → counts.present ≡ c.present → counts.skipped ≡ c.skipped
+    → SameLines c c'
 same_lines c c' is d p s = (ap (λ (k : Counts). k.done) is ∙ d, ap (λ (k : Counts). k.present) is ∙ p, ap (λ (k : Counts). k.skipped) is ∙ s)
 
 -- of these counts the turn was counted
@@ -44,7 +71,8 @@ unfolding counted_turn
 counts_line (End _ _ _) c c' is (d, p, s) = ((d, p, s), (ap (λ (k : Counts). k.done) is, ap (λ (k : Counts). k.present) is, ap (λ (k : Counts). k.skipped) is))
 counts_line _ c c' is _ = (ap (λ (k : Counts). k.done) is, ap (λ (k : Counts). k.present) is, ap (λ (k : Counts). k.skipped) is)
 
-told_line : (line : Option Line) (g g' : Option (List ℕ)) (c c' : Report) → Puts line g g' → counts_of c' ≡ counted line (counted_turn c) → LineOf (counted_turn c) line → TellsLine g g' c c'
+told_line : (line : Option Line) (g g' : Option (List ℕ)) (c c' : Report) → Puts line g g' → counts_of c' ≡ counted line (counted_turn c)
+    → LineOf (counted_turn c) line → TellsLine g g' c c'
 unfolding Puts TellsLine GotLine counted_turn
 told_line None g g' c c' put is of = inl (put, same_lines c c' is refl refl refl)
 told_line (Some line) g g' c c' put is of = inr (line, (put, counts_line line c c' is of))
@@ -54,7 +82,8 @@ unfolding TellsFront GotFront counted_turn
 left_front None g g' c c' left is = (inl left, same_lines c c' is refl refl refl)
 left_front (Some line) g g' c c' left is = (inr (line, left), same_lines c c' is refl refl refl)
 
-ended_with : (next : Phase) (line : Option Line) (g g' : Option (List ℕ)) (c c' : Report) → EndsWith (counted_turn c) next line → Puts line g g' → counts_of c' ≡ counted line (counted_turn c) → EndsBy next g g' c c'
+ended_with : (next : Phase) (line : Option Line) (g g' : Option (List ℕ)) (c c' : Report) → EndsWith (counted_turn c) next line → Puts line g g'
+    → counts_of c' ≡ counted line (counted_turn c) → EndsBy next g g' c c'
 unfolding Puts GotLine counted_turn
 ended_with phase.Ended line g g' c c' ends put is =
     (rw ends at put, same_lines c c' (is ∙ ap (λ (o : Option Line). counted o (counted_turn c)) ends) refl refl refl)
@@ -67,7 +96,9 @@ gains_by xs is gains = rw is gains
 
 -- ---- a halted turn
 
-halted_leaves : {s : State} (s' : State) {fed : List ℕ} (fed' : List ℕ) {rows : List Row} {g : Option (List ℕ)} (g' : Option (List ℕ)) {old new : Failures} {why : Fault} → IsHalted rows (turning (kept_of s fed)) (kept_of s' fed') → Gains s.rows rows → Blames why old new → TellsFront g g' s.counts s'.counts → TurnLeaves s s' g g' old new (Err why)
+halted_leaves : {s : State} (s' : State) {fed : List ℕ} (fed' : List ℕ) {rows : List Row} {g : Option (List ℕ)} (g' : Option (List ℕ)) {old new : Failures}
+    {why : Fault} → IsHalted rows (turning (kept_of s fed)) (kept_of s' fed') → Gains s.rows rows → Blames why old new → TellsFront g g' s.counts s'.counts
+    → TurnLeaves s s' g g' old new (Err why)
 halted_leaves {s} s' fed' {rows} g' halted gains blames told =
     let put = ap lines_put halted.counts in
     record {
@@ -107,9 +138,11 @@ turn_leaves {s} s' fed' {old} {new} (IsRefused prefix held calls why follows did
     halted_leaves s' fed' new.log halted (gains_same refl) (refusal_blames why refused.0 did.1)
     (left_front None old.log new.log s.counts s'.counts (rw refused.1 at did.0.log) halted.counts)
 turn_leaves {s} s' fed' {old} {new} (FailsAtFirst why stays halted) =
-    halted_leaves s' fed' new.log halted (gains_same refl) (failed_blames why _ _ stays.3) (left_front None old.log new.log s.counts s'.counts stays.2 halted.counts)
+    halted_leaves s' fed' new.log halted (gains_same refl) (failed_blames why _ _ stays.3)
+    (left_front None old.log new.log s.counts s'.counts stays.2 halted.counts)
 turn_leaves {s} s' fed' {old} {new} (FailsLater prefix held calls answer rows why follows left which halted) =
-    halted_leaves s' fed' new.log halted gained (failed_blames why _ _ left.1) (left_front calls.line old.log new.log s.counts s'.counts left.0.log halted.counts)
+    halted_leaves s' fed' new.log halted gained (failed_blames why _ _ left.1)
+    (left_front calls.line old.log new.log s.counts s'.counts left.0.log halted.counts)
   where
     gained : Gains s.rows rows
     gained = elim which [

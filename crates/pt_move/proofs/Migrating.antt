@@ -66,7 +66,8 @@ module _ (job : Job) (first old new : DeviceStates) (a b : Running) (so_far : So
       more = rw is at step.steps.answer
 
   -- it comes to its end
-  pub migrates_whole : (t : Turn) (report : Report) → t ≡ turn.Finished → report ≡ b.state.counts → TypeInvariant b → TakesStep old new a b (Ok t) → Migrates job first new (Ok report)
+  pub migrates_whole : (t : Turn) (report : Report) → t ≡ turn.Finished → report ≡ b.state.counts → TypeInvariant b → TakesStep old new a b (Ok t)
+      → Migrates job first new (Ok report)
   unfolding BlamesRightly Keeps StepLeaves
   migrates_whole t report is counts well step =
       let blames : Blamed {T = Report} first new (Ok report) = blames_ok first old new t report so_far.failures step.steps.blames in
@@ -128,6 +129,7 @@ module _ (job : Job) (first old new : DeviceStates) (a b : Running) (so_far : So
       going = not_ended f a b so_far.going step.steps.answer
 
   -- or it is halted
-  pub migrates_halted : (f : Fault) (result : Result Report Fault) → IsErrAnd result (λ g. g ≡ f) → TakesStep old new a b (Err f) → Migrates job first new result
+  pub migrates_halted : (f : Fault) (result : Result Report Fault) → IsErrAnd result (λ g. g ≡ f) → TakesStep old new a b (Err f)
+      → Migrates job first new result
   migrates_halted f (Ok report) is step = absurd is
   migrates_halted f (Err g) is step = rw is (halted step)

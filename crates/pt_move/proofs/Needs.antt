@@ -41,7 +41,9 @@ adds job (phase.Carrying object (stage.Read bytes)) held within less short = let
 adds _ _ _ _ _ _ = tt
 
 -- what was bounded may be added to
-pub can_add : (here : Phase) (s t : State) → IsBounded (job_of s.job) here (kept_of s []) → s.counts.turns < s.job.limits.turns → IsTrue (are_limits s.job.limits) → t.counts.done ≡ s.counts.done → t.counts.present ≡ s.counts.present → t.counts.skipped ≡ s.counts.skipped → t.rows ≡ s.rows → CanAdd here t
+pub can_add : (here : Phase) (s t : State) → IsBounded (job_of s.job) here (kept_of s []) → s.counts.turns < s.job.limits.turns
+    → IsTrue (are_limits s.job.limits) → t.counts.done ≡ s.counts.done → t.counts.present ≡ s.counts.present → t.counts.skipped ≡ s.counts.skipped
+    → t.rows ≡ s.rows → CanAdd here t
 can_add here s t bounded more are done present skipped rows =
     let most = limits_turns s.job.limits are in
     let lines = bounded.lines in
@@ -57,7 +59,8 @@ pub can_count : (s : State) → s.counts.turns < s.job.limits.turns → IsTrue (
 can_count s more are = let most = limits_turns s.job.limits are in omega (arith, more, most)
 
 -- the turn that was made after it was counted
-pub counted_turn : (here : Phase) (s t s' : State) (old new : DeviceStates) (answer : Answer) → Turned here t s' old new answer → t.job ≡ s.job → t.hasher ≡ s.hasher → ((fed : List ℕ) → kept_of t fed ≡ turning (kept_of s fed)) → CountedTurn here s s' old new answer
+pub counted_turn : (here : Phase) (s t s' : State) (old new : DeviceStates) (answer : Answer) → Turned here t s' old new answer → t.job ≡ s.job
+    → t.hasher ≡ s.hasher → ((fed : List ℕ) → kept_of t fed ≡ turning (kept_of s fed)) → CountedTurn here s s' old new answer
 unfolding Turned CountedTurn
 counted_turn here s t s' old new answer turned job hasher kept = (
   turned.0 ∙ job,
@@ -79,7 +82,8 @@ stands_on (phase.Carrying object (stage.Make part.Staging)) s counts stands = st
 stands_on _ _ _ stands = stands
 
 -- a turn answers none of the faults that are the run's own
-pub own_fault : (here : Phase) (s s' : State) (old new : DeviceStates) (answer : Answer) → Stands here s → HasFed here s.job.algorithm s.hasher → CountedTurn here s s' old new answer → IfErr answer IsOfTurn
+pub own_fault : (here : Phase) (s s' : State) (old new : DeviceStates) (answer : Answer) → Stands here s → HasFed here s.job.algorithm s.hasher
+    → CountedTurn here s s' old new answer → IfErr answer IsOfTurn
 unfolding CountedTurn
 own_fault _ _ _ _ _ (Ok next) _ _ _ = tt
 own_fault phase.Ended _ _ _ _ (Err why) stands _ _ = absurd stands

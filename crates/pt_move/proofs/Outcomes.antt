@@ -1,7 +1,24 @@
 -- What a turn of a run leaves and says, from what it is of the definitions.
 use Rattle.std.proofs.Common.{◌≡◌, ℕ, List, false, true, refl, ◌∙◌}
 use Rattle.std.specs.Prelude.{Option, None, Some, Ok, Err}
-use Rattle.pt_state.proofs.Words.{Forest, Reading, Tree, Answer, phase_after, Job, Kept, Run, turning, Turn, DeviceStates, tree_in, Fault, Phase, job_of, kept_of}
+use Rattle.pt_state.proofs.Words.{
+  Forest,
+  Reading,
+  Tree,
+  Answer,
+  phase_after,
+  Job,
+  Kept,
+  Run,
+  turning,
+  Turn,
+  DeviceStates,
+  tree_in,
+  Fault,
+  Phase,
+  job_of,
+  kept_of,
+}
 use Rattle.pt_state.proofs.Words.fault
 use Rattle.pt_state.proofs.Words.phase
 use Rattle.pt_state.specs.declared.state.State.{State}
@@ -27,7 +44,22 @@ use Rattle.pt_invariant.proofs.bounds.TurnBound.{turn_is_within_bound}
 use Rattle.pt_invariant.proofs.turns_left.EndsWithin.{turn_ends_within_work, turn_tree}
 use Rattle.pt_invariant.proofs.turns_left.Within.{turn_keeps_within_work, turns_are_within_work, within_work_holds_invariant}
 use Rattle.pt_invariant.specs.WorkLaws.{InvariantWithinWork}
-use Rattle.pt_move.specs.Outcome.{EndsWhole, FaultStateTold, HoldsWithinBound, IfEarly, IfLog, LeavesAll, LeavesNoStaging, MadeWithinWork, SaysOfBoth, SaysOfDest, SaysRightly, StandsStillIn, StatesAreFiles, WantsMemory}
+use Rattle.pt_move.specs.Outcome.{
+  EndsWhole,
+  FaultStateTold,
+  HoldsWithinBound,
+  IfEarly,
+  IfLog,
+  LeavesAll,
+  LeavesNoStaging,
+  MadeWithinWork,
+  SaysOfBoth,
+  SaysOfDest,
+  SaysRightly,
+  StandsStillIn,
+  StatesAreFiles,
+  WantsMemory,
+}
 use Rattle.pt_move.specs.Promises.{AnswerSays, TurnKeeps}
 use Rattle.pt_move.specs.Running.{IsBegun}
 
@@ -39,12 +71,14 @@ reading_of (Some s) {f} is = (s, refl, some_same s.tree f is)
 
 -- ---- by the fault
 
-of_dest : {job : Job} (why : Fault) (start : Tree) → (why ≡ fault.StagingLeft → SaysOfDest job fault.StagingLeft start) → (why ≡ fault.Target → SaysOfDest job fault.Target start) → SaysOfDest job why start
+of_dest : {job : Job} (why : Fault) (start : Tree) → (why ≡ fault.StagingLeft → SaysOfDest job fault.StagingLeft start)
+    → (why ≡ fault.Target → SaysOfDest job fault.Target start) → SaysOfDest job why start
 of_dest fault.StagingLeft start left target = left refl
 of_dest fault.Target start left target = target refl
 of_dest _ _ _ _ = tt
 
-of_both : {job : Job} (why : Fault) (source : Forest) (start : Tree) → IsOfTurn why → (why ≡ fault.Target → SaysOfBoth job fault.Target source start) → SaysOfBoth job why source start
+of_both : {job : Job} (why : Fault) (source : Forest) (start : Tree) → IsOfTurn why → (why ≡ fault.Target → SaysOfBoth job fault.Target source start)
+    → SaysOfBoth job why source start
 of_both fault.Turns _ _ own _ = absurd own
 of_both fault.Target source start _ target = target refl
 of_both _ _ _ _ _ = tt
@@ -57,7 +91,8 @@ if_early _ _ _ = tt
 
 -- ---- a turn
 
-module _ (s s' : State) (here : Phase) (fed fed' : List ℕ) (old new : DeviceStates) (start : Start) (within : InvariantWithinWork (job_of s.job) start old (record { phase = here; kept = kept_of s fed })) (going : is_ended here ≡ false) where
+module _ (s s' : State) (here : Phase) (fed fed' : List ℕ) (old new : DeviceStates) (start : Start)
+    (within : InvariantWithinWork (job_of s.job) start old (record { phase = here; kept = kept_of s fed })) (going : is_ended here ≡ false) where
   abbrev pub MadeTurn : Answer → Type 0
   MadeTurn answer = Turn (job_of s.job) here (turning (kept_of s fed)) (kept_of s' fed') old new answer
 
@@ -103,7 +138,8 @@ module _ (s s' : State) (here : Phase) (fed fed' : List ℕ) (old new : DeviceSt
       let reading = reading_of new.source (turn_tree job here (turning (kept_of s fed)) after old new answer turn ∙ source_is) in
       let later : Run = record { phase = phase_after answer; kept = after } in
       rw reading.2 at
-      (stops_leave job start new later reading.0 t now first last (within_work_holds_invariant job start new later (within_after answer turn)) reading.1 start_is dest_is first_is last_is)
+      (stops_leave job start new later reading.0 t now first last (within_work_holds_invariant job start new later (within_after answer turn)) reading.1
+      start_is dest_is first_is last_is)
 
   -- the turn that ends the run
   end_whole : MadeTurn (Ok phase.Ended) → EndsWhole s.job (tree_in old.source) start new.dest new.log s'.counts
@@ -161,10 +197,16 @@ module _ (s s' : State) (here : Phase) (fed fed' : List ℕ) (old new : DeviceSt
   says_after (Ok next) turn late = λ ended.
       let last : MadeTurn (Ok phase.Ended) = rw ended at turn in
       record { ends = end_whole last; states = end_states last }
-  says_after (Err why) turn late = record { early = if_early why (LeavesAll start new.dest new.log) (leaves_all turn); unstaged = unstaged_after why turn late; says = halt_says turn; good = halt_good turn }
+  says_after (Err why) turn late = record {
+    early = if_early why (LeavesAll start new.dest new.log) (leaves_all turn);
+    unstaged = unstaged_after why turn late;
+    says = halt_says turn;
+    good = halt_good turn;
+  }
 
   -- so the run keeps its promises in it
-  pub turn_keeps : (answer : Answer) → MadeTurn answer → s'.job ≡ s.job → IsBegun start new (record { phase = phase_after answer; state = s' }) → TurnKeeps start old new s s' answer
+  pub turn_keeps : (answer : Answer) → MadeTurn answer → s'.job ≡ s.job → IsBegun start new (record { phase = phase_after answer; state = s' })
+      → TurnKeeps start old new s s' answer
   unfolding TurnKeeps
   turn_keeps answer turn same is = record {
     begun = is;

@@ -20,16 +20,19 @@ pub none_failed : (old new : DeviceStates) (t : Motion) → BlamesRightly old ne
 unfolding BlamesRightly
 none_failed old new t blames = λ i. record { source = blames.source i; dest = blames.dest i; log = blames.log i }
 
-pub blames_ok : (first old new : DeviceStates) (t : Motion) (report : Report) → old.failures ≡ first.failures → BlamesRightly old new (Ok t) → BlamesRightly first new (Ok report)
+pub blames_ok : (first old new : DeviceStates) (t : Motion) (report : Report) → old.failures ≡ first.failures → BlamesRightly old new (Ok t)
+    → BlamesRightly first new (Ok report)
 unfolding BlamesRightly
 blames_ok first old new t report same blames = record { source = rw same at blames.source; dest = rw same at blames.dest; log = rw same at blames.log }
 
-pub blames_err : (first old new : DeviceStates) (f : Fault) → old.failures ≡ first.failures → BlamesRightly {T = Motion} old new (Err f) → BlamesRightly {T = Report} first new (Err f)
+pub blames_err : (first old new : DeviceStates) (f : Fault) → old.failures ≡ first.failures → BlamesRightly {T = Motion} old new (Err f)
+    → BlamesRightly {T = Report} first new (Err f)
 unfolding BlamesRightly
 blames_err first old new f same blames = record { source = rw same at blames.source; dest = rw same at blames.dest; log = rw same at blames.log }
 
 -- a turn less is left to make
-pub smaller : (old new : DeviceStates) (a b : Running) (t : Motion) → t ≡ motion.More → StepLeaves old new a b (Ok t) → EndsAs a b (Ok t) → b.state.job.limits.turns - b.state.counts.turns < a.state.job.limits.turns - a.state.counts.turns
+pub smaller : (old new : DeviceStates) (a b : Running) (t : Motion) → t ≡ motion.More → StepLeaves old new a b (Ok t) → EndsAs a b (Ok t)
+    → b.state.job.limits.turns - b.state.counts.turns < a.state.job.limits.turns - a.state.counts.turns
 unfolding StepLeaves
 smaller old new a b t is left ends =
     let made : EndsAs a b (Ok motion.More) = rw is at ends in
@@ -51,19 +54,22 @@ pub ran_nothing : (job : Job) (w : DeviceStates) (r : Running) → IsNew job r �
 ran_nothing job w r new = record {
   fed = [];
   was = fed_to_end r.phase r.state.job.algorithm r.state.hasher [] (rw new.job_is new.fed);
-  turns = subst (λ (run : Run). Turns (job_of job) w r.state.counts.turns run w) (sym run_is) (subst (λ (n : ℕ). Turns (job_of job) w n new_run w) (sym (ap (λ (c : Report). c.turns) new.counts)) NoTurn);
+  turns = subst (λ (run : Run). Turns (job_of job) w r.state.counts.turns run w) (sym run_is)
+      (subst (λ (n : ℕ). Turns (job_of job) w n new_run w) (sym (ap (λ (c : Report). c.turns) new.counts)) NoTurn);
 }
   where
     run_is : run_of r [] ≡ new_run
     run_is = λ i. record { phase = new.phase i; kept = new.kept i }
 
 -- the turn that a step made, where the hasher was fed what it was
-module _ (job : Job) (first old new : DeviceStates) (a b : Running) (same : a.state.job ≡ job) (going : a.phase ≢ phase.Ended) (so_far : RanSoFar job first old a) where
+module _ (job : Job) (first old new : DeviceStates) (a b : Running) (same : a.state.job ≡ job) (going : a.phase ≢ phase.Ended)
+    (so_far : RanSoFar job first old a) where
   fed_now : HasBeenFed a.state.job.algorithm a.state.hasher so_far.fed
   fed_now = fed_going a.state.job.algorithm a.state.hasher so_far.fed going so_far.was
 
   -- and one more
-  pub ran_one_more : {next : Phase} → CountedTurn a.phase a.state b.state old new (Ok next) → b.state.counts.turns ≡ a.state.counts.turns + 1 → RanSoFar job first new (record { phase = next; state = b.state })
+  pub ran_one_more : {next : Phase} → CountedTurn a.phase a.state b.state old new (Ok next) → b.state.counts.turns ≡ a.state.counts.turns + 1
+      → RanSoFar job first new (record { phase = next; state = b.state })
   unfolding CountedTurn
   ran_one_more {next} turned counted =
       let made = turned.1 so_far.fed fed_now in
@@ -79,7 +85,8 @@ module _ (job : Job) (first old new : DeviceStates) (a b : Running) (same : a.st
   unfolding StepLeaves MakesTurn
   ran_on {t} is left turned = ran_one_more (subst (λ (t : Motion). MakesTurn old new a b (Ok t)) is turned) left.turns.0
 
-  pub ran_whole : {t : Motion} {report : Report} → t ≡ motion.Finished → report ≡ b.state.counts → StepLeaves old new a b (Ok t) → MakesTurn old new a b (Ok t) → IsRun job first new (Ok report)
+  pub ran_whole : {t : Motion} {report : Report} → t ≡ motion.Finished → report ≡ b.state.counts → StepLeaves old new a b (Ok t) → MakesTurn old new a b (Ok t)
+      → IsRun job first new (Ok report)
   unfolding StepLeaves MakesTurn IsRun
   ran_whole {t} is counts left turned =
       let ended = ran_one_more (subst (λ (t : Motion). MakesTurn old new a b (Ok t)) is turned) left.turns.0 in

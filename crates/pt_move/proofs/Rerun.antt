@@ -74,7 +74,8 @@ module _ (job : Job) (s : Forest) (start : Tree) (old new : DeviceStates) (is : 
       ap dest_tree dest.1 ∙ ap Some (end.tree ∙ sym (undisturbed_free (job_of job) s is.now end.free) ∙ is.same)
 
   -- one that a fault ended, once `staging` is taken away
-  pub again : (f : Fault) (later : DeviceStates) → Migrates job old new (Err f) → later.source ≡ new.source → later.log ≡ new.log → TakesStaging new.dest later.dest
+  pub again : (f : Fault) (later : DeviceStates) → Migrates job old new (Err f) → later.source ≡ new.source → later.log ≡ new.log
+      → TakesStaging new.dest later.dest
       → ((t : Tree) → dest_tree later.dest ≡ Some t → IsTree t) → MayEndAs (job_of job) s start later
   unfolding FaultStateTold HasToldFront DestFaultStateTold
   again f later made source-is log-is takes is_tree =
@@ -94,12 +95,15 @@ module _ (job : Job) (s : Forest) (start : Tree) (old new : DeviceStates) (is : 
       }
 
 -- the same, where the run's job is the one that is meant
-pub ended_as : (plan : Plan) (job : Job) (s : Forest) (start : Tree) (old new : DeviceStates) (report : Report) → job_of job ≡ plan → MayEndAs plan s start old → Migrates job old new (Ok report)
+pub ended_as : (plan : Plan) (job : Job) (s : Forest) (start : Tree) (old new : DeviceStates) (report : Report) → job_of job ≡ plan → MayEndAs plan s start old
+    → Migrates job old new (Ok report)
     → dest_tree new.dest ≡ Some (undisturbed plan s start)
 ended_as plan job s start old new report same is made =
     subst (λ (p : Plan). MayEndAs p s start old → dest_tree new.dest ≡ Some (undisturbed p s start)) same (λ is. ended job s start old new is report made) is
 
-pub again_as : (plan : Plan) (job : Job) (s : Forest) (start : Tree) (old new later : DeviceStates) (f : Fault) → job_of job ≡ plan → MayEndAs plan s start old → Migrates job old new (Err f) → later.source ≡ new.source → later.log ≡ new.log
+pub again_as : (plan : Plan) (job : Job) (s : Forest) (start : Tree) (old new later : DeviceStates) (f : Fault) → job_of job ≡ plan → MayEndAs plan s start old
+    → Migrates job old new (Err f) → later.source ≡ new.source → later.log ≡ new.log
     → TakesStaging new.dest later.dest → ((t : Tree) → dest_tree later.dest ≡ Some t → IsTree t) → MayEndAs plan s start later
 again_as plan job s start old new later f same is made source-is log-is takes is_tree =
-    subst (λ (p : Plan). MayEndAs p s start old → MayEndAs p s start later) same (λ is. again job s start old new is f later made source-is log-is takes is_tree) is
+    subst (λ (p : Plan). MayEndAs p s start old → MayEndAs p s start later) same
+    (λ is. again job s start old new is f later made source-is log-is takes is_tree) is

@@ -30,7 +30,8 @@ in_object : (object : Object) (trail : List Frame) → 0 < object.site → objec
 unfolding IsSite
 in_object object trail some within = (some, within)
 
-ready : (here : Part) {object : Object} (s : State) {fed : List ℕ} {past : History} → HasBeenFed s.job.algorithm s.hasher fed → HeldAt (job_of s.job) past (phase.Carrying object (stage.Make here)) (held_of s fed) → IsReadyFor here object s
+ready : (here : Part) {object : Object} (s : State) {fed : List ℕ} {past : History} → HasBeenFed s.job.algorithm s.hasher fed
+    → HeldAt (job_of s.job) past (phase.Carrying object (stage.Make here)) (held_of s fed) → IsReadyFor here object s
 unfolding HasContentsOfRows HasFedInventory DigestTells
 ready part.Staging s was held = tt
 ready part.Declaration s was held = tt
@@ -48,19 +49,27 @@ ready part.Sidecar s was held = rw held.fed at was
 stored_there : {held : Held} {position : Position} → IsAtStoredRow held position → position.stored < length held.contents
 stored_there {held} {position} at = by (slice_get held.contents position.stored) refl at.next
   where
-    by : (o : Option Content) → slice_get held.contents position.stored ≡ o → option_map_or (λ (content : Content). same_path content.path at.row.path) o false ≡ true → position.stored < length held.contents
+    by : (o : Option Content) → slice_get held.contents position.stored ≡ o → option_map_or (λ (content : Content). same_path content.path at.row.path) o false
+        ≡ true → position.stored < length held.contents
     by None is absent = absurd (cc)
     by (Some content) is there = slice_get_within held.contents position.stored content is
 
-pub stands : (here : Phase) (s : State) {fed : List ℕ} {past : History} → here ≢ phase.Ended → HasBeenFed s.job.algorithm s.hasher fed → HeldAt (job_of s.job) past here (held_of s fed) → Stands here s
+pub stands : (here : Phase) (s : State) {fed : List ℕ} {past : History} → here ≢ phase.Ended → HasBeenFed s.job.algorithm s.hasher fed
+    → HeldAt (job_of s.job) past here (held_of s fed) → Stands here s
 stands (phase.Opening (opening.RootMake item)) s going was held = held.numbers
 stands (phase.Opening (opening.RootCheck file)) s going was held = held.numbers
 stands (phase.Opening opening.OpenRoot) s going was held = held.trail.none
 stands (phase.Carrying object stage.Open) s going was held = (as_site object s.trail held.ends.0.some held.ends.1, held.trail.entry)
 stands (phase.Carrying object stage.Scan) s going was held = (in_object object s.trail held.ends.0.some held.ends.1.within, held.ends.1.own)
-stands (phase.Carrying object (stage.Read bytes)) s going was held = (in_object object s.trail held.ends.0.some held.ends.1.within, held.ends.1.own, some_entry {o = _} {item = held.trail.entry.0} held.trail.entry.1)
+stands (phase.Carrying object (stage.Read bytes)) s going was held = (
+  in_object object s.trail held.ends.0.some held.ends.1.within,
+  held.ends.1.own,
+  some_entry
+      {o = _} {item = held.trail.entry.0} held.trail.entry.1,
+)
 stands (phase.Carrying object (stage.Make here)) s {fed} {past} going was held = ready here {object = object} s {fed = fed} {past = past} was held
-stands (phase.Carrying object (stage.Copy position left)) s {fed} going was held = (held.numbers.at.within, stored_there {held = held_of s fed} {position = position} held.numbers)
+stands (phase.Carrying object (stage.Copy position left)) s {fed} going was
+    held = (held.numbers.at.within, stored_there {held = held_of s fed} {position = position} held.numbers)
 stands (phase.Carrying object (stage.Tuples number)) s going was held = held.numbers
 stands (phase.Carrying object stage.Line) s going was held = let some = held.ends.0.some in let long = held.ends.1 in omega (arith, some, long)
 stands phase.Ended s going was held = absurd (going refl)

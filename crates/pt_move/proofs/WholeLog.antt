@@ -10,7 +10,20 @@ use Rattle.pt_state.proofs.Words.{Line, Done, Present, Skipped, End, line_text, 
 use Rattle.pt_state.proofs.Fronts.{appends_nothing}
 use Rattle.pt_state.specs.declared.job.Report.{Report}
 use Rattle.pt_plan.specs.Lines.{end_line, is_done, is_present, is_skipped}
-use Rattle.pt_move.specs.Lines.{CountsLine, FinishTold, GotFront, GotLine, HasTold, IsReport, HasToldAll, HasToldFront, SameLines, TellsEnd, TellsFront, TellsLine}
+use Rattle.pt_move.specs.Lines.{
+  CountsLine,
+  FinishTold,
+  GotFront,
+  GotLine,
+  HasTold,
+  IsReport,
+  HasToldAll,
+  HasToldFront,
+  SameLines,
+  TellsEnd,
+  TellsFront,
+  TellsLine,
+}
 use Rattle.pt_move.specs.Running.{no_lines}
 use Rattle.pt_move.specs.declared.mover.Turn.{Turn}
 use Rattle.pt_move.specs.declared.mover.Turn.TheVariants as turn
@@ -28,7 +41,8 @@ count_yes : (p : Line → Bool) (told : List Line) {line : Line} → p line ≡ 
 count_yes p told {line} is = count_one p told line ∙ ap (λ b. count_by p told + (0 + cond b 1 0)) is
 
 count_no : (p : Line → Bool) (told : List Line) {line : Line} → p line ≡ false → count_by p (told ++ line ∷ []) ≡ count_by p told
-count_no p told {line} is = let more : count_by p (told ++ line ∷ []) ≡ count_by p told + 0 = count_one p told line ∙ ap (λ b. count_by p told + (0 + cond b 1 0)) is in omega (arith, more)
+count_no p told {line} is = let more : count_by p (told ++ line ∷ []) ≡ count_by p told + 0 = count_one p told line
+    ∙ ap (λ b. count_by p told + (0 + cond b 1 0)) is in omega (arith, more)
 
 report_more : (told : List Line) (line : Line) (c c' : Report) → IsReport told c → CountsLine line c c' → IsReport (told ++ line ∷ []) c'
 report_more told (Done at bytes empty files id to) c c' (d, p, s) (e, f, g) =
@@ -45,9 +59,21 @@ report_same told c c' (d, p, s) (e, f, g) = (d ∙ sym e, p ∙ sym f, s ∙ sym
 
 pub told_none : (b : Option (List ℕ)) (c : Report) → c ≡ no_lines → HasTold b b c
 unfolding HasTold
-told_none b c is = ([], (appends_nothing b, (sym (ap (λ (r : Report). r.done) is), sym (ap (λ (r : Report). r.present) is), sym (ap (λ (r : Report). r.skipped) is))))
+told_none b c is = (
+  [],
+  (
+    appends_nothing b,
+    (
+      sym (ap (λ (r : Report). r.done) is),
+      sym (ap (λ (r : Report). r.present) is),
+      sym
+          (ap (λ (r : Report). r.skipped) is),
+    ),
+  ),
+)
 
-told_on : (b m a : Option (List ℕ)) (told : List Line) (line : Line) → Appends b m (flat_map line_text told) → Appends m a (line_text line) → Appends b a (flat_map line_text (told ++ line ∷ []))
+told_on : (b m a : Option (List ℕ)) (told : List Line) (line : Line) → Appends b m (flat_map line_text told) → Appends m a (line_text line)
+    → Appends b a (flat_map line_text (told ++ line ∷ []))
 told_on b m a told line first more = subst (Appends b a) (flat_map_more line_text [] told line) (appends_on b m a _ _ first more)
 
 same_log : (b : Option (List ℕ)) {m a : Option (List ℕ)} (xs : List ℕ) → a ≡ m → Appends b m xs → Appends b a xs
@@ -77,6 +103,16 @@ front_on b m a xs ys put (n, front) = (length xs + n, subst (Appends b a) (sym (
 pub told_front : (b m a : Option (List ℕ)) (c c' : Report) → HasTold b m c → TellsFront m a c c' → HasToldFront b a
 unfolding HasTold HasToldFront TellsFront GotFront
 told_front b m a c c' (told, (put, report)) (turn, same) = elim turn [
-  | inl quiet ↦ (told, (End 0 0 0, (length (flat_map line_text told), subst (Appends b a) (sym (take-append_seam (flat_map line_text told) (line_text (End 0 0 0)))) (same_log b _ quiet put))))
+  | inl quiet ↦ (
+    told,
+    (
+      End 0 0 0,
+      (
+        length (flat_map line_text told),
+        subst (Appends b a)
+            (sym (take-append_seam (flat_map line_text told) (line_text (End 0 0 0)))) (same_log b _ quiet put),
+      ),
+    ),
+  )
   | inr (line, front) ↦ (told, (line, front_on b m a _ _ put front))
 ]

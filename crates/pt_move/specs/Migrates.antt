@@ -9,7 +9,19 @@ use Rattle.pt_state.specs.declared.job.Report.{Report}
 use Rattle.pt_move.specs.Bounds.{lines_put}
 use Rattle.pt_move.specs.Counting.{Counts}
 use Rattle.pt_move.specs.Lines.{HasToldAll, HasToldFront}
-use Rattle.pt_move.specs.Outcome.{EndsWhole, FaultStateTold, IfEarly, IfLog, LeavesAll, LeavesNoStaging, MadeWithinWork, SaysRightly, StandsStillIn, StatesAreFiles, WantsMemory}
+use Rattle.pt_move.specs.Outcome.{
+  EndsWhole,
+  FaultStateTold,
+  IfEarly,
+  IfLog,
+  LeavesAll,
+  LeavesNoStaging,
+  MadeWithinWork,
+  SaysRightly,
+  StandsStillIn,
+  StatesAreFiles,
+  WantsMemory,
+}
 use Rattle.pt_move.specs.Running.{DestFaultStateTold}
 use Rattle.pt_move.specs.Runs.{IsRun}
 use Rattle.pt_plan.specs.declared.fault.Fault.{Fault}

@@ -7,7 +7,20 @@ use Rattle.pt_plan.specs.declared.phase.Phase.TheVariants as phase
 use Rattle.pt_invariant.specs.RunInvariant.{Start}
 use Rattle.pt_state.specs.Fields.{HoldsNothingElse}
 use Rattle.pt_state.specs.declared.state.State.{State}
-use Rattle.pt_move.specs.Outcome.{EndsWhole, FaultStateTold, HoldsWithinBound, IfEarly, IfLog, LeavesAll, LeavesNoStaging, MadeWithinWork, SaysRightly, StandsStillIn, StatesAreFiles, WantsMemory}
+use Rattle.pt_move.specs.Outcome.{
+  EndsWhole,
+  FaultStateTold,
+  HoldsWithinBound,
+  IfEarly,
+  IfLog,
+  LeavesAll,
+  LeavesNoStaging,
+  MadeWithinWork,
+  SaysRightly,
+  StandsStillIn,
+  StatesAreFiles,
+  WantsMemory,
+}
 use Rattle.pt_move.specs.Running.{HasBegun, IsBegun, DestFaultStateTold, Running}
 use Rattle.pt_move.specs.Stepping.{Steps}
 use Rattle.pt_plan.specs.declared.fault.Fault.{Fault}

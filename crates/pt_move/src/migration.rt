@@ -10,20 +10,22 @@ use pt_state::{Devices, Io, Job, Report};
 use pt_tree::{Dest, Log, Source};
 use std::alloc::Global;
 
-/// Carries the objects of a Pairtree store (Pairtree 0.1) into the storage root of a destination (OCFL 1.1), and tells
-/// of each in the log. The run goes on to its end or to its first fault, whatever the three hold, and makes at most as
-/// many turns as its limit allows.
+/// Carries the objects of a Pairtree store (Pairtree 0.1) into the storage root of a destination
+/// (OCFL 1.1), and tells of each in the log. The run goes on to its end or to its first fault,
+/// whatever the three hold, and makes at most as many turns as its limit allows.
 ///
-/// What it leaves and says is promised where the devices tell what they hold: at its end the root with all objects that
-/// are carried, each whole, and the log of all items (`ends`, `states`); however it ends, destination and log such as a
-/// fault may leave, and what stood stands (`left`, `early`, `leaves`, `stands`); that each refusal is true, and over a
-/// good start none comes (`says`, `good`); turns within the store's work (`work`).
+/// What it leaves and says is promised where the devices tell what they hold: at its end the root
+/// with all objects that are carried, each whole, and the log of all items (`ends`, `states`);
+/// however it ends, destination and log such as a fault may leave, and what stood stands (`left`,
+/// `early`, `leaves`, `stands`); that each refusal is true, and over a good start none comes
+/// (`says`, `good`); turns within the store's work (`work`).
 ///
-/// `Source`, `Dest` and `Log` are answered only where that device's count of failures rose, or stood at its greatest
-/// value, and then no other answer is given; `Ended` is never answered. Each other fault comes where its variant of `Fault`
-/// says. Each device stays the one that it is, as its calls keep it. Where the source's count of failures changed, and it tells where it
-/// fails, it does so at its top, the file of its prefix, or something at `pairtree_root` or below, or at the file that was open in it
-/// before (`source_fails`).
+/// `Source`, `Dest` and `Log` are answered only where that device's count of failures rose, or
+/// stood at its greatest value, and then no other answer is given; `Ended` is never answered. Each
+/// other fault comes where its variant of `Fault` says. Each device stays the one that it is, as
+/// its calls keep it. Where the source's count of failures changed, and it tells where it fails, it
+/// does so at its top, the file of its prefix, or something at `pairtree_root` or below, or at the
+/// file that was open in it before (`source_fails`).
 pub fn migrate<S: Source, D: Dest, L: Log>(
     alloc: Global,
     source: &mut S,
@@ -42,8 +44,9 @@ pub fn migrate<S: Source, D: Dest, L: Log>(
     migrate_observed(alloc, source, dest, log, job, &NoObserver)
 }
 
-/// A run as `migrate` makes it, and with all that is promised of that. The observer gets the run's report after each turn that isn't the
-/// last one or a faulty one; it has no part in what the run does.
+/// A run as `migrate` makes it, and with all that is promised of that. The observer gets the run's
+/// report after each turn that isn't the last one or a faulty one; it has no part in what the run
+/// does.
 pub fn migrate_observed<S: Source, D: Dest, L: Log, O: Observer<Report>>(
     alloc: Global,
     source: &mut S,

@@ -29,8 +29,9 @@ pub enum Turn {
     Finished,
 }
 
-/// A run under way, seen as what it holds. Beside the block that was read last it holds the listings from
-/// `pairtree_root` to where it stands, and the rows and contents of the object that it is at.
+/// A run under way, seen as what it holds. Beside the block that was read last it holds the
+/// listings from `pairtree_root` to where it stands, and the rows and contents of the object that
+/// it is at.
 #[derive(Drop)]
 pub struct Mover {
     pub(crate) phase: Phase,
@@ -52,8 +53,8 @@ impl Model for Mover {
 }
 
 impl Mover {
-    /// A run that is to begin. It calls nothing and takes no memory. Over any devices it is then in progress, from what
-    /// they hold as they stand.
+    /// A run that is to begin. It calls nothing and takes no memory. Over any devices it is then in
+    /// progress, from what they hold as they stand.
     pub fn start(alloc: Global, job: Job) -> Mover
         ensures new { IsNew job result }
         ensures begun { (states : DeviceStates) → HasBegun states result }
@@ -75,15 +76,18 @@ impl Mover {
         }
     }
 
-    /// Makes one turn. `Finished` is answered where it was the last one. A fault ends the run: every step after it
-    /// answers `Ended`, and so does every step after `Finished`. `Turns` is answered where the limit of turns has been
-    /// made; neither it nor `Ended` is a turn, and neither calls anything.
+    /// Makes one turn. `Finished` is answered where it was the last one. A fault ends the run:
+    /// every step after it answers `Ended`, and so does every step after `Finished`. `Turns` is
+    /// answered where the limit of turns has been made; neither it nor `Ended` is a turn, and
+    /// neither calls anything.
     ///
-    /// `Source`, `Dest` and `Log` are answered only where that device's count of failures rose, or stood at its greatest
-    /// value, and then no other answer is given; each of the faults 4 to 9 comes where its variant of `Fault` says.
+    /// `Source`, `Dest` and `Log` are answered only where that device's count of failures rose, or
+    /// stood at its greatest value, and then no other answer is given; each of the faults 4 to 9
+    /// comes where its variant of `Fault` says.
     ///
-    /// The three devices have to be those of the earlier steps, as those left them, if they tell what they hold: then the run is
-    /// still in progress, from the start at which it began. Each stays the device that it is, as its calls keep it.
+    /// The three devices have to be those of the earlier steps, as those left them, if they tell
+    /// what they hold: then the run is still in progress, from the start at which it began. Each
+    /// stays the device that it is, as its calls keep it.
     pub fn step<S: Source, D: Dest, L: Log>(
         &mut self,
         source: &mut S,
@@ -130,8 +134,8 @@ impl Mover {
         }
     }
 
-    // Where the run is to begin, it begins at these devices as they stand. The proof of that needs what `count` says of the
-    // job's layout.
+    // Where the run is to begin, it begins at these devices as they stand. The proof of that needs
+    // what `count` says of the job's layout.
     fn begins<O: Io>(&self, out: &O)
         requires { HasBegun (O.states out.now) self.now }
         ensures { BeganSomewhere (O.states out.now) self.now }
@@ -139,7 +143,8 @@ impl Mover {
         self.state.job.layout.count();
     }
 
-    /// How many records it holds: the entries of the trail's listings, the rows and the contents together.
+    /// How many records it holds: the entries of the trail's listings, the rows and the contents
+    /// together.
     pub fn records(&self) -> u128
         ensures { result ≡ entries_held self.now.state.trail
             + length self.now.state.rows + length self.now.state.contents }
@@ -149,7 +154,8 @@ impl Mover {
             + self.state.contents.len() as u128
     }
 
-    /// The lines of each kind whose `put` was answered Ok, and the turns made, a faulty one among them.
+    /// The lines of each kind whose `put` was answered Ok, and the turns made, a faulty one among
+    /// them.
     pub fn report(&self) -> Report
         ensures counts { result ≡ self.now.state.counts }
         ensures well { TypeInvariant self.now }
@@ -158,8 +164,9 @@ impl Mover {
     }
 }
 
-// Makes the turn of a phase, and gives the next one. `turn` is promised of every state that permits it, a survey's too; here it
-// is said what it comes to for a run in progress, so that `advance` isn't proved by what each turn does.
+// Makes the turn of a phase, and gives the next one. `turn` is promised of every state that permits
+// it, a survey's too; here it is said what it comes to for a run in progress, so that `advance`
+// isn't proved by what each turn does.
 fn made_turn<O: Io>(state: &mut State, here: Phase, out: &mut O) -> Result<Phase, Fault>
     requires { IsReady (O.states out.old) (record { phase = here; state = state.old }) }
     ensures keeps { (start : Start)

@@ -1,5 +1,6 @@
-/// What is told after each turn of a run, or each step of an audit, how far that is. It gets a copy of the numbers alone, and none of the
-/// devices: whatever it does with them, the run or audit goes on as it would without it.
+/// What is told after each turn of a run, or each step of an audit, how far that is. It gets a copy
+/// of the numbers alone, and none of the devices: whatever it does with them, the run or audit goes
+/// on as it would without it.
 pub trait Observer<Numbers> {
     /// A turn or step has ended, and so much was done up to it.
     fn observe(&self, so_far: Numbers);

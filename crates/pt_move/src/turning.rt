@@ -43,9 +43,10 @@ pub fn new_state(alloc: Global, job: Job) -> State
     }
 }
 
-/// Makes the turn of a phase, which is counted as it begins, and gives the next phase, or why the run halts: `Source`,
-/// `Dest` and `Log` where that device failed, `Memory` where a growth was refused, the others where the definition of a
-/// turn says so (`Turn` of pt_plan), and never `Turns` or `Ended`. It is such a turn, whatever the devices tell.
+/// Makes the turn of a phase, which is counted as it begins, and gives the next phase, or why the
+/// run halts: `Source`, `Dest` and `Log` where that device failed, `Memory` where a growth was
+/// refused, the others where the definition of a turn says so (`Turn` of pt_plan), and never
+/// `Turns` or `Ended`. It is such a turn, whatever the devices tell.
 pub fn turn<O: Io>(state: &mut State, phase: Phase, out: &mut O) -> Result<Phase, Fault>
     requires permits { Enabled (job_of state.old.job) phase (held_of state.old [])
         (O.states out.old).source (O.states out.old).dest }

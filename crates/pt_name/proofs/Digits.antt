@@ -20,7 +20,8 @@ pub All-hex_pair : (byte : ℕ) → byte < 256 → All IsPlaceByte (hex_pair byt
 All-hex_pair byte h =
     let high = slice_index lower_digits (byte / 16) in
     let low = slice_index lower_digits (byte % 16) in
-    All-cons IsPlaceByte high (low ∷ []) (digit_place (byte / 16) (omega arith)) (All-cons IsPlaceByte low [] (digit_place (byte % 16) (omega arith)) (All-nil IsPlaceByte))
+    All-cons IsPlaceByte high (low ∷ []) (digit_place (byte / 16) (omega arith))
+    (All-cons IsPlaceByte low [] (digit_place (byte % 16) (omega arith)) (All-nil IsPlaceByte))
 
 -- and those of bytes
 All-encode_lower : (bytes : List ℕ) → All (λ b. b < 256) bytes → All IsPlaceByte (encode_lower bytes)
@@ -31,7 +32,8 @@ All-encode_lower (b ∷ bytes) h =
     let high = slice_index lower_digits (b / 16) in
     let low = slice_index lower_digits (b % 16) in
     let rest = All-encode_lower bytes (All-tail (λ x. x < 256) b bytes h) in
-    All-cons IsPlaceByte high (low ∷ encode_lower bytes) (digit_place (b / 16) (omega arith)) (All-cons IsPlaceByte low (encode_lower bytes) (digit_place (b % 16) (omega arith)) rest)
+    All-cons IsPlaceByte high (low ∷ encode_lower bytes) (digit_place (b / 16) (omega arith))
+    (All-cons IsPlaceByte low (encode_lower bytes) (digit_place (b % 16) (omega arith)) rest)
 
 byte_at-small : (k n : ℕ) → byte_at k n < 256
 byte_at-small zero n = omega arith

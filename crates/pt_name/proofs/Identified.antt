@@ -57,31 +57,39 @@ read_some text read prefix id reads some is =
     omega (arith, long, more)
 
 -- the identifier is what they read, behind the prefix
-pub read_whole : (tuples : Tuples) (share : Portion) (site : Path) (text prefix id t : List ℕ) (read : String Global) → reading_of text ≡ Some (string_bytes read) → text ≡ concat site → t ≡ string_bytes read → id ≡ prefix ++ t
+pub read_whole : (tuples : Tuples) (share : Portion) (site : Path) (text prefix id t : List ℕ) (read : String Global)
+    → reading_of text ≡ Some (string_bytes read) → text ≡ concat site → t ≡ string_bytes read → id ≡ prefix ++ t
     → identification_by tuples share (unless_reserved tuples id) ≡ identification_of tuples share prefix site
 read_whole tuples share site text prefix id t read reads joined same is =
     ap (λ (b : List ℕ). identification_by tuples share (unless_reserved tuples b)) (is ∙ ap (λ (b : List ℕ). prefix ++ b) same)
     ∙ sym (ap (λ (o : Option (List ℕ)). identification_by tuples share (identifier_by tuples prefix o)) (ap reading_of (sym joined) ∙ reads)
-    ∙ ap (λ (b : Bool). identification_by tuples share (cond b (unless_reserved tuples (prefix ++ string_bytes read)) (Err refusal.NotUtf8))) (is_utf8-from_IsUtf8 (string_bytes read) (IsUtf8-string_bytes read)))
+    ∙ ap (λ (b : Bool). identification_by tuples share (cond b (unless_reserved tuples (prefix ++ string_bytes read)) (Err refusal.NotUtf8)))
+    (is_utf8-from_IsUtf8 (string_bytes read) (IsUtf8-string_bytes read)))
 
-pub read_not_utf8 : (tuples : Tuples) (share : Portion) (site : Path) (text prefix : List ℕ) → GivesReading (reading_of text) (Err unclean.NotUtf8) → text ≡ concat site
+pub read_not_utf8 : (tuples : Tuples) (share : Portion) (site : Path) (text prefix : List ℕ) → GivesReading (reading_of text) (Err unclean.NotUtf8)
+    → text ≡ concat site
     → answer.Refused refusal.NotUtf8 ≡ identification_of tuples share prefix site
 read_not_utf8 tuples share site text prefix (bytes, reads, not) joined =
-    sym (ap (λ (o : Option (List ℕ)). identification_by tuples share (identifier_by tuples prefix o)) (ap reading_of (sym joined) ∙ reads) ∙ by (is_utf8 bytes) refl)
+    sym (ap (λ (o : Option (List ℕ)). identification_by tuples share (identifier_by tuples prefix o)) (ap reading_of (sym joined) ∙ reads)
+    ∙ by (is_utf8 bytes) refl)
   where
-    by : (b : Bool) → is_utf8 bytes ≡ b → identification_by tuples share (cond b (unless_reserved tuples (prefix ++ bytes)) (Err refusal.NotUtf8)) ≡ answer.Refused refusal.NotUtf8
+    by : (b : Bool) → is_utf8 bytes ≡ b → identification_by tuples share (cond b (unless_reserved tuples (prefix ++ bytes)) (Err refusal.NotUtf8))
+        ≡ answer.Refused refusal.NotUtf8
     by true is = absurd (not (IsUtf8-from_is_utf8 bytes is))
     by false is = refl
 
-pub read_malformed : (tuples : Tuples) (share : Portion) (site : Path) (text prefix : List ℕ) → reading_of text ≡ None → text ≡ concat site → answer.Refused refusal.Malformed ≡ identification_of tuples share prefix site
+pub read_malformed : (tuples : Tuples) (share : Portion) (site : Path) (text prefix : List ℕ) → reading_of text ≡ None → text ≡ concat site
+    → answer.Refused refusal.Malformed ≡ identification_of tuples share prefix site
 read_malformed tuples share site text prefix reads joined =
     sym (ap (λ (o : Option (List ℕ)). identification_by tuples share (identifier_by tuples prefix o)) (ap reading_of (sym joined) ∙ reads))
 
 -- ---- places
 
-pub one_name : (path : Path) (name text literal bytes : List ℕ) (b : Bool) → b ≡ bytes_eq bytes literal → literal ≡ text → bytes ≡ name → Some name ≡ slice_get path 0 → length path ≡ 1 → b ≡ same_path path (text ∷ [])
+pub one_name : (path : Path) (name text literal bytes : List ℕ) (b : Bool) → b ≡ bytes_eq bytes literal → literal ≡ text → bytes ≡ name
+    → Some name ≡ slice_get path 0 → length path ≡ 1 → b ≡ same_path path (text ∷ [])
 one_name [] name text literal bytes b is like same at one = absurd (cc)
-one_name (x ∷ []) name text literal bytes b is like same at one = let first : name ≡ x = cc in is ∙ (λ i. bytes_eq ((same ∙ first) i) (like i)) ∙ sym (and_true (bytes_eq x text))
+one_name (x ∷ []) name text literal bytes b is like same at one = let first : name ≡ x = cc in is ∙ (λ i. bytes_eq ((same ∙ first) i) (like i))
+    ∙ sym (and_true (bytes_eq x text))
   where
     and_true : (b : Bool) → (b && true) ≡ b
     and_true true = refl
@@ -94,13 +102,16 @@ no_name (x ∷ path) text is = absurd (cc)
 
 module _ (tuples : Tuples) (share : Portion) (id : List ℕ) (place : Path) (at : place ≡ place_of tuples id) where
   -- by whether the place is the root's own
-  by_place : (own : Bool) → own ≡ is_own_place tuples place → identification_by tuples share (cond own (Err refusal.Reserved) (Ok id)) ≡ identification_by tuples share (unless_reserved tuples id)
+  by_place : (own : Bool) → own ≡ is_own_place tuples place → identification_by tuples share (cond own (Err refusal.Reserved) (Ok id))
+      ≡ identification_by tuples share (unless_reserved tuples id)
   by_place own is = ap (λ (b : Bool). identification_by tuples share (cond b (Err refusal.Reserved) (Ok id))) (is ∙ ap (is_own_place tuples) at)
 
   -- and whether the object is of the share
   by_share : (mine : Bool) → false ≡ is_own_place tuples place → mine ≡ holds share id
-      → cond mine (answer.Candidate (record { id = id; place = place_of tuples id })) answer.OtherShare ≡ identification_by tuples share (unless_reserved tuples id)
-  by_share mine free is = ap (λ (b : Bool). cond b (answer.Candidate (record { id = id; place = place_of tuples id })) answer.OtherShare) is ∙ by_place false free
+      → cond mine (answer.Candidate (record { id = id; place = place_of tuples id })) answer.OtherShare
+      ≡ identification_by tuples share (unless_reserved tuples id)
+  by_share mine free is = ap (λ (b : Bool). cond b (answer.Candidate (record { id = id; place = place_of tuples id })) answer.OtherShare) is
+      ∙ by_place false free
 
   pub is_own : true ≡ is_own_place tuples place → answer.Refused refusal.Reserved ≡ identification_by tuples share (unless_reserved tuples id)
   is_own own = by_place true own
@@ -108,14 +119,16 @@ module _ (tuples : Tuples) (share : Portion) (id : List ℕ) (place : Path) (at 
   pub is_other : false ≡ is_own_place tuples place → false ≡ holds share id → answer.OtherShare ≡ identification_by tuples share (unless_reserved tuples id)
   is_other free other = by_share false free other
 
-  pub is_candidate : false ≡ is_own_place tuples place → true ≡ holds share id → answer.Candidate (record { id = id; place = place }) ≡ identification_by tuples share (unless_reserved tuples id)
+  pub is_candidate : false ≡ is_own_place tuples place → true ≡ holds share id
+      → answer.Candidate (record { id = id; place = place }) ≡ identification_by tuples share (unless_reserved tuples id)
   is_candidate free mine = ap (λ (p : Path). answer.Candidate (record { id = id; place = p })) at ∙ by_share true free mine
 
 pub ruleset identifying = (names_some, read_some, read_not_utf8, read_malformed, one_name, no_name, is_own, is_other, is_candidate)
 
 -- ---- what an answer says
 
-pub refused_as : (tuples : Tuples) (share : Portion) (why : Refusal) (read : Result (List ℕ) Refusal) → answer.Refused why ≡ identification_by tuples share read → read ≡ Err why
+pub refused_as : (tuples : Tuples) (share : Portion) (why : Refusal) (read : Result (List ℕ) Refusal) → answer.Refused why ≡ identification_by tuples share read
+    → read ≡ Err why
 refused_as tuples share why (Err other) is = cc
 refused_as tuples share why (Ok id) is = absurd (by (holds share id) is)
   where
@@ -124,11 +137,13 @@ refused_as tuples share why (Ok id) is = absurd (by (holds share id) is)
     by false is = cc
 
 -- it has an identifier, which another share holds
-pub other_as : (tuples : Tuples) (share : Portion) (read : Result (List ℕ) Refusal) → answer.OtherShare ≡ identification_by tuples share read → (id : List ℕ) × ((read ≡ Ok id) × (holds share id ≡ false))
+pub other_as : (tuples : Tuples) (share : Portion) (read : Result (List ℕ) Refusal) → answer.OtherShare ≡ identification_by tuples share read
+    → (id : List ℕ) × ((read ≡ Ok id) × (holds share id ≡ false))
 other_as tuples share (Err why) is = absurd (cc)
 other_as tuples share (Ok id) is = (id, (refl, by (holds share id) refl is))
   where
-    by : (mine : Bool) → holds share id ≡ mine → answer.OtherShare ≡ cond mine (answer.Candidate (record { id = id; place = place_of tuples id })) answer.OtherShare → holds share id ≡ false
+    by : (mine : Bool) → holds share id ≡ mine → answer.OtherShare ≡ cond mine (answer.Candidate (record { id = id; place = place_of tuples id }))
+        answer.OtherShare → holds share id ≡ false
     by true held is = absurd (cc)
     by false held is = held
 
@@ -138,11 +153,13 @@ pub record IsRead (tuples : Tuples) (share : Portion) (read : Result (List ℕ) 
   pub place : candidate.place ≡ place_of tuples candidate.id
   pub mine : holds share candidate.id ≡ true
 
-pub candidate_as : (tuples : Tuples) (share : Portion) (read : Result (List ℕ) Refusal) (candidate : PlacedObject) → answer.Candidate candidate ≡ identification_by tuples share read → IsRead tuples share read candidate
+pub candidate_as : (tuples : Tuples) (share : Portion) (read : Result (List ℕ) Refusal) (candidate : PlacedObject)
+    → answer.Candidate candidate ≡ identification_by tuples share read → IsRead tuples share read candidate
 candidate_as tuples share (Err why) candidate is = absurd (cc)
 candidate_as tuples share (Ok id) candidate is = by (holds share id) refl is
   where
-    by : (mine : Bool) → holds share id ≡ mine → answer.Candidate candidate ≡ cond mine (answer.Candidate (record { id = id; place = place_of tuples id })) answer.OtherShare → IsRead tuples share (Ok id) candidate
+    by : (mine : Bool) → holds share id ≡ mine → answer.Candidate candidate
+        ≡ cond mine (answer.Candidate (record { id = id; place = place_of tuples id })) answer.OtherShare → IsRead tuples share (Ok id) candidate
     by true held is =
         let same : candidate ≡ record { id = id; place = place_of tuples id } = cc in
         let ids : candidate.id ≡ id = ap (λ (c : PlacedObject). c.id) same in

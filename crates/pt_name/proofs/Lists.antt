@@ -1,5 +1,30 @@
 -- What stands in a list of identifiers, once it is sorted and each is there once; and what a search in it finds.
-use Rattle.std.proofs.Common.{◌≡◌, ◌<◌, ◌≤◌, ℕ, zero, suc, Bool, true, false, List, [], ◌∷◌, ◌∙◌, ap, arith, length, map, refl, subst, sym, get_or, add-one, inl, inr}
+use Rattle.std.proofs.Common.{
+  ◌≡◌,
+  ◌<◌,
+  ◌≤◌,
+  ℕ,
+  zero,
+  suc,
+  Bool,
+  true,
+  false,
+  List,
+  [],
+  ◌∷◌,
+  ◌∙◌,
+  ap,
+  arith,
+  length,
+  map,
+  refl,
+  subst,
+  sym,
+  get_or,
+  add-one,
+  inl,
+  inr,
+}
 use Rattle.std.specs.Cmp.{IsTotalOrder, both_ways, on_equiv}
 use Rattle.std.specs.Cmp.Lexicographic.{nat_list_cmp_total, nat_list_eq_equiv, slice_cmp}
 use Rattle.std.specs.Global.{Global}
@@ -107,7 +132,8 @@ module _ (id : List ℕ) where
   at_place [] i low at = absurd (omega (arith, low))
   at_place (x ∷ xs) i low at = list_any_at (is_it id) (x ∷ xs) i x low (by_order (get_or (x ∷ xs) i x) ∙ ap is_eq (at x))
 
-  around : (xs : List Text) (i : ℕ) → AllWithin (λ y. order y ≡ Less) xs 0 i × AllWithin (λ y. order y ≡ Greater) xs i (length xs) → list_any (is_it id) xs ≡ false
+  around : (xs : List Text) (i : ℕ) → AllWithin (λ y. order y ≡ Less) xs 0 i × AllWithin (λ y. order y ≡ Greater) xs i (length xs)
+      → list_any (is_it id) xs ≡ false
   around [] i sides = refl
   around (x ∷ xs) i (before, behind) = list_any_none (is_it id) (x ∷ xs) (All-from_get_or (λ y. is_it id y ≡ false) (x ∷ xs) x side)
     where

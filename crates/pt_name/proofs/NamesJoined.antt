@@ -1,5 +1,27 @@
 -- The names of a path with nothing between, name by name.
-use Rattle.std.proofs.Common.{◌≡◌, ℕ, zero, suc, ◌+◌, ◌<◌, List, [], ◌∷◌, ◌++◌, Some, None, take, length, sym, ap, ◌∙◌, arith, append_assoc, append-nil, slice_get}
+use Rattle.std.proofs.Common.{
+  ◌≡◌,
+  ℕ,
+  zero,
+  suc,
+  ◌+◌,
+  ◌<◌,
+  List,
+  [],
+  ◌∷◌,
+  ◌++◌,
+  Some,
+  None,
+  take,
+  length,
+  sym,
+  ap,
+  ◌∙◌,
+  arith,
+  append_assoc,
+  append-nil,
+  slice_get,
+}
 use Rattle.std.specs.List.{concat}
 
 -- one more name

@@ -1,5 +1,35 @@
 -- A text with `/` after each second character, character by character, and as pieces of two.
-use Rattle.std.proofs.Common.{◌≡◌, ℕ, ◌+◌, ◌%◌, ◌<◌, ◌==◌, cond, ◌&&◌, Bool, true, false, List, [], ◌∷◌, ◌++◌, get_or, length, drop, refl, sym, ap, ◌∙◌, arith, add-one, append_assoc, append-nil, ◌≤◌, drop-cons, nat_lt}
+use Rattle.std.proofs.Common.{
+  ◌≡◌,
+  ℕ,
+  ◌+◌,
+  ◌%◌,
+  ◌<◌,
+  ◌==◌,
+  cond,
+  ◌&&◌,
+  Bool,
+  true,
+  false,
+  List,
+  [],
+  ◌∷◌,
+  ◌++◌,
+  get_or,
+  length,
+  drop,
+  refl,
+  sym,
+  ap,
+  ◌∙◌,
+  arith,
+  add-one,
+  append_assoc,
+  append-nil,
+  ◌≤◌,
+  drop-cons,
+  nat_lt,
+}
 use Rattle.std.proofs.lemmas.List.{drop_all}
 use Rattle.pt_tree.specs.Path.{joined}
 use Rattle.pt_name.specs.Clean.{pieces_of_two}
@@ -39,13 +69,15 @@ spaced_whole (x ∷ y ∷ xs) =
     grind (arith, rest, whole)
 
 -- one more character, behind a `/` where there is one
-pub spaced_more : (xs : List ℕ) (i : ℕ) (t u v whole : List ℕ) (slash : Bool) → i < length xs → (nat_lt 0 i && (i % 2 == 0)) ≡ slash → u ≡ t ++ cond slash (47 ∷ []) []
+pub spaced_more : (xs : List ℕ) (i : ℕ) (t u v whole : List ℕ) (slash : Bool) → i < length xs → (nat_lt 0 i && (i % 2 == 0)) ≡ slash
+    → u ≡ t ++ cond slash (47 ∷ []) []
     → v ≡ u ++ get_or xs i 0 ∷ [] → t ++ spaced i (drop i xs) ≡ whole → v ++ spaced (i + 1) (drop (i + 1) xs) ≡ whole
 spaced_more xs i t u v whole slash within test first last so_far =
     let x = get_or xs i 0 in
     let rest = spaced (i + 1) (drop (i + 1) xs) in
     let front : drop i xs ≡ x ∷ drop (i + 1) xs = rw add-one (drop-cons xs i 0 within) in
-    let here : spaced i (drop i xs) ≡ cond slash (47 ∷ []) [] ++ x ∷ rest = ap (spaced i) front ∙ ap (λ (s : Bool). cond s (47 ∷ x ∷ rest) (x ∷ rest)) test ∙ split slash x rest in
+    let here : spaced i (drop i xs) ≡ cond slash (47 ∷ []) [] ++ x ∷ rest = ap (spaced i) front ∙ ap (λ (s : Bool). cond s (47 ∷ x ∷ rest) (x ∷ rest)) test
+    ∙ split slash x rest in
     ap (λ (l : List ℕ). l ++ rest) (last ∙ ap (λ (l : List ℕ). l ++ x ∷ []) first)
     ∙ append_assoc (t ++ cond slash (47 ∷ []) []) (x ∷ []) rest
     ∙ append_assoc t (cond slash (47 ∷ []) []) (x ∷ rest)

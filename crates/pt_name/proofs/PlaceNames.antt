@@ -1,5 +1,31 @@
 -- The names of a place are names of directories.
-use Rattle.std.proofs.Common.{◌≡◌, ℕ, ◌+◌, ◌<◌, ◌≤◌, ◌==◌, Bool, true, false, cond, List, [], ◌∷◌, ◌++◌, None, Result, Err, length, take, subst, refl, arith, nat_le, length-append, length-take}
+use Rattle.std.proofs.Common.{
+  ◌≡◌,
+  ℕ,
+  ◌+◌,
+  ◌<◌,
+  ◌≤◌,
+  ◌==◌,
+  Bool,
+  true,
+  false,
+  cond,
+  List,
+  [],
+  ◌∷◌,
+  ◌++◌,
+  None,
+  Result,
+  Err,
+  length,
+  take,
+  subst,
+  refl,
+  arith,
+  nat_le,
+  length-append,
+  length-take,
+}
 use Rattle.std.specs.Prelude.{All}
 use Rattle.std.specs.List.{list_any}
 use Rattle.std.specs.Str.{bytes_eq, is_utf8}
@@ -67,7 +93,8 @@ All-spelling byte small = go (is_safe byte) refl
 All-encoded : (id : List ℕ) → All (λ b. b < 256) id → All IsPlaceByte (encoded_of id)
 All-encoded [] h = All-nil IsPlaceByte
 All-encoded (b ∷ id) h =
-    All-append IsPlaceByte (encoded_spelling b) (encoded_of id) (All-spelling b (All-head (λ x. x < 256) b id h)) (All-encoded id (All-tail (λ x. x < 256) b id h))
+    All-append IsPlaceByte (encoded_spelling b) (encoded_of id) (All-spelling b (All-head (λ x. x < 256) b id h))
+    (All-encoded id (All-tail (λ x. x < 256) b id h))
 
 -- which isn't empty
 some_spelled : (byte : ℕ) → 0 < length (encoded_spelling byte)
@@ -95,7 +122,8 @@ shortened_name encoding digits some h n d = go (nat_le (length encoding) 100) re
         let short : length encoding ≤ 100 = leb-true (length encoding) 100 e in
         record { some = some; bound = omega arith; safe = h }
     go false e =
-        let l : length (take 100 encoding ++ 45 ∷ digits) ≡ length (take 100 encoding) + length (45 ∷ digits) = length-append (take 100 encoding) (45 ∷ digits) in
+        let l : length (take 100 encoding ++ 45 ∷ digits) ≡ length (take 100 encoding) + length (45 ∷ digits) = length-append (take 100 encoding) (45 ∷ digits)
+        in
         let m : length (take 100 encoding) ≤ 100 = length-take_bound 100 encoding in
         record {
           some = omega arith;

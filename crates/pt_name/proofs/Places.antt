@@ -1,5 +1,37 @@
 -- Identifiers that share a place.
-use Rattle.std.proofs.Common.{◌≡◌, ◌≢◌, ℕ, ◌+◌, ◌/◌, ◌%◌, ◌<◌, ◌≤◌, Bool, true, false, true≢false, cond, List, [], ◌∷◌, ◌++◌, Ok, length, take, drop, slice_index, inl, inr, refl, sym, ap, ◌∙◌, arith, nat_le, length-append}
+use Rattle.std.proofs.Common.{
+  ◌≡◌,
+  ◌≢◌,
+  ℕ,
+  ◌+◌,
+  ◌/◌,
+  ◌%◌,
+  ◌<◌,
+  ◌≤◌,
+  Bool,
+  true,
+  false,
+  true≢false,
+  cond,
+  List,
+  [],
+  ◌∷◌,
+  ◌++◌,
+  Ok,
+  length,
+  take,
+  drop,
+  slice_index,
+  inl,
+  inr,
+  refl,
+  sym,
+  ap,
+  ◌∙◌,
+  arith,
+  nat_le,
+  length-append,
+}
 use Rattle.std.specs.Prelude.{All}
 use Rattle.std.proofs.lemmas.List.{length-take-le, same_from_push, take_at, drop_at, get_or_past}
 use Rattle.std.proofs.lemmas.List.Elements.{All-get_or, All-head, All-tail}
@@ -53,7 +85,8 @@ same_encoded (x ∷ a) (y ∷ b) u v h =
 -- the bytes of a SHA-256 from its text
 same_digest : (a b : List ℕ) → digest_text a ≡ digest_text b → sha256 a ≡ sha256 b
 same_digest a b h =
-    let one : Ok (sha256 a) ≡ Ok (sha256 b) = sym (decode_of-encode_lower (sha256 a) (small a)) ∙ ap decode_of h ∙ decode_of-encode_lower (sha256 b) (small b) in
+    let one : Ok (sha256 a) ≡ Ok (sha256 b) = sym (decode_of-encode_lower (sha256 a) (small a)) ∙ ap decode_of h
+    ∙ decode_of-encode_lower (sha256 b) (small b) in
     cc one
   where
     small : (id : List ℕ) (i : ℕ) → slice_index (sha256 id) i < 256
@@ -94,7 +127,8 @@ alike e f d g differ = go (nat_le (length e) 100) (nat_le (length f) 100) refl r
     go false false x y h =
         let first : 100 < length e = leb-false (length e) 100 x in
         let second : 100 < length f = leb-false (length f) 100 y in
-        let rest : 45 ∷ d ≡ 45 ∷ g = sym (drop_at (take 100 e) (45 ∷ d) 100 (long_front e first)) ∙ ap (drop 100) h ∙ drop_at (take 100 f) (45 ∷ g) 100 (long_front f second) in
+        let rest : 45 ∷ d ≡ 45 ∷ g = sym (drop_at (take 100 e) (45 ∷ d) 100 (long_front e first)) ∙ ap (drop 100) h
+        ∙ drop_at (take 100 f) (45 ∷ g) 100 (long_front f second) in
         record {
           first_long = first;
           second_long = second;

@@ -40,12 +40,14 @@ begun_by_any [] id none = refl
 begun_by_any (text ∷ texts) id none = absurd (omega (arith, none))
 
 -- where there is one it begins with one of them
-pub begun_by_one : (texts : List (String Global)) (id : List ℕ) (b : Bool) → 0 < length texts → b ≡ list_any (λ t. begins_with (string_bytes t) id) texts → b ≡ begins_so (map string_bytes texts) id
+pub begun_by_one : (texts : List (String Global)) (id : List ℕ) (b : Bool) → 0 < length texts → b ≡ list_any (λ t. begins_with (string_bytes t) id) texts
+    → b ≡ begins_so (map string_bytes texts) id
 begun_by_one [] id b some is = absurd (omega (arith, some))
 begun_by_one (text ∷ texts) id b some is = is ∙ sym (any_mapped string_bytes (λ t. begins_with t id) (text ∷ texts))
 
 -- what doesn't stand in the list is chosen where it begins with one of the texts
-pub chosen_unlisted : (texts : List (String Global)) (only ids : List (List ℕ)) (id : List ℕ) (b : Bool) → false ≡ is_listed ids id → b ≡ list_any (λ t. begins_with (string_bytes t) id) texts → map string_bytes texts ≡ only → b ≡ chosen only (Some ids) id
+pub chosen_unlisted : (texts : List (String Global)) (only ids : List (List ℕ)) (id : List ℕ) (b : Bool) → false ≡ is_listed ids id
+    → b ≡ list_any (λ t. begins_with (string_bytes t) id) texts → map string_bytes texts ≡ only → b ≡ chosen only (Some ids) id
 chosen_unlisted texts only ids id b other is same =
     is ∙ sym (any_mapped string_bytes (λ t. begins_with t id) texts) ∙ ap (list_any (λ t. begins_with t id)) same
     ∙ ap (λ (listed : Bool). listed || list_any (λ t. begins_with t id) only) other

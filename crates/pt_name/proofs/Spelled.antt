@@ -1,5 +1,32 @@
 -- What is cleaned reads back.
-use Rattle.std.proofs.Common.{◌≡◌, ℕ, ◌+◌, ◌*◌, ◌/◌, ◌%◌, ◌<◌, ◌==◌, ◌||◌, Bool, true, false, cond, List, [], ◌∷◌, Some, refl, sym, ap, subst, arith, nat_lt, slice_index, inl, inr}
+use Rattle.std.proofs.Common.{
+  ◌≡◌,
+  ℕ,
+  ◌+◌,
+  ◌*◌,
+  ◌/◌,
+  ◌%◌,
+  ◌<◌,
+  ◌==◌,
+  ◌||◌,
+  Bool,
+  true,
+  false,
+  cond,
+  List,
+  [],
+  ◌∷◌,
+  Some,
+  refl,
+  sym,
+  ap,
+  subst,
+  arith,
+  nat_lt,
+  slice_index,
+  inl,
+  inr,
+}
 use Rattle.std.specs.Prelude.{All}
 use Rattle.std.proofs.lemmas.List.Elements.{All-head, All-tail}
 use Rattle.std.proofs.lemmas.Bool.{or_parts}
@@ -32,7 +59,8 @@ spelled byte small = elim (eqb_tells byte 47) [
     | inr colon ↦ elim (eqb_tells byte 46) [
       | inl e ↦ subst (λ b. IsSpelling b (clean_spelling b)) (sym e.1) refl
       | inr dot ↦
-          let rest : IsSpelling byte (cond (nat_lt byte 33 || nat_lt 126 byte || is_reserved byte) (caret_spelling byte) (byte ∷ [])) = go byte small slash.0 colon.0 dot.0 (nat_lt byte 33 || nat_lt 126 byte || is_reserved byte) refl in
+          let rest : IsSpelling byte (cond (nat_lt byte 33 || nat_lt 126 byte || is_reserved byte) (caret_spelling byte) (byte ∷ [])) = go byte small slash.0
+          colon.0 dot.0 (nat_lt byte 33 || nat_lt 126 byte || is_reserved byte) refl in
           rw (slash.0, colon.0, dot.0) rest
     ]
   ]

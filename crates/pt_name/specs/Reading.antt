@@ -1,5 +1,33 @@
 -- Reading a cleaned text back, leniently.
-use Rattle.std.specs.Prelude.{ℕ, ◌≡◌, ◌==◌, ◌&&◌, ◌||◌, ◌+◌, ◌*◌, Bool, false, nat_le, if◌then◌else◌, IsTrue, List, [], ◌∷◌, ◌++◌, Option, Some, None, option_map, option_and_then, Result, Ok, Err, ⊤, String, string_bytes}
+use Rattle.std.specs.Prelude.{
+  ℕ,
+  ◌≡◌,
+  ◌==◌,
+  ◌&&◌,
+  ◌||◌,
+  ◌+◌,
+  ◌*◌,
+  Bool,
+  false,
+  nat_le,
+  if◌then◌else◌,
+  IsTrue,
+  List,
+  [],
+  ◌∷◌,
+  ◌++◌,
+  Option,
+  Some,
+  None,
+  option_map,
+  option_and_then,
+  Result,
+  Ok,
+  Err,
+  ⊤,
+  String,
+  string_bytes,
+}
 use Rattle.std.specs.Global.{Global}
 use Rattle.std.specs.Str.{IsUtf8}
 use Rattle.hex.specs.Hex.{hex_digit_value}

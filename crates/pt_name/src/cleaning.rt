@@ -7,9 +7,9 @@ use std::alloc::Global;
 
 /// The cleaned text of an identifier, by identifier string cleaning of Pairtree 0.1.
 ///
-/// Takes any bytes, and works byte by byte: `/` becomes `=`, `:` becomes `+` and `.` becomes `,`; a byte outside hex
-/// 21 to 7e and each of `"` `*` `+` `,` `<` `=` `>` `?` `\` `^` `|` becomes `^` and two hex digits in lower case; every
-/// other byte stays. `Memory` where a growth was refused.
+/// Takes any bytes, and works byte by byte: `/` becomes `=`, `:` becomes `+` and `.` becomes `,`; a
+/// byte outside hex 21 to 7e and each of `"` `*` `+` `,` `<` `=` `>` `?` `\` `^` `|` becomes `^`
+/// and two hex digits in lower case; every other byte stays. `Memory` where a growth was refused.
 pub fn clean(alloc: Global, id: &[u8]) -> Result<Vec<u8>, MemoryFault>
     ensures { IfOk result (λ text. text.items ≡ cleaned id.now) }
 {
@@ -47,8 +47,8 @@ fn push_caret(text: &mut Vec<u8>, byte: u8) -> Result<(), MemoryFault>
     Ok(())
 }
 
-/// The pairpath of an identifier, by Pairtree 0.1: its cleaned text in pieces of two characters, the last of one or
-/// two, with `/` between.
+/// The pairpath of an identifier, by Pairtree 0.1: its cleaned text in pieces of two characters,
+/// the last of one or two, with `/` between.
 ///
 /// Empty for the empty identifier. `Memory` where a growth was refused.
 pub fn pairpath(alloc: Global, id: &[u8]) -> Result<Vec<u8>, MemoryFault>

@@ -9,8 +9,8 @@ use std::alloc::Global;
 // How long an encoding may be before it is shortened.
 const LONGEST: usize = 100;
 
-/// The identifier as extension 0003 encodes it, without shortening: `A-Z a-z 0-9 - _` stand as they are, every other
-/// byte becomes `%` and two hex digits in lower case.
+/// The identifier as extension 0003 encodes it, without shortening: `A-Z a-z 0-9 - _` stand as they
+/// are, every other byte becomes `%` and two hex digits in lower case.
 ///
 /// Takes any bytes. `Memory` where a growth was refused.
 pub fn encoded(alloc: Global, id: &[u8]) -> Result<Vec<u8>, MemoryFault>
@@ -37,8 +37,9 @@ fn push_encoded(text: &mut Vec<u8>, byte: u8) -> Result<(), MemoryFault>
     Ok(())
 }
 
-/// The last name of the place of an identifier that isn't empty, by extension 0003: its encoding, or, where that has
-/// more than 100 characters, the first 100 of it, `-` and the 64 digits of the identifier's SHA-256.
+/// The last name of the place of an identifier that isn't empty, by extension 0003: its encoding,
+/// or, where that has more than 100 characters, the first 100 of it, `-` and the 64 digits of the
+/// identifier's SHA-256.
 ///
 /// Takes any bytes. `Memory` where a growth was refused.
 pub fn last_name(alloc: Global, id: &[u8]) -> Result<Vec<u8>, MemoryFault>

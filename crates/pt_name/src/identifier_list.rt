@@ -9,7 +9,8 @@ use std::alloc::{AllocError, Global};
 use std::cell::Cell;
 use std::marker::Model;
 
-/// A list of identifiers, by the name of its file. It holds each once, in the order of their bytes, and whether it was met.
+/// A list of identifiers, by the name of its file. It holds each once, in the order of their bytes,
+/// and whether it was met.
 #[derive(Debug, Drop)]
 pub struct IdentifierList {
     name: String,
@@ -31,8 +32,8 @@ impl Model for IdentifierList {
 }
 
 impl IdentifierList {
-    /// The list of these identifiers, of which none was met yet. One that stands there twice is held once. `AllocError` where a growth
-    /// was refused.
+    /// The list of these identifiers, of which none was met yet. One that stands there twice is
+    /// held once. `AllocError` where a growth was refused.
     pub fn of(alloc: Global, name: String, lines: Vec<String>) -> Result<IdentifierList, AllocError>
         ensures { IfOk result (λ list. ListsAs list (map string_bytes lines.items)) }
     {
@@ -72,7 +73,7 @@ impl IdentifierList {
         self.ids.len()
     }
 
-    /// The identifier at a position, where it was met nowhere.
+    /// The identifier at a position, where no object of it was met.
     pub fn unmet_at(&self, at: usize) -> Option<&str> {
         match (self.ids.get(at), self.met.get(at)) {
             (Some(id), Some(met)) if !met.get() => Some(id.as_str()),

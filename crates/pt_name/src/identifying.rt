@@ -43,13 +43,14 @@ pub enum Identification {
     Candidate(PlacedObject),
 }
 
-/// What the names of a site's path say of its object, in a store of this prefix. They are read with nothing between, and
-/// the identifier is what they read, behind the prefix (Pairtree 0.1, "Identifier string cleaning"); its place is that of
-/// the layout.
+/// What the names of a site's path say of its object, in a store of this prefix. They are read with
+/// nothing between, and the identifier is what they read, behind the prefix (Pairtree 0.1,
+/// "Identifier string cleaning"); its place is that of the layout.
 ///
-/// Asked in this order: whether the names read something (`Malformed`), whether that is UTF-8 (`NotUtf8`), whether the place
-/// is the storage root's own (`Reserved`), and whether the object is of this share. The path isn't empty. `Memory` where a
-/// growth was refused. An identifier of the share is noted in its list, if there is one and it stands there.
+/// Asked in this order: whether the names read something (`Malformed`), whether that is UTF-8
+/// (`NotUtf8`), whether the place is the storage root's own (`Reserved`), and whether the object is
+/// of this share. The path isn't empty. `Memory` where a growth was refused. An identifier of the
+/// share is noted in its list, if there is one and it stands there.
 pub fn identify(
     site: &NamePath,
     prefix: &str,
@@ -95,8 +96,9 @@ fn with_prefix(alloc: Global, prefix: &str, text: &str) -> Result<Identifier, Me
     Ok(Identifier::of(id))
 }
 
-// The object of this identifier with its place, unless that is the storage root's own, or the object of another share. An identifier of
-// this share is noted in its list, whatever becomes of the object.
+// The object of this identifier with its place, unless that is the storage root's own, or the
+// object of another share. An identifier of this share is noted in its list, whatever becomes of
+// the object.
 fn with_place(
     alloc: Global,
     id: Identifier,

@@ -4,8 +4,8 @@ ghost use Rattle.std.specs.List.{concat};
 use pt_tree::{MemoryFault, NamePath};
 use std::alloc::Global;
 
-/// The names of a path with nothing between them: what the identifier of a Pairtree object is read from, since the cuts
-/// of its pairpath may fall inside a spelling.
+/// The names of a path with nothing between them: what the identifier of a Pairtree object is read
+/// from, since the cuts of its pairpath may fall inside a spelling.
 ///
 /// `Memory` where a growth was refused.
 pub fn concatenate(alloc: Global, path: &NamePath) -> Result<Vec<u8>, MemoryFault>

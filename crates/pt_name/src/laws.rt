@@ -20,8 +20,8 @@ pub fn reading_is_computed()
     ensures { (text bytes : List ℕ) → (Reads text bytes) ↔ (reading_of text ≡ Some bytes) }
 {}
 
-/// Two different identifiers have one place only where both encodings have more than 100 characters, agree in their
-/// first 100, and the identifiers have one SHA-256.
+/// Two different identifiers have one place only where both encodings have more than 100
+/// characters, agree in their first 100, and the identifiers have one SHA-256.
 pub fn one_place()
     ensures { (tuples : Tuples) (a b : List ℕ) → All (λ byte. byte < 256) a
         → All (λ byte. byte < 256) b

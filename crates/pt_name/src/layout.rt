@@ -41,8 +41,8 @@ impl LayoutFault {
     }
 }
 
-/// How places are cut: `count` tuples of `size` hex digits stand before the last name. The numbers are
-/// `numberOfTuples` and `tupleSize` of extension 0003-hash-and-id-n-tuple-storage-layout.
+/// How places are cut: `count` tuples of `size` hex digits stand before the last name. The numbers
+/// are `numberOfTuples` and `tupleSize` of extension 0003-hash-and-id-n-tuple-storage-layout.
 #[derive(Clone, Copy, Debug, PartialEq, Eq)]
 pub struct Layout {
     size: u32,
@@ -74,8 +74,8 @@ impl Layout {
 
     /// The layout of `count` tuples of `size` digits.
     ///
-    /// Refused, in this order, as `OutOfRange` (one of the two over 32), `OneZero` (one of the two zero and the other
-    /// not) and `TooLong` (the product over 64).
+    /// Refused, in this order, as `OutOfRange` (one of the two over 32), `OneZero` (one of the two
+    /// zero and the other not) and `TooLong` (the product over 64).
     pub fn of(size: u32, count: u32) -> Result<Layout, LayoutFault>
         ensures { result ≡ layout_of size count }
     {
@@ -107,8 +107,8 @@ impl Layout {
         self.count
     }
 
-    /// The place of an identifier that isn't empty, by extension 0003: the tuples, cut from the front of its SHA-256 in
-    /// lower-case hex, and its last name.
+    /// The place of an identifier that isn't empty, by extension 0003: the tuples, cut from the
+    /// front of its SHA-256 in lower-case hex, and its last name.
     ///
     /// Takes any bytes. `Memory` where a growth was refused.
     pub fn place(&self, alloc: Global, id: &[u8]) -> Result<NamePath, MemoryFault>

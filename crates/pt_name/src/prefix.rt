@@ -38,11 +38,11 @@ impl PrefixFault {
     }
 }
 
-/// The prefix of a Pairtree 0.1 store, from the bytes of its file `pairtree_prefix`: all LF and CR bytes at their end
-/// are taken off.
+/// The prefix of a Pairtree 0.1 store, from the bytes of its file `pairtree_prefix`: all LF and CR
+/// bytes at their end are taken off.
 ///
-/// Refused, in this order, as `TooLong` (the whole has more than 1,024 bytes) and `NotUtf8` (what remains isn't
-/// UTF-8); then as `Memory`, where a growth was refused.
+/// Refused, in this order, as `TooLong` (the whole has more than 1,024 bytes) and `NotUtf8` (what
+/// remains isn't UTF-8); then as `Memory`, where a growth was refused.
 pub fn read_prefix(alloc: Global, bytes: &[u8]) -> Result<String, PrefixFault>
     ensures { Answers (prefix_refusal bytes.now) PrefixFault.Memory result
         (λ prefix. string_bytes prefix ≡ without_line_ends bytes.now) }
@@ -76,7 +76,8 @@ fn is_line_end(byte: u8) -> bool
     byte == b'\n' || byte == b'\r'
 }
 
-/// Whether a prefix reads otherwise than it looks: it has a control character, a byte order mark, or a blank at an end.
+/// Whether a prefix reads otherwise than it looks: it has a control character, a byte order mark,
+/// or a blank at an end.
 pub fn is_doubtful(prefix: &str) -> bool
     ensures { result ≡ is_doubtful_text prefix.now }
 {

@@ -8,7 +8,8 @@ use thiserror::Error;
 /// Why a text is no identifier.
 #[derive(Clone, Copy, Debug, PartialEq, Eq, Error)]
 pub enum UncleanFault {
-    /// It reads nothing: a `^` isn't followed by two hex digits, or a byte lies outside hex 21 to 7e.
+    /// It reads nothing: a `^` isn't followed by two hex digits, or a byte lies outside hex 21 to
+    /// 7e.
     #[error("the text has no reading")]
     Malformed,
     /// It reads bytes that aren't UTF-8.
@@ -43,12 +44,13 @@ impl<T: Drop> From<AllocFailed<T>> for UncleanFault {
     }
 }
 
-/// The identifier that a cleaned text reads, leniently: `^` and two hex digits of either case are that byte; `=` `+`
-/// `,` are `/` `:` `.`; every other byte from hex 21 to 7e is itself. It gives back what `clean` of Pairtree 0.1 wrote,
-/// and takes characters that stand uncleaned.
+/// The identifier that a cleaned text reads, leniently: `^` and two hex digits of either case are
+/// that byte; `=` `+` `,` are `/` `:` `.`; every other byte from hex 21 to 7e is itself. It gives
+/// back what `clean` of Pairtree 0.1 wrote, and takes characters that stand uncleaned.
 ///
-/// `Malformed` exactly where the text reads nothing, `NotUtf8` exactly where it reads bytes that aren't UTF-8: the
-/// whole text is read before UTF-8 is tested. `Memory` where a growth was refused.
+/// `Malformed` exactly where the text reads nothing, `NotUtf8` exactly where it reads bytes that
+/// aren't UTF-8: the whole text is read before UTF-8 is tested. `Memory` where a growth was
+/// refused.
 pub fn unclean(alloc: Global, text: &[u8]) -> Result<String, UncleanFault>
     ensures reads { IfOk result (λ id. Reads text.now (string_bytes id)) }
     ensures refused { IfErr result (RefusesText text.now) }

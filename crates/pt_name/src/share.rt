@@ -43,9 +43,10 @@ impl ShareFault {
     }
 }
 
-/// What a run takes of a store: one of the shares in which it is carried, each by a run of its own, by the share's number,
-/// from 1 on, and how many there are; and of that the objects that are chosen, whose identifiers begin with one of some texts
-/// or stand in a list, where there are texts or a list. An object is of the share that its identifier's SHA-256 gives.
+/// What a run takes of a store: one of the shares in which it is carried, each by a run of its own,
+/// by the share's number, from 1 on, and how many there are; and of that the objects that are
+/// chosen, whose identifiers begin with one of some texts or stand in a list, where there are texts
+/// or a list. An object is of the share that its identifier's SHA-256 gives.
 #[derive(Debug, Drop)]
 pub struct Share {
     index: u32,
@@ -87,8 +88,8 @@ impl Share {
 
     /// The share of this number, of `count` shares.
     ///
-    /// Refused, in this order, as `Zero` (one of the two is zero), `TooMany` (more than 4,096 shares) and `OutOfRange`
-    /// (the number is over how many there are).
+    /// Refused, in this order, as `Zero` (one of the two is zero), `TooMany` (more than 4,096
+    /// shares) and `OutOfRange` (the number is over how many there are).
     pub fn of(index: u32, count: u32) -> Result<Share, ShareFault>
         ensures { result ≡ share_of index count }
     {
@@ -109,8 +110,8 @@ impl Share {
         })
     }
 
-    /// Of the share, only the objects whose identifiers begin with one of these texts, byte for byte, the store's prefix
-    /// included; all of its objects, where there is no text.
+    /// Of the share, only the objects whose identifiers begin with one of these texts, byte for
+    /// byte, the store's prefix included; all of its objects, where there is no text.
     pub fn with_only(self, texts: Vec<String>) -> Share
         ensures { result ≡ record self { only = map string_bytes texts.items } }
     {
@@ -120,8 +121,8 @@ impl Share {
         }
     }
 
-    /// Of the share, only the objects whose identifiers stand in this list, beside those that begin with one of its texts. `Memory`
-    /// where a growth was refused.
+    /// Of the share, only the objects whose identifiers stand in this list, beside those that begin
+    /// with one of its texts. `Memory` where a growth was refused.
     pub fn with_list(self, alloc: Global, list: IdentifierList) -> Result<Share, MemoryFault>
         ensures { IfOk result (λ share. share ≡ record self { list = Some list }) }
     {
@@ -165,7 +166,8 @@ impl Share {
         self.list.as_ref()
     }
 
-    /// The identifiers of its list that it is to meet, if it has a list. `AllocError` where the list can't have one more owner.
+    /// The identifiers of its list that it is to meet, if it has a list. `AllocError` where the
+    /// list can't have one more owner.
     pub fn sought_identifiers(&self) -> Result<Option<SoughtIdentifiers>, AllocError>
         ensures { IsSome self.now.list ⊎ (result ≡ Ok None) }
     {
@@ -181,16 +183,18 @@ impl Share {
         Ok(Some(SoughtIdentifiers::of(list.clone()?, numbered)))
     }
 
-    /// Whether it is the first: what is passed over before an identifier is read is told by the first share alone.
+    /// Whether it is the first: what is passed over before an identifier is read is told by the
+    /// first share alone.
     pub fn is_first(&self) -> bool
         ensures { result ≡ is_first self.now }
     {
         self.index == 1
     }
 
-    /// Whether the object with this identifier is of this share, and chosen. The first four bytes of the identifier's SHA-256, as
-    /// a number whose first byte is the highest, times the count and divided by 2^32, are the share's number less one. It is
-    /// chosen where it begins with one of the texts, or stands in the list, or there is neither.
+    /// Whether the object with this identifier is of this share, and chosen. The first four bytes
+    /// of the identifier's SHA-256, as a number whose first byte is the highest, times the count
+    /// and divided by 2^32, are the share's number less one. It is chosen where it begins with one
+    /// of the texts, or stands in the list, or there is neither.
     ///
     /// Takes any bytes. Of the whole store each object is, and no digest is made.
     pub fn holds(&self, id: &[u8]) -> bool
@@ -213,7 +217,8 @@ impl Share {
         }
     }
 
-    // Whether an identifier begins with one of the texts, or stands in the list, or there is neither.
+    // Whether an identifier begins with one of the texts, or stands in the list, or there is
+    // neither.
     fn chooses(&self, id: &[u8]) -> bool
         ensures { result ≡ chosen self.now.only self.now.list id.now }
     {

@@ -3,7 +3,8 @@
 use crate::{IdentifierList, Share};
 use std::rc::Rc;
 
-/// The identifiers of a list that are of a share. What a run of that share notes in the list is seen here.
+/// The identifiers of a list that are of a share. What a run of that share notes in the list is
+/// seen here.
 #[derive(Drop)]
 pub struct SoughtIdentifiers {
     list: Rc<IdentifierList>,
@@ -21,7 +22,7 @@ impl SoughtIdentifiers {
         self.list.len()
     }
 
-    /// The identifier at a position of the list, where it is of the share and was met nowhere.
+    /// The identifier at a position of the list, where it is of the share and no object of it was met.
     pub fn unmet_at(&self, at: usize) -> Option<&str> {
         let id = self.list.unmet_at(at)?;
         self.share.numbers(id.as_bytes()).then_some(id)

@@ -29,16 +29,22 @@ are_bytes [] h i = omega arith
 are_bytes (x ∷ xs) h zero = All-head (λ b. b < 256) x xs h
 are_bytes (x ∷ xs) h (suc i) = are_bytes xs (All-tail (λ b. b < 256) x xs h) i
 
-pub one_digest : (algorithm : Algorithm) (a b : List ℕ) → encode_lower (digest_of algorithm a) ≡ encode_lower (digest_of algorithm b) → digest_of algorithm a ≡ digest_of algorithm b
+pub one_digest : (algorithm : Algorithm) (a b : List ℕ) → encode_lower (digest_of algorithm a) ≡ encode_lower (digest_of algorithm b)
+    → digest_of algorithm a ≡ digest_of algorithm b
 one_digest algorithm a b same =
     let read : Ok (digest_of algorithm a) ≡ Ok (digest_of algorithm b) =
-    sym (decode_of-encode_lower (digest_of algorithm a) (are_bytes _ (All-digest algorithm a))) ∙ ap decode_of same ∙ decode_of-encode_lower (digest_of algorithm b) (are_bytes _ (All-digest algorithm b)) in
+    sym (decode_of-encode_lower (digest_of algorithm a) (are_bytes _ (All-digest algorithm a))) ∙ ap decode_of same
+    ∙ decode_of-encode_lower (digest_of algorithm b) (are_bytes _ (All-digest algorithm b)) in
     cc
 
 -- the tests agree
-pub same_keys : (algorithm : Algorithm) (a b : List ℕ) → bytes_eq (encode_lower (digest_of algorithm a)) (encode_lower (digest_of algorithm b)) ≡ bytes_eq (digest_of algorithm a) (digest_of algorithm b)
+pub same_keys : (algorithm : Algorithm) (a b : List ℕ) → bytes_eq (encode_lower (digest_of algorithm a)) (encode_lower (digest_of algorithm b))
+    ≡ bytes_eq (digest_of algorithm a) (digest_of algorithm b)
 same_keys algorithm a b = by (bytes_eq (digest_of algorithm a) (digest_of algorithm b)) refl
   where
-    by : (t : Bool) → bytes_eq (digest_of algorithm a) (digest_of algorithm b) ≡ t → bytes_eq (encode_lower (digest_of algorithm a)) (encode_lower (digest_of algorithm b)) ≡ t
-    by true is = ap (λ (d : List ℕ). bytes_eq (encode_lower (digest_of algorithm a)) (encode_lower d)) (sym (same_name _ _ is)) ∙ name_itself (encode_lower (digest_of algorithm a))
-    by false is = false_from_ne_true _ (λ h. true≢false (sym (ap (bytes_eq (digest_of algorithm a)) (sym (one_digest algorithm a b (same_name _ _ h))) ∙ name_itself (digest_of algorithm a)) ∙ is))
+    by : (t : Bool) → bytes_eq (digest_of algorithm a) (digest_of algorithm b) ≡ t
+        → bytes_eq (encode_lower (digest_of algorithm a)) (encode_lower (digest_of algorithm b)) ≡ t
+    by true is = ap (λ (d : List ℕ). bytes_eq (encode_lower (digest_of algorithm a)) (encode_lower d)) (sym (same_name _ _ is))
+        ∙ name_itself (encode_lower (digest_of algorithm a))
+    by false is = false_from_ne_true _ (λ h. true≢false (sym (ap (bytes_eq (digest_of algorithm a)) (sym (one_digest algorithm a b (same_name _ _ h)))
+        ∙ name_itself (digest_of algorithm a)) ∙ is))

@@ -1,5 +1,31 @@
 -- The tokens of members that come in the order of their digests.
-use Rattle.std.proofs.Common.{◌≡◌, ℕ, zero, suc, zero-add, ◌+◌, ◌<◌, ◌≤◌, List, [], ◌∷◌, ◌++◌, length, get_or, fold, map, take, refl, sym, ◌∙◌, ap, arith, append_assoc, append-nil, drop}
+use Rattle.std.proofs.Common.{
+  ◌≡◌,
+  ℕ,
+  zero,
+  suc,
+  zero-add,
+  ◌+◌,
+  ◌<◌,
+  ◌≤◌,
+  List,
+  [],
+  ◌∷◌,
+  ◌++◌,
+  length,
+  get_or,
+  fold,
+  map,
+  take,
+  refl,
+  sym,
+  ◌∙◌,
+  ap,
+  arith,
+  append_assoc,
+  append-nil,
+  drop,
+}
 use Rattle.std.specs.Prelude.{slice_index}
 use Rattle.std.specs.List.{flat_map}
 use Rattle.std.proofs.Math.Nat.{suc-add}
@@ -36,14 +62,16 @@ entries_more : (f : Content → Data) (items : List Content) (index : List ℕ) 
     → place < length index → position ≡ slice_index index place → x ≡ get_or items position no_content
     → entries f items (take (place + 1) index) ≡ entries f items (take place index) ++ entry f x
 entries_more f items index place position x within at is =
-    let last : take (place + 1) index ≡ take place index ++ position ∷ [] = take_more index place 0 within ∙ ap (λ (p : ℕ). take place index ++ p ∷ []) (sym at) in
+    let last : take (place + 1) index ≡ take place index ++ position ∷ [] = take_more index place 0 within
+    ∙ ap (λ (p : ℕ). take place index ++ p ∷ []) (sym at) in
     ap (λ (l : List ℕ). entries f items l) last
     ∙ ap (flat_map (entry f)) (map_push (λ (p : ℕ). get_or items p no_content) (take place index) position)
     ∙ flat_map-append (entry f) (at_positions items (take place index)) (get_or items position no_content ∷ [])
     ∙ ap (λ (l : List Token). entries f items (take place index) ++ l) (append-nil (entry f (get_or items position no_content)))
     ∙ ap (λ (c : Content). entries f items (take place index) ++ entry f c) (sym is)
 
-pub in_items : (items : List Content) (index : List ℕ) (place position : ℕ) → IsIndex items index → place < length items → position ≡ slice_index index place → position < length items
+pub in_items : (items : List Content) (index : List ℕ) (place position : ℕ) → IsIndex items index → place < length items → position ≡ slice_index index place
+    → position < length items
 in_items items index place position ordered within at =
     let inside : place < length index = omega (arith, ordered.as_long) in
     omega (arith, ordered.within place inside)
@@ -52,17 +80,20 @@ in_items items index place position ordered within at =
 pub all_entries : (f : Content → Data) (items : List Content) (index : List ℕ) → IsIndex items index → AreBytes items → Rises (fold (put_by f) no_members items)
     → tokens_of (object (fold (put_by f) no_members items)) ≡ begin_object ∷ (entries f items index ++ end_object ∷ [])
 all_entries f items index ordered bytes rises =
-    ap (λ ms. tokens_of (object ms)) (put_in_order f items index ordered bytes rises) ∙ ap (λ (l : List Token). begin_object ∷ l) (tokens_by f (at_positions items index))
+    ap (λ ms. tokens_of (object ms)) (put_in_order f items index ordered bytes rises)
+    ∙ ap (λ (l : List Token). begin_object ∷ l) (tokens_by f (at_positions items index))
 
 -- one more, of those from a place on
-pub one_more : (f : Content → Data) (items : List Content) (index : List ℕ) (from i count position : ℕ) (x : Content) (old before new : List Token) → IsIndex items index
+pub one_more : (f : Content → Data) (items : List Content) (index : List ℕ) (from i count position : ℕ) (x : Content) (old before new : List Token)
+    → IsIndex items index
     → i < count → count ≤ length (drop from items) → position ≡ slice_index index (from + i) → x ≡ get_or items position x
     → before ≡ old ++ entries f items (take i (drop from index)) → new ≡ before ++ entry f x → new ≡ old ++ entries f items (take (i + 1) (drop from index))
 one_more f items index from i count position x old before new ordered within fits at is so_far more =
     let inside : i < length (drop from index) = omega (arith, length-drop from index, length-drop from items, ordered.as_long) in
     let early : from + i < length items = omega (arith, length-drop from items) in
     let there : position ≡ slice_index (drop from index) i = at ∙ sym (get_or-drop from index i 0) in
-    let here : x ≡ get_or items position no_content = is ∙ get_or_default items position x no_content (in_items items index (from + i) position ordered early at) in
+    let here : x ≡ get_or items position no_content = is ∙ get_or_default items position x no_content
+    (in_items items index (from + i) position ordered early at) in
     more ∙ ap (λ (l : List Token). l ++ entry f x) so_far
     ∙ append_assoc old (entries f items (take i (drop from index))) (entry f x)
     ∙ ap (λ (l : List Token). old ++ l) (sym (entries_more f items (drop from index) i position x inside there here))
@@ -77,6 +108,7 @@ split_entries f items index from count =
     ∙ ap (λ (l : List ℕ). entries f items (take count (drop from index)) ++ entries f items l) (drop-drop from count index)
 
 -- the tokens of a list of paths
-pub path_tokens : (paths : List (Bor Path)) → items_tokens (items_outline (texts (map (λ (path : Bor Path). joined path.now) paths))) ≡ map (λ (path : Bor Path). token.string (joined path.now)) paths ++ end_array ∷ []
+pub path_tokens : (paths : List (Bor Path)) → items_tokens (items_outline (texts (map (λ (path : Bor Path). joined path.now) paths)))
+    ≡ map (λ (path : Bor Path). token.string (joined path.now)) paths ++ end_array ∷ []
 path_tokens [] = refl
 path_tokens (x ∷ paths) = ap (λ (l : List Token). token.string (joined x.now) ∷ l) (path_tokens paths)

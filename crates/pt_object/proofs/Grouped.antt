@@ -1,5 +1,32 @@
 -- What rows have of each content, row by row.
-use Rattle.std.proofs.Common.{◌≡◌, ℕ, ◌+◌, ◌<◌, List, [], ◌∷◌, ◌++◌, length, get_or, set, take, map, cond, Bool, true, false, refl, sym, ◌∙◌, ap, arith, zero, suc, inl, inr}
+use Rattle.std.proofs.Common.{
+  ◌≡◌,
+  ℕ,
+  ◌+◌,
+  ◌<◌,
+  List,
+  [],
+  ◌∷◌,
+  ◌++◌,
+  length,
+  get_or,
+  set,
+  take,
+  map,
+  cond,
+  Bool,
+  true,
+  false,
+  refl,
+  sym,
+  ◌∙◌,
+  ap,
+  arith,
+  zero,
+  suc,
+  inl,
+  inr,
+}
 use Rattle.std.specs.Str.{bytes_eq}
 use Rattle.std.specs.Cmp.Lexicographic.{bytes_decides}
 use Rattle.std.proofs.lemmas.Bool.{cases_Bool, false_from_ne_true, true≢false}
@@ -43,7 +70,8 @@ paths_other : (rows : List Row) (i : ℕ) (row : Row) (d : List ℕ) → i < len
     → paths_with (take (i + 1) rows) d ≡ paths_with (take i rows) d
 paths_other rows i row d within is other =
     paths_more rows i row d within is
-    ∙ ap (λ (b : Bool). paths_with (take i rows) d ++ path_if b row.path) (false_from_ne_true (bytes_eq row.digest d) (λ e. other ((bytes_decides row.digest d).0 e)))
+    ∙ ap (λ (b : Bool). paths_with (take i rows) d ++ path_if b row.path)
+    (false_from_ne_true (bytes_eq row.digest d) (λ e. other ((bytes_decides row.digest d).0 e)))
     ∙ append-nil (paths_with (take i rows) d)
 
 abbrev Part : Type 0
@@ -69,10 +97,12 @@ set_map (d ∷ ds) zero old new y within at others =
     cc
 set_map (d ∷ ds) (suc p) old new y within at others =
     let first : new d ≡ old d = others 0 (omega arith) (λ e. absurd (omega arith)) in
-    let rest : set (map old ds) p y ≡ map new ds = set_map ds p old new y (omega arith) at (λ k h apart. others (suc k) (omega arith) (λ e. apart (omega arith))) in
+    let rest : set (map old ds) p y ≡ map new ds = set_map ds p old new y (omega arith) at
+    (λ k h apart. others (suc k) (omega arith) (λ e. apart (omega arith))) in
     cc
 
-pub length_groups : (groups : List Group) (f : List ℕ → Part) (contents : List Content) → map group_lent groups ≡ map f (digests contents) → length groups ≡ length contents
+pub length_groups : (groups : List Group) (f : List ℕ → Part) (contents : List Content) → map group_lent groups ≡ map f (digests contents)
+    → length groups ≡ length contents
 length_groups groups f contents e =
     sym (length-map groups group_lent) ∙ ap length e ∙ length-map (digests contents) f ∙ length-map contents (λ (c : Content). c.digest)
 
@@ -81,7 +111,8 @@ pub group_at : (groups : List Group) (f : List ℕ → Part) (contents : List Co
 group_at groups f contents p g e within =
     let in_groups : p < length groups = omega (arith, length_groups groups f contents e) in
     let in_digests : p < length (digests contents) = omega (arith, length-map contents (λ (c : Content). c.digest)) in
-    sym (get_or-map group_lent groups p g (false, []) in_groups) ∙ ap (λ (l : List Part). get_or l p (false, [])) e ∙ get_or-map f (digests contents) p [] (false, []) in_digests
+    sym (get_or-map group_lent groups p g (false, []) in_groups) ∙ ap (λ (l : List Part). get_or l p (false, [])) e
+    ∙ get_or-map f (digests contents) p [] (false, []) in_digests
 
 -- a row whose digest is that of an item: its path comes to that item's group
 pub grouped_more : (groups : List Group) (contents : List Content) (rows : List Row) (i p : ℕ) (row : Row) (path : Path) (old group : Group)
@@ -92,19 +123,22 @@ pub grouped_more : (groups : List Group) (contents : List Content) (rows : List 
 grouped_more groups contents rows i p row path old group differ at within is path_is e old_is added =
     let in_digests : p < length (digests contents) = omega (arith, length-map contents (λ (c : Content). c.digest), at.within) in
     let here : bytes_eq row.digest (digest_at contents p) ≡ true = (bytes_decides row.digest (digest_at contents p)).1 (sym at.same) in
-    let before : group_lent old ≡ part_with (take i rows) (digest_at contents p) = ap group_lent old_is ∙ group_at groups (part_with (take i rows)) contents p old e at.within in
+    let before : group_lent old ≡ part_with (take i rows) (digest_at contents p) = ap group_lent old_is
+    ∙ group_at groups (part_with (take i rows)) contents p old e at.within in
     let paths : paths_with (take i rows) (digest_at contents p) ++ path ∷ [] ≡ paths_with (take (i + 1) rows) (digest_at contents p) =
     ap (λ (q : Path). paths_with (take i rows) (digest_at contents p) ++ q ∷ []) path_is
     ∙ ap (λ (b : Bool). paths_with (take i rows) (digest_at contents p) ++ path_if b row.path) (sym here)
     ∙ sym (paths_more rows i row (digest_at contents p) within is) in
-    let whole : group_lent group ≡ part_with (take (i + 1) rows) (digest_at contents p) = added (paths_with (take i rows) (digest_at contents p)) before ∙ ap parted paths in
+    let whole : group_lent group ≡ part_with (take (i + 1) rows) (digest_at contents p) = added (paths_with (take i rows) (digest_at contents p)) before
+    ∙ ap parted paths in
     map-set group_lent groups p group
     ∙ ap (λ (l : List Part). set l p (group_lent group)) e
     ∙ set_map (digests contents) p (part_with (take i rows)) (part_with (take (i + 1) rows)) (group_lent group) in_digests whole
     (λ k h apart. ap parted (paths_other rows i row (digest_at contents k) within is
     (λ same. apart (differ k p (omega (arith, length-map contents (λ (c : Content). c.digest))) at.within (sym same ∙ sym at.same)))))
 
-later : (x : Content) (contents : List Content) (d : List ℕ) (k : ℕ) → is_noted contents d ≡ false → k < length (digests (x ∷ contents)) → d ≡ digest_at (x ∷ contents) k → bytes_eq x.digest d ≡ false
+later : (x : Content) (contents : List Content) (d : List ℕ) (k : ℕ) → is_noted contents d ≡ false → k < length (digests (x ∷ contents))
+    → d ≡ digest_at (x ∷ contents) k → bytes_eq x.digest d ≡ false
     → ((j : ℕ) → j < length (digests contents) → d ≡ digest_at contents j → ⊥) → ⊥
 later x contents d zero none h same other go = true≢false (sym ((bytes_decides x.digest d).1 (sym same)) ∙ other)
 later x contents d (suc k) none h same other go = go k (omega arith) same
@@ -114,7 +148,8 @@ not_noted_at : (contents : List Content) (d : List ℕ) (k : ℕ) → is_noted c
 not_noted_at [] d k none h same = omega arith
 not_noted_at (x ∷ contents) d k none h same = elim (cases_Bool (bytes_eq x.digest d)) [
   | inl here ↦ true≢false (sym (sym none ∙ rw here refl))
-  | inr other ↦ let rest : is_noted contents d ≡ false = sym (rw other refl) ∙ none in later x contents d k rest h same other (λ j. not_noted_at contents d j rest)
+  | inr other ↦ let rest : is_noted contents d ≡ false = sym (rw other refl)
+      ∙ none in later x contents d k rest h same other (λ j. not_noted_at contents d j rest)
 ]
 
 -- a row whose digest no item has
@@ -133,7 +168,8 @@ pub none_yet : (contents : List Content) → map no_part contents ≡ map (part_
 none_yet [] = refl
 none_yet (x ∷ contents) = ap (λ (l : List Part). (false, []) ∷ l) (none_yet contents)
 
-pub over_digests : (rows : List Row) (contents : List Content) → map (part_with rows) (digests contents) ≡ map (λ (c : Content). parted (paths_with rows c.digest)) contents
+pub over_digests : (rows : List Row) (contents : List Content) → map (part_with rows) (digests contents)
+    ≡ map (λ (c : Content). parted (paths_with rows c.digest)) contents
 over_digests rows [] = refl
 over_digests rows (x ∷ contents) = ap (λ (l : List Part). part_with rows x.digest ∷ l) (over_digests rows contents)
 
@@ -142,24 +178,29 @@ map_map [] = refl
 map_map (x ∷ paths) = ap (λ (l : List (List ℕ)). joined x.now ∷ l) (map_map paths)
 
 -- the first row with a digest has the first of the paths with it
-first_of : (rows : List Row) (d : List ℕ) (q : Path) → option_map (λ (row : Row). row.path) (find (row_has_digest d) rows) ≡ Some q → (rest : List Path) × (paths_with rows d ≡ q ∷ rest)
+first_of : (rows : List Row) (d : List ℕ) (q : Path) → option_map (λ (row : Row). row.path) (find (row_has_digest d) rows) ≡ Some q
+    → (rest : List Path) × (paths_with rows d ≡ q ∷ rest)
 first_of [] d q found = absurd (cc)
 first_of (x ∷ rows) d q found = elim (cases_Bool (bytes_eq x.digest d)) [
   | inl here ↦
-      let one : Some x.path ≡ Some q = sym (ap (λ (b : Bool). option_map (λ (row : Row). row.path) (cond b (Some x) (find (row_has_digest d) rows))) here) ∙ found in
+      let one : Some x.path ≡ Some q = sym (ap (λ (b : Bool). option_map (λ (row : Row). row.path) (cond b (Some x) (find (row_has_digest d) rows))) here)
+      ∙ found in
       let same : x.path ≡ q = cc in (
         paths_with rows d,
-        ap (λ (b : Bool). map (λ (row : Row). row.path) (cond b (x ∷ filter (row_has_digest d) rows) (filter (row_has_digest d) rows))) here ∙ ap (λ (p : Path). p ∷ paths_with rows d) same,
+        ap (λ (b : Bool). map (λ (row : Row). row.path) (cond b (x ∷ filter (row_has_digest d) rows) (filter (row_has_digest d) rows))) here
+            ∙ ap (λ (p : Path). p ∷ paths_with rows d) same,
       )
   | inr other ↦
-      let later = first_of rows d q (sym (ap (λ (b : Bool). option_map (λ (row : Row). row.path) (cond b (Some x) (find (row_has_digest d) rows))) other) ∙ found) in (
+      let later = first_of rows d q (sym (ap (λ (b : Bool). option_map (λ (row : Row). row.path) (cond b (Some x) (find (row_has_digest d) rows))) other)
+      ∙ found) in (
         later.0,
         ap (λ (b : Bool). map (λ (row : Row). row.path) (cond b (x ∷ filter (row_has_digest d) rows) (filter (row_has_digest d) rows))) other ∙ later.1,
       )
 ]
 
 -- the texts of a content's paths
-pub content_texts : (groups : List Group) (rows rows' : List Row) (contents contents' : List Content) (index : List ℕ) (p : ℕ) (x : Content) (g : Group) (paths : List (Bor Path))
+pub content_texts : (groups : List Group) (rows rows' : List Row) (contents contents' : List Content) (index : List ℕ) (p : ℕ) (x : Content) (g : Group)
+    (paths : List (Bor Path))
     → rows' ≡ rows → contents' ≡ contents → contents ≡ map content_of_row (distinct rows) → IsIndex contents' index
     → map group_lent groups ≡ map (λ (c : Content). parted (paths_with rows' c.digest)) contents → p < length contents' → x ≡ get_or contents' p x
     → g ≡ get_or groups p g → paths ≡ g.later.items → joined x.path ∷ map (λ (path : Bor Path). joined path.now) paths ≡ map joined (paths_with rows x.digest)
@@ -167,9 +208,11 @@ content_texts groups rows rows' contents contents' index p x g paths rows_are co
     let inside : p < length contents = omega (arith, ap length contents_are) in
     let own : digest_at contents' p ≡ x.digest = digest_at-item contents' p x within ∙ ap (λ (c : Content). c.digest) (sym is) in
     let at : digest_at contents p ≡ x.digest = ap (λ (l : List Content). digest_at l p) (sym contents_are) ∙ own in
-    let path_is : first_path contents' x.digest ≡ Some x.path = first_path-at contents' index x.digest p x ordered (record { within = within; same = own }) is in
+    let path_is : first_path contents' x.digest ≡ Some x.path = first_path-at contents' index x.digest p x ordered (record { within = within; same = own }) is
+    in
     let first : option_map (λ (row : Row). row.path) (find (row_has_digest x.digest) rows) ≡ Some x.path =
-    sym (noting_keeps_first rows x.digest) ∙ ap (λ (l : List Content). first_path l x.digest) (noting_gives_distinct rows ∙ sym are ∙ sym contents_are) ∙ path_is in
+    sym (noting_keeps_first rows x.digest) ∙ ap (λ (l : List Content). first_path l x.digest) (noting_gives_distinct rows ∙ sym are ∙ sym contents_are)
+    ∙ path_is in
     let all = first_of rows x.digest x.path first in
     let lent : group_lent g ≡ parted (x.path ∷ all.0) =
     ap group_lent g_is

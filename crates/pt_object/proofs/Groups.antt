@@ -40,11 +40,13 @@ AreGroups algorithm files (member key d ms) = IsGroup algorithm files key d × A
 same_text : (k l : List ℕ) → slice_cmp nat_cmp k l ≡ Equal → k ≡ l
 same_text k l is = same_name k l (sym (is_eq-slice_cmp k l) ∙ ap is_eq is)
 
-groups_put : (algorithm : Algorithm) (files : List File) (key : List ℕ) (d : Data) (ms : Members) → IsGroup algorithm files key d → AreGroups algorithm files ms → AreGroups algorithm files (put key d ms)
+groups_put : (algorithm : Algorithm) (files : List File) (key : List ℕ) (d : Data) (ms : Members) → IsGroup algorithm files key d → AreGroups algorithm files ms
+    → AreGroups algorithm files (put key d ms)
 groups_put algorithm files key d no_members is groups = (is, tt)
 groups_put algorithm files key d (member l e ms) is groups = by (slice_cmp nat_cmp key l) refl (groups_put algorithm files key d ms is groups.1)
   where
-    by : (o : Ordering) → slice_cmp nat_cmp key l ≡ o → AreGroups algorithm files (put key d ms) → AreGroups algorithm files (match_ordering o (member key d (member l e ms)) (member l d ms) (member l e (put key d ms)))
+    by : (o : Ordering) → slice_cmp nat_cmp key l ≡ o → AreGroups algorithm files (put key d ms)
+        → AreGroups algorithm files (match_ordering o (member key d (member l e ms)) (member l d ms) (member l e (put key d ms)))
     by Less at later = (is, groups)
     by Equal at later = (subst (λ (k : List ℕ). IsGroup algorithm files k d) (same_text key l at) is, groups.1)
     by Greater at later = (groups.0, later)
@@ -74,20 +76,26 @@ all_found algorithm files = found_after algorithm [] files
 
 -- the state goes on so for some files after some rows
 abbrev pub state_after : Algorithm → List File → List Row → List File → Members → Members
-state_after algorithm files earlier some ms = fold (put_paths (rows_of algorithm files)) ms (map content_of_row (distinct_after earlier (rows_of algorithm some)))
+state_after algorithm files earlier some ms = fold (put_paths (rows_of algorithm files)) ms
+    (map content_of_row (distinct_after earlier (rows_of algorithm some)))
 
-pub groups_after : (algorithm : Algorithm) (files : List File) (earlier : List Row) (some : List File) (ms : Members) → AreFound algorithm files some → AreGroups algorithm files ms → AreGroups algorithm files (state_after algorithm files earlier some ms)
+pub groups_after : (algorithm : Algorithm) (files : List File) (earlier : List Row) (some : List File) (ms : Members) → AreFound algorithm files some
+    → AreGroups algorithm files ms → AreGroups algorithm files (state_after algorithm files earlier some ms)
 groups_after algorithm files earlier [] ms found groups = groups
 groups_after algorithm files earlier (x ∷ some) ms found groups =
     by (has (digest_of algorithm x.1) earlier)
     (groups_after algorithm files (earlier ++ row_of_file algorithm x ∷ []) some ms found.1 groups)
-    (groups_after algorithm files (earlier ++ row_of_file algorithm x ∷ []) some (put_paths (rows_of algorithm files) ms (content_of_row (row_of_file algorithm x))) found.1
-    (groups_put algorithm files (encode_lower (digest_of algorithm x.1)) _ ms (record { bytes = x.1; first = found.0.0; found = found.0.1; keyed = refl; paths = refl }) groups))
+    (groups_after algorithm files (earlier ++ row_of_file algorithm x ∷ []) some
+    (put_paths (rows_of algorithm files) ms (content_of_row (row_of_file algorithm x))) found.1
+    (groups_put algorithm files (encode_lower (digest_of algorithm x.1)) _ ms
+    (record { bytes = x.1; first = found.0.0; found = found.0.1; keyed = refl; paths = refl }) groups))
   where
     by : (t : Bool) → AreGroups algorithm files (state_after algorithm files (earlier ++ row_of_file algorithm x ∷ []) some ms)
-        → AreGroups algorithm files (state_after algorithm files (earlier ++ row_of_file algorithm x ∷ []) some (put_paths (rows_of algorithm files) ms (content_of_row (row_of_file algorithm x))))
+        → AreGroups algorithm files (state_after algorithm files (earlier ++ row_of_file algorithm x ∷ []) some
+        (put_paths (rows_of algorithm files) ms (content_of_row (row_of_file algorithm x))))
         → AreGroups algorithm files (fold (put_paths (rows_of algorithm files)) ms
-        (map content_of_row (cond t (distinct_after (earlier ++ row_of_file algorithm x ∷ []) (rows_of algorithm some)) (row_of_file algorithm x ∷ distinct_after (earlier ++ row_of_file algorithm x ∷ []) (rows_of algorithm some)))))
+        (map content_of_row (cond t (distinct_after (earlier ++ row_of_file algorithm x ∷ []) (rows_of algorithm some))
+        (row_of_file algorithm x ∷ distinct_after (earlier ++ row_of_file algorithm x ∷ []) (rows_of algorithm some)))))
     by true same later = same
     by false same later = later
 
@@ -128,42 +136,52 @@ nothing_more true h = refl
 nothing_more false h = h
 
 -- each digest of the files, and each that the earlier rows have, is a key of the state
-pub keys_after : (algorithm : Algorithm) (files : List File) (digest : List ℕ) (earlier : List Row) (some : List File) (ms : Members) → (has digest earlier ≡ true → has_key (encode_lower digest) ms ≡ true)
+pub keys_after : (algorithm : Algorithm) (files : List File) (digest : List ℕ) (earlier : List Row) (some : List File) (ms : Members)
+    → (has digest earlier ≡ true → has_key (encode_lower digest) ms ≡ true)
     → (has digest earlier || has digest (rows_of algorithm some)) ≡ true → has_key (encode_lower digest) (state_after algorithm files earlier some ms) ≡ true
 keys_after algorithm files digest earlier [] ms so_far h = so_far (nothing_more (has digest earlier) h)
 keys_after algorithm files digest earlier (x ∷ some) ms so_far h =
     by (has (digest_of algorithm x.1) earlier) refl
     (λ ms' so. keys_after algorithm files digest (earlier ++ row_of_file algorithm x ∷ []) some ms' so
-    (ap (λ b. b || has digest (rows_of algorithm some)) (has-push digest earlier (row_of_file algorithm x)) ∙ key_of_one (has digest earlier) (bytes_eq (digest_of algorithm x.1) digest) (has digest (rows_of algorithm some)) h))
+    (ap (λ b. b || has digest (rows_of algorithm some)) (has-push digest earlier (row_of_file algorithm x))
+    ∙ key_of_one (has digest earlier) (bytes_eq (digest_of algorithm x.1) digest) (has digest (rows_of algorithm some)) h))
   where
     known : has (digest_of algorithm x.1) earlier ≡ true → has digest (earlier ++ row_of_file algorithm x ∷ []) ≡ true → has_key (encode_lower digest) ms ≡ true
     known is now = elim (cases_Bool (bytes_eq (digest_of algorithm x.1) digest)) [
       | inl same ↦ so_far (ap (λ (d : List ℕ). has d earlier) (sym (same_name _ _ same)) ∙ is)
-      | inr other ↦ so_far (nothing_more (has digest earlier) (ap (λ b. has digest earlier || b) (sym other) ∙ sym (has-push digest earlier (row_of_file algorithm x)) ∙ now))
+      | inr other ↦ so_far (nothing_more (has digest earlier) (ap (λ b. has digest earlier || b) (sym other)
+          ∙ sym (has-push digest earlier (row_of_file algorithm x)) ∙ now))
     ]
 
-    added : has digest (earlier ++ row_of_file algorithm x ∷ []) ≡ true → has_key (encode_lower digest) (put_paths (rows_of algorithm files) ms (content_of_row (row_of_file algorithm x))) ≡ true
+    added : has digest (earlier ++ row_of_file algorithm x ∷ []) ≡ true
+        → has_key (encode_lower digest) (put_paths (rows_of algorithm files) ms (content_of_row (row_of_file algorithm x))) ≡ true
     added now = elim (cases_Bool (bytes_eq (digest_of algorithm x.1) digest)) [
       | inl same ↦
-          ap (λ (d : List ℕ). has_key (encode_lower d) (put_paths (rows_of algorithm files) ms (content_of_row (row_of_file algorithm x)))) (sym (same_name _ _ same))
+          ap (λ (d : List ℕ). has_key (encode_lower d) (put_paths (rows_of algorithm files) ms (content_of_row (row_of_file algorithm x))))
+          (sym (same_name _ _ same))
           ∙ has_key-put (encode_lower (digest_of algorithm x.1)) _ ms
       | inr other ↦
           still_key (encode_lower digest) (encode_lower (digest_of algorithm x.1)) _ ms
-          (so_far (nothing_more (has digest earlier) (ap (λ b. has digest earlier || b) (sym other) ∙ sym (has-push digest earlier (row_of_file algorithm x)) ∙ now)))
+          (so_far (nothing_more (has digest earlier) (ap (λ b. has digest earlier || b) (sym other) ∙ sym (has-push digest earlier (row_of_file algorithm x))
+          ∙ now)))
     ]
 
     by : (t : Bool) → has (digest_of algorithm x.1) earlier ≡ t
-        → ((ms' : Members) → (has digest (earlier ++ row_of_file algorithm x ∷ []) ≡ true → has_key (encode_lower digest) ms' ≡ true) → has_key (encode_lower digest) (state_after algorithm files (earlier ++ row_of_file algorithm x ∷ []) some ms') ≡ true)
+        → ((ms' : Members) → (has digest (earlier ++ row_of_file algorithm x ∷ []) ≡ true → has_key (encode_lower digest) ms' ≡ true)
+        → has_key (encode_lower digest) (state_after algorithm files (earlier ++ row_of_file algorithm x ∷ []) some ms') ≡ true)
         → has_key (encode_lower digest) (fold (put_paths (rows_of algorithm files)) ms
-        (map content_of_row (cond t (distinct_after (earlier ++ row_of_file algorithm x ∷ []) (rows_of algorithm some)) (row_of_file algorithm x ∷ distinct_after (earlier ++ row_of_file algorithm x ∷ []) (rows_of algorithm some))))) ≡ true
+        (map content_of_row (cond t (distinct_after (earlier ++ row_of_file algorithm x ∷ []) (rows_of algorithm some))
+        (row_of_file algorithm x ∷ distinct_after (earlier ++ row_of_file algorithm x ∷ []) (rows_of algorithm some))))) ≡ true
     by true is later = later ms (known is)
     by false is later = later (put_paths (rows_of algorithm files) ms (content_of_row (row_of_file algorithm x))) added
 
 -- where a file is found by a digest, a row has it
-pub row_of_found : (algorithm : Algorithm) (digest : List ℕ) (files : List File) (g : File) → first_with algorithm files digest ≡ Some g → has digest (rows_of algorithm files) ≡ true
+pub row_of_found : (algorithm : Algorithm) (digest : List ℕ) (files : List File) (g : File) → first_with algorithm files digest ≡ Some g
+    → has digest (rows_of algorithm files) ≡ true
 row_of_found algorithm digest [] g is = absurd (cc)
 row_of_found algorithm digest (x ∷ files) g is = by (bytes_eq (digest_of algorithm x.1) digest) (λ e. row_of_found algorithm digest files g e) is
   where
-    by : (t : Bool) → (first_with algorithm files digest ≡ Some g → has digest (rows_of algorithm files) ≡ true) → cond t (Some x) (first_with algorithm files digest) ≡ Some g → (t || has digest (rows_of algorithm files)) ≡ true
+    by : (t : Bool) → (first_with algorithm files digest ≡ Some g → has digest (rows_of algorithm files) ≡ true)
+        → cond t (Some x) (first_with algorithm files digest) ≡ Some g → (t || has digest (rows_of algorithm files)) ≡ true
     by true later e = refl
     by false later e = later e

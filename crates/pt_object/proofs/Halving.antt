@@ -43,7 +43,8 @@ halved_low items index digest low high count middle ordered halved some at lower
   in_order = omega arith;
   within = halved.within;
   before = λ k h. elim (cases_lt k middle) [
-    | inl below ↦ nat_list_cmp_total.trans (digest_in items index k) (digest_in items index middle) digest (ordered.rises k middle below (omega (arith, halved.within))) lower
+    | inl below ↦ nat_list_cmp_total.trans (digest_in items index k) (digest_in items index middle) digest
+        (ordered.rises k middle below (omega (arith, halved.within))) lower
     | inr from ↦ let same : k ≡ middle = omega arith in subst (λ (j : ℕ). digest_cmp (digest_in items index j) digest ≡ Less) (sym same) lower
   ];
   after = halved.after;
@@ -79,11 +80,13 @@ halved_high items index digest low high count middle ordered halved some at high
         nat_list_cmp_total.antisymm y d ∙ ap ordering_reverse below
 
 -- a comparison more is still within the digits
-pub halved_count : (items : List Content) (index digest : List ℕ) (low high count m : ℕ) → IsHalved items index digest low high count → low < high → length index < 2 ^ m → count + 1 ≤ m
+pub halved_count : (items : List Content) (index digest : List ℕ) (low high count m : ℕ) → IsHalved items index digest low high count → low < high
+    → length index < 2 ^ m → count + 1 ≤ m
 halved_count items index digest low high count m halved some fits =
     let was = halved.few m fits in (more_few count m (high - low) 0 was.0 was.1 (omega arith) (omega arith)).0
 
-pub halved_place : (items : List Content) (index digest : List ℕ) (low high count : ℕ) → IsHalved items index digest low high count → high ≤ low → IsPlaceOf items index digest low
+pub halved_place : (items : List Content) (index digest : List ℕ) (low high count : ℕ) → IsHalved items index digest low high count → high ≤ low
+    → IsPlaceOf items index digest low
 halved_place items index digest low high count halved none = record {
   within = omega (arith, halved.in_order, halved.within);
   before = halved.before;

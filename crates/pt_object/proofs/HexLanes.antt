@@ -1,11 +1,65 @@
 -- Sixteen bytes in hex, as the lanes of two vectors.
-use Rattle.std.proofs.Common.{◌≡◌, ℕ, zero-add, Bool, cond, ltb, ◌-◌, ◌+◌, ◌*◌, ◌/◌, ◌%◌, ◌^◌, ◌<◌, ◌≤◌, List, [], ◌∷◌, ◌++◌, map, length, get_or, take, drop, replicate, slice_index, bit_and, refl, sym, append_assoc, take-add, length-append, length-drop, length-take-le, ap, subst, ◌∙◌, arith, w8, Fits}
+use Rattle.std.proofs.Common.{
+  ◌≡◌,
+  ℕ,
+  zero-add,
+  Bool,
+  cond,
+  ltb,
+  ◌-◌,
+  ◌+◌,
+  ◌*◌,
+  ◌/◌,
+  ◌%◌,
+  ◌^◌,
+  ◌<◌,
+  ◌≤◌,
+  List,
+  [],
+  ◌∷◌,
+  ◌++◌,
+  map,
+  length,
+  get_or,
+  take,
+  drop,
+  replicate,
+  slice_index,
+  bit_and,
+  refl,
+  sym,
+  append_assoc,
+  take-add,
+  length-append,
+  length-drop,
+  length-take-le,
+  ap,
+  subst,
+  ◌∙◌,
+  arith,
+  w8,
+  Fits,
+}
 use Rattle.std.specs.List.{All, range_with_len}
 use Rattle.std.proofs.lemmas.List.{get_or-map, length-map, ext_get_or, take_at}
 use Rattle.std.proofs.lemmas.List.Elements.{All-from_get_or, All-get_or}
 use Rattle.std.proofs.lemmas.List.FromFn.{get_or-map-range_with_len}
 use Rattle.std.proofs.lemmas.Nat.{and_le_r, and_mask}
-use Rattle.std.proofs.lemmas.Simd.{Each1-all, Each1-get_or, Each1-weaker, Each1-zip2, Each2-splat, below_from_Fits, length-chunk, map-map, put_chunk_is, pick_l_whole, tops_compared, zip2_splat, zip2_splat_left}
+use Rattle.std.proofs.lemmas.Simd.{
+  Each1-all,
+  Each1-get_or,
+  Each1-weaker,
+  Each1-zip2,
+  Each2-splat,
+  below_from_Fits,
+  length-chunk,
+  map-map,
+  put_chunk_is,
+  pick_l_whole,
+  tops_compared,
+  zip2_splat,
+  zip2_splat_left,
+}
 use lib.Lanes.{chunk, zip2, pick_l, put_chunk, sel_l, top, Each1}
 use mir.Val.{bits, hbits}
 use borrow.Rule.Slice.PartMut.{mid_of, post_of, put_mid}
@@ -65,7 +119,8 @@ added f h [] = refl
 added f h (x ∷ v) = ap (λ (l : List ℕ). f x (h x) ∷ l) (added f h v)
 
 pub computed : (v : List ℕ) → length v ≡ 16 → All (λ n. n < 16) v
-    → zip2 plus v (sel_l (map (top (hbits w8)) (zip2 (λ a b. cond (ltb a b) (2 ^ bits w8 - 1) 0) (replicate 16 9) v)) (replicate 16 87) (replicate 16 48)) ≡ map (slice_index lower_digits) v
+    → zip2 plus v (sel_l (map (top (hbits w8)) (zip2 (λ a b. cond (ltb a b) (2 ^ bits w8 - 1) 0) (replicate 16 9) v)) (replicate 16 87) (replicate 16 48))
+    ≡ map (slice_index lower_digits) v
 computed v long below =
     let masks = tops_compared w8 ltb (replicate 16 9) v ∙ zip2_splat_left ltb 9 16 v long in
     let chosen = ap (λ k. sel_l (map (λ n. ltb 9 n) v) (replicate k 87) (replicate k 48)) (sym long) ∙ selected (λ n. ltb 9 n) 87 48 v in
@@ -80,7 +135,8 @@ high_digits t v fits = ap (map (slice_index t)) (zip2_splat down v 16 4 fits.0) 
 
 low_digits : (t v : List ℕ) → AreSixteen v → map (slice_index t) (zip2 bit_and v (replicate 16 15)) ≡ map (λ x. slice_index t (x % 16)) v
 low_digits t v fits =
-    ap (map (slice_index t)) (zip2_splat bit_and v 16 15 fits.0) ∙ map-map (slice_index t) (λ x. bit_and x 15) v ∙ (λ i. map (λ x. slice_index t (and_mask x 4 i)) v)
+    ap (map (slice_index t)) (zip2_splat bit_and v 16 15 fits.0) ∙ map-map (slice_index t) (λ x. bit_and x 15) v
+    ∙ (λ i. map (λ x. slice_index t (and_mask x 4 i)) v)
 
 -- a lane of the first vector and a lane of the second, by turns
 abbrev pub by_turns : List ℕ
@@ -109,7 +165,8 @@ encode_with-append t [] ys = refl
 encode_with-append t (x ∷ xs) ys = ap (λ (l : List ℕ). slice_index t (x / 16) ∷ slice_index t (x % 16) ∷ l) (encode_with-append t xs ys)
 
 -- a room of which 32 bytes are written behind the first a
-pub stored : (room d : List ℕ) (a k : ℕ) → a + k ≡ length room → 32 ≤ k → length d ≡ 32 → take (a + 32) (put_mid a k room (put_chunk 0 (mid_of a k room) d)) ≡ take a room ++ d
+pub stored : (room d : List ℕ) (a k : ℕ) → a + k ≡ length room → 32 ≤ k → length d ≡ 32
+    → take (a + 32) (put_mid a k room (put_chunk 0 (mid_of a k room) d)) ≡ take a room ++ d
 stored room d a k whole le long =
     let mid = mid_of a k room in
     let rest = drop 32 mid ++ post_of a k room in
@@ -122,8 +179,10 @@ stored room d a k whole le long =
     ∙ take_at (take a room ++ d) rest (a + 32) first
 
 -- sixteen more bytes
-pub one_more : (t bytes room d : List ℕ) (i k : ℕ) → length room ≡ 128 → 32 * i + k ≡ 128 → 32 ≤ k → 16 * i + 16 ≤ length bytes → take (32 * i) room ≡ encode_with t (take (16 * i) bytes)
-    → d ≡ encode_with t (chunk (16 * i) 16 bytes) → take (32 * (i + 1)) (put_mid (32 * i) k room (put_chunk 0 (mid_of (32 * i) k room) d)) ≡ encode_with t (take (16 * (i + 1)) bytes)
+pub one_more : (t bytes room d : List ℕ) (i k : ℕ) → length room ≡ 128 → 32 * i + k ≡ 128 → 32 ≤ k → 16 * i + 16 ≤ length bytes
+    → take (32 * i) room ≡ encode_with t (take (16 * i) bytes)
+    → d ≡ encode_with t (chunk (16 * i) 16 bytes) → take (32 * (i + 1)) (put_mid (32 * i) k room (put_chunk 0 (mid_of (32 * i) k room) d))
+    ≡ encode_with t (take (16 * (i + 1)) bytes)
 one_more t bytes room d i k long whole le within so_far more =
     let piece = chunk (16 * i) 16 bytes in
     let length_d : length d ≡ 32 = omega (arith, ap length more, length-encode_with t piece, length-chunk (16 * i) 16 bytes within) in

@@ -52,7 +52,8 @@ rising i (suc j) h below = elim (cases_lt i j) [
 byte_less : (x y : ℕ) (o : Ordering) → x < 256 → y < 256 → x < y
     → ordering_then (nat_cmp (digit (x / 16)) (digit (y / 16))) (ordering_then (nat_cmp (digit (x % 16)) (digit (y % 16))) o) ≡ Less
 byte_less x y o in_x in_y h = elim (cases_lt (x / 16) (y / 16)) [
-  | inl lower ↦ ap (λ (c : Ordering). ordering_then c (ordering_then (nat_cmp (digit (x % 16)) (digit (y % 16))) o)) (less _ _ (rising (x / 16) (y / 16) lower (omega arith)))
+  | inl lower ↦ ap (λ (c : Ordering). ordering_then c (ordering_then (nat_cmp (digit (x % 16)) (digit (y % 16))) o))
+      (less _ _ (rising (x / 16) (y / 16) lower (omega arith)))
   | inr from ↦
       let high : x / 16 ≡ y / 16 = omega arith in
       let low : x % 16 < y % 16 = omega arith in
@@ -73,11 +74,13 @@ hex_less (x ∷ a) (y ∷ b) in_a in_b h =
     elim (cases_lt x y) [
       | inl lower ↦ byte_less x y (slice_cmp nat_cmp (encode_lower a) (encode_lower b)) (in_a 0) (in_b 0) lower
       | inr from ↦ elim (cases_lt y x) [
-        | inl higher ↦ let other : ordering_then (nat_cmp x y) (slice_cmp nat_cmp a b) ≡ Greater = ap (λ (c : Ordering). ordering_then c (slice_cmp nat_cmp a b)) (greater x y higher) in absurd (cc)
+        | inl higher ↦ let other : ordering_then (nat_cmp x y) (slice_cmp nat_cmp a b)
+            ≡ Greater = ap (λ (c : Ordering). ordering_then c (slice_cmp nat_cmp a b)) (greater x y higher) in absurd (cc)
         | inr to ↦
             let same : x ≡ y = omega arith in
             let later : slice_cmp nat_cmp a b ≡ Less = sym (ap (λ (c : Ordering). ordering_then c (slice_cmp nat_cmp a b)) (equal x y same)) ∙ h in
-            ap (λ (c : Ordering). ordering_then c (ordering_then (nat_cmp (digit (x % 16)) (digit (y % 16))) (slice_cmp nat_cmp (encode_lower a) (encode_lower b)))) (equal _ _ (ap (λ (n : ℕ). digit (n / 16)) same))
+            ap (λ (c : Ordering). ordering_then c (ordering_then (nat_cmp (digit (x % 16)) (digit (y % 16)))
+            (slice_cmp nat_cmp (encode_lower a) (encode_lower b)))) (equal _ _ (ap (λ (n : ℕ). digit (n / 16)) same))
             ∙ ap (λ (c : Ordering). ordering_then c (slice_cmp nat_cmp (encode_lower a) (encode_lower b))) (equal _ _ (ap (λ (n : ℕ). digit (n % 16)) same))
             ∙ rest later
       ]

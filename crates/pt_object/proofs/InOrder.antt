@@ -25,7 +25,8 @@ parts_less [] q h = absurd (false≢true h)
 parts_less (a ∷ p) [] h = absurd (false≢true h)
 parts_less (a ∷ p) (b ∷ q) h = by (λ g. parts_less p q g) (bytes_eq a b) refl h
   where
-    by : (parts_before p q ≡ true → path_cmp p q ≡ Less) → (t : Bool) → bytes_eq a b ≡ t → cond t (parts_before p q) (is_before a b) ≡ true → ordering_then (slice_cmp nat_cmp a b) (path_cmp p q) ≡ Less
+    by : (parts_before p q ≡ true → path_cmp p q ≡ Less) → (t : Bool) → bytes_eq a b ≡ t → cond t (parts_before p q) (is_before a b) ≡ true
+        → ordering_then (slice_cmp nat_cmp a b) (path_cmp p q) ≡ Less
     by later true same h = (λ i. ordering_then (equal i) (later h i))
       where
         equal : slice_cmp nat_cmp a b ≡ Equal
@@ -67,17 +68,20 @@ inserted_behind : (x : File) (files others : List File) → Precedes x files →
 inserted_behind x [] others h = refl
 inserted_behind x (y ∷ files) others h =
     let parts = and_parts _ _ h in
-    ap (inserted y) (inserted_behind x files others parts.1) ∙ ap (λ t. cond t (x ∷ inserted y (inserted_all files others)) (y ∷ x ∷ inserted_all files others)) (parts_come x.0 y.0 parts.0)
+    ap (inserted y) (inserted_behind x files others parts.1) ∙ ap (λ t. cond t (x ∷ inserted y (inserted_all files others)) (y ∷ x ∷ inserted_all files others))
+    (parts_come x.0 y.0 parts.0)
 
 -- two groups of files in order, no file in both
-pub two_groups : (P Q : File → Bool) (files : List File) → ((f : File) → P f ≡ true → Q f ≡ false) → part_in_order (paths_of files) ≡ true → inserted_all (filter P files) (filter Q files) ≡ filter (λ f. P f || Q f) files
+pub two_groups : (P Q : File → Bool) (files : List File) → ((f : File) → P f ≡ true → Q f ≡ false) → part_in_order (paths_of files) ≡ true
+    → inserted_all (filter P files) (filter Q files) ≡ filter (λ f. P f || Q f) files
 two_groups P Q [] apart order = refl
 two_groups P Q (x ∷ files) apart order =
     let parts = and_parts _ _ order in
     by (P x) (Q x) refl refl parts.0 (two_groups P Q files apart parts.1)
   where
     by : (p q : Bool) → P x ≡ p → Q x ≡ q → Precedes x files → inserted_all (filter P files) (filter Q files) ≡ filter (λ f. P f || Q f) files
-        → inserted_all (cond p (x ∷ filter P files) (filter P files)) (cond q (x ∷ filter Q files) (filter Q files)) ≡ cond (p || q) (x ∷ filter (λ f. P f || Q f) files) (filter (λ f. P f || Q f) files)
+        → inserted_all (cond p (x ∷ filter P files) (filter P files)) (cond q (x ∷ filter Q files) (filter Q files))
+        ≡ cond (p || q) (x ∷ filter (λ f. P f || Q f) files) (filter (λ f. P f || Q f) files)
     by true true a b first later = absurd (true≢false (sym b ∙ apart x a))
     by true false a b first later = ap (inserted x) later ∙ inserted_first x (filter (λ f. P f || Q f) files) (precedes_filter x (λ f. P f || Q f) files first)
     by false true a b first later = inserted_behind x (filter P files) (filter Q files) (precedes_filter x P files first) ∙ ap (λ (l : List File). x ∷ l) later

@@ -21,17 +21,20 @@ use Rattle.pt_object.proofs.Ways.{same_name}
 pub digest_at-item : (items : List Content) (p : ℕ) (x : Content) → p < length items → digest_at items p ≡ (get_or items p x).digest
 digest_at-item items p x within = get_or-map (λ (c : Content). c.digest) items p x [] within
 
-pub compared : (items : List Content) (p : ℕ) (x : Content) (digest : List ℕ) (o : Ordering) → p < length items → o ≡ digest_cmp (get_or items p x).digest digest → digest_cmp (digest_at items p) digest ≡ o
+pub compared : (items : List Content) (p : ℕ) (x : Content) (digest : List ℕ) (o : Ordering) → p < length items
+    → o ≡ digest_cmp (get_or items p x).digest digest → digest_cmp (digest_at items p) digest ≡ o
 compared items p x digest o within is = ap (λ (d : List ℕ). digest_cmp d digest) (digest_at-item items p x within) ∙ sym is
 
 -- the same of the item whose position stands at a place of the index
-pub compared_in : (items : List Content) (index : List ℕ) (middle p : ℕ) (x : Content) (digest : List ℕ) (o : Ordering) → IsIndex items index → middle < length index
+pub compared_in : (items : List Content) (index : List ℕ) (middle p : ℕ) (x : Content) (digest : List ℕ) (o : Ordering) → IsIndex items index
+    → middle < length index
     → p ≡ slice_index index middle → o ≡ digest_cmp (get_or items p x).digest digest → digest_cmp (digest_in items index middle) digest ≡ o
 compared_in items index middle p x digest o ordered below at is =
     let within : p < length items = omega (arith, ordered.within middle below) in
     ap (λ (q : ℕ). digest_cmp (digest_at items q) digest) (sym at) ∙ compared items p x digest o within is
 
-pub in_index : (items : List Content) (index : List ℕ) (middle p : ℕ) → IsIndex items index → p ≡ slice_index index middle → middle < length index → p < length items
+pub in_index : (items : List Content) (index : List ℕ) (middle p : ℕ) → IsIndex items index → p ≡ slice_index index middle → middle < length index
+    → p < length items
 in_index items index middle p ordered at below = omega (arith, ordered.within middle below)
 
 pub same_from_equal : (x y : List ℕ) → digest_cmp x y ≡ Equal → x ≡ y
@@ -65,16 +68,23 @@ DigestsDiffer-index items index ordered p q in_p in_q same =
     apart i j below within e =
         let less : digest_cmp (digest_in items index i) (digest_in items index j) ≡ Less = ordered.rises i j below within in
         let tied : digest_cmp (digest_in items index j) (digest_in items index j) ≡ Equal = tied_itself nat_list_cmp_total (digest_in items index j) in
-        let equal : digest_cmp (digest_in items index i) (digest_in items index j) ≡ Equal = ap (λ (d : List ℕ). digest_cmp d (digest_in items index j)) e ∙ tied in
+        let equal : digest_cmp (digest_in items index i) (digest_in items index j) ≡ Equal = ap (λ (d : List ℕ). digest_cmp d (digest_in items index j)) e
+        ∙ tied in
         cc
 
-pub at_from_get : (items : List Content) (p : ℕ) (x : Content) (digest : List ℕ) → Some x ≡ slice_get items p → bytes_eq x.digest digest ≡ true → IsAt items digest p
+pub at_from_get : (items : List Content) (p : ℕ) (x : Content) (digest : List ℕ) → Some x ≡ slice_get items p → bytes_eq x.digest digest ≡ true
+    → IsAt items digest p
 at_from_get items p x digest got same =
     let within = slice_get_within items p x (sym got) in
-    record { within = within; same = digest_at-item items p x within ∙ ap (λ (c : Content). c.digest) (get_or_from_slice_get items p x x (sym got)) ∙ same_name x.digest digest same }
+    record {
+      within = within;
+      same = digest_at-item items p x within ∙ ap (λ (c : Content). c.digest) (get_or_from_slice_get items p x x (sym got))
+          ∙ same_name x.digest digest same;
+    }
 
 -- no item has a digest that has its place between others
-pub none_at : (items : List Content) (index digest : List ℕ) (place p : ℕ) → IsIndex items index → IsPlaceOf items index digest place → p < length items → digest_at items p ≡ digest → ⊥
+pub none_at : (items : List Content) (index digest : List ℕ) (place p : ℕ) → IsIndex items index → IsPlaceOf items index digest place → p < length items
+    → digest_at items p ≡ digest → ⊥
 none_at items index digest place p ordered is_place within same =
     let k = ordered.complete p within in
     let here : digest_in items index k.0 ≡ digest = ap (digest_at items) k.2 ∙ same in
@@ -116,7 +126,8 @@ pub found : (items : List Content) (index digest : List ℕ) (p : ℕ) (x : Cont
 found items index digest p x ordered at is =
     let own : x.digest ≡ digest = ap (λ (c : Content). c.digest) is ∙ sym (digest_at-item items p x at.within) ∙ at.same in
     find-at items digest p x at.within is own
-    (λ q below same. let one : q ≡ p = DigestsDiffer-index items index ordered q p (omega (arith, at.within)) at.within (same ∙ sym at.same) in absurd (omega arith))
+    (λ q below same. let one : q ≡ p = DigestsDiffer-index items index ordered q p (omega (arith, at.within)) at.within (same ∙ sym at.same) in absurd
+    (omega arith))
 
 -- what a search that found its place tells
 pub missing : (items : List Content) (index digest : List ℕ) (place : ℕ) → IsIndex items index → IsPlaceOf items index digest place
@@ -127,12 +138,15 @@ pub is_noted-at : (items : List Content) (index digest : List ℕ) (p : ℕ) →
 is_noted-at items index digest p ordered at = by_item items index digest p ordered at (slice_get_cases items p).1
   where
     by_item : (items : List Content) (index digest : List ℕ) (p : ℕ) → IsIndex items index → IsAt items digest p
-        → ((x : Content) × (p < length items) × (slice_get items p ≡ Some x) × (get_or items p x ≡ x)) ⊎ ((length items ≤ p) × (slice_get items p ≡ None)) → is_noted items digest ≡ true
+        → ((x : Content) × (p < length items) × (slice_get items p ≡ Some x) × (get_or items p x ≡ x)) ⊎ ((length items ≤ p) × (slice_get items p ≡ None))
+        → is_noted items digest ≡ true
     by_item items index digest p ordered at (inl h) = (found items index digest p h.0 ordered at (sym h.3)).1
     by_item items index digest p ordered at (inr h) = absurd (omega (arith, at.within))
 
-pub first_path-at : (items : List Content) (index digest : List ℕ) (p : ℕ) (x : Content) → IsIndex items index → IsAt items digest p → x ≡ get_or items p x → first_path items digest ≡ Some x.path
+pub first_path-at : (items : List Content) (index digest : List ℕ) (p : ℕ) (x : Content) → IsIndex items index → IsAt items digest p → x ≡ get_or items p x
+    → first_path items digest ≡ Some x.path
 first_path-at items index digest p x ordered at is = ap (option_map (λ (c : Content). c.path)) (found items index digest p x ordered at is).0
 
-pub first_path-none : (items : List Content) (index digest : List ℕ) (place : ℕ) → IsIndex items index → IsPlaceOf items index digest place → first_path items digest ≡ None
+pub first_path-none : (items : List Content) (index digest : List ℕ) (place : ℕ) → IsIndex items index → IsPlaceOf items index digest place
+    → first_path items digest ≡ None
 first_path-none items index digest place ordered is_place = ap (option_map (λ (c : Content). c.path)) (missing items index digest place ordered is_place).0

@@ -57,18 +57,22 @@ rises_new : (items : List Content) (index : List ℕ) (x : Content) (i : ℕ) �
 rises_new items index x i ordered place a b up inside =
     let fits = place.within in
     elim (cases_lt b i) [
-      | inl b_below ↦ lesser _ _ _ _ (in_below items index x i a ordered fits (omega arith)) (in_below items index x i b ordered fits b_below) (ordered.rises a b up (omega arith))
+      | inl b_below ↦ lesser _ _ _ _ (in_below items index x i a ordered fits (omega arith)) (in_below items index x i b ordered fits b_below)
+          (ordered.rises a b up (omega arith))
       | inr b_from ↦ elim (cases_lt i b) [
         | inl b_above ↦
             let at_b = in_above items index x i b ordered fits b_above inside in
             elim (cases_lt a i) [
               | inl a_below ↦ lesser _ _ _ _ (in_below items index x i a ordered fits a_below) at_b (ordered.rises a (b - 1) (omega arith) (omega arith))
               | inr a_from ↦ elim (cases_lt i a) [
-                | inl a_above ↦ lesser _ _ _ _ (in_above items index x i a ordered fits a_above (omega arith)) at_b (ordered.rises (a - 1) (b - 1) (omega arith) (omega arith))
-                | inr a_here ↦ lesser _ _ _ _ (in_here items index x i a fits (omega arith)) at_b (turned (digest_in items index (b - 1)) x.digest (place.after (b - 1) (omega arith) (omega arith)))
+                | inl a_above ↦ lesser _ _ _ _ (in_above items index x i a ordered fits a_above (omega arith)) at_b
+                    (ordered.rises (a - 1) (b - 1) (omega arith) (omega arith))
+                | inr a_here ↦ lesser _ _ _ _ (in_here items index x i a fits (omega arith)) at_b
+                    (turned (digest_in items index (b - 1)) x.digest (place.after (b - 1) (omega arith) (omega arith)))
               ]
             ]
-        | inr b_here ↦ lesser _ _ _ _ (in_below items index x i a ordered fits (omega arith)) (in_here items index x i b fits (omega arith)) (place.before a (omega arith))
+        | inr b_here ↦ lesser _ _ _ _ (in_below items index x i a ordered fits (omega arith)) (in_here items index x i b fits (omega arith))
+            (place.before a (omega arith))
       ]
     ]
 
@@ -115,5 +119,6 @@ IsIndex-insert items index x i ordered place =
       as_long = omega (arith, ordered.as_long);
       within = λ k h. let h' : k < length index + 1 = omega arith in omega (arith, within_new items index x i ordered place.within k h');
       rises = λ a b up h. let h' : b < length index + 1 = omega arith in rises_new items index x i ordered place a b up h';
-      complete = λ p h. let h' : p < length items + 1 = omega arith in let k = complete_new items index x i ordered place.within p h' in (k.0, omega (arith, k.1), k.2);
+      complete = λ p h. let h' : p < length items + 1 = omega arith in let k = complete_new items index x i ordered place.within p h'
+          in (k.0, omega (arith, k.1), k.2);
     }

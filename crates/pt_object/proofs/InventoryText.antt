@@ -38,7 +38,8 @@ sound_put k d (member l e ms) is sound =
     let rest : AreSound ms = record { rise = sound.rise.1; sound = sound.sound.1 } in
     by (slice_cmp nat_cmp k l) refl (sound_put k d ms is rest)
   where
-    by : (o : Ordering) → slice_cmp nat_cmp k l ≡ o → AreSound (put k d ms) → AreSound (match_ordering o (member k d (member l e ms)) (member l d ms) (member l e (put k d ms)))
+    by : (o : Ordering) → slice_cmp nat_cmp k l ≡ o → AreSound (put k d ms)
+        → AreSound (match_ordering o (member k d (member l e ms)) (member l d ms) (member l e (put k d ms)))
     by Less less more = record { rise = ((less, below_all k l ms less sound.rise.0), sound.rise); sound = (is, sound.sound) }
     by Equal same more = record { rise = sound.rise; sound = (is, sound.sound.1) }
     by Greater above more = record {
@@ -52,7 +53,8 @@ sound_texts (x ∷ list) = (tt, sound_texts list)
 
 pub sound_manifest : (contents : List Content) (ms : Members) → AreSound ms → AreSound (fold put_content ms contents)
 sound_manifest [] ms sound = sound
-sound_manifest (x ∷ contents) ms sound = sound_manifest contents (put_content ms x) (sound_put (encode_lower x.digest) _ ms (sound_texts (content_path x.path ∷ [])) sound)
+sound_manifest (x ∷ contents) ms sound = sound_manifest contents (put_content ms x)
+    (sound_put (encode_lower x.digest) _ ms (sound_texts (content_path x.path ∷ [])) sound)
 
 pub sound_state : (rows : List Row) (contents : List Content) (ms : Members) → AreSound ms → AreSound (fold (put_paths rows) ms contents)
 sound_state rows [] ms sound = sound
@@ -75,9 +77,16 @@ sound_inventory id rows meta algorithm =
       ((refl, (refl, (refl, tt))), ((refl, (refl, tt)), ((refl, tt), (tt, tt)))),
       (tt, (tt, ((state.rise, state.sound), (sound_user meta.address meta.name, tt)))),
     ) in (
-      ((refl, (refl, (refl, (refl, (refl, tt))))), ((refl, (refl, (refl, (refl, tt)))), ((refl, (refl, (refl, tt))), ((refl, (refl, tt)), ((refl, tt), (tt, tt)))))),
+      (
+        (refl, (refl, (refl, (refl, (refl, tt))))),
+        (
+          (refl, (refl, (refl, (refl, tt)))),
+          ((refl, (refl, (refl, tt))), ((refl, (refl, tt)), ((refl, tt), (tt, tt)))),
+        ),
+      ),
       (tt, (tt, (tt, ((manifest.rise, manifest.sound), (tt, (((tt, tt), (version, tt)), tt)))))),
     )
 
 pub inventory_reads : InventoryReadsAsItsTree
-inventory_reads id rows meta algorithm = read_compact (inventory_tree id rows meta algorithm) (sound_inventory id rows meta algorithm) (depth-inventory id rows meta algorithm)
+inventory_reads id rows meta algorithm = read_compact (inventory_tree id rows meta algorithm) (sound_inventory id rows meta algorithm)
+    (depth-inventory id rows meta algorithm)

@@ -84,7 +84,8 @@ key_lower a b long_a long_b are_a are_b below =
     front_lower 4 a b long_a long_b (lower (take 4 a) (take 4 b) as_long (bytes_taken 4 a are_a) (bytes_taken 4 b are_b) below)
 
 -- different keys tell the order
-pub by_keys : (a b : List ℕ) (o : Ordering) → 4 ≤ length a → 4 ≤ length b → IsBytes a → IsBytes b → nat_cmp (key_of a) (key_of b) ≡ o → (o ≡ Equal → ⊥) → o ≡ digest_cmp a b
+pub by_keys : (a b : List ℕ) (o : Ordering) → 4 ≤ length a → 4 ≤ length b → IsBytes a → IsBytes b → nat_cmp (key_of a) (key_of b) ≡ o → (o ≡ Equal → ⊥)
+    → o ≡ digest_cmp a b
 by_keys a b o long_a long_b are_a are_b is unequal = elim (cases_lt (key_of a) (key_of b)) [
   | inl below ↦ sym is ∙ less _ _ below ∙ sym (key_lower a b long_a long_b are_a are_b below)
   | inr from ↦ elim (cases_lt (key_of b) (key_of a)) [
@@ -98,5 +99,6 @@ by_keys a b o long_a long_b are_a are_b is unequal = elim (cases_lt (key_of a) (
 ]
 
 -- one more item
-pub keys-push : (items : List Content) (x : Content) (keys : List ℕ) (key : ℕ) → keys ≡ keys_of items → key ≡ key_of x.digest → keys ++ key ∷ [] ≡ keys_of (items ++ x ∷ [])
+pub keys-push : (items : List Content) (x : Content) (keys : List ℕ) (key : ℕ) → keys ≡ keys_of items → key ≡ key_of x.digest
+    → keys ++ key ∷ [] ≡ keys_of (items ++ x ∷ [])
 keys-push items x keys key keyed is = (λ i. keyed i ++ is i ∷ []) ∙ sym (map_push (λ (c : Content). key_of c.digest) items x)

@@ -8,7 +8,20 @@ use Rattle.pt_tree.specs.Tree.{Bytes, Folder, Tree, CanMake}
 use Rattle.pt_object.specs.FilePaths.{File}
 use Rattle.pt_object.specs.Holding.{held_at, leads_to, file_or_folder, holding}
 use Rattle.pt_object.specs.Script.{Item, MakeFolder, MakeFile, item_path, done, made, CanBeMadeInTurn}
-use Rattle.pt_object.proofs.Ways.{leads, is_same, leads-itself, leads-longer, leads-on, leads-push, parent-push, top_differs, bytes_if, held_at-push, leads_to-push, IsClear}
+use Rattle.pt_object.proofs.Ways.{
+  leads,
+  is_same,
+  leads-itself,
+  leads-longer,
+  leads-on,
+  leads-push,
+  parent-push,
+  top_differs,
+  bytes_if,
+  held_at-push,
+  leads_to-push,
+  IsClear,
+}
 
 -- from t each item may be made, one after another
 abbrev pub CanCarryOut : List Item → Tree → Type 0
@@ -28,7 +41,8 @@ pub record Carries (script : List Item) (t u : Tree) : Type 0 where
 pub carries_none : (t : Tree) → Carries [] t t
 carries_none t = record { can = tt; leaves = refl }
 
-pub carries_item : (item : Item) (script : List Item) (t s u : Tree) → CanMake t (item_path item) → done item t ≡ s → Carries script s u → Carries (item ∷ script) t u
+pub carries_item : (item : Item) (script : List Item) (t s u : Tree) → CanMake t (item_path item) → done item t ≡ s → Carries script s u
+    → Carries (item ∷ script) t u
 carries_item item script t s u can is later = record {
   can = (can, subst (CanCarryOut script) (sym is) later.can);
   leaves = ap (made script) is ∙ later.leaves;
@@ -65,8 +79,10 @@ after_folder E b x i q = (by (same_path q (b ++ x ∷ [])) (leads q b) ∙ ap (�
     by false false = refl
 
 -- a folder that stands
-pub folder_stands : (E : List File) (b : Path) (x : List ℕ) → held_at E (b ++ x ∷ []) ≡ None → leads_to E (b ++ x ∷ []) ≡ true → on_way E b ≡ on_way E (b ++ x ∷ [])
-folder_stands E b x held needed i q = (by (same_path q (b ++ x ∷ [])) (leads q b) refl ∙ ap (λ t. cond t (Some Folder) (holding E q)) (sym (leads-push q b x))) i
+pub folder_stands : (E : List File) (b : Path) (x : List ℕ) → held_at E (b ++ x ∷ []) ≡ None → leads_to E (b ++ x ∷ []) ≡ true
+    → on_way E b ≡ on_way E (b ++ x ∷ [])
+folder_stands E b x held needed i q = (by (same_path q (b ++ x ∷ [])) (leads q b) refl ∙ ap (λ t. cond t (Some Folder) (holding E q)) (sym (leads-push q b x)))
+    i
   where
     by : (s l : Bool) → same_path q (b ++ x ∷ []) ≡ s → cond l (Some Folder) (holding E q) ≡ cond (l || s) (Some Folder) (holding E q)
     by s true is = refl
@@ -89,18 +105,21 @@ pub all_stand : (E : List File) (b : Path) → Stand E b → on_way E b ≡ on_w
 all_stand E b stand i q = all_stand_at E b stand q i
 
 -- one more file
-after_file_at : (E : List File) (b : Path) (x bytes : List ℕ) → IsClear E (b ++ x ∷ []) → (q : Path) → done (MakeFile (b ++ x ∷ []) bytes) (on_way E b) q ≡ on_way (E ++ (b ++ x ∷ [], bytes) ∷ []) [] q
+after_file_at : (E : List File) (b : Path) (x bytes : List ℕ) → IsClear E (b ++ x ∷ []) → (q : Path)
+    → done (MakeFile (b ++ x ∷ []) bytes) (on_way E b) q ≡ on_way (E ++ (b ++ x ∷ [], bytes) ∷ []) [] q
 after_file_at E b x bytes clear [] = ap (λ t. cond t (Some (Bytes bytes)) (Some Folder)) (top_differs b x)
 after_file_at E b x bytes clear (n ∷ q) = by (same_path (n ∷ q) p) (leads (n ∷ q) b) refl refl ∙ sym grown
   where
     p : Path
     p = b ++ x ∷ []
 
-    grown : holding (E ++ (p, bytes) ∷ []) (n ∷ q) ≡ file_or_folder (option_or (held_at E (n ∷ q)) (bytes_if (same_path (n ∷ q) p) bytes)) (leads_to E (n ∷ q) || leads (n ∷ q) p)
+    grown : holding (E ++ (p, bytes) ∷ []) (n ∷ q) ≡ file_or_folder (option_or (held_at E (n ∷ q)) (bytes_if (same_path (n ∷ q) p) bytes))
+        (leads_to E (n ∷ q) || leads (n ∷ q) p)
     grown i = file_or_folder (held_at-push E (p, bytes) (n ∷ q) i) (leads_to-push E (p, bytes) (n ∷ q) i)
 
     by : (s l : Bool) → same_path (n ∷ q) p ≡ s → leads (n ∷ q) b ≡ l
-        → cond s (Some (Bytes bytes)) (cond l (Some Folder) (holding E (n ∷ q))) ≡ file_or_folder (option_or (held_at E (n ∷ q)) (bytes_if s bytes)) (leads_to E (n ∷ q) || leads (n ∷ q) p)
+        → cond s (Some (Bytes bytes)) (cond l (Some Folder) (holding E (n ∷ q)))
+        ≡ file_or_folder (option_or (held_at E (n ∷ q)) (bytes_if s bytes)) (leads_to E (n ∷ q) || leads (n ∷ q) p)
     by true l same way =
         let none : held_at E (n ∷ q) ≡ None = ap (held_at E) (is_same (n ∷ q) p same) ∙ clear.way p (leads-itself p) in
         rw none refl
@@ -120,5 +139,6 @@ after_file_at E b x bytes clear (n ∷ q) = by (same_path (n ∷ q) p) (leads (n
         plain true = refl
         plain false = refl
 
-pub after_file : (E : List File) (b : Path) (x bytes : List ℕ) → IsClear E (b ++ x ∷ []) → done (MakeFile (b ++ x ∷ []) bytes) (on_way E b) ≡ on_way (E ++ (b ++ x ∷ [], bytes) ∷ []) []
+pub after_file : (E : List File) (b : Path) (x bytes : List ℕ) → IsClear E (b ++ x ∷ [])
+    → done (MakeFile (b ++ x ∷ []) bytes) (on_way E b) ≡ on_way (E ++ (b ++ x ∷ [], bytes) ∷ []) []
 after_file E b x bytes clear i q = after_file_at E b x bytes clear q i

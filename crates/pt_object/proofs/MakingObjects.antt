@@ -16,13 +16,15 @@ use Rattle.pt_object.proofs.Making.{Carries, carries_none, carries_item, carries
 use Rattle.pt_object.proofs.MakingFiles.{AreBelowTop, files_carry, stand_above}
 
 -- a file in the last of the folders, and then more
-pub file_then : (E : List File) (b : Path) (x bytes : List ℕ) (more : List Item) (u : Tree) → IsClear E (b ++ x ∷ []) → Carries more (on_way (E ++ (b ++ x ∷ [], bytes) ∷ []) []) u
+pub file_then : (E : List File) (b : Path) (x bytes : List ℕ) (more : List Item) (u : Tree) → IsClear E (b ++ x ∷ [])
+    → Carries more (on_way (E ++ (b ++ x ∷ [], bytes) ∷ []) []) u
     → Carries (MakeFile (b ++ x ∷ []) bytes ∷ more) (on_way E b) u
 file_then E b x bytes more u clear later =
     carries_item _ more (on_way E b) _ u (can_make E b x (clear.way (b ++ x ∷ []) (leads-itself (b ++ x ∷ []))) clear.free) (after_file E b x bytes clear) later
 
 -- a folder in the last of the folders, and then more
-pub folder_then : (E : List File) (b : Path) (x : List ℕ) (more : List Item) (u : Tree) → held_at E (b ++ x ∷ []) ≡ None → leads_to E (b ++ x ∷ []) ≡ false → Carries more (on_way E (b ++ x ∷ [])) u
+pub folder_then : (E : List File) (b : Path) (x : List ℕ) (more : List Item) (u : Tree) → held_at E (b ++ x ∷ []) ≡ None → leads_to E (b ++ x ∷ []) ≡ false
+    → Carries more (on_way E (b ++ x ∷ [])) u
     → Carries (MakeFolder (b ++ x ∷ []) ∷ more) (on_way E b) u
 folder_then E b x more u held free later = carries_item _ more (on_way E b) _ u (can_make E b x held free) (after_folder E b x) later
 
@@ -45,7 +47,8 @@ contents_below (f ∷ stored) = contents_below stored
 abbrev texts : Algorithm → List ℕ → List File
 texts algorithm text = inventory_files version_folder algorithm text ++ inventory_files [] algorithm text
 
-declaration_apart : (algorithm : Algorithm) (text : List ℕ) (stored : List File) → list_all (is_apart (object_declaration_name ∷ [])) (paths_of (contents stored ++ texts algorithm text)) ≡ true
+declaration_apart : (algorithm : Algorithm) (text : List ℕ) (stored : List File)
+    → list_all (is_apart (object_declaration_name ∷ [])) (paths_of (contents stored ++ texts algorithm text)) ≡ true
 declaration_apart algorithm text [] = refl
 declaration_apart algorithm text (f ∷ stored) = declaration_apart algorithm text stored
 
@@ -54,13 +57,15 @@ content_apart : (algorithm : Algorithm) (text : List ℕ) (p : Path) (stored : L
 content_apart algorithm text p [] h = refl
 content_apart algorithm text p (f ∷ stored) h = let parts = and_parts _ _ h in and_from _ _ parts.0 (content_apart algorithm text p stored parts.1)
 
-contents_apart : (algorithm : Algorithm) (text : List ℕ) (stored : List File) → are_apart (paths_of stored) ≡ true → are_apart (paths_of (contents stored ++ texts algorithm text)) ≡ true
+contents_apart : (algorithm : Algorithm) (text : List ℕ) (stored : List File) → are_apart (paths_of stored) ≡ true
+    → are_apart (paths_of (contents stored ++ texts algorithm text)) ≡ true
 contents_apart algorithm text [] h = refl
 contents_apart algorithm text (f ∷ stored) h =
     let parts = and_parts _ _ h in
     and_from _ _ (content_apart algorithm text f.0 stored parts.0) (contents_apart algorithm text stored parts.1)
 
-pub object_apart : (algorithm : Algorithm) (text : List ℕ) (stored : List File) → are_apart (paths_of stored) ≡ true → are_apart (paths_of (object_files algorithm text stored)) ≡ true
+pub object_apart : (algorithm : Algorithm) (text : List ℕ) (stored : List File) → are_apart (paths_of stored) ≡ true
+    → are_apart (paths_of (object_files algorithm text stored)) ≡ true
 object_apart algorithm text stored h = and_from _ _ (declaration_apart algorithm text stored) (contents_apart algorithm text stored h)
 
 front : (p : Path) (xs ys : List File) → list_all (is_apart p) (paths_of (xs ++ ys)) ≡ true → list_all (is_apart p) (paths_of xs) ≡ true
@@ -79,7 +84,8 @@ top_of_object algorithm text (f ∷ stored) = top_of_object algorithm text store
 clear_at : (before after all : List File) (f : File) → before ++ f ∷ after ≡ all → are_apart (paths_of all) ≡ true → IsClear before f.0
 clear_at before after all f is apart = clear_before before f after (ap (λ (l : List File). are_apart (paths_of l)) is ∙ apart)
 
-object_texts_carry : (algorithm : Algorithm) (text : List ℕ) (E : List File) → are_apart (paths_of (E ++ texts algorithm text)) ≡ true → held_at (E ++ texts algorithm text) [] ≡ None → leads_to (E ++ texts algorithm text) [] ≡ true
+object_texts_carry : (algorithm : Algorithm) (text : List ℕ) (E : List File) → are_apart (paths_of (E ++ texts algorithm text)) ≡ true
+    → held_at (E ++ texts algorithm text) [] ≡ None → leads_to (E ++ texts algorithm text) [] ≡ true
     → Carries (MakeFile (version_folder ++ inventory_name ∷ []) text
     ∷ MakeFile (version_folder ++ sidecar_name algorithm ∷ []) (sidecar_text algorithm text)
     ∷ MakeFile (inventory_name ∷ []) text
@@ -102,7 +108,8 @@ object_texts_carry algorithm text E apart held needed =
     let clear : IsClear E a.0 = clear_before E a (b ∷ c ∷ d ∷ []) apart in
     let end : on_way E4 [] ≡ holding all = ap (λ (l : List File). on_way l []) three ∙ at_end all held needed in
     file_then E version_folder inventory_name text _ (holding all) clear
-    (carries_from _ (on_way E1 []) (on_way E1 version_folder) (holding all) (sym (all_stand E1 version_folder (stand_above E version_folder [] inventory_name text clear)))
+    (carries_from _ (on_way E1 []) (on_way E1 version_folder) (holding all)
+    (sym (all_stand E1 version_folder (stand_above E version_folder [] inventory_name text clear)))
     (file_then E1 version_folder (sidecar_name algorithm) side _ (holding all) (clear_at E1 (c ∷ d ∷ []) all b one apart)
     (file_then E2 [] inventory_name text _ (holding all) (clear_at E2 (d ∷ []) all c two apart)
     (file_then E3 [] (sidecar_name algorithm) side _ (holding all) (clear_at E3 [] all d three apart)
@@ -123,6 +130,8 @@ object_carries algorithm text stored apart =
     let all = object_apart algorithm text stored apart in
     file_then [] [] object_declaration_name object_declaration_bytes _ _ (clear_of_none (object_declaration_name ∷ []))
     (folder_then (declaration ∷ []) [] (codes "v1") _ _ refl refl
-    (carries_both _ _ (on_way (declaration ∷ []) version_folder) (on_way (declaration ∷ contents stored) version_folder) (holding (object_files algorithm text stored))
-    (files_carry version_folder (declaration ∷ []) [] (map content_file stored) (contents_below stored) (λ n q. refl) (apart_front (declaration ∷ contents stored) (texts algorithm text) all))
+    (carries_both _ _ (on_way (declaration ∷ []) version_folder) (on_way (declaration ∷ contents stored) version_folder)
+    (holding (object_files algorithm text stored))
+    (files_carry version_folder (declaration ∷ []) [] (map content_file stored) (contents_below stored) (λ n q. refl)
+    (apart_front (declaration ∷ contents stored) (texts algorithm text) all))
     (object_texts_carry algorithm text (declaration ∷ contents stored) all (top_of_object algorithm text stored) refl)))

@@ -45,11 +45,13 @@ between (x ∷ folder) (u ∷ p) (v ∷ q) (w ∷ r) a b first last =
   where
     by : (s t m n : Bool) → bytes_eq x u ≡ s → bytes_eq x w ≡ t → bytes_eq u v ≡ m → bytes_eq v w ≡ n
         → (parts_before p q ≡ true → parts_before q r ≡ true → leads folder p ≡ true → leads folder r ≡ true → leads folder q ≡ true)
-        → cond m (parts_before p q) (is_before u v) ≡ true → cond n (parts_before q r) (is_before v w) ≡ true → is_some (cond s (rest_below folder p) None) ≡ true → is_some (cond t (rest_below folder r) None) ≡ true
+        → cond m (parts_before p q) (is_before u v) ≡ true → cond n (parts_before q r) (is_before v w) ≡ true
+        → is_some (cond s (rest_below folder p) None) ≡ true → is_some (cond t (rest_below folder r) None) ≡ true
         → is_some (cond (bytes_eq x v) (rest_below folder q) None) ≡ true
     by false t m n xu xw uv vw later a b first last = absurd (false≢true first)
     by true false m n xu xw uv vw later a b first last = absurd (false≢true last)
-    by true true true true xu xw uv vw later a b first last = ap (λ c. is_some (cond c (rest_below folder q) None)) (ap (λ (l : List ℕ). bytes_eq l v) (same_name x u xu) ∙ uv) ∙ later a b first last
+    by true true true true xu xw uv vw later a b first last = ap (λ c. is_some (cond c (rest_below folder q) None))
+        (ap (λ (l : List ℕ). bytes_eq l v) (same_name x u xu) ∙ uv) ∙ later a b first last
     by true true true false xu xw uv vw later a b first last =
         absurd (true≢false (sym (name_itself v) ∙ ap (bytes_eq v) (sym (same_name u v uv) ∙ sym (same_name x u xu) ∙ same_name x w xw) ∙ vw))
     by true true false true xu xw uv vw later a b first last =
@@ -61,34 +63,41 @@ last_comes_before : (earlier : List File) (last next : File) → part_in_order (
 last_comes_before [] last next order = (and_parts _ _ (and_parts _ _ order).0).0
 last_comes_before (e ∷ earlier) last next order = last_comes_before earlier last next (and_parts _ _ order).1
 
-comes_before_last : (p : Path) (earlier : List File) (last next : File) → list_all (parts_before p) (paths_of (earlier ++ last ∷ next ∷ [])) ≡ true → parts_before p last.0 ≡ true
+comes_before_last : (p : Path) (earlier : List File) (last next : File) → list_all (parts_before p) (paths_of (earlier ++ last ∷ next ∷ [])) ≡ true
+    → parts_before p last.0 ≡ true
 comes_before_last p [] last next h = (and_parts _ _ h).0
 comes_before_last p (e ∷ earlier) last next h = comes_before_last p earlier last next (and_parts _ _ h).1
 
-above_last : (earlier : List File) (last next : File) (folder : Path) → part_in_order (paths_of (earlier ++ last ∷ next ∷ [])) ≡ true → leads folder next.0 ≡ true → leads_to earlier folder ≡ true → leads folder last.0 ≡ true
+above_last : (earlier : List File) (last next : File) (folder : Path) → part_in_order (paths_of (earlier ++ last ∷ next ∷ [])) ≡ true
+    → leads folder next.0 ≡ true → leads_to earlier folder ≡ true → leads folder last.0 ≡ true
 above_last [] last next folder order on h = absurd (false≢true h)
 above_last (e ∷ earlier) last next folder order on h =
     let parts = and_parts _ _ order in
-    by (leads folder e.0) refl (comes_before_last e.0 earlier last next parts.0) (last_comes_before earlier last next parts.1) (λ g. above_last earlier last next folder parts.1 on g) h
+    by (leads folder e.0) refl (comes_before_last e.0 earlier last next parts.0) (last_comes_before earlier last next parts.1)
+    (λ g. above_last earlier last next folder parts.1 on g) h
   where
-    by : (t : Bool) → leads folder e.0 ≡ t → parts_before e.0 last.0 ≡ true → parts_before last.0 next.0 ≡ true → (leads_to earlier folder ≡ true → leads folder last.0 ≡ true) → (t || leads_to earlier folder) ≡ true → leads folder last.0 ≡ true
+    by : (t : Bool) → leads folder e.0 ≡ t → parts_before e.0 last.0 ≡ true → parts_before last.0 next.0 ≡ true
+        → (leads_to earlier folder ≡ true → leads folder last.0 ≡ true) → (t || leads_to earlier folder) ≡ true → leads folder last.0 ≡ true
     by true is first second later h = between folder e.0 last.0 next.0 first second is on
     by false is first second later h = later h
 
 pub last_file_tells_folders : LastFileTellsFolders
-last_file_tells_folders earlier last next folder order on = leads_to-push earlier last folder ∙ by (leads_to earlier folder) (λ h. above_last earlier last next folder order on h)
+last_file_tells_folders earlier last next folder order on = leads_to-push earlier last folder
+    ∙ by (leads_to earlier folder) (λ h. above_last earlier last next folder order on h)
   where
     by : (t : Bool) → (t ≡ true → leads folder last.0 ≡ true) → (t || leads folder last.0) ≡ leads folder last.0
     by true tells = sym (tells refl)
     by false tells = refl
 
-piece_at : (t : Tree) (path : Path) (bytes piece : List ℕ) (q : Path) → added (done (MakeFile path bytes) t) path piece q ≡ done (MakeFile path (bytes ++ piece)) t q
+piece_at : (t : Tree) (path : Path) (bytes piece : List ℕ) (q : Path) → added (done (MakeFile path bytes) t) path piece q
+    ≡ done (MakeFile path (bytes ++ piece)) t q
 piece_at t path bytes piece q = by (same_path q path)
   where
     here : edited_by (λ (old : List ℕ). old ++ piece) (done (MakeFile path bytes) t path) ≡ Some (Bytes (bytes ++ piece))
     here = ap (λ b. edited_by (λ (old : List ℕ). old ++ piece) (cond b (Some (Bytes bytes)) (t path))) (path_itself path)
 
-    by : (s : Bool) → cond s (edited_by (λ (old : List ℕ). old ++ piece) (done (MakeFile path bytes) t path)) (cond s (Some (Bytes bytes)) (t q)) ≡ cond s (Some (Bytes (bytes ++ piece))) (t q)
+    by : (s : Bool) → cond s (edited_by (λ (old : List ℕ). old ++ piece) (done (MakeFile path bytes) t path)) (cond s (Some (Bytes bytes)) (t q))
+        ≡ cond s (Some (Bytes (bytes ++ piece))) (t q)
     by true = here
     by false = refl
 

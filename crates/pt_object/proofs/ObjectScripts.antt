@@ -24,33 +24,40 @@ use Rattle.pt_object.proofs.MakingObjects.{object_carries}
 use Rattle.pt_object.proofs.Staged.{staged_first}
 
 -- the distinct rows are among the rows
-stored_all : (p : Path) (held : Path → List ℕ) (earlier rows : List Row) → list_all (is_apart p) (row_paths rows) ≡ true → list_all (is_apart p) (paths_of (map (λ row. (row.path, held row.path)) (distinct_after earlier rows))) ≡ true
+stored_all : (p : Path) (held : Path → List ℕ) (earlier rows : List Row) → list_all (is_apart p) (row_paths rows) ≡ true
+    → list_all (is_apart p) (paths_of (map (λ row. (row.path, held row.path)) (distinct_after earlier rows))) ≡ true
 stored_all p held earlier [] h = refl
 stored_all p held earlier (row ∷ rows) h =
     let parts = and_parts _ _ h in
     by (list_any (row_has_digest row.digest) earlier) parts.0 (stored_all p held (earlier ++ row ∷ []) rows parts.1)
   where
-    by : (t : Bool) → is_apart p row.path ≡ true → list_all (is_apart p) (paths_of (map (λ row. (row.path, held row.path)) (distinct_after (earlier ++ row ∷ []) rows))) ≡ true
-        → list_all (is_apart p) (paths_of (map (λ row. (row.path, held row.path)) (cond t (distinct_after (earlier ++ row ∷ []) rows) (row ∷ distinct_after (earlier ++ row ∷ []) rows)))) ≡ true
+    by : (t : Bool) → is_apart p row.path ≡ true → list_all (is_apart p)
+        (paths_of (map (λ row. (row.path, held row.path)) (distinct_after (earlier ++ row ∷ []) rows))) ≡ true
+        → list_all (is_apart p) (paths_of (map (λ row. (row.path, held row.path))
+        (cond t (distinct_after (earlier ++ row ∷ []) rows) (row ∷ distinct_after (earlier ++ row ∷ []) rows)))) ≡ true
     by true here later = later
     by false here later = and_from _ _ here later
 
-stored_apart_after : (held : Path → List ℕ) (earlier rows : List Row) → are_apart (row_paths rows) ≡ true → are_apart (paths_of (map (λ row. (row.path, held row.path)) (distinct_after earlier rows))) ≡ true
+stored_apart_after : (held : Path → List ℕ) (earlier rows : List Row) → are_apart (row_paths rows) ≡ true
+    → are_apart (paths_of (map (λ row. (row.path, held row.path)) (distinct_after earlier rows))) ≡ true
 stored_apart_after held earlier [] h = refl
 stored_apart_after held earlier (row ∷ rows) h =
     let parts = and_parts _ _ h in
-    by (list_any (row_has_digest row.digest) earlier) (stored_all row.path held (earlier ++ row ∷ []) rows parts.0) (stored_apart_after held (earlier ++ row ∷ []) rows parts.1)
+    by (list_any (row_has_digest row.digest) earlier) (stored_all row.path held (earlier ++ row ∷ []) rows parts.0)
+    (stored_apart_after held (earlier ++ row ∷ []) rows parts.1)
   where
     by : (t : Bool) → list_all (is_apart row.path) (paths_of (map (λ row. (row.path, held row.path)) (distinct_after (earlier ++ row ∷ []) rows))) ≡ true
         → are_apart (paths_of (map (λ row. (row.path, held row.path)) (distinct_after (earlier ++ row ∷ []) rows))) ≡ true
-        → are_apart (paths_of (map (λ row. (row.path, held row.path)) (cond t (distinct_after (earlier ++ row ∷ []) rows) (row ∷ distinct_after (earlier ++ row ∷ []) rows)))) ≡ true
+        → are_apart (paths_of (map (λ row. (row.path, held row.path)) (cond t (distinct_after (earlier ++ row ∷ []) rows)
+        (row ∷ distinct_after (earlier ++ row ∷ []) rows)))) ≡ true
     by true here later = later
     by false here later = and_from _ _ here later
 
 pub stored_apart : (rows : List Row) (held : Path → List ℕ) → are_apart (row_paths rows) ≡ true → are_apart (paths_of (stored_files rows held)) ≡ true
 stored_apart rows held = stored_apart_after held [] rows
 
-pub rows_carry : (id : List ℕ) (rows : List Row) (held : Path → List ℕ) (meta : MetaParts) (algorithm : Algorithm) (start : Tree) → are_apart (row_paths rows) ≡ true → IsFresh start
+pub rows_carry : (id : List ℕ) (rows : List Row) (held : Path → List ℕ) (meta : MetaParts) (algorithm : Algorithm) (start : Tree)
+    → are_apart (row_paths rows) ≡ true → IsFresh start
     → Carries (script_of_rows id rows held meta algorithm) start (placed start staging (object_of_rows id rows held meta algorithm))
 rows_carry id rows held meta algorithm start apart fresh =
     let text : List ℕ = inventory_text id rows meta algorithm in
@@ -89,7 +96,9 @@ pub files_apart : (algorithm : Algorithm) (files : List File) → part_in_order 
 files_apart algorithm files h = ap are_apart (paths_of_rows algorithm files) ∙ in_order_apart (paths_of files) h
 
 pub script_can_be_made : ScriptCanBeMade
-script_can_be_made id files meta algorithm start order fresh = script_of_rows_can_be_made id (rows_of algorithm files) (bytes_in files) meta algorithm start (files_apart algorithm files order) fresh
+script_can_be_made id files meta algorithm start order fresh = script_of_rows_can_be_made id (rows_of algorithm files) (bytes_in files) meta algorithm start
+    (files_apart algorithm files order) fresh
 
 pub script_makes_the_object : ScriptMakesTheObject
-script_makes_the_object id files meta algorithm start order fresh = script_of_rows_makes_the_object id (rows_of algorithm files) (bytes_in files) meta algorithm start (files_apart algorithm files order) fresh
+script_makes_the_object id files meta algorithm start order fresh = script_of_rows_makes_the_object id (rows_of algorithm files) (bytes_in files) meta algorithm
+    start (files_apart algorithm files order) fresh

@@ -1,5 +1,33 @@
 -- What is put step by step, and the text of it.
-use Rattle.std.proofs.Common.{◌≡◌, ℕ, ◌+◌, ◌<◌, ◌≤◌, List, [], ◌∷◌, ◌++◌, Bool, true, false, length, get_or, map, drop, take, fold, nat_lt, refl, sym, subst, ◌∙◌, ap, arith, append_assoc, append-nil}
+use Rattle.std.proofs.Common.{
+  ◌≡◌,
+  ℕ,
+  ◌+◌,
+  ◌<◌,
+  ◌≤◌,
+  List,
+  [],
+  ◌∷◌,
+  ◌++◌,
+  Bool,
+  true,
+  false,
+  length,
+  get_or,
+  map,
+  drop,
+  take,
+  fold,
+  nat_lt,
+  refl,
+  sym,
+  subst,
+  ◌∙◌,
+  ap,
+  arith,
+  append_assoc,
+  append-nil,
+}
 use Rattle.std.specs.Prelude.{codes, Err, IfOk, Ok, Result}
 use Rattle.std.specs.Str.{IsUtf8}
 use Rattle.std.proofs.lemmas.Bool.{false≢true, lt-ltb}
@@ -14,7 +42,23 @@ use Rattle.json.proofs.Printed.Tokens.{print_from-append}
 use Rattle.serde_json.specs.Data.{Data}
 use Rattle.serde_json.specs.Written.{items_outline}
 use Rattle.pt_object.specs.Entries.{entries, entry, grouped, key, no_content, stored}
-use Rattle.pt_object.specs.InPieces.{InPieces, Puts, TakesPiece, back, bracket, head, is_before_end, is_behind, is_head, is_in_manifest, is_in_state, left, left_in_state, middle, text_left}
+use Rattle.pt_object.specs.InPieces.{
+  InPieces,
+  Puts,
+  TakesPiece,
+  back,
+  bracket,
+  head,
+  is_before_end,
+  is_behind,
+  is_head,
+  is_in_manifest,
+  is_in_state,
+  left,
+  left_in_state,
+  middle,
+  text_left,
+}
 use Rattle.pt_object.specs.Inventory.{paths_with, texts, user_tree}
 use Rattle.pt_tree.specs.Path.{joined}
 use Rattle.pt_object.specs.Tokens.{tokens_of}
@@ -81,7 +125,8 @@ entries_end f items (p ∷ positions) b ends_f =
     ∙ entries_end f items positions b ends_f
 
 -- some entries end a value, and have a text
-pub some_end : (f : Content → Data) (items : List Content) (positions : List ℕ) (b : Bool) → EndsValues f → 0 < length positions → after b (entries f items positions) ≡ true
+pub some_end : (f : Content → Data) (items : List Content) (positions : List ℕ) (b : Bool) → EndsValues f → 0 < length positions
+    → after b (entries f items positions) ≡ true
 some_end f items [] b ends_f some = absurd (omega arith)
 some_end f items (p ∷ positions) b ends_f some =
     fold-append (λ (_ : Bool) (t : Token). ends t) b (entry f (get_or items p no_content)) (entries f items positions)
@@ -110,7 +155,8 @@ ok_more P Q (Ok x) more h = more x h
 ok_more P Q (Err e) more h = tt
 
 -- one after the other
-pub all_put : (parts : Parts) (here a b c : Step) (o p q r : List Token) → Puts is_head parts here a o p → Puts is_in_manifest parts a b p q → Puts is_in_state parts b c q r
+pub all_put : (parts : Parts) (here a b c : Step) (o p q r : List Token) → Puts is_head parts here a o p → Puts is_in_manifest parts a b p q
+    → Puts is_in_state parts b c q r
     → Puts is_before_end parts here c o r
 all_put parts here a b c o p q r first second third =
     let rest : List Token = second.tokens ++ third.tokens in
@@ -171,7 +217,8 @@ pub piece_taken : (parts : Parts) (here next : Step) (out : List Token) (text : 
     → old.rest ≡ text_left parts here → new.piece ≡ drop 1 text → new.rest ≡ text_left parts next → TakesPiece true old new
 piece_taken parts here next out text old new puts goes_on text_is utf8 old_is piece_is rest_is =
     let tokens_are : out ≡ bracket (is_behind here) ∷ puts.tokens = puts.put in
-    let piece : new.piece ≡ print_from (is_behind here) puts.tokens = piece_is ∙ ap (drop 1) (text_is ∙ ap print tokens_are) ∙ cut (is_behind here) puts.tokens in
+    let piece : new.piece ≡ print_from (is_behind here) puts.tokens = piece_is ∙ ap (drop 1) (text_is ∙ ap print tokens_are)
+    ∙ cut (is_behind here) puts.tokens in
     let low = begins_low (is_behind here) puts.tokens in
     let whole : IsUtf8 (print (bracket (is_behind here) ∷ puts.tokens)) = subst (λ (l : List Token). IsUtf8 (print l)) tokens_are utf8 in
     let behind_it : IsUtf8 (drop 1 (print (bracket (is_behind here) ∷ puts.tokens))) =
@@ -192,12 +239,14 @@ piece_taken parts here next out text old new puts goes_on text_is utf8 old_is pi
 above : (place count : ℕ) → 0 < count → nat_lt 0 (place + count) ≡ true
 above place count some = lt-ltb 0 (place + count) (omega arith)
 
-taken : (index : List ℕ) (items : List Content) (place count : ℕ) → length index ≡ length items → count ≤ length (drop place items) → length (take count (drop place index)) ≡ count
+taken : (index : List ℕ) (items : List Content) (place count : ℕ) → length index ≡ length items → count ≤ length (drop place items)
+    → length (take count (drop place index)) ≡ count
 taken index items place count as_long fits =
     length-take-le count (drop place index) (omega (arith, length-drop place index, length-drop place items, as_long))
 
 -- so many entries of the manifest were put, and others are left
-pub manifest_on : (parts : Parts) (here : Step) (place count : ℕ) (old new : List Token) → here ≡ step.Manifest place → length parts.index.now ≡ length parts.items.now
+pub manifest_on : (parts : Parts) (here : Step) (place count : ℕ) (old new : List Token) → here ≡ step.Manifest place
+    → length parts.index.now ≡ length parts.items.now
     → count ≤ length (drop place parts.items.now) → 0 < count → new ≡ old ++ entries stored parts.items.now (take count (drop place parts.index.now))
     → Puts is_in_manifest parts here (step.Manifest (place + count)) old new
 manifest_on parts here place count old new here_is as_long fits some put_are =
@@ -217,8 +266,10 @@ manifest_on parts here place count old new here_is as_long fits some put_are =
     }
 
 -- the same of the state
-pub state_on : (parts : Parts) (here : Step) (place count : ℕ) (old new : List Token) → here ≡ step.State place → length parts.index.now ≡ length parts.items.now
-    → count ≤ length (drop place parts.items.now) → 0 < count → new ≡ old ++ entries (grouped parts.rows.now) parts.items.now (take count (drop place parts.index.now))
+pub state_on : (parts : Parts) (here : Step) (place count : ℕ) (old new : List Token) → here ≡ step.State place
+    → length parts.index.now ≡ length parts.items.now
+    → count ≤ length (drop place parts.items.now) → 0 < count → new ≡ old ++ entries (grouped parts.rows.now) parts.items.now
+    (take count (drop place parts.index.now))
     → Puts is_in_state parts here (step.State (place + count)) old new
 state_on parts here place count old new here_is as_long fits some put_are =
     let items = parts.items.now in
@@ -237,14 +288,16 @@ state_on parts here place count old new here_is as_long fits some put_are =
     }
 
 -- the last entries of the manifest were put, and what stands between it and the state
-pub manifest_ended : (parts : Parts) (here : Step) (place count : ℕ) (old between new : List Token) → here ≡ step.Manifest place → length parts.index.now ≡ length parts.items.now
+pub manifest_ended : (parts : Parts) (here : Step) (place count : ℕ) (old between new : List Token) → here ≡ step.Manifest place
+    → length parts.index.now ≡ length parts.items.now
     → length (drop place parts.items.now) ≤ count → between ≡ old ++ entries stored parts.items.now (take count (drop place parts.index.now))
     → new ≡ between ++ middle parts.meta.now → Puts is_in_manifest parts here (step.State 0) old new
 manifest_ended parts here place count old between new here_is as_long last put_are more =
     let items = parts.items.now in
     let index = parts.index.now in
     let tokens : List Token = entries stored items (drop place index) in
-    let all : take count (drop place index) ≡ drop place index = take_all count (drop place index) (omega (arith, length-drop place index, length-drop place items, as_long)) in
+    let all : take count (drop place index) ≡ drop place index = take_all count (drop place index)
+    (omega (arith, length-drop place index, length-drop place items, as_long)) in
     record {
       tokens = tokens ++ middle parts.meta.now;
       put = appended old tokens (middle parts.meta.now) between new (put_are ∙ ap (λ (l : List ℕ). old ++ entries stored items l) all) more;
@@ -255,7 +308,8 @@ manifest_ended parts here place count old between new here_is as_long last put_a
     }
 
 -- the last of the state, and all behind it
-pub state_ended : (parts : Parts) (here : Step) (place count : ℕ) (old between new : List Token) → here ≡ step.State place → length parts.index.now ≡ length parts.items.now
+pub state_ended : (parts : Parts) (here : Step) (place count : ℕ) (old between new : List Token) → here ≡ step.State place
+    → length parts.index.now ≡ length parts.items.now
     → length (drop place parts.items.now) ≤ count → between ≡ old ++ entries (grouped parts.rows.now) parts.items.now (take count (drop place parts.index.now))
     → new ≡ between ++ back parts.meta.now → Puts is_in_state parts here step.End old new
 state_ended parts here place count old between new here_is as_long last put_are more =
@@ -263,7 +317,8 @@ state_ended parts here place count old between new here_is as_long last put_are 
     let index = parts.index.now in
     let f = grouped parts.rows.now in
     let tokens : List Token = entries f items (drop place index) in
-    let all : take count (drop place index) ≡ drop place index = take_all count (drop place index) (omega (arith, length-drop place index, length-drop place items, as_long)) in
+    let all : take count (drop place index) ≡ drop place index = take_all count (drop place index)
+    (omega (arith, length-drop place index, length-drop place items, as_long)) in
     let front : List Token = end_object ∷ token.key (codes "user") ∷ tokens_of (user_tree parts.meta.now.address parts.meta.now.name) in
     record {
       tokens = tokens ++ back parts.meta.now;
@@ -276,7 +331,8 @@ state_ended parts here place count old between new here_is as_long last put_are 
     }
 
 -- the members before the manifest were put
-pub head_put : (parts : Parts) (here : Step) (old between new : List Token) → here ≡ step.Head → between ≡ old ++ head parts.id.now parts.algorithm → new ≡ between ++ begin_object ∷ []
+pub head_put : (parts : Parts) (here : Step) (old between new : List Token) → here ≡ step.Head → between ≡ old ++ head parts.id.now parts.algorithm
+    → new ≡ between ++ begin_object ∷ []
     → Puts is_head parts here (step.Manifest 0) old new
 head_put parts here old between new here_is put_are more = record {
   tokens = head parts.id.now parts.algorithm ++ begin_object ∷ [];

@@ -72,7 +72,8 @@ root_carries tuples =
     folder_then [] [] (codes "extensions") _ (root_of tuples) refl refl
     (folder_then [] (codes "extensions" ∷ []) extension_name _ (root_of tuples) refl refl
     (file_then [] (codes "extensions" ∷ extension_name ∷ []) (codes "config.json") (config_text tuples) _ (root_of tuples) (clear_of_none config_path)
-    (file_then ((config_path, config_text tuples) ∷ []) [] (codes "ocfl_layout.json") layout_text _ (root_of tuples) (clear_before ((config_path, config_text tuples) ∷ []) (layout_path, layout_text) [] refl)
+    (file_then ((config_path, config_text tuples) ∷ []) [] (codes "ocfl_layout.json") layout_text _ (root_of tuples)
+    (clear_before ((config_path, config_text tuples) ∷ []) (layout_path, layout_text) [] refl)
     (file_then ((config_path, config_text tuples) ∷ (layout_path, layout_text) ∷ []) [] (codes "0=ocfl_1.1") root_declaration_bytes [] (root_of tuples)
     (clear_before ((config_path, config_text tuples) ∷ (layout_path, layout_text) ∷ []) (declaration_path, root_declaration_bytes) [] refl)
     (carries_from [] (on_way files []) (root_of tuples) (root_of tuples) (at_end files refl refl ∙ same_root tuples) (carries_none (root_of tuples)))))))

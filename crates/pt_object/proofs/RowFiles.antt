@@ -37,14 +37,18 @@ has-bare : (digest : List ℕ) (rows : List Row) → has digest (map bare rows) 
 has-bare digest [] = refl
 has-bare digest (row ∷ rows) = ap (λ b. bytes_eq row.digest digest || b) (has-bare digest rows)
 
-contents-bare : (earlier rows : List Row) → map content_of_row (distinct_after (map bare earlier) (map bare rows)) ≡ map content_of_row (distinct_after earlier rows)
+contents-bare : (earlier rows : List Row) → map content_of_row (distinct_after (map bare earlier) (map bare rows))
+    ≡ map content_of_row (distinct_after earlier rows)
 contents-bare earlier [] = refl
 contents-bare earlier (row ∷ rows) =
-    ap (λ (l : List Row). map content_of_row (cond (has row.digest (map bare earlier)) (distinct_after l (map bare rows)) (bare row ∷ distinct_after l (map bare rows)))) (sym (map-append bare earlier (row ∷ [])))
+    ap (λ (l : List Row). map content_of_row (cond (has row.digest (map bare earlier)) (distinct_after l (map bare rows))
+    (bare row ∷ distinct_after l (map bare rows)))) (sym (map-append bare earlier (row ∷ [])))
     ∙ by (has row.digest earlier) (has row.digest (map bare earlier)) (has-bare row.digest earlier) (contents-bare (earlier ++ row ∷ []) rows)
   where
-    by : (t s : Bool) → s ≡ t → map content_of_row (distinct_after (map bare (earlier ++ row ∷ [])) (map bare rows)) ≡ map content_of_row (distinct_after (earlier ++ row ∷ []) rows)
-        → map content_of_row (cond s (distinct_after (map bare (earlier ++ row ∷ [])) (map bare rows)) (bare row ∷ distinct_after (map bare (earlier ++ row ∷ [])) (map bare rows)))
+    by : (t s : Bool) → s ≡ t → map content_of_row (distinct_after (map bare (earlier ++ row ∷ [])) (map bare rows))
+        ≡ map content_of_row (distinct_after (earlier ++ row ∷ []) rows)
+        → map content_of_row (cond s (distinct_after (map bare (earlier ++ row ∷ [])) (map bare rows))
+        (bare row ∷ distinct_after (map bare (earlier ++ row ∷ [])) (map bare rows)))
         ≡ map content_of_row (cond t (distinct_after (earlier ++ row ∷ []) rows) (row ∷ distinct_after (earlier ++ row ∷ []) rows))
     by true true is later = later
     by true false is later = absurd (false≢true is)
@@ -56,23 +60,29 @@ paths-bare digest [] = refl
 paths-bare digest (row ∷ rows) = by (bytes_eq row.digest digest) (paths-bare digest rows)
   where
     by : (t : Bool) → paths_with (map bare rows) digest ≡ paths_with rows digest
-        → map (λ r. r.path) (cond t (bare row ∷ filter (row_has_digest digest) (map bare rows)) (filter (row_has_digest digest) (map bare rows))) ≡ map (λ r. r.path) (cond t (row ∷ filter (row_has_digest digest) rows) (filter (row_has_digest digest) rows))
+        → map (λ r. r.path) (cond t (bare row ∷ filter (row_has_digest digest) (map bare rows)) (filter (row_has_digest digest) (map bare rows)))
+        ≡ map (λ r. r.path) (cond t (row ∷ filter (row_has_digest digest) rows) (filter (row_has_digest digest) rows))
     by true later = ap (λ (l : List Path). row.path ∷ l) later
     by false later = later
 
 -- rows that are alike but for their lengths have one inventory
-pub same_text : (id : List ℕ) (rows others : List Row) (meta : MetaParts) (algorithm : Algorithm) → map bare rows ≡ map bare others → inventory_text id rows meta algorithm ≡ inventory_text id others meta algorithm
+pub same_text : (id : List ℕ) (rows others : List Row) (meta : MetaParts) (algorithm : Algorithm) → map bare rows ≡ map bare others
+    → inventory_text id rows meta algorithm ≡ inventory_text id others meta algorithm
 same_text id rows others meta algorithm alike =
-    let contents : map content_of_row (distinct rows) ≡ map content_of_row (distinct others) = sym (contents-bare [] rows) ∙ ap (λ (l : List Row). map content_of_row (distinct l)) alike ∙ contents-bare [] others in
-    let paths : (digest : List ℕ) → paths_with rows digest ≡ paths_with others digest = λ digest. sym (paths-bare digest rows) ∙ ap (λ (l : List Row). paths_with l digest) alike ∙ paths-bare digest others in
+    let contents : map content_of_row (distinct rows) ≡ map content_of_row (distinct others) = sym (contents-bare [] rows)
+    ∙ ap (λ (l : List Row). map content_of_row (distinct l)) alike ∙ contents-bare [] others in
+    let paths : (digest : List ℕ) → paths_with rows digest ≡ paths_with others digest = λ digest. sym (paths-bare digest rows)
+    ∙ ap (λ (l : List Row). paths_with l digest) alike ∙ paths-bare digest others in
     let puts : put_paths rows ≡ put_paths others = λ i ms content. put (encode_lower content.digest) (array (texts (map joined (paths content.digest i)))) ms in
-    λ i. compact_text (document_tree id (object (fold put_content no_members (contents i))) (version_tree meta (object (fold (puts i) no_members (contents i)))) algorithm)
+    λ i. compact_text (document_tree id (object (fold put_content no_members (contents i))) (version_tree meta (object (fold (puts i) no_members (contents i))))
+    algorithm)
 
 -- the files have the rows' paths and digests
 abbrev file_of : (Path → List ℕ) → List Row → Row → File
 file_of held rows row = (row.path, held (stored_path rows row))
 
-alike : (held : Path → List ℕ) (algorithm : Algorithm) (rows some : List Row) → All (λ row. digest_of algorithm (held (stored_path rows row)) ≡ row.digest) some → map bare some ≡ map bare (rows_of algorithm (map (file_of held rows) some))
+alike : (held : Path → List ℕ) (algorithm : Algorithm) (rows some : List Row) → All (λ row. digest_of algorithm (held (stored_path rows row)) ≡ row.digest) some
+    → map bare some ≡ map bare (rows_of algorithm (map (file_of held rows) some))
 alike held algorithm rows [] digests = refl
 alike held algorithm rows (row ∷ some) digests =
     let P : Row → Type 0 = λ r. digest_of algorithm (held (stored_path rows r)) ≡ r.digest in
@@ -85,7 +95,8 @@ first_found : (earlier rows : List Row) (row : Row) → has row.digest earlier �
 first_found [] rows row new = ap (λ t. cond t (Some row) (find (row_has_digest row.digest) rows)) (name_itself row.digest)
 first_found (x ∷ earlier) rows row new = by (bytes_eq x.digest row.digest) (λ h. first_found earlier rows row h) new
   where
-    by : (t : Bool) → (has row.digest earlier ≡ false → find (row_has_digest row.digest) (earlier ++ row ∷ rows) ≡ Some row) → (t || has row.digest earlier) ≡ false → cond t (Some x) (find (row_has_digest row.digest) (earlier ++ row ∷ rows)) ≡ Some row
+    by : (t : Bool) → (has row.digest earlier ≡ false → find (row_has_digest row.digest) (earlier ++ row ∷ rows) ≡ Some row)
+        → (t || has row.digest earlier) ≡ false → cond t (Some x) (find (row_has_digest row.digest) (earlier ++ row ∷ rows)) ≡ Some row
     by true later h = absurd (true≢false h)
     by false later h = later h
 
@@ -94,11 +105,14 @@ among [] rows x row h = (and_parts _ _ h).0
 among (y ∷ earlier) rows x row h = among earlier rows x row (and_parts _ _ h).1
 
 -- what the files hold at the path of one of the rows
-pub held_of_row : (f : Row → List ℕ) (earlier rows : List Row) (row : Row) → are_apart (row_paths (earlier ++ row ∷ rows)) ≡ true → held_at (map (λ r. (r.path, f r)) (earlier ++ row ∷ rows)) row.path ≡ Some (f row)
+pub held_of_row : (f : Row → List ℕ) (earlier rows : List Row) (row : Row) → are_apart (row_paths (earlier ++ row ∷ rows)) ≡ true
+    → held_at (map (λ r. (r.path, f r)) (earlier ++ row ∷ rows)) row.path ≡ Some (f row)
 held_of_row f [] rows row apart = ap (λ t. cond t (Some (f row)) (held_at (map (λ r. (r.path, f r)) rows) row.path)) (path_itself row.path)
-held_of_row f (x ∷ earlier) rows row apart = let parts = and_parts _ _ apart in by (same_path row.path x.path) refl (among earlier rows x row parts.0) (held_of_row f earlier rows row parts.1)
+held_of_row f (x ∷ earlier) rows row apart = let parts = and_parts _ _ apart in by (same_path row.path x.path) refl (among earlier rows x row parts.0)
+    (held_of_row f earlier rows row parts.1)
   where
-    by : (t : Bool) → same_path row.path x.path ≡ t → is_apart x.path row.path ≡ true → held_at (map (λ r. (r.path, f r)) (earlier ++ row ∷ rows)) row.path ≡ Some (f row)
+    by : (t : Bool) → same_path row.path x.path ≡ t → is_apart x.path row.path ≡ true
+        → held_at (map (λ r. (r.path, f r)) (earlier ++ row ∷ rows)) row.path ≡ Some (f row)
         → cond t (Some (f x)) (held_at (map (λ r. (r.path, f r)) (earlier ++ row ∷ rows)) row.path) ≡ Some (f row)
     by true same apart later = absurd (not_apart x.path (ap (is_apart x.path) (sym (is_same row.path x.path same)) ∙ apart))
     by false other apart later = later
@@ -120,9 +134,11 @@ stored_same held all earlier (row ∷ rows) is apart =
         ∙ held_of_row (λ r. held (stored_path all r)) earlier rows row (ap (λ (l : List Row). are_apart (row_paths l)) is ∙ apart) in
         sym (ap (λ o. unwrap_or o []) there ∙ ap (λ o. held (unwrap_or (option_map (λ (first : Row). first.path) o) row.path)) found)
 
-    by : (t : Bool) → has row.digest earlier ≡ t → map (holds_at held) (distinct_after (earlier ++ row ∷ []) rows) ≡ map (holds_at (bytes_in (files_of_rows all held))) (distinct_after (earlier ++ row ∷ []) rows)
+    by : (t : Bool) → has row.digest earlier ≡ t → map (holds_at held) (distinct_after (earlier ++ row ∷ []) rows)
+        ≡ map (holds_at (bytes_in (files_of_rows all held))) (distinct_after (earlier ++ row ∷ []) rows)
         → map (holds_at held) (cond t (distinct_after (earlier ++ row ∷ []) rows) (row ∷ distinct_after (earlier ++ row ∷ []) rows))
-        ≡ map (holds_at (bytes_in (files_of_rows all held))) (cond t (distinct_after (earlier ++ row ∷ []) rows) (row ∷ distinct_after (earlier ++ row ∷ []) rows))
+        ≡ map (holds_at (bytes_in (files_of_rows all held))) (cond t (distinct_after (earlier ++ row ∷ []) rows)
+        (row ∷ distinct_after (earlier ++ row ∷ []) rows))
     by true known later = later
     by false new later = λ i. (row.path, here new i) ∷ later i
 
@@ -134,15 +150,18 @@ by_contents held (row ∷ rows) = ap (λ (l : List File). holds_at held row ∷ 
 pub same_stored : (held : Path → List ℕ) (rows others : List Row) → map bare rows ≡ map bare others → stored_files rows held ≡ stored_files others held
 same_stored held rows others alike =
     by_contents held (distinct rows)
-    ∙ ap (map (λ (c : Content). (c.path, held c.path))) (sym (contents-bare [] rows) ∙ ap (λ (l : List Row). map content_of_row (distinct l)) alike ∙ contents-bare [] others)
+    ∙ ap (map (λ (c : Content). (c.path, held c.path))) (sym (contents-bare [] rows) ∙ ap (λ (l : List Row). map content_of_row (distinct l)) alike
+    ∙ contents-bare [] others)
     ∙ sym (by_contents held (distinct others))
 
 pub rows_are_files : RowsAreFiles
 rows_are_files id rows held meta algorithm apart digests =
     let files : List File = files_of_rows rows held in
     let one : map bare rows ≡ map bare (rows_of algorithm files) = alike held algorithm rows rows digests in
-    let text : inventory_text id rows meta algorithm ≡ inventory_text id (rows_of algorithm files) meta algorithm = same_text id rows (rows_of algorithm files) meta algorithm one in
-    let stored : stored_files rows held ≡ stored_files (rows_of algorithm files) (bytes_in files) = stored_same held rows [] rows refl apart ∙ same_stored (bytes_in files) rows (rows_of algorithm files) one in (
+    let text : inventory_text id rows meta algorithm ≡ inventory_text id (rows_of algorithm files) meta algorithm = same_text id rows (rows_of algorithm files)
+    meta algorithm one in
+    let stored : stored_files rows held ≡ stored_files (rows_of algorithm files) (bytes_in files) = stored_same held rows [] rows refl apart
+    ∙ same_stored (bytes_in files) rows (rows_of algorithm files) one in (
       λ i. holding (object_files algorithm (text i) (stored i)),
       λ i. map (item_in staging) (object_items algorithm (text i) (stored i)),
     )

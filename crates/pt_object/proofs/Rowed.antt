@@ -1,10 +1,57 @@
 -- Lists in rows of one length: where a place lies, and what is there once something is put at it.
-use Rattle.std.proofs.Common.{◌≡◌, ℕ, ◌+◌, ◌-◌, ◌*◌, ◌/◌, ◌%◌, ◌<◌, ◌≤◌, List, [], ◌∷◌, ◌++◌, length, get_or, set, take, refl, sym, ◌∙◌, ap, arith, zero, suc, inl, inr, append_assoc, append-nil, length-append, get_or-set_other, subst, ◌≢◌}
+use Rattle.std.proofs.Common.{
+  ◌≡◌,
+  ℕ,
+  ◌+◌,
+  ◌-◌,
+  ◌*◌,
+  ◌/◌,
+  ◌%◌,
+  ◌<◌,
+  ◌≤◌,
+  List,
+  [],
+  ◌∷◌,
+  ◌++◌,
+  length,
+  get_or,
+  set,
+  take,
+  refl,
+  sym,
+  ◌∙◌,
+  ap,
+  arith,
+  zero,
+  suc,
+  inl,
+  inr,
+  append_assoc,
+  append-nil,
+  length-append,
+  get_or-set_other,
+  subst,
+  ◌≢◌,
+}
 use Rattle.std.specs.Prelude.{Some, None, map, insert, slice_get, slice_index}
 use Rattle.std.proofs.lemmas.Option.{slice_get_cases, get_or_from_slice_get}
 use Rattle.std.specs.List.{concat}
 use Rattle.std.proofs.lemmas.Bool.{cases_lt, cases_eq}
-use Rattle.std.proofs.lemmas.List.{get_or-map, get_or_append_left, get_or-append_right, take_more_set, get_or-set_same, set-set, take-set, map-set, get_or_push, length-set, length-map, map_push, length_push}
+use Rattle.std.proofs.lemmas.List.{
+  get_or-map,
+  get_or_append_left,
+  get_or-append_right,
+  take_more_set,
+  get_or-set_same,
+  set-set,
+  take-set,
+  map-set,
+  get_or_push,
+  length-set,
+  length-map,
+  map_push,
+  length_push,
+}
 use Rattle.std.proofs.lemmas.List.Edits.{length-insert, insert_end, insert-append_left, insert-append_right}
 use Rattle.std.proofs.Math.Seq.{map-set_same}
 use Rattle.pt_object.specs.SortedIndex.{AreRows, HasRoom, row_length}
@@ -33,7 +80,8 @@ all (x ∷ xss) n (suc m) long full =
 pub get_or-concat : (xss : List (List ℕ)) (r j d : ℕ) (e : List ℕ) → r < length xss → j < length (get_or xss r e)
     → get_or (concat xss) (length (concat (take r xss)) + j) d ≡ get_or (get_or xss r e) j d
 get_or-concat [] r j d e within inside = absurd (omega arith)
-get_or-concat (x ∷ xss) zero j d e within inside = let at : 0 + j ≡ j = omega arith in ap (λ (p : ℕ). get_or (x ++ concat xss) p d) at ∙ get_or_append_left x (concat xss) d j inside
+get_or-concat (x ∷ xss) zero j d e within inside = let at : 0 + j ≡ j = omega arith in ap (λ (p : ℕ). get_or (x ++ concat xss) p d) at
+    ∙ get_or_append_left x (concat xss) d j inside
 get_or-concat (x ∷ xss) (suc r) j d e within inside =
     let before : length (x ++ concat (take r xss)) ≡ length x + length (concat (take r xss)) = length-append x (concat (take r xss)) in
     let place : length (x ++ concat (take r xss)) + j - length x ≡ length (concat (take r xss)) + j = omega arith in
@@ -190,7 +238,8 @@ passed_last was rows i j at passed place position new e so_far here now =
     ap (λ (l : List ℕ). concat (set rows j l)) now ∙ insert-concat rows j at passed e within (omega (arith, last.fits)) ∙ last.still
 
 -- and has room for it
-pub rows_last : (was rows : List (List ℕ)) (i j at passed place position : ℕ) (new e : List ℕ) → AreRows was → HasRoom was → IsPassed was rows i at passed place position
+pub rows_last : (was rows : List (List ℕ)) (i j at passed place position : ℕ) (new e : List ℕ) → AreRows was → HasRoom was
+    → IsPassed was rows i at passed place position
     → i ≡ j → j ≡ length was - 1 → new ≡ insert (get_or rows j e) at passed → AreRows (set rows j new)
 rows_last was rows i j at passed place position new e full room so_far here end now =
     let last = subst (λ (k : ℕ). IsPassed was rows k at passed place position) here so_far in
@@ -202,7 +251,8 @@ rows_last was rows i j at passed place position new e full room so_far here end 
     let short = ap (slice_index (map length was)) end in
     let free = room.1 in
     let small : length new ≤ row_length = omega arith in
-    let lengths : map length (set rows j new) ≡ set (map length was) j (length new) = map-set length rows j new ∙ ap (λ (l : List ℕ). set l j (length new)) last.same in
+    let lengths : map length (set rows j new) ≡ set (map length was) j (length new) = map-set length rows j new
+    ∙ ap (λ (l : List ℕ). set l j (length new)) last.same in
     let others : (k : ℕ) → k ≢ j → slice_index (map length (set rows j new)) k ≡ slice_index (map length was) k =
     λ k other. ap (λ (l : List ℕ). slice_index l k) lengths ∙ get_or-set_other (map length was) j k (length new) 0 other in
     let own : slice_index (map length (set rows j new)) j ≡ length new =

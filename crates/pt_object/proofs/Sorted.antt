@@ -46,7 +46,8 @@ rest_same : (k : List ℕ) (d e : Data) (ms ns : Members) → IsBelow k ms → I
 rest_same k d e ms ns in_ms in_ns same j = by (slice_cmp nat_cmp j k) refl (same j)
   where
     by : (o : Ordering) → slice_cmp nat_cmp j k ≡ o
-        → match_ordering o (get_member j ms) (Some d) (get_member j ms) ≡ match_ordering o (get_member j ns) (Some e) (get_member j ns) → get_member j ms ≡ get_member j ns
+        → match_ordering o (get_member j ms) (Some d) (get_member j ms) ≡ match_ordering o (get_member j ns) (Some e) (get_member j ns)
+        → get_member j ms ≡ get_member j ns
     by Less is h = h
     by Greater is h = h
     by Equal is h =
@@ -59,7 +60,8 @@ same_members no_members (member l e ns) in_ms in_ns same = let some = here l e n
 same_members (member k d ms) no_members in_ms in_ns same = let some = here k d ms in let none : get_member k (member k d ms) ≡ None = same k in absurd (cc)
 same_members (member k d ms) (member l e ns) in_ms in_ns same = by (slice_cmp nat_cmp k l) refl (λ a b agree. same_members ms ns a b agree)
   where
-    by : (o : Ordering) → slice_cmp nat_cmp k l ≡ o → (Rises ms → Rises ns → ((j : List ℕ) → get_member j ms ≡ get_member j ns) → ms ≡ ns) → member k d ms ≡ member l e ns
+    by : (o : Ordering) → slice_cmp nat_cmp k l ≡ o → (Rises ms → Rises ns → ((j : List ℕ) → get_member j ms ≡ get_member j ns) → ms ≡ ns)
+        → member k d ms ≡ member l e ns
     by Less is later =
         let some = here k d ms in
         let none : get_member k (member l e ns) ≡ None = none_below k (member l e ns) (is, below_all k l ns is in_ns.0) in
@@ -73,7 +75,8 @@ same_members (member k d ms) (member l e ns) in_ms in_ns same = by (slice_cmp na
         absurd (cc)
     by Equal is later =
         let one : k ≡ l = same_from_equal k l is in
-        let agree : (i : List ℕ) → get_member i (member k d ms) ≡ get_member i (member k e ns) = λ i. same i ∙ ap (λ (h : List ℕ). get_member i (member h e ns)) (sym one) in
+        let agree : (i : List ℕ) → get_member i (member k d ms) ≡ get_member i (member k e ns) = λ i. same i
+        ∙ ap (λ (h : List ℕ). get_member i (member h e ns)) (sym one) in
         let in_k : IsBelow k ns = subst (λ (h : List ℕ). IsBelow h ns) (sym one) in_ns.0 in
         let values : Some d ≡ Some e = sym (here k d ms) ∙ agree k ∙ here k e ns in
         let rest : ms ≡ ns = later in_ms.1 in_ns.1 (rest_same k d e ms ns in_ms.0 in_k agree) in
@@ -96,7 +99,8 @@ put_some f (x ∷ items) ms zero within apart =
 put_some f (x ∷ items) ms (suc p) within apart =
     put_some f items (put_by f ms x) p (omega arith) (λ q h e. let one : suc p ≡ suc q = apart (suc q) (omega arith) e in omega arith)
 
-by_none : (f : Content → Data) (k : List ℕ) (xs : List Content) → ((p : ℕ) → p < length xs → k ≡ key (get_or xs p no_content) → ⊥) → get_member k (members_by f xs) ≡ None
+by_none : (f : Content → Data) (k : List ℕ) (xs : List Content) → ((p : ℕ) → p < length xs → k ≡ key (get_or xs p no_content) → ⊥)
+    → get_member k (members_by f xs) ≡ None
 by_none f k [] other = refl
 by_none f k (x ∷ xs) other = by (slice_cmp nat_cmp k (key x)) refl (by_none f k xs (λ p h. other (suc p) (omega arith)))
   where
@@ -117,7 +121,8 @@ by_some f (x ∷ xs) (suc p) within apart =
   where
     by : (o : Ordering) → slice_cmp nat_cmp (key (get_or xs p no_content)) (key x) ≡ o
         → get_member (key (get_or xs p no_content)) (members_by f xs) ≡ Some (f (get_or xs p no_content))
-        → match_ordering o (get_member (key (get_or xs p no_content)) (members_by f xs)) (Some (f x)) (get_member (key (get_or xs p no_content)) (members_by f xs)) ≡ Some (f (get_or xs p no_content))
+        → match_ordering o (get_member (key (get_or xs p no_content)) (members_by f xs)) (Some (f x))
+        (get_member (key (get_or xs p no_content)) (members_by f xs)) ≡ Some (f (get_or xs p no_content))
     by Less is rest = rest
     by Equal is rest = absurd (let one : suc p ≡ 0 = apart 0 (omega arith) (same_from_equal _ (key x) is) in omega arith)
     by Greater is rest = rest
@@ -132,7 +137,8 @@ not_in : (k : List ℕ) (x : Content) (items : List Content) → (k ≡ key x �
 not_in k x items other none zero h e = other e
 not_in k x items other none (suc p) h e = none p (omega arith) e
 
-find_key : (k : List ℕ) (items : List Content) → ((p : ℕ) × (p < length items) × (k ≡ key (get_or items p no_content))) ⊎ ((p : ℕ) → p < length items → k ≡ key (get_or items p no_content) → ⊥)
+find_key : (k : List ℕ) (items : List Content) → ((p : ℕ) × (p < length items) × (k ≡ key (get_or items p no_content))) ⊎ ((p : ℕ) → p < length items
+    → k ≡ key (get_or items p no_content) → ⊥)
 find_key k [] = inr (λ p h e. omega arith)
 find_key k (x ∷ items) = elim (cases_Bool (bytes_eq k (key x))) [
   | inl same ↦ inl (0, omega arith, (bytes_decides k (key x)).0 same)
@@ -142,7 +148,8 @@ find_key k (x ∷ items) = elim (cases_Bool (bytes_eq k (key x))) [
   ]
 ]
 
-below_by : (f : Content → Data) (k : List ℕ) (xs : List Content) → ((p : ℕ) → p < length xs → slice_cmp nat_cmp k (key (get_or xs p no_content)) ≡ Less) → IsBelow k (members_by f xs)
+below_by : (f : Content → Data) (k : List ℕ) (xs : List Content) → ((p : ℕ) → p < length xs → slice_cmp nat_cmp k (key (get_or xs p no_content)) ≡ Less)
+    → IsBelow k (members_by f xs)
 below_by f k [] h = tt
 below_by f k (x ∷ xs) h = (h 0 (omega arith), below_by f k xs (λ p w. h (suc p) (omega arith)))
 
@@ -163,10 +170,12 @@ apart_by xs p q rise in_p in_q e = elim (cases_lt p q) [
   ]
 ]
   where
-    differ : (i j : ℕ) → slice_cmp nat_cmp (key (get_or xs i no_content)) (key (get_or xs j no_content)) ≡ Less → key (get_or xs i no_content) ≡ key (get_or xs j no_content) → ⊥
+    differ : (i j : ℕ) → slice_cmp nat_cmp (key (get_or xs i no_content)) (key (get_or xs j no_content)) ≡ Less
+        → key (get_or xs i no_content) ≡ key (get_or xs j no_content) → ⊥
     differ i j less one =
         let tied = itself (key (get_or xs j no_content)) in
-        let equal : slice_cmp nat_cmp (key (get_or xs i no_content)) (key (get_or xs j no_content)) ≡ Equal = ap (λ (l : List ℕ). slice_cmp nat_cmp l (key (get_or xs j no_content))) one ∙ tied in
+        let equal : slice_cmp nat_cmp (key (get_or xs i no_content)) (key (get_or xs j no_content))
+        ≡ Equal = ap (λ (l : List ℕ). slice_cmp nat_cmp l (key (get_or xs j no_content))) one ∙ tied in
         cc
 
 module _ (f : Content → Data) (items : List Content) (index : List ℕ) (ordered : IsIndex items index) (bytes : AreBytes items) where
@@ -212,7 +221,8 @@ module _ (f : Content → Data) (items : List Content) (index : List ℕ) (order
         ∙ ap (λ (l : List ℕ). get_member l (members_by f placed)) (ap key one ∙ sym found.2)
     | inr none ↦
         put_none f k items no_members none
-        ∙ sym (by_none f k placed (λ j h e. let inside : j < length index = omega (arith, long) in none (slice_index index j) (ordered.within j inside) (e ∙ ap key (placed_at j inside))))
+        ∙ sym (by_none f k placed (λ j h e. let inside : j < length index = omega (arith, long) in none (slice_index index j) (ordered.within j inside) (e
+        ∙ ap key (placed_at j inside))))
   ]
 
   pub put_in_order : Rises (fold (put_by f) no_members items) → fold (put_by f) no_members items ≡ members_by f placed

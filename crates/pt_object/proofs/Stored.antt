@@ -20,7 +20,8 @@ use Rattle.pt_object.proofs.Ways.{is_same, leads-itself, path_itself}
 
 -- ---- names between slashes
 
-not_forbidden : (a b c d : Bool) → is_none (cond a (Some fault.Empty) (cond b (Some fault.TooLong) (cond c (cond d (Some fault.Forbidden) None) (Some fault.NotUtf8)))) ≡ true → d ≡ false
+not_forbidden : (a b c d : Bool)
+    → is_none (cond a (Some fault.Empty) (cond b (Some fault.TooLong) (cond c (cond d (Some fault.Forbidden) None) (Some fault.NotUtf8)))) ≡ true → d ≡ false
 not_forbidden true b c d h = absurd (false≢true h)
 not_forbidden false true c d h = absurd (false≢true h)
 not_forbidden false false true true h = absurd (false≢true h)
@@ -40,7 +41,8 @@ split_names : (name : List ℕ) (path : Path) → is_name name ≡ true → list
 split_names name [] first rest = slice_split_none (λ b. b == 47) name (no_slash name first)
 split_names name (next ∷ path) first rest =
     let parts = and_parts _ _ rest in
-    slice_split_at (λ b. b == 47) name 47 (joined (next ∷ path)) (no_slash name first) refl ∙ ap (λ (p : Path). name ∷ p) (split_names next path parts.0 parts.1)
+    slice_split_at (λ b. b == 47) name 47 (joined (next ∷ path)) (no_slash name first) refl
+    ∙ ap (λ (p : Path). name ∷ p) (split_names next path parts.0 parts.1)
 
 -- the names of a logical path are those of its text
 pub names_in-joined : (path : Path) → is_logical path ≡ true → names_in (joined path) ≡ path
@@ -50,7 +52,8 @@ names_in-joined (name ∷ path) h = let parts = and_parts _ _ h in split_names n
 -- and below the contents
 pub names_in-content_path : (path : Path) → is_logical path ≡ true → names_in (content_path path) ≡ codes "v1" ∷ codes "content" ∷ path
 names_in-content_path path h =
-    ap (λ (rest : Path). onto_first 118 (onto_first 49 ([] ∷ onto_first 99 (onto_first 111 (onto_first 110 (onto_first 116 (onto_first 101 (onto_first 110 (onto_first 116 ([] ∷ rest)))))))))) (names_in-joined path h)
+    ap (λ (rest : Path). onto_first 118 (onto_first 49 ([] ∷ onto_first 99
+    (onto_first 111 (onto_first 110 (onto_first 116 (onto_first 101 (onto_first 110 (onto_first 116 ([] ∷ rest)))))))))) (names_in-joined path h)
 
 -- ---- what is found among files
 
@@ -70,7 +73,8 @@ found_has P test (x ∷ files) g all is = by (test x) (λ e. found_has P test fi
     by true later e = let same : x ≡ g = cc in subst P same (All-head P x files all)
     by false later e = later e
 
-pub found_passes : (pass : Path → Bool) (test : File → Bool) (files : List File) (g : File) → list_all pass (paths_of files) ≡ true → find test files ≡ Some g → pass g.0 ≡ true
+pub found_passes : (pass : Path → Bool) (test : File → Bool) (files : List File) (g : File) → list_all pass (paths_of files) ≡ true → find test files ≡ Some g
+    → pass g.0 ≡ true
 found_passes pass test [] g all is = absurd (cc)
 found_passes pass test (x ∷ files) g all is = let parts = and_parts _ _ all in by (test x) parts.0 (λ e. found_passes pass test files g parts.1 e) is
   where
@@ -86,11 +90,13 @@ not_apart p h = true≢false (sym (leads-itself p) ∙ none _ (and_parts _ _ h).
     none (Some x) e = absurd (false≢true e)
 
 -- of files that are apart each holds its own bytes
-pub held_itself : (test : File → Bool) (files : List File) (g : File) → are_apart (paths_of files) ≡ true → find test files ≡ Some g → held_at files g.0 ≡ Some g.1
+pub held_itself : (test : File → Bool) (files : List File) (g : File) → are_apart (paths_of files) ≡ true → find test files ≡ Some g
+    → held_at files g.0 ≡ Some g.1
 held_itself test [] g apart is = absurd (cc)
 held_itself test (x ∷ files) g apart is = let parts = and_parts _ _ apart in by (test x) parts.0 (λ e. held_itself test files g parts.1 e) is
   where
-    by : (t : Bool) → list_all (is_apart x.0) (paths_of files) ≡ true → (find test files ≡ Some g → held_at files g.0 ≡ Some g.1) → cond t (Some x) (find test files) ≡ Some g → held_at (x ∷ files) g.0 ≡ Some g.1
+    by : (t : Bool) → list_all (is_apart x.0) (paths_of files) ≡ true → (find test files ≡ Some g → held_at files g.0 ≡ Some g.1)
+        → cond t (Some x) (find test files) ≡ Some g → held_at (x ∷ files) g.0 ≡ Some g.1
     by true here later e =
         let same : x ≡ g = cc in
         subst (λ (f : File). held_at (x ∷ files) f.0 ≡ Some f.1) same (ap (λ b. cond b (Some x.1) (held_at files x.0)) (path_itself x.0))

@@ -10,7 +10,25 @@ use Rattle.json.specs.Lex.{tokens}
 use Rattle.json.specs.Token.{Token}
 use Rattle.json.proofs.Printed.Tokens.{tokens-print}
 use Rattle.json.proofs.Printed.Trees.{ArePrintable-json_tokens, value-json_tokens}
-use Rattle.serde_json.specs.Data.{Data, null, boolean, number, string, array, object, Items, no_items, item, Members, no_members, member, put, depth, items_depth, members_depth}
+use Rattle.serde_json.specs.Data.{
+  Data,
+  null,
+  boolean,
+  number,
+  string,
+  array,
+  object,
+  Items,
+  no_items,
+  item,
+  Members,
+  no_members,
+  member,
+  put,
+  depth,
+  items_depth,
+  members_depth,
+}
 use Rattle.serde_json.specs.Read.{of_json, of_items, of_members, read, max_depth}
 use Rattle.serde_json.specs.Written.{outline, items_outline, members_outline, compact_text}
 use Rattle.serde_json.proofs.Texts.{print-outline}
@@ -99,17 +117,20 @@ below_middle k l e no_members more h = h.0
 below_middle k l e (member j d ms) more h = below_middle k l e ms more h.1
 
 -- what comes after all that is there, goes last
-put_last : (found : Members) (k : List ℕ) (d : Data) (more : Members) → Rises (joined found (member k d more)) → put k d found ≡ joined found (member k d no_members)
+put_last : (found : Members) (k : List ℕ) (d : Data) (more : Members) → Rises (joined found (member k d more))
+    → put k d found ≡ joined found (member k d no_members)
 put_last no_members k d more h = refl
 put_last (member l e found) k d more h =
     let above : slice_cmp nat_cmp k l ≡ Greater = nat_list_cmp_total.antisymm k l ∙ ap ordering_reverse (below_middle l k d found more h.0) in
     rw above (ap (member l e) (put_last found k d more h.1))
 
-next_member : (o : Option Data) (d : Data) (k : List ℕ) (more : json.Members) (found : Members) (all : Option Members) → o ≡ Some d → of_members more (put k d found) ≡ all
+next_member : (o : Option Data) (d : Data) (k : List ℕ) (more : json.Members) (found : Members) (all : Option Members) → o ≡ Some d
+    → of_members more (put k d found) ≡ all
     → option_and_then (λ (x : Data). of_members more (put k x found)) o ≡ all
 next_member o d k more found all is rest = rw is rest
 
-next_item : (o : Option Data) (d : Data) (more : Option Items) (ds : Items) → o ≡ Some d → more ≡ Some ds → option_and_then (λ (x : Data). option_map (item x) more) o ≡ Some (item d ds)
+next_item : (o : Option Data) (d : Data) (more : Option Items) (ds : Items) → o ≡ Some d → more ≡ Some ds
+    → option_and_then (λ (x : Data). option_map (item x) more) o ≡ Some (item d ds)
 next_item o d more ds is rest = rw (is, rest) refl
 
 mutual
@@ -139,5 +160,7 @@ whole o = option_and_then of_json (option_and_then (λ p. json.if_last p.0 p.1) 
 pub read_compact : (d : Data) → IsSound d → depth d ≤ max_depth → read (compact_text d) ≡ Some d
 read_compact d sound levels =
     let j = outline d in
-    let same : tokens (compact_text d) ≡ tree.json_tokens j = ap tokens (sym (print-outline d)) ∙ tokens-print (tree.json_tokens j) (ArePrintable-json_tokens j (has_numbers d sound)) in
-    ap whole (ap (json.value max_depth) (same ∙ sym (append-nil _)) ∙ value-json_tokens j max_depth [] (omega (arith, shallow d, levels))) ∙ outline_back d sound
+    let same : tokens (compact_text d) ≡ tree.json_tokens j = ap tokens (sym (print-outline d))
+    ∙ tokens-print (tree.json_tokens j) (ArePrintable-json_tokens j (has_numbers d sound)) in
+    ap whole (ap (json.value max_depth) (same ∙ sym (append-nil _)) ∙ value-json_tokens j max_depth [] (omega (arith, shallow d, levels)))
+    ∙ outline_back d sound

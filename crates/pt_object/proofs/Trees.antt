@@ -40,11 +40,18 @@ flat-manifest (x ∷ contents) ms flat = flat-manifest contents (put_content ms 
 
 flat-state : (rows : List Row) (contents : List Content) (ms : Members) → IsFlat ms → IsFlat (fold (put_paths rows) ms contents)
 flat-state rows [] ms flat = flat
-flat-state rows (x ∷ contents) ms flat = flat-state rows contents (put_paths rows ms x) (flat-put (encode_lower x.digest) (map joined (paths_with rows x.digest)) ms flat)
+flat-state rows (x ∷ contents) ms flat = flat-state rows contents (put_paths rows ms x)
+    (flat-put (encode_lower x.digest) (map joined (paths_with rows x.digest)) ms flat)
 
 pub depth-inventory : (id : List ℕ) (rows : List Row) (meta : MetaParts) (algorithm : Algorithm) → depth (inventory_tree id rows meta algorithm) ≤ 127
 depth-inventory id rows meta algorithm =
-    omega (arith, flat-manifest (map content_of_row (distinct rows)) no_members (omega arith), flat-state rows (map content_of_row (distinct rows)) no_members (omega arith), by_address meta.address)
+    omega (
+      arith,
+      flat-manifest (map content_of_row (distinct rows)) no_members (omega arith),
+      flat-state rows (map content_of_row (distinct rows)) no_members
+          (omega arith),
+      by_address meta.address,
+    )
   where
     by_address : (address : Option (List ℕ)) → depth (user_tree address meta.name) ≤ 1
     by_address None = omega arith

@@ -38,7 +38,8 @@ leads-on [] b p h = refl
 leads-on (y ∷ q) [] p h = absurd (false≢true h)
 leads-on (y ∷ q) (x ∷ b) p h = by (λ g. leads-on q b p g) (bytes_eq y x) h
   where
-    by : (leads q b ≡ true → leads q (b ++ p) ≡ true) → (t : Bool) → is_some (cond t (rest_below q b) None) ≡ true → is_some (cond t (rest_below q (b ++ p)) None) ≡ true
+    by : (leads q b ≡ true → leads q (b ++ p) ≡ true) → (t : Bool) → is_some (cond t (rest_below q b) None) ≡ true
+        → is_some (cond t (rest_below q (b ++ p)) None) ≡ true
     by later true h = later h
     by later false h = absurd (false≢true h)
 
@@ -53,7 +54,8 @@ leads-push (y ∷ q) [] x = by (bytes_eq y x) q
     by false q = refl
 leads-push (y ∷ q) (z ∷ b) x = by (bytes_eq y z) (leads-push q b x)
   where
-    by : (t : Bool) → leads q (b ++ x ∷ []) ≡ (leads q b || same_path q (b ++ x ∷ [])) → is_some (cond t (rest_below q (b ++ x ∷ [])) None) ≡ (is_some (cond t (rest_below q b) None) || (t && same_path q (b ++ x ∷ [])))
+    by : (t : Bool) → leads q (b ++ x ∷ []) ≡ (leads q b || same_path q (b ++ x ∷ []))
+        → is_some (cond t (rest_below q (b ++ x ∷ [])) None) ≡ (is_some (cond t (rest_below q b) None) || (t && same_path q (b ++ x ∷ [])))
     by true later = later
     by false later = refl
 
@@ -71,7 +73,8 @@ pub held_at-push : (E : List File) (f : File) (q : Path) → held_at (E ++ f ∷
 held_at-push [] f q = refl
 held_at-push (e ∷ E) f q = by (same_path q e.0) (held_at-push E f q)
   where
-    by : (t : Bool) → held_at (E ++ f ∷ []) q ≡ option_or (held_at E q) (bytes_if (same_path q f.0) f.1) → cond t (Some e.1) (held_at (E ++ f ∷ []) q) ≡ option_or (cond t (Some e.1) (held_at E q)) (bytes_if (same_path q f.0) f.1)
+    by : (t : Bool) → held_at (E ++ f ∷ []) q ≡ option_or (held_at E q) (bytes_if (same_path q f.0) f.1)
+        → cond t (Some e.1) (held_at (E ++ f ∷ []) q) ≡ option_or (cond t (Some e.1) (held_at E q)) (bytes_if (same_path q f.0) f.1)
     by true later = refl
     by false later = later
 

@@ -1,5 +1,30 @@
 -- Moments to the second, as an inventory has them: `YYYY-MM-DDTHH:MM:SS` with `Z` or an offset.
-use Rattle.std.specs.Prelude.{ℕ, ◌+◌, ◌-◌, ◌*◌, ◌==◌, ◌&&◌, ◌||◌, nat_le, nat_lt, Bool, false, cond, codes, List, [], ◌∷◌, length, Option, Some, None, pos, slice_index, slice_range, drop}
+use Rattle.std.specs.Prelude.{
+  ℕ,
+  ◌+◌,
+  ◌-◌,
+  ◌*◌,
+  ◌==◌,
+  ◌&&◌,
+  ◌||◌,
+  nat_le,
+  nat_lt,
+  Bool,
+  false,
+  cond,
+  codes,
+  List,
+  [],
+  ◌∷◌,
+  length,
+  Option,
+  Some,
+  None,
+  pos,
+  slice_index,
+  slice_range,
+  drop,
+}
 use Rattle.std.specs.Char.{is_ascii_digit}
 use Rattle.std.specs.Str.{bytes_eq}
 use Rattle.jiff.specs.Words.{days_in_month}

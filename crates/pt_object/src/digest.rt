@@ -20,7 +20,8 @@ enum Bytes {
     Long([u8; 64]),
 }
 
-/// A digest, seen as its bytes: 32 of SHA-256 or 64 of SHA-512. Digests come in the order of their bytes.
+/// A digest, seen as its bytes: 32 of SHA-256 or 64 of SHA-512. Digests come in the order of their
+/// bytes.
 #[derive(Clone, Copy, Debug)]
 pub struct Digest {
     bytes: Bytes,
@@ -70,7 +71,8 @@ impl Digest {
         }
     }
 
-    // Its first four bytes as a number, by which digests come in the order of their bytes where they have different ones.
+    // Its first four bytes as a number, by which digests come in the order of their bytes where
+    // they have different ones.
     pub(crate) fn key(&self) -> u32
         ensures { result ≡ key_of self.now }
     {

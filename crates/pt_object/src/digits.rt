@@ -8,8 +8,9 @@ use std::simd::prelude::*;
 // How many digits a digest has, at most.
 pub(crate) const MOST: usize = 128;
 
-// Writes the bytes in hex at the front of the room, and lends that text. It is what `hex::encode_to_slice` writes; that looks
-// up one digit after the other, where this computes those of sixteen bytes at once.
+// Writes the bytes in hex at the front of the room, and lends that text. It is what
+// `hex::encode_to_slice` writes; that looks up one digit after the other, where this computes those
+// of sixteen bytes at once.
 pub(crate) fn write_hex<'a>(bytes: &[u8], room: &'a mut [u8; MOST]) -> &'a [u8]
     requires whole { length bytes.now % 16 ≡ 0 }
     requires fits { 2 * length bytes.now ≤ 128 }
@@ -38,8 +39,9 @@ fn in_hex(bytes: u8x16) -> u8x32
     )
 }
 
-// The digits of numbers below 16, as a table of `hex` has them: they come in two runs, from `0` and from `a` on. A processor of
-// the oldest kind looks up one lane after the other, but adds and compares all at once.
+// The digits of numbers below 16, as a table of `hex` has them: they come in two runs, from `0` and
+// from `a` on. A processor of the oldest kind looks up one lane after the other, but adds and
+// compares all at once.
 #[inline(always)]
 fn digits_of(numbers: u8x16) -> u8x16
     requires { All (λ number. number < 16) numbers }

@@ -11,7 +11,8 @@ use std::alloc::Global;
 
 pub(crate) const ROOT_DECLARATION: &str = "ocfl_1.1\n";
 
-/// What the file `0=ocfl_object_1.1` of an object holds (OCFL 1.1, "Object Conformance Declaration").
+/// What the file `0=ocfl_object_1.1` of an object holds (OCFL 1.1, "Object Conformance
+/// Declaration").
 pub fn object_declaration() -> &'static [u8]
     ensures { result.now ≡ object_declaration_bytes }
 {
@@ -25,16 +26,16 @@ pub fn root_declaration() -> &'static [u8]
     ROOT_DECLARATION.as_bytes()
 }
 
-/// The sidecar of an inventory's text: its digest in lower-case hex, a space, `inventory.json` and LF (OCFL 1.1,
-/// "Inventory Digest"). `Memory` where a growth was refused.
+/// The sidecar of an inventory's text: its digest in lower-case hex, a space, `inventory.json` and
+/// LF (OCFL 1.1, "Inventory Digest"). `Memory` where a growth was refused.
 pub fn sidecar(alloc: Global, text: &str, algorithm: Algorithm) -> Result<String, MemoryFault>
     ensures { IfOk result (λ line. string_bytes line ≡ sidecar_text algorithm text.now) }
 {
     sidecar_of(alloc, &digest_of_text(algorithm, text))
 }
 
-/// The sidecar of the inventory that has this digest: the digest in lower-case hex, a space, `inventory.json` and LF (OCFL
-/// 1.1, "Inventory Digest"). `Memory` where a growth was refused.
+/// The sidecar of the inventory that has this digest: the digest in lower-case hex, a space,
+/// `inventory.json` and LF (OCFL 1.1, "Inventory Digest"). `Memory` where a growth was refused.
 pub fn sidecar_of(alloc: Global, digest: &Digest) -> Result<String, MemoryFault>
     ensures { IfOk result (λ line. string_bytes line ≡ sidecar_line digest.now) }
 {

@@ -28,10 +28,11 @@ use std::mem;
 // The room for a piece to begin with, which is that of a small object's inventory.
 const ROOM: usize = 1024;
 
-/// The inventory of the object with this identifier and these files, as compact JSON with keys in byte order and no
-/// LF at the end (OCFL 1.1, "Inventory"): the manifest has each distinct digest with the stored path of its first
-/// file, the state each with the logical paths of all its files in the order of the rows. The contents have to be
-/// those of the rows. `Memory` where a growth was refused.
+/// The inventory of the object with this identifier and these files, as compact JSON with keys in
+/// byte order and no LF at the end (OCFL 1.1, "Inventory"): the manifest has each distinct digest
+/// with the stored path of its first file, the state each with the logical paths of all its files
+/// in the order of the rows. The contents have to be those of the rows. `Memory` where a growth was
+/// refused.
 pub fn inventory(
     alloc: Global,
     id: &str,
@@ -76,8 +77,8 @@ pub struct InventoryInput<'a> {
     pub algorithm: Algorithm,
 }
 
-/// The text that `inventory` gives, made piece by piece so that one of many pieces is nowhere as a whole: seen as the piece that was made last, and as
-/// what is still to be made.
+/// The text that `inventory` gives, made piece by piece so that one of many pieces is nowhere as a
+/// whole: seen as the piece that was made last, and as what is still to be made.
 #[derive(Drop)]
 pub struct InventoryPieces<'a> {
     alloc: Global,
@@ -102,7 +103,8 @@ impl<'a> Model for InventoryPieces<'a> {
 }
 
 impl<'a> InventoryPieces<'a> {
-    /// The text of the inventory that `inventory` makes of the same, none of it made yet. `Memory` where a growth was refused.
+    /// The text of the inventory that `inventory` makes of the same, none of it made yet. `Memory`
+    /// where a growth was refused.
     pub fn of(alloc: Global, object: InventoryInput<'a>) -> Result<InventoryPieces<'a>, MemoryFault>
         requires { object.contents.now ≡ map content_of_row (distinct object.rows.now) }
         ensures { IfOk result (λ pieces. pieces.rest ≡ inventory_text object.entry.id.now
@@ -126,8 +128,8 @@ impl<'a> InventoryPieces<'a> {
         })
     }
 
-    /// Makes the next piece, of one byte and more: the whole of a small object's text. False where all was made. After `Memory` there is
-    /// nothing to go on with.
+    /// Makes the next piece, of one byte and more: the whole of a small object's text. False where
+    /// all was made. After `Memory` there is nothing to go on with.
     pub fn next(&mut self) -> Result<bool, MemoryFault>
         ensures { IfOk result (λ is_made. TakesPiece is_made self.old self.new) }
     {

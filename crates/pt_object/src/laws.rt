@@ -6,7 +6,8 @@ ghost use Rattle.pt_object.specs.ObjectLaws.{RootScriptCanBeMade, RootScriptMake
 ghost use Rattle.pt_object.specs.ObjectLaws.{ScriptMakesTheObject, ScriptOfRowsCanBeMade, ScriptOfRowsMakesTheObject};
 ghost use Rattle.pt_object.specs.VersionLaws.{StateIsTheFiles};
 
-/// Noting all rows in order gives the distinct files: those with whose digest there is no earlier row.
+/// Noting all rows in order gives the distinct files: those with whose digest there is no earlier
+/// row.
 pub fn noting_gives_distinct()
     ensures { NotingGivesDistinct }
 {}
@@ -16,13 +17,14 @@ pub fn noting_keeps_first()
     ensures { NotingKeepsFirst }
 {}
 
-/// Reading the text of an inventory as JSON gives its tree, whatever its identifier, rows, description and algorithm.
+/// Reading the text of an inventory as JSON gives its tree, whatever its identifier, rows,
+/// description and algorithm.
 pub fn inventory_reads_as_its_tree()
     ensures { InventoryReadsAsItsTree }
 {}
 
-/// Each item of the script of some rows may be made after those before it, in any destination without `staging`, where
-/// no path of the rows is another or leads to it.
+/// Each item of the script of some rows may be made after those before it, in any destination
+/// without `staging`, where no path of the rows is another or leads to it.
 pub fn script_of_rows_can_be_made()
     ensures { ScriptOfRowsCanBeMade }
 {}
@@ -32,53 +34,57 @@ pub fn script_of_rows_makes_the_object()
     ensures { ScriptOfRowsMakesTheObject }
 {}
 
-/// Each item of the script of an object may be made after those before it, in any destination without `staging`, for all
-/// files whose paths come in order and none of which leads to another.
+/// Each item of the script of an object may be made after those before it, in any destination
+/// without `staging`, for all files whose paths come in order and none of which leads to another.
 pub fn script_can_be_made()
     ensures { ScriptCanBeMade }
 {}
 
-/// The script of an object, carried out to its end, makes the object in `staging` and changes nothing else (OCFL 1.1,
-/// "Object Structure").
+/// The script of an object, carried out to its end, makes the object in `staging` and changes
+/// nothing else (OCFL 1.1, "Object Structure").
 pub fn script_makes_the_object()
     ensures { ScriptMakesTheObject }
 {}
 
-/// Each item of the script of a storage root may be made after those before it, in any destination without `staging`.
+/// Each item of the script of a storage root may be made after those before it, in any destination
+/// without `staging`.
 pub fn root_script_can_be_made()
     ensures { RootScriptCanBeMade }
 {}
 
-/// The script of a storage root makes its three files with the folders above them in `staging` and changes nothing else
-/// (OCFL 1.1, "Root Structure").
+/// The script of a storage root makes its three files with the folders above them in `staging` and
+/// changes nothing else (OCFL 1.1, "Root Structure").
 pub fn root_script_makes_the_root()
     ensures { RootScriptMakesTheRoot }
 {}
 
-/// Where paths come in order and none leads to another, no two of them are one or lead to one another.
+/// Where paths come in order and none leads to another, no two of them are one or lead to one
+/// another.
 pub fn paths_in_order_are_apart()
     ensures { PathsInOrderAreApart }
 {}
 
-/// Wherever the object of some files stands, the state of its version is those files, in order (OCFL 1.1, "Inventory",
-/// "Version Block"): for all files whose paths are logical paths that come in order, none leading to another, where no
-/// two files whose bytes differ have one digest.
+/// Wherever the object of some files stands, the state of its version is those files, in order
+/// (OCFL 1.1, "Inventory", "Version Block"): for all files whose paths are logical paths that come
+/// in order, none leading to another, where no two files whose bytes differ have one digest.
 pub fn state_is_the_files()
     ensures { StateIsTheFiles }
 {}
 
-/// What was put at a path where nothing stood, and is then moved to another path, stands there as if it had been put there.
+/// What was put at a path where nothing stood, and is then moved to another path, stands there as
+/// if it had been put there.
 pub fn moved_stands_there()
     ensures { MovedStandsThere }
 {}
 
-/// Of stored files in order, the last one alone tells which folders above the next one stand: those that lead to it too.
+/// Of stored files in order, the last one alone tells which folders above the next one stand: those
+/// that lead to it too.
 pub fn last_file_tells_folders()
     ensures { LastFileTellsFolders }
 {}
 
-/// The object of some rows and its script are those of files: the rows' paths, each with what is held where its content
-/// is stored, if that has the row's digest.
+/// The object of some rows and its script are those of files: the rows' paths, each with what is
+/// held where its content is stored, if that has the row's digest.
 pub fn rows_are_files()
     ensures { RowsAreFiles }
 {}

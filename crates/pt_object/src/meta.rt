@@ -73,9 +73,9 @@ impl Model for Meta {
 impl Meta {
     /// The description with these texts. An empty address is none; an empty message stays.
     ///
-    /// Refused, in this order, as `Created`, where `created` isn't `YYYY-MM-DDTHH:MM:SS` followed by `Z`, `+HH:MM`
-    /// or `-HH:MM`, of a day of the calendar and without a leap second (RFC 3339), and as `EmptyName`; then as
-    /// `Memory`, where a growth was refused.
+    /// Refused, in this order, as `Created`, where `created` isn't `YYYY-MM-DDTHH:MM:SS` followed
+    /// by `Z`, `+HH:MM` or `-HH:MM`, of a day of the calendar and without a leap second (RFC 3339),
+    /// and as `EmptyName`; then as `Memory`, where a growth was refused.
     pub fn of(
         alloc: Global,
         created: &str,

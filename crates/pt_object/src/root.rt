@@ -40,8 +40,9 @@ impl RootFiles {
     }
 }
 
-/// The files of a storage root of this layout (OCFL 1.1, "Root Structure"; extension 0003): the declaration, the
-/// layout's description and the configuration. `Memory` where a growth was refused.
+/// The files of a storage root of this layout (OCFL 1.1, "Root Structure"; extension 0003): the
+/// declaration, the layout's description and the configuration. `Memory` where a growth was
+/// refused.
 pub fn root_files(alloc: Global, layout: Layout) -> Result<RootFiles, MemoryFault>
     ensures { IfOk result (λ files. files ≡ root_files_of layout) }
 {

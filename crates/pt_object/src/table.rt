@@ -1,5 +1,6 @@
-//! The table of an object's contents: each distinct digest with the first path that has it. A digest is found by halving an index
-//! of positions, which lie in rows (`SortedIndex`, `IndexBlock`), over keys of the digests.
+//! The table of an object's contents: each distinct digest with the first path that has it. A
+//! digest is found by halving an index of positions, which lie in rows (`SortedIndex`,
+//! `IndexBlock`), over keys of the digests.
 
 mod contents;
 mod index;

@@ -21,7 +21,25 @@ use Rattle.pt_walk.specs.declared.site.Finding.{Finding}
 use Rattle.pt_walk.specs.declared.site.Finding.TheVariants as finding
 use Rattle.pt_plan.specs.Carried.{Carried, Marked, carried, carried_by, carried_by_outcome, marked, marked_after}
 use Rattle.pt_plan.specs.FileLaws.{CarriedFilesComeInOrder, comes_in_order}
-use Rattle.pt_plan.specs.Items.{Interior, Item, Named, PairtreeObject, Skip, Verdict, cause_of, encapsulated, is_ours, item_of, items, outcome_by, verdict_by_finding, verdict_by_identifier, verdict_by_visit, verdict_of, verdict_on_candidate}
+use Rattle.pt_plan.specs.Items.{
+  Interior,
+  Item,
+  Named,
+  PairtreeObject,
+  Skip,
+  Verdict,
+  cause_of,
+  encapsulated,
+  is_ours,
+  item_of,
+  items,
+  outcome_by,
+  verdict_by_finding,
+  verdict_by_identifier,
+  verdict_by_visit,
+  verdict_of,
+  verdict_on_candidate,
+}
 use Rattle.pt_plan.specs.Job.{Job, form_of}
 use Rattle.pt_plan.specs.Store.{pairtree_root, prefix_of, sites_in_root, sites_of}
 use Rattle.pt_plan.proofs.FilesInOrder.{files_come_in_order}
@@ -33,7 +51,8 @@ good Interior = true
 good (Skip why) = true
 good (Named id object) = is_proper object.inside
 
-good_by_identifier : (object : PairtreeObject) (read : Result (List ℕ) Refusal) → is_proper object.inside ≡ true → good (verdict_by_identifier object read) ≡ true
+good_by_identifier : (object : PairtreeObject) (read : Result (List ℕ) Refusal) → is_proper object.inside ≡ true
+    → good (verdict_by_identifier object read) ≡ true
 good_by_identifier _ (Ok _) proper = proper
 good_by_identifier _ (Err _) _ = refl
 
@@ -44,14 +63,16 @@ proper_from (suc i) (file name bytes after) proper = proper_from i after (proper
 proper_from (suc i) (other name after) proper = proper_from i after (proper_other name after proper).2
 proper_from (suc i) (dir name inside after) proper = proper_from i after (proper_dir name inside after proper).2
 
-good_candidate : (job : Job) (prefix : List ℕ) (site : Path) (f : Forest) → is_proper f ≡ true → good (verdict_on_candidate job prefix site (encapsulated site f)) ≡ true
+good_candidate : (job : Job) (prefix : List ℕ) (site : Path) (f : Forest) → is_proper f ≡ true
+    → good (verdict_on_candidate job prefix site (encapsulated site f)) ≡ true
 good_candidate job prefix site none proper = refl
 good_candidate job prefix site (file name bytes after) proper = refl
 good_candidate job prefix site (other name after) proper = refl
 good_candidate job prefix site (dir name inside after) proper =
     good_by_identifier _ (identifier_at job.tuples prefix site) (proper_dir name inside after proper).3
 
-good_by_finding : (job : Job) (prefix : List ℕ) (site : Path) (inside : Forest) (what : Finding) → is_proper inside ≡ true → good (verdict_by_finding job prefix site inside what) ≡ true
+good_by_finding : (job : Job) (prefix : List ℕ) (site : Path) (inside : Forest) (what : Finding) → is_proper inside ≡ true
+    → good (verdict_by_finding job prefix site inside what) ≡ true
 good_by_finding _ _ _ _ finding.Interior _ = refl
 good_by_finding _ _ _ _ (finding.Skip _) _ = refl
 good_by_finding job prefix site inside (finding.Candidate i) proper = good_candidate job prefix site _ (proper_from i inside proper)
@@ -106,9 +127,12 @@ good_sites depth path (dir name inside after) proper =
     let here = visit_either (is_last (at_of path)) Past (cond (nat_lt depth (length path + 1)) Deep (Listed inside)) refl
     (visit_either (nat_lt depth (length path + 1)) Deep (Listed inside) refl parts.3) in
     let below = all_walked (visit_of depth path inside) (sites_in depth (path ++ name ∷ []) inside) (good_sites depth (path ++ name ∷ []) inside parts.3) in
-    all_append good_site (cond (is_short name) ((path ++ name ∷ [], visit_of depth path inside) ∷ walked (visit_of depth path inside) (sites_in depth (path ++ name ∷ []) inside)) []) (sites_in depth path after)
-    (all_either (is_short name) ((path ++ name ∷ [], visit_of depth path inside) ∷ walked (visit_of depth path inside) (sites_in depth (path ++ name ∷ []) inside))
-    (and_from (good_visit (visit_of depth path inside)) (list_all good_site (walked (visit_of depth path inside) (sites_in depth (path ++ name ∷ []) inside))) here below))
+    all_append good_site (cond (is_short name) ((path ++ name ∷ [], visit_of depth path inside)
+    ∷ walked (visit_of depth path inside) (sites_in depth (path ++ name ∷ []) inside)) []) (sites_in depth path after)
+    (all_either (is_short name) ((path ++ name ∷ [], visit_of depth path inside)
+    ∷ walked (visit_of depth path inside) (sites_in depth (path ++ name ∷ []) inside))
+    (and_from (good_visit (visit_of depth path inside)) (list_all good_site (walked (visit_of depth path inside) (sites_in depth (path ++ name ∷ []) inside)))
+    here below))
     (good_sites depth path after parts.2)
 
 -- ---- so are the items, marked, and the first of them
@@ -125,7 +149,8 @@ good_items job prefix (site ∷ ways) h =
 abbrev good_marked : Marked → Bool
 good_marked m = good_item m.0
 
-all_marked : (job : Job) (root : Tree) (earlier others : List Item) → list_all good_item others ≡ true → list_all good_marked (marked_after job root earlier others) ≡ true
+all_marked : (job : Job) (root : Tree) (earlier others : List Item) → list_all good_item others ≡ true
+    → list_all good_marked (marked_after job root earlier others) ≡ true
 all_marked _ _ _ [] _ = refl
 all_marked job root earlier (item ∷ others) h =
     let parts = and_parts _ _ h in
@@ -148,7 +173,8 @@ files_in_order inside proper =
     let both = files_come_in_order inside proper in
     and_from _ _ both.0 both.1
 
-all_by_outcome : (id : List ℕ) (held : List File) (why : Option Cause) → comes_in_order held ≡ true → list_all in_order (carried_by_outcome id (outcome_by held why)) ≡ true
+all_by_outcome : (id : List ℕ) (held : List File) (why : Option Cause) → comes_in_order held ≡ true
+    → list_all in_order (carried_by_outcome id (outcome_by held why)) ≡ true
 all_by_outcome _ held None h = and_from _ true h refl
 all_by_outcome _ _ (Some _) _ = refl
 
@@ -168,7 +194,8 @@ all_in_order job (m ∷ marks) h =
     let parts = and_parts (good_marked m) (list_all good_marked marks) h in
     all_append in_order (carried_by job m.1 m.0.verdict) (carried job marks) (all_carried_by job m.1 m.0.verdict parts.0) (all_in_order job marks parts.1)
 
-good_in_root : (depth : ℕ) (top : Option Forest) → ((inside : Forest) → top ≡ Some inside → is_proper inside ≡ true) → list_all good_site (sites_in_root depth top) ≡ true
+good_in_root : (depth : ℕ) (top : Option Forest) → ((inside : Forest) → top ≡ Some inside → is_proper inside ≡ true)
+    → list_all good_site (sites_in_root depth top) ≡ true
 good_in_root _ None _ = refl
 good_in_root depth (Some top) h = and_from _ _ (h top refl) (good_sites depth [] top (h top refl))
 

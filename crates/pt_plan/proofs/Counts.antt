@@ -58,7 +58,8 @@ told_by_cause _ _ _ _ None = record { as_done = refl; as_present = refl; as_skip
 told_by_cause _ _ _ _ (Some _) = record { as_done = refl; as_present = refl; as_skipped = refl; as_all = refl }
 
 told_by_verdict : (job : Job) (path : Path) (taken : Bool) (verdict : Verdict) → is_fit taken verdict ≡ true
-    → AreTold (line_by_verdict job path taken verdict) (length (carried_by job taken verdict)) (cond taken 1 0) (cond (is_verdict_passed_over job taken verdict) 1 0)
+    → AreTold (line_by_verdict job path taken verdict) (length (carried_by job taken verdict)) (cond taken 1 0)
+    (cond (is_verdict_passed_over job taken verdict) 1 0)
 told_by_verdict _ _ true Interior fit = absurd (false≢true fit)
 told_by_verdict _ _ false Interior _ = record { as_done = refl; as_present = refl; as_skipped = refl; as_all = refl }
 told_by_verdict _ _ true (Skip _) fit = absurd (false≢true fit)
@@ -74,14 +75,20 @@ told_all job (m ∷ marks) fit =
     let parts = and_parts _ _ fit in
     let first = told_by_verdict job m.0.path m.1 m.0.verdict parts.0 in
     let later = told_all job marks parts.1 in
-    let both : length (carried job (m ∷ marks)) ≡ length (carried_by job m.1 m.0.verdict) + length (carried job marks) = length-append (carried_by job m.1 m.0.verdict) (carried job marks) in
-    let taken : count_by (λ (m : Marked). m.1) (m ∷ marks) ≡ (0 + cond m.1 1 0) + count_by (λ (m : Marked). m.1) marks = sum_by-append (λ (m : Marked). cond m.1 1 0) (m ∷ []) marks in
-    let passed : count_by (is_passed_over job) (m ∷ marks) ≡ (0 + cond (is_passed_over job m) 1 0) + count_by (is_passed_over job) marks = sum_by-append (λ (m : Marked). cond (is_passed_over job m) 1 0) (m ∷ []) marks in
-    let lengths : length (flat_map (line_of job) (m ∷ marks)) ≡ length (line_of job m) + length (flat_map (line_of job) marks) = length-append (line_of job m) (flat_map (line_of job) marks) in
+    let both : length (carried job (m ∷ marks)) ≡ length (carried_by job m.1 m.0.verdict)
+    + length (carried job marks) = length-append (carried_by job m.1 m.0.verdict) (carried job marks) in
+    let taken : count_by (λ (m : Marked). m.1) (m ∷ marks) ≡ (0 + cond m.1 1 0) + count_by (λ (m : Marked). m.1) marks = sum_by-append
+    (λ (m : Marked). cond m.1 1 0) (m ∷ []) marks in
+    let passed : count_by (is_passed_over job) (m ∷ marks) ≡ (0 + cond (is_passed_over job m) 1 0) + count_by (is_passed_over job) marks = sum_by-append
+    (λ (m : Marked). cond (is_passed_over job m) 1 0) (m ∷ []) marks in
+    let lengths : length (flat_map (line_of job) (m ∷ marks)) ≡ length (line_of job m) + length (flat_map (line_of job) marks) = length-append (line_of job m)
+    (flat_map (line_of job) marks) in
     record {
       as_done = sum_by-append (λ l. cond (is_done l) 1 0) (line_of job m) (flat_map (line_of job) marks) ∙ sums _ _ _ _ first.as_done later.as_done ∙ sym both;
-      as_present = sum_by-append (λ l. cond (is_present l) 1 0) (line_of job m) (flat_map (line_of job) marks) ∙ sums _ _ _ _ first.as_present later.as_present ∙ sym (taken ∙ from_none _ _);
-      as_skipped = sum_by-append (λ l. cond (is_skipped l) 1 0) (line_of job m) (flat_map (line_of job) marks) ∙ sums _ _ _ _ first.as_skipped later.as_skipped ∙ sym (passed ∙ from_none _ _);
+      as_present = sum_by-append (λ l. cond (is_present l) 1 0) (line_of job m) (flat_map (line_of job) marks) ∙ sums _ _ _ _ first.as_present later.as_present
+          ∙ sym (taken ∙ from_none _ _);
+      as_skipped = sum_by-append (λ l. cond (is_skipped l) 1 0) (line_of job m) (flat_map (line_of job) marks) ∙ sums _ _ _ _ first.as_skipped later.as_skipped
+          ∙ sym (passed ∙ from_none _ _);
       as_all = lengths ∙ all_sums _ _ _ _ _ _ _ _ _ _ _ first.as_all later.as_all both (taken ∙ from_none _ _) (passed ∙ from_none _ _);
     }
   where
@@ -95,12 +102,14 @@ told_all job (m ∷ marks) fit =
     all_sums l m a b c d e f x y z p q r s t = omega arith
 
 told_lines : (job : Job) (marks : List Marked) → list_all is_fit_mark marks ≡ true
-    → End (count_by is_done (flat_map (line_of job) marks)) (count_by is_present (flat_map (line_of job) marks)) (count_by is_skipped (flat_map (line_of job) marks))
+    → End (count_by is_done (flat_map (line_of job) marks)) (count_by is_present (flat_map (line_of job) marks))
+    (count_by is_skipped (flat_map (line_of job) marks))
     ≡ End (length (carried job marks)) (count_by (λ m. m.1) marks) (count_by (is_passed_over job) marks)
 told_lines job marks fit = let told = told_all job marks fit in λ i. End (told.as_done i) (told.as_present i) (told.as_skipped i)
 
 pub lines_tell_numbers : LinesTellNumbers
-lines_tell_numbers job source root k = told_lines job (take k (marked job source root)) (all_take is_fit_mark k (marked job source root) (all_fit job root [] (items job source)))
+lines_tell_numbers job source root k = told_lines job (take k (marked job source root))
+    (all_take is_fit_mark k (marked job source root) (all_fit job root [] (items job source)))
 
 pub end_line_tells_numbers : EndLineTellsNumbers
 end_line_tells_numbers job source root = told_lines job (marked job source root) (all_fit job root [] (items job source))

@@ -22,7 +22,8 @@ top_is_none [] = refl
 top_is_none (name ∷ []) = refl
 top_is_none (name ∷ next ∷ path) = top_below name (folders_above (next ∷ path))
 
-one_below : (m name : List ℕ) (q : Path) (paths : List Path) → is_one (m ∷ q) (map (λ (folder : Path). name ∷ folder) paths) ≡ (bytes_eq m name && is_one q paths)
+one_below : (m name : List ℕ) (q : Path) (paths : List Path) → is_one (m ∷ q) (map (λ (folder : Path). name ∷ folder) paths)
+    ≡ (bytes_eq m name && is_one q paths)
 one_below m name _ [] = by (bytes_eq m name)
   where
     by : (t : Bool) → false ≡ (t && false)
@@ -48,15 +49,18 @@ above m q (name ∷ next ∷ path) =
     ap (λ b. (bytes_eq m name && same_path q []) || b) (one_below m name q (folders_above (next ∷ path)))
     ∙ by (bytes_eq m name) refl q (λ x r. above x r (next ∷ path))
   where
-    by : (s : Bool) → bytes_eq m name ≡ s → (q : Path) → ((x : List ℕ) (r : Path) → is_one (x ∷ r) (folders_above (next ∷ path)) ≡ (leads (x ∷ r) (next ∷ path) && not (leads (next ∷ path) (x ∷ r))))
-        → ((s && same_path q []) || (s && is_one q (folders_above (next ∷ path)))) ≡ (is_some (cond s (rest_below q (next ∷ path)) None) && not (is_some (cond (bytes_eq name m) (rest_below (next ∷ path) q) None)))
+    by : (s : Bool) → bytes_eq m name ≡ s → (q : Path) → ((x : List ℕ) (r : Path)
+        → is_one (x ∷ r) (folders_above (next ∷ path)) ≡ (leads (x ∷ r) (next ∷ path) && not (leads (next ∷ path) (x ∷ r))))
+        → ((s && same_path q []) || (s && is_one q (folders_above (next ∷ path))))
+        ≡ (is_some (cond s (rest_below q (next ∷ path)) None) && not (is_some (cond (bytes_eq name m) (rest_below (next ∷ path) q) None)))
     by false e q later = refl
     by true e [] later = sym (inner (bytes_eq name m))
       where
         inner : (t : Bool) → not (is_some (cond t (rest_below (next ∷ path) []) None)) ≡ true
         inner true = refl
         inner false = refl
-    by true e (x ∷ q) later = later x q ∙ sym (ap (λ b. leads (x ∷ q) (next ∷ path) && not (is_some (cond b (rest_below (next ∷ path) (x ∷ q)) None))) (bytes_eq-sym m name true e))
+    by true e (x ∷ q) later = later x q ∙ sym (ap (λ b. leads (x ∷ q) (next ∷ path) && not (is_some (cond b (rest_below (next ∷ path) (x ∷ q)) None)))
+        (bytes_eq-sym m name true e))
 
 -- a path that leads to another and isn't led to by it is shorter
 shorter : (q p : Path) → leads q p ≡ true → leads p q ≡ false → length q < length p
@@ -93,7 +97,8 @@ one_of_first q (suc n) (p ∷ paths) h = by (same_path q p) (λ k. one_of_first 
     by false later h = later h
 
 -- a test that each of some paths passes follows from another, where it does at each of them
-pub each_one : {test other : Path → Bool} (paths : List Path) → ((q : Path) → is_one q paths ≡ true → test q ≡ true → other q ≡ true) → list_all test paths ≡ true → list_all other paths ≡ true
+pub each_one : {test other : Path → Bool} (paths : List Path) → ((q : Path) → is_one q paths ≡ true → test q ≡ true → other q ≡ true)
+    → list_all test paths ≡ true → list_all other paths ≡ true
 each_one [] _ _ = refl
 each_one {test} {other} (p ∷ paths) from h =
     let parts = and_parts (test p) _ h in
@@ -101,7 +106,8 @@ each_one {test} {other} (p ∷ paths) from h =
     (each_one paths (λ q one is. from q (or_right _ _ one) is) parts.1)
 
 -- two tests that say the same of each of some paths
-pub each_same : (test other : Path → Bool) (paths : List Path) → ((q : Path) → is_one q paths ≡ true → test q ≡ other q) → list_all test paths ≡ list_all other paths
+pub each_same : (test other : Path → Bool) (paths : List Path) → ((q : Path) → is_one q paths ≡ true → test q ≡ other q)
+    → list_all test paths ≡ list_all other paths
 each_same _ _ [] _ = refl
 each_same test other (p ∷ paths) same =
     ap (λ b. b && list_all test paths) (same p (ap (λ b. b || is_one p paths) (path_itself p)))

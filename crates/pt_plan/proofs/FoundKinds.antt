@@ -7,7 +7,8 @@ use Rattle.pt_plan.specs.TurnStart.{kind_in}
 use Rattle.pt_tree.specs.Forest.{Forest, Node, File, Dir, Other, none, file, other, dir, find, kind_of, listing_of}
 use Rattle.pt_tree.specs.declared.kind.Kind.{Kind}
 
-either_kind : (b : Bool) (node : Node) {l : Option Kind} (o : Option Node) → l ≡ option_map kind_of o → cond b (Some (kind_of node)) l ≡ option_map kind_of (cond b (Some node) o)
+either_kind : (b : Bool) (node : Node) {l : Option Kind} (o : Option Node) → l ≡ option_map kind_of o
+    → cond b (Some (kind_of node)) l ≡ option_map kind_of (cond b (Some node) o)
 either_kind true node o e = refl
 either_kind false node o e = e
 

@@ -16,13 +16,15 @@ use Rattle.pt_plan.proofs.PlaceShapes.{new_root_ways}
 use Rattle.pt_plan.proofs.WithObjects.{none_of_objects, short_as}
 
 -- objects leave the way to a place as it was
-pub way_with_objects : (job : Job) (objects : List Carried) (t : Tree) (object : Carried) → is_way_free job (with_objects job objects t) object ≡ is_way_free job t object
+pub way_with_objects : (job : Job) (objects : List Carried) (t : Tree) (object : Carried)
+    → is_way_free job (with_objects job objects t) object ≡ is_way_free job t object
 way_with_objects job objects t object = each_same _ _ _ at
   where
     at : (q : Path) → is_one q (tuple_folders job object) ≡ true → is_folder_or_free (with_objects job objects t q) ≡ is_folder_or_free (t q)
     at q one =
         let above = is_above q _ one in
-        ap (λ (o : Option Entry). is_folder_or_free (option_or (t q) (option_or o (folder_where (is_on_the_way job objects q))))) (none_of_objects job q objects (short_as job object.id q above.short))
+        ap (λ (o : Option Entry). is_folder_or_free (option_or (t q) (option_or o (folder_where (is_on_the_way job objects q)))))
+        (none_of_objects job q objects (short_as job object.id q above.short))
         ∙ by (t q) (is_on_the_way job objects q)
       where
         by : (here : Option Entry) (way : Bool) → is_folder_or_free (option_or here (option_or None (folder_where way))) ≡ is_folder_or_free here
@@ -44,4 +46,5 @@ way_in_base job root object rooted = by (root []) refl
     by (Some entry) e = refl
 
 pub way_stays_free : WayStaysFree
-way_stays_free job source root k object rooted = way_with_objects job (carried_among job source root k) (base job.tuples root) object ∙ way_in_base job root object rooted
+way_stays_free job source root k object rooted = way_with_objects job (carried_among job source root k) (base job.tuples root) object
+    ∙ way_in_base job root object rooted

@@ -6,7 +6,22 @@ use Rattle.std.proofs.lemmas.List.{take_all}
 use Rattle.std.proofs.lemmas.Grind.{flat_map-append}
 use Rattle.pt_object.specs.Root.{base}
 use Rattle.pt_tree.specs.Tree.{Entry, Tree}
-use Rattle.pt_plan.specs.Carried.{entry_of_objects, folder_where, is_on_the_way, Carried, Marked, all_carried, carried, carried_among, carried_by, carried_by_outcome, is_taken, marked, marked_after, with_objects}
+use Rattle.pt_plan.specs.Carried.{
+  entry_of_objects,
+  folder_where,
+  is_on_the_way,
+  Carried,
+  Marked,
+  all_carried,
+  carried,
+  carried_among,
+  carried_by,
+  carried_by_outcome,
+  is_taken,
+  marked,
+  marked_after,
+  with_objects,
+}
 use Rattle.pt_plan.specs.ItemLaws.{BeginsWithTheBase, WhatStandsStays, AllItemsAreAll, CarriedGrows, IsTakenAgainstEarlier, TextGrows}
 use Rattle.pt_plan.specs.Items.{Fails, Holds, Interior, Item, Named, Outcome, Skip, Verdict, items, outcome}
 use Rattle.pt_plan.specs.Job.{Job}
@@ -31,7 +46,8 @@ pub taken_against_earlier : IsTakenAgainstEarlier
 taken_against_earlier job source root k = mark_at job root [] (items job source) k
 
 -- of a list with one element more
-one_more : {X Y : Type 0} → (f : X → List Y) (k : ℕ) (xs : List X) {x : X} → slice_get xs k ≡ Some x → flat_map f (take (suc k) xs) ≡ flat_map f (take k xs) ++ f x
+one_more : {X Y : Type 0} → (f : X → List Y) (k : ℕ) (xs : List X) {x : X} → slice_get xs k ≡ Some x
+    → flat_map f (take (suc k) xs) ≡ flat_map f (take k xs) ++ f x
 one_more f k [] h = absurd (cc)
 one_more f zero (y ∷ xs) {x} h = append_nil (f y) ∙ ap f (some_is y x h)
   where
@@ -40,7 +56,8 @@ one_more f zero (y ∷ xs) {x} h = append_nil (f y) ∙ ap f (some_is y x h)
 one_more f (suc k) (y ∷ xs) {x} h = ap (λ l. f y ++ l) (one_more f k xs h) ∙ sym (append_assoc (f y) (flat_map f (take k xs)) (f x))
 
 -- an item's object is carried, or none is
-pub one_or_none : (job : Job) (taken : Bool) (verdict : Verdict) → (carried_by job taken verdict ≡ []) ⊎ ((object : Carried) × (carried_by job taken verdict ≡ object ∷ []))
+pub one_or_none : (job : Job) (taken : Bool) (verdict : Verdict) → (carried_by job taken verdict ≡ [])
+    ⊎ ((object : Carried) × (carried_by job taken verdict ≡ object ∷ []))
 one_or_none _ _ Interior = inl refl
 one_or_none _ _ (Skip _) = inl refl
 one_or_none _ true (Named _ _) = inl refl
@@ -74,8 +91,13 @@ all_items_are_all job source root k h =
     let all : take k (marked job source root) ≡ marked job source root =
     take_all k (marked job source root) (rw (as_many job root [] (items job source)) h) in
     let objects : carried_among job source root k ≡ all_carried job source root = ap (carried job) all in
-    let told : lines job source root k ≡ all_lines job source root = ap (flat_map (line_of job)) all in
-    (objects, ap (λ (l : List Carried). with_objects job l (base job.tuples root)) objects, told, ap (λ (l : List Line). flat_map line_text l ++ line_text (end_line l)) (sym told))
+    let told : lines job source root k ≡ all_lines job source root = ap (flat_map (line_of job)) all in (
+      objects,
+      ap (λ (l : List Carried). with_objects job l (base job.tuples root)) objects,
+      told,
+      ap (λ (l : List Line). flat_map line_text l
+          ++ line_text (end_line l)) (sym told),
+    )
 
 or_nothing : (here : Option Entry) → option_or here None ≡ here
 or_nothing None = refl
@@ -86,4 +108,5 @@ begins_with_the_base job _ root = λ i path. or_nothing (base job.tuples root pa
 
 pub what_stands_stays : WhatStandsStays
 what_stands_stays job source root k path _ h =
-    ap (λ (here : Option Entry). option_or here (option_or (entry_of_objects job (carried_among job source root k) path) (folder_where (is_on_the_way job (carried_among job source root k) path)))) h
+    ap (λ (here : Option Entry). option_or here (option_or (entry_of_objects job (carried_among job source root k) path)
+    (folder_where (is_on_the_way job (carried_among job source root k) path)))) h

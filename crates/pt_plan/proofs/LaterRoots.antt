@@ -17,7 +17,20 @@ use Rattle.pt_object.specs.Scripts.{object_items, root_items}
 use Rattle.pt_tree.specs.Forest.{Forest}
 use Rattle.pt_tree.specs.Path.{Path}
 use Rattle.pt_tree.specs.Tree.{Bytes, Entry, Tree}
-use Rattle.pt_plan.specs.Carried.{Carried, after, all_carried, carried, carried_among, entry_of_objects, folder_where, is_folder_or_free, is_on_the_way, is_way_free, marked, with_objects}
+use Rattle.pt_plan.specs.Carried.{
+  Carried,
+  after,
+  all_carried,
+  carried,
+  carried_among,
+  entry_of_objects,
+  folder_where,
+  is_folder_or_free,
+  is_on_the_way,
+  is_way_free,
+  marked,
+  with_objects,
+}
 use Rattle.pt_plan.specs.Faults.{AsItWas, Between, Carrying, IsCarriedAs, FaultStateOfFree, MakingRoot, on_the_way_to}
 use Rattle.pt_plan.specs.Items.{items}
 use Rattle.pt_plan.specs.Job.{Job}
@@ -59,11 +72,14 @@ base_ready {job} {source} {root} target = by (root []) refl target
 -- ---- a later root
 
 -- what stands in the base stands in it
-stays_later : (job : Job) (objects : List Carried) (folders : List Path) (t : Tree) {path : Path} {entry : Entry} → t path ≡ Some entry → with_folders folders (with_objects job objects t) path ≡ Some entry
+stays_later : (job : Job) (objects : List Carried) (folders : List Path) (t : Tree) {path : Path} {entry : Entry} → t path ≡ Some entry
+    → with_folders folders (with_objects job objects t) path ≡ Some entry
 stays_later job objects folders _ {path} e =
-    ap (λ o. option_or (option_or o (option_or (entry_of_objects job objects path) (folder_where (is_on_the_way job objects path)))) (folder_where (is_one path folders))) e
+    ap (λ o. option_or (option_or o (option_or (entry_of_objects job objects path) (folder_where (is_on_the_way job objects path))))
+    (folder_where (is_one path folders))) e
 
-top_later : (job : Job) (objects : List Carried) (folders : List Path) (t : Tree) → is_some (t []) ≡ true → is_some (with_folders folders (with_objects job objects t) []) ≡ true
+top_later : (job : Job) (objects : List Carried) (folders : List Path) (t : Tree) → is_some (t []) ≡ true
+    → is_some (with_folders folders (with_objects job objects t) []) ≡ true
 top_later job objects folders t h = by (t []) refl h
   where
     by : (o : Option Entry) → t [] ≡ o → is_some o ≡ true → is_some (with_folders folders (with_objects job objects t) []) ≡ true
@@ -71,25 +87,31 @@ top_later job objects folders t h = by (t []) refl h
     by (Some entry) e h = ap is_some (stays_later job objects folders t e)
 
 -- no place is one of the folders
-no_place : (job : Job) (objects : List Carried) (folders : List Path) → AreFoldersTo job objects folders → (id : List ℕ) → is_one (place_of job.tuples id) folders ≡ false
-no_place job objects folders to id = false_from_ne_true (is_one (place_of job.tuples id) folders) (λ h. let short = (to (place_of job.tuples id) h).0 id in omega (arith, short))
+no_place : (job : Job) (objects : List Carried) (folders : List Path) → AreFoldersTo job objects folders → (id : List ℕ)
+    → is_one (place_of job.tuples id) folders ≡ false
+no_place job objects folders to id = false_from_ne_true (is_one (place_of job.tuples id) folders)
+    (λ h. let short = (to (place_of job.tuples id) h).0 id in omega (arith, short))
 
-holds_items : (job : Job) (source : Forest) {root : Tree} (k : ℕ) (folders : List Path) → IsRooted root → AreFoldersTo job (left_after job source root k) folders
+holds_items : (job : Job) (source : Forest) {root : Tree} (k : ℕ) (folders : List Path) → IsRooted root
+    → AreFoldersTo job (left_after job source root k) folders
     → HoldsItems job root (with_folders folders (after job source root k)) (take k (items job source))
 holds_items job source {root} k folders rooted to id reserved =
     ap is_some (stands_with_folders folders (after job source root k) (no_place job _ folders to id))
     ∙ place_stands_where_taken job source root k id rooted reserved
 
 -- a way that was free stays free
-way_stays : (job : Job) (objects : List Carried) (folders : List Path) (t : Tree) (object : Carried) → is_way_free job t object ≡ true → is_way_free job (with_folders folders (with_objects job objects t)) object ≡ true
+way_stays : (job : Job) (objects : List Carried) (folders : List Path) (t : Tree) (object : Carried) → is_way_free job t object ≡ true
+    → is_way_free job (with_folders folders (with_objects job objects t)) object ≡ true
 way_stays job objects folders t object free =
     each_one _ at free
   where
-    at : (q : Path) → is_one q (tuple_folders job object) ≡ true → is_folder_or_free (t q) ≡ true → is_folder_or_free (with_folders folders (with_objects job objects t) q) ≡ true
+    at : (q : Path) → is_one q (tuple_folders job object) ≡ true → is_folder_or_free (t q) ≡ true
+        → is_folder_or_free (with_folders folders (with_objects job objects t) q) ≡ true
     at q one h =
         let above = is_above q _ one in
         let none : entry_of_objects job objects q ≡ None = none_of_objects job q objects (short_as job object.id q above.short) in
-        ap (λ (o : Option Entry). is_folder_or_free (option_or (option_or (t q) (option_or o (folder_where (is_on_the_way job objects q)))) (folder_where (is_one q folders)))) none
+        ap (λ (o : Option Entry). is_folder_or_free (option_or (option_or (t q) (option_or o (folder_where (is_on_the_way job objects q))))
+        (folder_where (is_one q folders)))) none
         ∙ by (t q) (is_on_the_way job objects q) (is_one q folders) h
       where
         by : (o : Option Entry) (s u : Bool) → is_folder_or_free o ≡ true → is_folder_or_free (option_or (option_or o (folder_where s)) (folder_where u)) ≡ true
@@ -98,14 +120,16 @@ way_stays job objects folders t object free =
         by None false true h = refl
         by None false false h = refl
 
-ways_stay : (job : Job) (objects : List Carried) (folders : List Path) (t : Tree) (carried : List Carried) → list_all (is_way_free job t) carried ≡ true → list_all (is_way_free job (with_folders folders (with_objects job objects t))) carried ≡ true
+ways_stay : (job : Job) (objects : List Carried) (folders : List Path) (t : Tree) (carried : List Carried) → list_all (is_way_free job t) carried ≡ true
+    → list_all (is_way_free job (with_folders folders (with_objects job objects t))) carried ≡ true
 ways_stay _ _ _ _ [] _ = refl
 ways_stay job objects folders t (object ∷ others) h =
     let parts = and_parts _ _ h in
     and_from _ _
     (way_stays job objects folders t object parts.0) (ways_stay job objects folders t others parts.1)
 
-ends_later : {job : Job} {source : Forest} {root : Tree} (k : ℕ) (folders : List Path) → IsRooted root → IsTarget job source root → AreFoldersTo job (left_after job source root k) folders
+ends_later : {job : Job} {source : Forest} {root : Tree} (k : ℕ) (folders : List Path) → IsRooted root → IsTarget job source root
+    → AreFoldersTo job (left_after job source root k) folders
     → EndsAlike job source root (with_folders folders (after job source root k))
 ends_later {job} {source} {root} k folders rooted target to =
     let first = carried_among job source root k in
@@ -120,7 +144,8 @@ ends_later {job} {source} {root} k folders rooted target to =
     record {
       rooted = λ none. absurd (false≢true (sym (ap is_some none) ∙ stands));
       target = inr (record {
-        files = All-weaker (λ (file : File). start file.0 ≡ Some (Bytes file.1)) (λ (file : File). later file.0 ≡ Some (Bytes file.1)) (λ file e. stays_later job first folders start e) (root_files_of job.tuples) ready.files;
+        files = All-weaker (λ (file : File). start file.0 ≡ Some (Bytes file.1)) (λ (file : File). later file.0 ≡ Some (Bytes file.1))
+            (λ file e. stays_later job first folders start e) (root_files_of job.tuples) ready.files;
         ways = rw again (ways_stay job first folders start rest parts.1);
       });
       same =
@@ -144,8 +169,11 @@ next_folders : (job : Job) (source : Forest) (root : Tree) (k tuples : ℕ) {obj
 next_folders job source root k tuples {object} (_, at, is) path h =
     let above = is_above path _ (one_of_first path tuples _ h) in
     let next : left_after job source root k ≡ object ∷ carried job (drop (suc k) (marked job source root)) =
-    ap (carried job) (drop_at (marked job source root) k at) ∙ ap (λ (l : List Carried). l ++ carried job (drop (suc k) (marked job source root))) is in
-    (short_as job object.id path above.short, ap (λ (l : List Carried). is_on_the_way job l path) next ∙ ap (λ b. b || is_on_the_way job (carried job (drop (suc k) (marked job source root))) path) above.on)
+    ap (carried job) (drop_at (marked job source root) k at) ∙ ap (λ (l : List Carried). l ++ carried job (drop (suc k) (marked job source root))) is in (
+      short_as job object.id path above.short,
+      ap (λ (l : List Carried). is_on_the_way job l path) next
+          ∙ ap (λ b. b || is_on_the_way job (carried job (drop (suc k) (marked job source root))) path) above.on,
+    )
 
 pub no_folders : (job : Job) (objects : List Carried) → AreFoldersTo job objects []
 no_folders _ _ _ h = absurd (false≢true h)
@@ -160,7 +188,8 @@ ends_same rooted target = record { rooted = rooted; target = target; same = refl
 along : {job : Job} {source : Forest} {root later now : Tree} → now ≡ later → EndsAlike job source root later → EndsAlike job source root now
 along {job} {source} {root} same ends = rw same ends
 
-ends_left : {job : Job} {source : Forest} {start now : Tree} {log : List ℕ} → IsRooted (root_in start) → IsTarget job source (root_in start) → FaultStateOfFree job source start now log → EndsAlike job source (root_in start) (root_in now)
+ends_left : {job : Job} {source : Forest} {start now : Tree} {log : List ℕ} → IsRooted (root_in start) → IsTarget job source (root_in start)
+    → FaultStateOfFree job source start now log → EndsAlike job source (root_in start) (root_in now)
 ends_left rooted target AsItWas = ends_same rooted target
 ends_left {job} rooted target (MakingRoot _ _ at) =
     along (root_at_prefix (root_items job.tuples) at) (ends_same rooted target)

@@ -35,7 +35,8 @@ leads_through (_ ∷ _) (_ ∷ _) [] _ k = absurd (false≢true k)
 leads_through (x ∷ p) (y ∷ q) (z ∷ r) h k = by (bytes_eq x y) (bytes_eq y z) refl refl (λ a b. leads_through p q r a b) h k
   where
     by : (s t : Bool) → bytes_eq x y ≡ s → bytes_eq y z ≡ t → (leads p q ≡ true → leads q r ≡ true → leads p r ≡ true)
-        → is_some (cond s (rest_below p q) None) ≡ true → is_some (cond t (rest_below q r) None) ≡ true → is_some (cond (bytes_eq x z) (rest_below p r) None) ≡ true
+        → is_some (cond s (rest_below p q) None) ≡ true → is_some (cond t (rest_below q r) None) ≡ true
+        → is_some (cond (bytes_eq x z) (rest_below p r) None) ≡ true
     by false t xy yz later h k = absurd (false≢true h)
     by true false xy yz later h k = absurd (false≢true k)
     by true true xy yz later h k = ap (λ c. is_some (cond c (rest_below p r) None)) (ap (λ (l : List ℕ). bytes_eq l z) (same_name x y xy) ∙ yz) ∙ later h k

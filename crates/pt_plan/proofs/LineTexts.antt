@@ -16,6 +16,7 @@ no_float : (line : Line) (d : Data) → d ≡ line_tree line → has_float d ≡
 no_float line d is = ap has_float is ∙ no_float_in line
 
 -- what was sent as a line's JSON, and written, is the line's text
-pub text_is : (line : Line) (d : Data) (log : Log) (json text : List ℕ) → d ≡ line_tree line → SendsValue d (Some []) log → IsTextOf log json → text ≡ json ++ 10 ∷ [] → text ≡ line_text line
+pub text_is : (line : Line) (d : Data) (log : Log) (json text : List ℕ) → d ≡ line_tree line → SendsValue d (Some []) log → IsTextOf log json
+    → text ≡ json ++ 10 ∷ [] → text ≡ line_text line
 text_is line d log json text is sent written ended =
     ended ∙ ap (λ (bytes : List ℕ). bytes ++ 10 ∷ []) (text_of_value d log json sent written (no_float line d is) ∙ ap compact_text is)

@@ -38,7 +38,8 @@ put_at : (t root : Tree) (path : Path) (entry : Entry) (q : Path) → put (with_
 put_at _ _ _ _ [] = refl
 put_at t root path entry (x ∷ q) = by (bytes_eq x (codes "ocfl")) (bytes_eq (codes "ocfl") x) (sym (bytes_eq-sym x _ _ refl))
   where
-    by : (s u : Bool) → s ≡ u → cond (s && same_path q path) (Some entry) (placed_at root (cond u (Some q) None) (t (x ∷ q))) ≡ placed_at (put root path entry) (cond u (Some q) None) (t (x ∷ q))
+    by : (s u : Bool) → s ≡ u → cond (s && same_path q path) (Some entry) (placed_at root (cond u (Some q) None) (t (x ∷ q)))
+        ≡ placed_at (put root path entry) (cond u (Some q) None) (t (x ∷ q))
     by true true e = refl
     by false false e = refl
     by true false e = absurd (true≢false e)
@@ -58,7 +59,8 @@ moved_in_at _ _ _ _ _ [] = refl
 moved_in_at t root inside place free (x ∷ q) = by (bytes_eq (codes "ocfl") x) (bytes_eq (codes "staging") x) (rest_below place q) refl refl refl
   where
     by : (a b : Bool) (o : Option Path) → bytes_eq (codes "ocfl") x ≡ a → bytes_eq (codes "staging") x ≡ b → rest_below place q ≡ o
-        → moved_at (placed (with_root t root) staging inside) staging (cond a o None) (cond b (Some q) None) (x ∷ q) ≡ placed_at (placed root place inside) (cond a (Some q) None) (t (x ∷ q))
+        → moved_at (placed (with_root t root) staging inside) staging (cond a o None) (cond b (Some q) None) (x ∷ q)
+        ≡ placed_at (placed root place inside) (cond a (Some q) None) (t (x ∷ q))
     by true true o a b r = absurd (not_both x a b)
     by true false (Some rest) a b r = sym (ap (λ (c : Option Path). placed_at inside c (root q)) r)
     by true false None a b r =
@@ -84,7 +86,8 @@ take_more [] n h = absurd (cc)
 take_more (f ∷ folders) zero {folder} h = let same : f ≡ folder = cc in λ i. same i ∷ []
 take_more (f ∷ folders) (suc n) h = ap (λ (l : List Path). f ∷ l) (take_more folders n h)
 
-one_more : (folders : List Path) (n : ℕ) {folder : Path} (q : Path) → slice_get folders n ≡ Some folder → is_one q (take (suc n) folders) ≡ (is_one q (take n folders) || (same_path q folder || false))
+one_more : (folders : List Path) (n : ℕ) {folder : Path} (q : Path) → slice_get folders n ≡ Some folder
+    → is_one q (take (suc n) folders) ≡ (is_one q (take n folders) || (same_path q folder || false))
 one_more folders n {folder} q h = ap (is_one q) (take_more folders n h) ∙ list_any-append (same_path q) (take n folders) (folder ∷ [])
 
 made_at : (folders : List Path) (t : Tree) (n : ℕ) {folder : Path} → slice_get folders n ≡ Some folder → with_folders (take n folders) t folder ≡ None

@@ -1,5 +1,35 @@
 -- Places of one layout have as many names, and none is a root file or a folder above one.
-use Rattle.std.proofs.Common.{◌≡◌, ℕ, zero, suc, ◌/◌, ◌%◌, ◌==◌, ◌||◌, ◌&&◌, List, [], ◌∷◌, ◌++◌, Bool, true, false, cond, length, map, take, drop, refl, sym, ◌∙◌, ap, arith, inl, inr, nat_le}
+use Rattle.std.proofs.Common.{
+  ◌≡◌,
+  ℕ,
+  zero,
+  suc,
+  ◌/◌,
+  ◌%◌,
+  ◌==◌,
+  ◌||◌,
+  ◌&&◌,
+  List,
+  [],
+  ◌∷◌,
+  ◌++◌,
+  Bool,
+  true,
+  false,
+  cond,
+  length,
+  map,
+  take,
+  drop,
+  refl,
+  sym,
+  ◌∙◌,
+  ap,
+  arith,
+  inl,
+  inr,
+  nat_le,
+}
 use Rattle.std.specs.Prelude.{All, Option, None, Some, codes, is_some, not, slice_index}
 use Rattle.std.specs.List.{list_all}
 use Rattle.std.specs.Str.{bytes_eq}
@@ -97,18 +127,22 @@ differ p a b h k = false_from_ne_true (bytes_eq a b) (λ e. true≢false (sym h 
 -- ---- a new root
 
 -- below a name that no entry of it has, nothing stands
-nothing_below : (tuples : Tuples) (name : List ℕ) (more : Path) → bytes_eq name (codes "0=ocfl_1.1") ≡ false → bytes_eq name (codes "ocfl_layout.json") ≡ false → bytes_eq name (codes "extensions") ≡ false
+nothing_below : (tuples : Tuples) (name : List ℕ) (more : Path) → bytes_eq name (codes "0=ocfl_1.1") ≡ false → bytes_eq name (codes "ocfl_layout.json") ≡ false
+    → bytes_eq name (codes "extensions") ≡ false
     → root_of tuples (name ∷ more) ≡ None
 nothing_below _ _ _ a b e = rw (a, b, e) refl
 
 nothing_below_tuple : (tuples : Tuples) (name : List ℕ) (more : Path) → list_all is_digit_like name ≡ true → root_of tuples (name ∷ more) ≡ None
 nothing_below_tuple tuples name more d =
-    nothing_below tuples name more (differ is_digit_like name (codes "0=ocfl_1.1") d refl) (differ is_digit_like name (codes "ocfl_layout.json") d refl) (differ is_digit_like name (codes "extensions") d refl)
+    nothing_below tuples name more (differ is_digit_like name (codes "0=ocfl_1.1") d refl) (differ is_digit_like name (codes "ocfl_layout.json") d refl)
+    (differ is_digit_like name (codes "extensions") d refl)
 
 nothing_by : (tuples : Tuples) (size count : ℕ) (digits last : List ℕ) (rest : Path) → list_all is_digit_like digits ≡ true → list_all is_plain last ≡ true
-    → (count == 0 && same_path (tuples_from size count digits ++ last ∷ []) (codes "extensions" ∷ [])) ≡ false → root_of tuples ((tuples_from size count digits ++ last ∷ []) ++ rest) ≡ None
+    → (count == 0 && same_path (tuples_from size count digits ++ last ∷ []) (codes "extensions" ∷ [])) ≡ false
+    → root_of tuples ((tuples_from size count digits ++ last ∷ []) ++ rest) ≡ None
 nothing_by tuples _ zero _ last rest _ l reserved =
-    nothing_below tuples last rest (differ is_plain last (codes "0=ocfl_1.1") l refl) (differ is_plain last (codes "ocfl_layout.json") l refl) (by (bytes_eq last (codes "extensions")) reserved)
+    nothing_below tuples last rest (differ is_plain last (codes "0=ocfl_1.1") l refl) (differ is_plain last (codes "ocfl_layout.json") l refl)
+    (by (bytes_eq last (codes "extensions")) reserved)
   where
     by : (t : Bool) → (t && true) ≡ false → t ≡ false
     by true h = h
@@ -152,7 +186,9 @@ ways_by : (tuples : Tuples) (size count : ℕ) (digits last : List ℕ) → list
     → list_all (λ folder. is_folder_or_free (root_of tuples folder)) (folders_above (tuples_from size count digits ++ last ∷ [])) ≡ true
 ways_by _ _ zero _ _ _ = refl
 ways_by tuples size (suc count) digits last d =
-    ways_from tuples (take size digits) (tuples_from size count (drop size digits) ++ last ∷ []) (λ more. nothing_below_tuple tuples (take size digits) more (all_take is_digit_like size digits d))
+    ways_from tuples (take size digits) (tuples_from size count (drop size digits) ++ last ∷ [])
+    (λ more. nothing_below_tuple tuples (take size digits) more (all_take is_digit_like size digits d))
 
 pub new_root_ways : (job : Job) (object : Carried) → is_way_free job (root_of job.tuples) object ≡ true
-new_root_ways job object = ways_by job.tuples job.tuples.size job.tuples.count _ (last_name_of object.id) (digits_pass is_digit_like refl refl (sha256 object.id))
+new_root_ways job object = ways_by job.tuples job.tuples.size job.tuples.count _ (last_name_of object.id)
+    (digits_pass is_digit_like refl refl (sha256 object.id))

@@ -14,7 +14,25 @@ use Rattle.pt_walk.specs.Site.{found}
 use Rattle.pt_walk.specs.Sites.{Site, Visit, Listed, at_of}
 use Rattle.pt_walk.specs.declared.site.Finding.{Finding}
 use Rattle.pt_walk.specs.declared.site.Finding.TheVariants as finding
-use Rattle.pt_plan.specs.Items.{Interior, Item, Named, PairtreeObject, Skip, Verdict, encapsulated, gathered_from, is_ours, is_reserved, item_of, items, verdict_by_finding, verdict_by_identifier, verdict_by_visit, verdict_of, verdict_on_candidate}
+use Rattle.pt_plan.specs.Items.{
+  Interior,
+  Item,
+  Named,
+  PairtreeObject,
+  Skip,
+  Verdict,
+  encapsulated,
+  gathered_from,
+  is_ours,
+  is_reserved,
+  item_of,
+  items,
+  verdict_by_finding,
+  verdict_by_identifier,
+  verdict_by_visit,
+  verdict_of,
+  verdict_on_candidate,
+}
 use Rattle.pt_plan.specs.Job.{Job, form_of}
 use Rattle.pt_plan.specs.PlaceLaws.{NamedIsNotReserved}
 use Rattle.pt_plan.specs.Store.{prefix_of, sites_of}
@@ -32,7 +50,8 @@ free_named job id object = by (is_reserved job id) refl
     by true e = refl
     by false e = not_from_false (is_reserved job id) e
 
-free_by_reading : (job : Job) (prefix : List ℕ) (object : PairtreeObject) (reading : Option (List ℕ)) → free job (verdict_by_identifier object (identifier_by job.tuples prefix reading)) ≡ true
+free_by_reading : (job : Job) (prefix : List ℕ) (object : PairtreeObject) (reading : Option (List ℕ))
+    → free job (verdict_by_identifier object (identifier_by job.tuples prefix reading)) ≡ true
 free_by_reading _ _ _ None = refl
 free_by_reading job prefix object (Some read) = by (is_utf8 read)
   where
@@ -44,7 +63,8 @@ free_candidate : (job : Job) (prefix : List ℕ) (site : Path) (object : Option 
 free_candidate _ _ _ None = refl
 free_candidate job prefix site (Some object) = free_by_reading job prefix object (reading_of (concat site))
 
-free_by_finding : (job : Job) (prefix : List ℕ) (site : Path) (inside : Forest) (what : Finding) → free job (verdict_by_finding job prefix site inside what) ≡ true
+free_by_finding : (job : Job) (prefix : List ℕ) (site : Path) (inside : Forest) (what : Finding)
+    → free job (verdict_by_finding job prefix site inside what) ≡ true
 free_by_finding _ _ _ _ finding.Interior = refl
 free_by_finding _ _ _ _ (finding.Skip _) = refl
 free_by_finding job prefix site inside (finding.Candidate i) = free_candidate job prefix site (encapsulated site (entries_from i inside))
@@ -62,7 +82,8 @@ free_if _ false _ _ = refl
 free_verdict : (job : Job) (prefix : List ℕ) (path : Path) (visit : Visit) → free job (verdict_of job prefix path visit) ≡ true
 free_verdict job prefix path visit = free_if job (is_ours job.share (verdict_by_visit job prefix path visit)) _ (free_by_visit job prefix path visit)
 
-free_at : (job : Job) (prefix : List ℕ) (ways : List Site) (k : ℕ) {item : Item} → slice_get (map (item_of job prefix) ways) k ≡ Some item → free job item.verdict ≡ true
+free_at : (job : Job) (prefix : List ℕ) (ways : List Site) (k : ℕ) {item : Item} → slice_get (map (item_of job prefix) ways) k ≡ Some item
+    → free job item.verdict ≡ true
 free_at job prefix [] k is = absurd (cc)
 free_at job prefix (site ∷ ways) zero {item} is =
     let same : item_of job prefix site ≡ item = cc in

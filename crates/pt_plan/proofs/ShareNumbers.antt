@@ -1,5 +1,32 @@
 -- The number of the share that an identifier is of.
-use Rattle.std.proofs.Common.{◌≡◌, ◌<◌, ◌≤◌, ◌+◌, ◌*◌, ◌/◌, ◌^◌, ◌==◌, ℕ, Bool, true, false, List, [], ◌∷◌, arith, ap, sym, ◌∙◌, refl, cond, subst, nat_lt, inl, inr, eq-eqb}
+use Rattle.std.proofs.Common.{
+  ◌≡◌,
+  ◌<◌,
+  ◌≤◌,
+  ◌+◌,
+  ◌*◌,
+  ◌/◌,
+  ◌^◌,
+  ◌==◌,
+  ℕ,
+  Bool,
+  true,
+  false,
+  List,
+  [],
+  ◌∷◌,
+  arith,
+  ap,
+  sym,
+  ◌∙◌,
+  refl,
+  cond,
+  subst,
+  nat_lt,
+  inl,
+  inr,
+  eq-eqb,
+}
 use Rattle.std.specs.Prelude.{All}
 use Rattle.std.specs.Str.{is_utf8}
 use Rattle.std.specs.Int.{from_be_bytes, w32}
@@ -28,7 +55,8 @@ unfolding encode
 small_encode c h = by (nat_lt c 128) (nat_lt c 2048) (nat_lt c 65536) refl refl refl
   where
     by : (x y z : Bool) → nat_lt c 128 ≡ x → nat_lt c 2048 ≡ y → nat_lt c 65536 ≡ z
-        → All (λ b. b < 256) (cond x (c ∷ []) (cond y ((192 + c / 64) ∷ next c ∷ []) (cond z ((224 + c / 4096) ∷ next (c / 64) ∷ next c ∷ []) ((240 + c / 262144) ∷ next (c / 4096) ∷ next (c / 64) ∷ next c ∷ []))))
+        → All (λ b. b < 256) (cond x (c ∷ []) (cond y ((192 + c / 64) ∷ next c ∷ [])
+        (cond z ((224 + c / 4096) ∷ next (c / 64) ∷ next c ∷ []) ((240 + c / 262144) ∷ next (c / 4096) ∷ next (c / 64) ∷ next c ∷ []))))
     by true y z a b d = let low = ltb-true c 128 a in one [] (omega (arith, low)) (All-nil (λ b. b < 256))
     by false true z a b d = let low = ltb-true c 2048 b in one (next c ∷ []) (omega (arith, low)) (one [] (omega arith) (All-nil (λ b. b < 256)))
     by false false true a b d =
@@ -62,7 +90,8 @@ number_within {count} id some =
     omega (arith, below)
 
 -- identifiers of one place are of one share
-pub one_share : (tuples : Tuples) (count : ℕ) (a b : List ℕ) → is_utf8 a ≡ true → is_utf8 b ≡ true → place_of tuples a ≡ place_of tuples b → share_number count a ≡ share_number count b
+pub one_share : (tuples : Tuples) (count : ℕ) (a b : List ℕ) → is_utf8 a ≡ true → is_utf8 b ≡ true → place_of tuples a ≡ place_of tuples b
+    → share_number count a ≡ share_number count b
 unfolding digest_number
 one_share tuples count a b u v same = by (share_number count a == share_number count b) refl
   where

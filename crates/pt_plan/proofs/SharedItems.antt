@@ -1,5 +1,32 @@
 -- What the shares of a store carry and tell is what one run carries and tells, each of one share.
-use Rattle.std.proofs.Common.{◌≡◌, ◌≢◌, ◌≤◌, ◌+◌, ◌==◌, ◌&&◌, ℕ, zero, suc, Bool, true, false, List, [], ◌∷◌, ◌++◌, arith, ap, sym, ◌∙◌, refl, cond, map, eq-eqb, nat_lt, length}
+use Rattle.std.proofs.Common.{
+  ◌≡◌,
+  ◌≢◌,
+  ◌≤◌,
+  ◌+◌,
+  ◌==◌,
+  ◌&&◌,
+  ℕ,
+  zero,
+  suc,
+  Bool,
+  true,
+  false,
+  List,
+  [],
+  ◌∷◌,
+  ◌++◌,
+  arith,
+  ap,
+  sym,
+  ◌∙◌,
+  refl,
+  cond,
+  map,
+  eq-eqb,
+  nat_lt,
+  length,
+}
 use Rattle.std.specs.Prelude.{◌||◌, Option, None, Some, Ok, Err, count_by, flat_map, is_none, is_some}
 use Rattle.std.specs.List.{concat, list_all, list_any}
 use Rattle.std.specs.Str.{is_utf8}
@@ -28,7 +55,26 @@ use Rattle.pt_walk.specs.declared.cause.Cause.{Cause}
 use Rattle.pt_walk.specs.declared.site.Finding.{Finding}
 use Rattle.pt_walk.specs.declared.site.Finding.TheVariants as finding
 use Rattle.pt_plan.specs.Carried.{Marked, has_place, is_taken, marked, marked_after}
-use Rattle.pt_plan.specs.Items.{Interior, Item, Named, PairtreeObject, Skip, Verdict, cause_of, encapsulated, gathered_from, is_ours, is_reserved, item_of, items, ours, verdict_by_finding, verdict_by_identifier, verdict_by_visit, verdict_on_candidate}
+use Rattle.pt_plan.specs.Items.{
+  Interior,
+  Item,
+  Named,
+  PairtreeObject,
+  Skip,
+  Verdict,
+  cause_of,
+  encapsulated,
+  gathered_from,
+  is_ours,
+  is_reserved,
+  item_of,
+  items,
+  ours,
+  verdict_by_finding,
+  verdict_by_identifier,
+  verdict_by_visit,
+  verdict_on_candidate,
+}
 use Rattle.pt_plan.specs.Job.{Job, form_of}
 use Rattle.pt_plan.specs.Lines.{Line, Skipped, line_by_verdict, line_of}
 use Rattle.pt_plan.specs.ShareLaws.{ChoicesTellTheWhole, Divide, IsOneOf, KnowsAll, SharesTellTheWhole, is_known, of_whole, sum_of_shares, with_share}
@@ -37,17 +83,20 @@ use Rattle.pt_plan.proofs.ShareNumbers.{number_within, one_share}
 
 -- ---- the share has no part in what an item is
 
-candidate_same : (job : Job) (share : Portion) (prefix : List ℕ) (site : Path) (object : Option PairtreeObject) → verdict_on_candidate (with_share job share) prefix site object ≡ verdict_on_candidate job prefix site object
+candidate_same : (job : Job) (share : Portion) (prefix : List ℕ) (site : Path) (object : Option PairtreeObject)
+    → verdict_on_candidate (with_share job share) prefix site object ≡ verdict_on_candidate job prefix site object
 candidate_same _ _ _ _ None = refl
 candidate_same _ _ _ _ (Some _) = refl
 
-finding_same : (job : Job) (share : Portion) (prefix : List ℕ) (site : Path) (inside : Forest) (what : Finding) → verdict_by_finding (with_share job share) prefix site inside what ≡ verdict_by_finding job prefix site inside what
+finding_same : (job : Job) (share : Portion) (prefix : List ℕ) (site : Path) (inside : Forest) (what : Finding)
+    → verdict_by_finding (with_share job share) prefix site inside what ≡ verdict_by_finding job prefix site inside what
 finding_same _ _ _ _ _ finding.Interior = refl
 finding_same _ _ _ _ _ (finding.Skip _) = refl
 finding_same job share prefix site inside (finding.Candidate i) = candidate_same job share prefix site (encapsulated site (entries_from i inside))
 finding_same _ _ _ _ _ finding.Gathered = refl
 
-visit_same : (job : Job) (share : Portion) (prefix : List ℕ) (path : Path) (visit : Visit) → verdict_by_visit (with_share job share) prefix path visit ≡ verdict_by_visit job prefix path visit
+visit_same : (job : Job) (share : Portion) (prefix : List ℕ) (path : Path) (visit : Visit)
+    → verdict_by_visit (with_share job share) prefix path visit ≡ verdict_by_visit job prefix path visit
 visit_same job share prefix path (Listed inside) = finding_same job share prefix path inside (found (listing_of inside) (at_of path) (form_of job))
 visit_same _ _ _ _ _ = refl
 
@@ -62,9 +111,11 @@ bare_items job source = map (bare job (prefix_of source)) (sites_of job.limits.d
 abbrev in_share : Portion → Item → Item
 in_share share item = record { path = item.path; visit = item.visit; verdict = ours share item.verdict }
 
-items_on : (job : Job) (share : Portion) (prefix : List ℕ) (ways : List Site) → map (item_of (with_share job share) prefix) ways ≡ map (in_share share) (map (bare job prefix) ways)
+items_on : (job : Job) (share : Portion) (prefix : List ℕ) (ways : List Site)
+    → map (item_of (with_share job share) prefix) ways ≡ map (in_share share) (map (bare job prefix) ways)
 items_on _ _ _ [] = refl
-items_on job share prefix (site ∷ ways) = λ i. record { path = site.0; visit = site.1; verdict = ours share (visit_same job share prefix site.0 site.1 i) } ∷ items_on job share prefix ways i
+items_on job share prefix (site ∷ ways) = λ i. record { path = site.0; visit = site.1; verdict = ours share (visit_same job share prefix site.0 site.1 i) }
+    ∷ items_on job share prefix ways i
 
 items_in : (job : Job) (share : Portion) (source : Forest) → items (with_share job share) source ≡ map (in_share share) (bare_items job source)
 items_in job share source = items_on job share (prefix_of source) (sites_of job.limits.depth source)
@@ -77,26 +128,31 @@ is_text = is_known is_utf8
 prefix_text : (node : Option Node) → is_utf8 (prefix_in node) ≡ true
 prefix_text (Some (File bytes)) = by (nat_lt 1024 (length bytes)) (is_utf8 (without_line_ends bytes)) refl
   where
-    by : (long text : Bool) → is_utf8 (without_line_ends bytes) ≡ text → is_utf8 (cond (is_none (cond long (Some fault.TooLong) (cond text None (Some fault.NotUtf8)))) (without_line_ends bytes) []) ≡ true
+    by : (long text : Bool) → is_utf8 (without_line_ends bytes) ≡ text
+        → is_utf8 (cond (is_none (cond long (Some fault.TooLong) (cond text None (Some fault.NotUtf8)))) (without_line_ends bytes) []) ≡ true
     by true text h = is_utf8-empty
     by false true h = h
     by false false h = is_utf8-empty
 prefix_text _ = is_utf8-empty
 
-text_by_reading : (job : Job) (prefix : List ℕ) (object : PairtreeObject) (reading : Option (List ℕ)) → is_utf8 prefix ≡ true → is_text (verdict_by_identifier object (identifier_by job.tuples prefix reading)) ≡ true
+text_by_reading : (job : Job) (prefix : List ℕ) (object : PairtreeObject) (reading : Option (List ℕ)) → is_utf8 prefix ≡ true
+    → is_text (verdict_by_identifier object (identifier_by job.tuples prefix reading)) ≡ true
 text_by_reading _ _ _ None _ = refl
 text_by_reading job prefix object (Some read) u = by (is_utf8 read) (is_reserved job (prefix ++ read)) refl
   where
-    by : (t r : Bool) → is_utf8 read ≡ t → is_text (verdict_by_identifier object (cond t (cond r (Err refusal.Reserved) (Ok (prefix ++ read))) (Err refusal.NotUtf8))) ≡ true
+    by : (t r : Bool) → is_utf8 read ≡ t
+        → is_text (verdict_by_identifier object (cond t (cond r (Err refusal.Reserved) (Ok (prefix ++ read))) (Err refusal.NotUtf8))) ≡ true
     by false r h = refl
     by true true h = refl
     by true false h = is_utf8-append prefix read u h
 
-text_by_candidate : (job : Job) (prefix : List ℕ) (site : Path) (object : Option PairtreeObject) → is_utf8 prefix ≡ true → is_text (verdict_on_candidate job prefix site object) ≡ true
+text_by_candidate : (job : Job) (prefix : List ℕ) (site : Path) (object : Option PairtreeObject) → is_utf8 prefix ≡ true
+    → is_text (verdict_on_candidate job prefix site object) ≡ true
 text_by_candidate _ _ _ None _ = refl
 text_by_candidate job prefix site (Some object) u = text_by_reading job prefix object (reading_of (concat site)) u
 
-text_by_finding : (job : Job) (prefix : List ℕ) (site : Path) (inside : Forest) (what : Finding) → is_utf8 prefix ≡ true → is_text (verdict_by_finding job prefix site inside what) ≡ true
+text_by_finding : (job : Job) (prefix : List ℕ) (site : Path) (inside : Forest) (what : Finding) → is_utf8 prefix ≡ true
+    → is_text (verdict_by_finding job prefix site inside what) ≡ true
 text_by_finding _ _ _ _ finding.Interior _ = refl
 text_by_finding _ _ _ _ (finding.Skip _) _ = refl
 text_by_finding job prefix site inside (finding.Candidate i) u = text_by_candidate job prefix site (encapsulated site (entries_from i inside)) u
@@ -139,7 +195,8 @@ whole_places tuples known = record {
 }
 
 -- and each of some choices that divide the identifiers
-pub divided_places : {tuples : Tuples} {known : List ℕ → Bool} {count : ℕ} {choices : ℕ → Portion} → Divide tuples known count choices → (index : ℕ) → IsOneOf count index → TakesPlaces tuples known (choices index)
+pub divided_places : {tuples : Tuples} {known : List ℕ → Bool} {count : ℕ} {choices : ℕ → Portion} → Divide tuples known count choices → (index : ℕ)
+    → IsOneOf count index → TakesPlaces tuples known (choices index)
 divided_places {choices = choices} divide index one = record {
   too = λ a b t u same held.
       let (other, its, there) = divide.one a t in
@@ -151,7 +208,8 @@ never : (b : Bool) → (b && false) ≡ false
 never true = refl
 never false = refl
 
-place_in : (job : Job) {known : List ℕ → Bool} {share : Portion} (places : TakesPlaces job.tuples known share) (id : List ℕ) (v : Verdict) → is_known known v ≡ true → known id ≡ true → holds share id ≡ true
+place_in : (job : Job) {known : List ℕ → Bool} {share : Portion} (places : TakesPlaces job.tuples known share) (id : List ℕ) (v : Verdict)
+    → is_known known v ≡ true → known id ≡ true → holds share id ≡ true
     → has_place (with_share job share) (place_of job.tuples id) (ours share v) ≡ has_place job (place_of job.tuples id) v
 place_in _ _ _ Interior _ _ _ = refl
 place_in job {share = share} _ id (Skip why) _ _ _ = by (is_first share)
@@ -165,12 +223,16 @@ place_in job {known} {share} places id (Named i o) t u h = by (holds share i) re
     apart false not same = refl
     apart true not same = absurd (true≢false (sym (places.too i id t u (same_from _ _ same) h) ∙ not))
 
-    by : (b : Bool) → holds share i ≡ b → has_place (with_share job share) (place_of job.tuples id) (cond b (Named i o) Interior) ≡ has_place job (place_of job.tuples id) (Named i o)
+    by : (b : Bool) → holds share i ≡ b → has_place (with_share job share) (place_of job.tuples id) (cond b (Named i o) Interior)
+        ≡ has_place job (place_of job.tuples id) (Named i o)
     by true is = refl
-    by false not = sym (ap (λ s. is_none (cause_of job.limits o) && s) (apart (same_path (place_of job.tuples i) (place_of job.tuples id)) not refl) ∙ never (is_none (cause_of job.limits o)))
+    by false not = sym (ap (λ s. is_none (cause_of job.limits o) && s) (apart (same_path (place_of job.tuples i) (place_of job.tuples id)) not refl)
+        ∙ never (is_none (cause_of job.limits o)))
 
-any_in : (job : Job) {known : List ℕ → Bool} {share : Portion} (places : TakesPlaces job.tuples known share) (id : List ℕ) (earlier : List Item) → list_all (known_item known) earlier ≡ true → known id ≡ true → holds share id ≡ true
-    → list_any (λ (item : Item). has_place (with_share job share) (place_of job.tuples id) item.verdict) (map (in_share share) earlier) ≡ list_any (λ (item : Item). has_place job (place_of job.tuples id) item.verdict) earlier
+any_in : (job : Job) {known : List ℕ → Bool} {share : Portion} (places : TakesPlaces job.tuples known share) (id : List ℕ) (earlier : List Item)
+    → list_all (known_item known) earlier ≡ true → known id ≡ true → holds share id ≡ true
+    → list_any (λ (item : Item). has_place (with_share job share) (place_of job.tuples id) item.verdict) (map (in_share share) earlier)
+    ≡ list_any (λ (item : Item). has_place job (place_of job.tuples id) item.verdict) earlier
 any_in _ _ _ [] _ _ _ = refl
 any_in job places id (item ∷ earlier) t u h =
     let parts = and_parts _ _ t in
@@ -186,38 +248,49 @@ pub record MadeOfItems (X : Type 0) (job : Job) (share : Portion) : Type 0 where
   pub none : (path : Path) (taken : Bool) → all path taken Interior ≡ []
 
 -- in the share as in the whole, or nothing
-one_in : {X : Type 0} → {job : Job} {known : List ℕ → Bool} {share : Portion} (places : TakesPlaces job.tuples known share) (it : MadeOfItems X job share) (root : Tree) (earlier : List Item) (path : Path) (v : Verdict) → list_all (known_item known) earlier ≡ true → is_known known v ≡ true
-    → it.mine path (is_taken (with_share job share) root (map (in_share share) earlier) (ours share v)) (ours share v) ≡ cond (is_ours share v) (it.all path (is_taken job root earlier v) v) []
+one_in : {X : Type 0} → {job : Job} {known : List ℕ → Bool} {share : Portion} (places : TakesPlaces job.tuples known share) (it : MadeOfItems X job share)
+    (root : Tree) (earlier : List Item) (path : Path) (v : Verdict) → list_all (known_item known) earlier ≡ true → is_known known v ≡ true
+    → it.mine path (is_taken (with_share job share) root (map (in_share share) earlier) (ours share v)) (ours share v)
+    ≡ cond (is_ours share v) (it.all path (is_taken job root earlier v) v) []
 one_in _ it _ _ path Interior _ _ = it.same path false Interior
 one_in {job = job} {share = share} _ it root earlier path (Skip why) _ _ = by (is_first share)
   where
-    by : (b : Bool) → it.mine path (is_taken (with_share job share) root (map (in_share share) earlier) (cond b (Skip why) Interior)) (cond b (Skip why) Interior) ≡ cond b (it.all path false (Skip why)) []
+    by : (b : Bool) → it.mine path (is_taken (with_share job share) root (map (in_share share) earlier) (cond b (Skip why) Interior))
+        (cond b (Skip why) Interior) ≡ cond b (it.all path false (Skip why)) []
     by true = it.same path false (Skip why)
     by false = it.same path false Interior ∙ it.none path false
 one_in {job = job} {share = share} places it root earlier path (Named id o) t u = by (holds share id) refl
   where
-    by : (b : Bool) → holds share id ≡ b → it.mine path (is_taken (with_share job share) root (map (in_share share) earlier) (cond b (Named id o) Interior)) (cond b (Named id o) Interior) ≡ cond b (it.all path (is_taken job root earlier (Named id o)) (Named id o)) []
-    by true h = ap (λ b. it.mine path (is_some (root (place_of job.tuples id)) || b) (Named id o)) (any_in job places id earlier t u h) ∙ it.same path (is_taken job root earlier (Named id o)) (Named id o)
+    by : (b : Bool) → holds share id ≡ b → it.mine path (is_taken (with_share job share) root (map (in_share share) earlier) (cond b (Named id o) Interior))
+        (cond b (Named id o) Interior) ≡ cond b (it.all path (is_taken job root earlier (Named id o)) (Named id o)) []
+    by true h = ap (λ b. it.mine path (is_some (root (place_of job.tuples id)) || b) (Named id o)) (any_in job places id earlier t u h)
+        ∙ it.same path (is_taken job root earlier (Named id o)) (Named id o)
     by false h = it.same path false Interior ∙ it.none path false
 
-all_in : {X : Type 0} → {job : Job} {known : List ℕ → Bool} {share : Portion} (places : TakesPlaces job.tuples known share) (it : MadeOfItems X job share) (root : Tree) (earlier others : List Item) → list_all (known_item known) earlier ≡ true → list_all (known_item known) others ≡ true
-    → flat_map (λ (m : Marked). it.mine m.0.path m.1 m.0.verdict) (marked_after (with_share job share) root (map (in_share share) earlier) (map (in_share share) others))
+all_in : {X : Type 0} → {job : Job} {known : List ℕ → Bool} {share : Portion} (places : TakesPlaces job.tuples known share) (it : MadeOfItems X job share)
+    (root : Tree) (earlier others : List Item) → list_all (known_item known) earlier ≡ true → list_all (known_item known) others ≡ true
+    → flat_map (λ (m : Marked). it.mine m.0.path m.1 m.0.verdict) (marked_after (with_share job share) root (map (in_share share) earlier)
+    (map (in_share share) others))
     ≡ flat_map (λ (m : Marked). cond (is_ours share m.0.verdict) (it.all m.0.path m.1 m.0.verdict) []) (marked_after job root earlier others)
 all_in _ _ _ _ [] _ _ = refl
 all_in {job = job} {known = known} {share = share} places it root earlier (item ∷ others) t u =
     let parts = and_parts _ _ u in
-    let more : list_all (known_item known) (earlier ++ item ∷ []) ≡ true = list_all-append (known_item known) earlier (item ∷ []) ∙ and_from _ _ t (and_from _ true parts.0 refl) in
+    let more : list_all (known_item known) (earlier ++ item ∷ []) ≡ true = list_all-append (known_item known) earlier (item ∷ [])
+    ∙ and_from _ _ t (and_from _ true parts.0 refl) in
     let here = one_in places it root earlier item.path item.verdict t parts.0 in
-    let later = ap (λ (before : List Item). flat_map (λ (m : Marked). it.mine m.0.path m.1 m.0.verdict) (marked_after (with_share job share) root before (map (in_share share) others))) (sym (map-append (in_share share) earlier (item ∷ [])))
+    let later = ap (λ (before : List Item). flat_map (λ (m : Marked). it.mine m.0.path m.1 m.0.verdict)
+    (marked_after (with_share job share) root before (map (in_share share) others))) (sym (map-append (in_share share) earlier (item ∷ [])))
     ∙ all_in places it root (earlier ++ item ∷ []) others more parts.1 in
     λ k. here k ++ later k
 
 -- what is made of all items of a source, in a share and in the whole
-pub made_in : {X : Type 0} → {job : Job} {known : List ℕ → Bool} {share : Portion} (places : TakesPlaces job.tuples known share) (it : MadeOfItems X job share) (source : Forest) (root : Tree) → list_all (known_item known) (bare_items job source) ≡ true
+pub made_in : {X : Type 0} → {job : Job} {known : List ℕ → Bool} {share : Portion} (places : TakesPlaces job.tuples known share) (it : MadeOfItems X job share)
+    (source : Forest) (root : Tree) → list_all (known_item known) (bare_items job source) ≡ true
     → flat_map (λ (m : Marked). it.mine m.0.path m.1 m.0.verdict) (marked (with_share job share) source root)
     ≡ flat_map (λ (m : Marked). cond (is_ours share m.0.verdict) (it.all m.0.path m.1 m.0.verdict) []) (marked_after job root [] (bare_items job source))
 made_in {job = job} {share = share} places it source root t =
-    ap (λ (l : List Item). flat_map (λ (m : Marked). it.mine m.0.path m.1 m.0.verdict) (marked_after (with_share job share) root [] l)) (items_in job share source)
+    ap (λ (l : List Item). flat_map (λ (m : Marked). it.mine m.0.path m.1 m.0.verdict) (marked_after (with_share job share) root [] l))
+    (items_in job share source)
     ∙ all_in places it root [] (bare_items job source) refl t
 
 -- the whole is the share of each item
@@ -231,12 +304,14 @@ whole_items job source = items_in job whole source ∙ all_ours (bare_items job 
   where
     all_ours : (its : List Item) → map (in_share whole) its ≡ its
     all_ours [] = refl
-    all_ours (item ∷ its) = λ k. record { path = item.path; visit = item.visit; verdict = cond (whole_ours item.verdict k) item.verdict Interior } ∷ all_ours its k
+    all_ours (item ∷ its) = λ k. record { path = item.path; visit = item.visit; verdict = cond (whole_ours item.verdict k) item.verdict Interior }
+        ∷ all_ours its k
 
 pub known_in : (known : List ℕ → Bool) (job : Job) (source : Forest) → KnowsAll known job source → list_all (known_item known) (bare_items job source) ≡ true
 known_in known job source all = sym (ap (list_all (known_item known)) (whole_items job source)) ∙ all
 
-pub made_whole : {X : Type 0} → (f : Marked → List X) (ms : List Marked) → flat_map (λ (m : Marked). cond (is_ours whole m.0.verdict) (f m) []) ms ≡ flat_map f ms
+pub made_whole : {X : Type 0} → (f : Marked → List X) (ms : List Marked) → flat_map (λ (m : Marked). cond (is_ours whole m.0.verdict) (f m) []) ms
+    ≡ flat_map f ms
 made_whole _ [] = refl
 made_whole f (m ∷ ms) = λ k. cond (whole_ours m.0.verdict k) (f m) [] ++ made_whole f ms k
 
@@ -265,9 +340,11 @@ sum_of_none (suc count) none =
     let last = none (suc count) (omega arith) (omega arith) in
     omega (arith, front, last)
 
-sum_at_one : {f : ℕ → ℕ} {n x : ℕ} (count : ℕ) → 1 ≤ n → n ≤ count → f n ≡ x → ((index : ℕ) → 1 ≤ index → index ≤ count → index ≢ n → f index ≡ 0) → sum_of_shares f count ≡ x
+sum_at_one : {f : ℕ → ℕ} {n x : ℕ} (count : ℕ) → 1 ≤ n → n ≤ count → f n ≡ x → ((index : ℕ) → 1 ≤ index → index ≤ count → index ≢ n → f index ≡ 0)
+    → sum_of_shares f count ≡ x
 sum_at_one zero first last at off = absurd (omega (arith, first, last))
-sum_at_one {f} {n} {x} (suc count) first last at off = by (n == suc count) refl (λ less. sum_at_one count first less at (λ index some h. off index some (omega (arith, h))))
+sum_at_one {f} {n} {x} (suc count) first last at off = by (n == suc count) refl
+    (λ less. sum_at_one count first less at (λ index some h. off index some (omega (arith, h))))
   where
     by : (t : Bool) → (n == suc count) ≡ t → (n ≤ count → sum_of_shares f count ≡ x) → sum_of_shares f (suc count) ≡ x
     by true h front_is =
@@ -323,12 +400,16 @@ more_lines : (test : Line → Bool) (first later : List Line) → count_by test 
 more_lines test first later = sum_by-append (λ line. cond (test line) 1 0) first later
 
 shared_lines : (job : Job) (test : Line → Bool) {count : ℕ} (ms : List Marked) → 1 ≤ count
-    → sum_of_shares (λ index. count_by test (flat_map (λ (m : Marked). cond (is_ours (numbered index count) m.0.verdict) (line_of job m) []) ms)) count ≡ count_by test (flat_map (line_of job) ms)
+    → sum_of_shares (λ index. count_by test (flat_map (λ (m : Marked). cond (is_ours (numbered index count) m.0.verdict) (line_of job m) []) ms)) count
+    ≡ count_by test (flat_map (line_of job) ms)
 shared_lines _ _ {count} [] _ = sum_of_none count (λ index first h. refl)
 shared_lines job test {count} (m ∷ ms) some =
-    same_sums count (λ index. more_lines test (cond (is_ours (numbered index count) m.0.verdict) (line_of job m) []) (flat_map (λ (x : Marked). cond (is_ours (numbered index count) x.0.verdict) (line_of job x) []) ms))
-    ∙ sum_of_both (λ index. count_by test (cond (is_ours (numbered index count) m.0.verdict) (line_of job m) [])) (λ index. count_by test (flat_map (λ (x : Marked). cond (is_ours (numbered index count) x.0.verdict) (line_of job x) []) ms)) count
-    ∙ ap (λ n. n + sum_of_shares (λ index. count_by test (flat_map (λ (x : Marked). cond (is_ours (numbered index count) x.0.verdict) (line_of job x) []) ms)) count) (shared_line test m.0.verdict some (λ is. ap (line_by_verdict job m.0.path m.1) is))
+    same_sums count (λ index. more_lines test (cond (is_ours (numbered index count) m.0.verdict) (line_of job m) [])
+    (flat_map (λ (x : Marked). cond (is_ours (numbered index count) x.0.verdict) (line_of job x) []) ms))
+    ∙ sum_of_both (λ index. count_by test (cond (is_ours (numbered index count) m.0.verdict) (line_of job m) []))
+    (λ index. count_by test (flat_map (λ (x : Marked). cond (is_ours (numbered index count) x.0.verdict) (line_of job x) []) ms)) count
+    ∙ ap (λ n. n + sum_of_shares (λ index. count_by test (flat_map (λ (x : Marked). cond (is_ours (numbered index count) x.0.verdict) (line_of job x) []) ms))
+    count) (shared_line test m.0.verdict some (λ is. ap (line_by_verdict job m.0.path m.1) is))
     ∙ ap (λ n. count_by test (line_of job m) + n) (shared_lines job test ms some)
     ∙ sym (more_lines test (line_of job m) (flat_map (line_of job) ms))
 
@@ -338,13 +419,15 @@ shares_tell_the_whole job source root count some test =
     let ms = marked_after job root [] (bare_items job source) in
     ap (count_by test) (made_in (whole_places job.tuples is_utf8) (lines_made job whole) source root (texts_in job source) ∙ made_whole (line_of job) ms)
     ∙ sym (shared_lines job test ms some)
-    ∙ sym (same_sums count (λ index. ap (count_by test) (made_in (numbered_places job.tuples index count) (lines_made job (numbered index count)) source root (texts_in job source))))
+    ∙ sym (same_sums count (λ index. ap (count_by test) (made_in (numbered_places job.tuples index count) (lines_made job (numbered index count)) source root
+    (texts_in job source))))
 
 -- ---- choices
 
 module _ {tuples : Tuples} {known : List ℕ → Bool} {count : ℕ} {choices : ℕ → Portion} (divide : Divide tuples known count choices) (test : Line → Bool) where
   -- an object's lines are those of one choice, and of what is passed over none is counted
-  divided_line : (v : Verdict) {told : List Line} → is_known known v ≡ true → (v ≡ Interior → told ≡ []) → ((why : Cause) → v ≡ Skip why → count_by test told ≡ 0)
+  divided_line : (v : Verdict) {told : List Line} → is_known known v ≡ true → (v ≡ Interior → told ≡ [])
+      → ((why : Cause) → v ≡ Skip why → count_by test told ≡ 0)
       → sum_of_shares (λ index. count_by test (cond (is_ours (choices index) v) told [])) count ≡ count_by test told
   divided_line Interior t none skip =
       let nothing = ap (count_by test) (none refl) in
@@ -361,23 +444,29 @@ module _ {tuples : Tuples} {known : List ℕ → Bool} {count : ℕ} {choices : 
       sum_at_one count its.first its.last (ap (λ b. count_by test (cond b told [])) held)
       (λ index first last apart. by index (record { first = first; last = last }) n its held apart (holds (choices index) id) refl)
     where
-      by : (index : ℕ) → IsOneOf count index → (n : ℕ) → IsOneOf count n → holds (choices n) id ≡ true → index ≢ n → (b : Bool) → holds (choices index) id ≡ b → count_by test (cond b told []) ≡ 0
+      by : (index : ℕ) → IsOneOf count index → (n : ℕ) → IsOneOf count n → holds (choices n) id ≡ true → index ≢ n → (b : Bool) → holds (choices index) id ≡ b
+          → count_by test (cond b told []) ≡ 0
       by index one n its held apart true h = absurd (apart (divide.apart index n id id one its t t h held refl))
       by index one n its held apart false h = refl
 
-  divided_lines : (job : Job) (root : Tree) (earlier others : List Item) → list_all (known_item known) others ≡ true → ((path : Path) (why : Cause) → test (Skipped path why) ≡ false)
-      → sum_of_shares (λ index. count_by test (flat_map (λ (m : Marked). cond (is_ours (choices index) m.0.verdict) (line_of job m) []) (marked_after job root earlier others))) count
+  divided_lines : (job : Job) (root : Tree) (earlier others : List Item) → list_all (known_item known) others ≡ true
+      → ((path : Path) (why : Cause) → test (Skipped path why) ≡ false)
+      → sum_of_shares (λ index. count_by test (flat_map (λ (m : Marked). cond (is_ours (choices index) m.0.verdict) (line_of job m) [])
+      (marked_after job root earlier others))) count
       ≡ count_by test (flat_map (line_of job) (marked_after job root earlier others))
   divided_lines job root earlier [] _ _ = sum_of_none count (λ index first h. refl)
   divided_lines job root earlier (item ∷ others) t skips =
       let parts = and_parts _ _ t in
       let ms = marked_after job root (earlier ++ item ∷ []) others in
       let told = line_of job (item, is_taken job root earlier item.verdict) in
-      same_sums count (λ index. more_lines test (cond (is_ours (choices index) item.verdict) told []) (flat_map (λ (x : Marked). cond (is_ours (choices index) x.0.verdict) (line_of job x) []) ms))
-      ∙ sum_of_both (λ index. count_by test (cond (is_ours (choices index) item.verdict) told [])) (λ index. count_by test (flat_map (λ (x : Marked). cond (is_ours (choices index) x.0.verdict) (line_of job x) []) ms)) count
+      same_sums count (λ index. more_lines test (cond (is_ours (choices index) item.verdict) told [])
+      (flat_map (λ (x : Marked). cond (is_ours (choices index) x.0.verdict) (line_of job x) []) ms))
+      ∙ sum_of_both (λ index. count_by test (cond (is_ours (choices index) item.verdict) told []))
+      (λ index. count_by test (flat_map (λ (x : Marked). cond (is_ours (choices index) x.0.verdict) (line_of job x) []) ms)) count
       ∙ ap (λ n. n + sum_of_shares (λ index. count_by test (flat_map (λ (x : Marked). cond (is_ours (choices index) x.0.verdict) (line_of job x) []) ms)) count)
       (divided_line item.verdict parts.0 (λ is. ap (line_by_verdict job item.path (is_taken job root earlier item.verdict)) is)
-      (λ why is. ap (λ (v : Verdict). count_by test (line_by_verdict job item.path (is_taken job root earlier item.verdict) v)) is ∙ ap (λ b. 0 + cond b 1 0) (skips item.path why)))
+      (λ why is. ap (λ (v : Verdict). count_by test (line_by_verdict job item.path (is_taken job root earlier item.verdict) v)) is
+      ∙ ap (λ b. 0 + cond b 1 0) (skips item.path why)))
       ∙ ap (λ n. count_by test told + n) (divided_lines job root (earlier ++ item ∷ []) others parts.1 skips)
       ∙ sym (more_lines test told (flat_map (line_of job) ms))
 

@@ -22,15 +22,18 @@ other_path : (path p : Path) → is_some (rest_below staging p) ≡ true → sam
 other_path _ [] _ = refl
 other_path path (x ∷ p) h = by (bytes_eq (codes "staging") x) refl h
   where
-    by : (t : Bool) → bytes_eq (codes "staging") x ≡ t → is_some (cond t (rest_below [] p) None) ≡ true → (bytes_eq (codes "ocfl") x && same_path path p) ≡ false
+    by : (t : Bool) → bytes_eq (codes "staging") x ≡ t → is_some (cond t (rest_below [] p) None) ≡ true
+        → (bytes_eq (codes "ocfl") x && same_path path p) ≡ false
     by true e h = ap (λ (y : List ℕ). bytes_eq (codes "ocfl") y && same_path path p) (sym (same_name (codes "staging") x e))
     by false e h = absurd (false≢true h)
 
-made_keeps : (script : List Item) (t : Tree) → list_all in_staging script ≡ true → (path : Path) → made script t (storage_root ++ path) ≡ t (storage_root ++ path)
+made_keeps : (script : List Item) (t : Tree) → list_all in_staging script ≡ true → (path : Path)
+    → made script t (storage_root ++ path) ≡ t (storage_root ++ path)
 made_keeps [] _ _ _ = refl
 made_keeps (item ∷ script) t h path =
     let parts = and_parts (in_staging item) (list_all in_staging script) h in
-    made_keeps script (done item t) parts.1 path ∙ ap (λ b. cond b (Some (item_entry item)) (t (storage_root ++ path))) (other_path path (item_path item) parts.0)
+    made_keeps script (done item t) parts.1 path ∙ ap (λ b. cond b (Some (item_entry item)) (t (storage_root ++ path)))
+    (other_path path (item_path item) parts.0)
 
 pub items_in : (items : List Item) → list_all in_staging (map (item_in staging) items) ≡ true
 items_in [] = refl

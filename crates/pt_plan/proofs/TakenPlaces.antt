@@ -14,7 +14,25 @@ use Rattle.pt_tree.specs.Path.{Path, rest_below, same_path}
 use Rattle.pt_tree.specs.Tree.{Entry, Tree}
 use Rattle.pt_walk.specs.Object.{entries, files}
 use Rattle.pt_walk.specs.declared.cause.Cause.{Cause}
-use Rattle.pt_plan.specs.Carried.{Carried, Marked, carried, carried_among, carried_by, carried_by_outcome, entry_of_object, entry_of_objects, folder_where, has_place, is_on_the_way, is_taken, is_taken_place, marked, marked_after, place_of_carried, with_objects}
+use Rattle.pt_plan.specs.Carried.{
+  Carried,
+  Marked,
+  carried,
+  carried_among,
+  carried_by,
+  carried_by_outcome,
+  entry_of_object,
+  entry_of_objects,
+  folder_where,
+  has_place,
+  is_on_the_way,
+  is_taken,
+  is_taken_place,
+  marked,
+  marked_after,
+  place_of_carried,
+  with_objects,
+}
 use Rattle.pt_plan.specs.Items.{Item, Named, Verdict, cause_of, items, outcome_by}
 use Rattle.pt_plan.specs.Job.{Job}
 use Rattle.pt_plan.specs.PlaceLaws.{NextPlaceStandsWhereTaken, PlaceStandsWhereTaken}
@@ -34,14 +52,17 @@ abbrev pub has : Job → Path → Carried → Bool
 has job place object = same_path place (place_of_carried job object)
 
 -- it is on the way to objects exactly where one of them has it
-pub way_at_place : (job : Job) (id : List ℕ) (objects : List Carried) → is_on_the_way job objects (place_of job.tuples id) ≡ list_any (has job (place_of job.tuples id)) objects
+pub way_at_place : (job : Job) (id : List ℕ) (objects : List Carried) → is_on_the_way job objects (place_of job.tuples id)
+    ≡ list_any (has job (place_of job.tuples id)) objects
 way_at_place _ _ [] = refl
 way_at_place job id (object ∷ objects) =
-    ap (λ b. b || is_on_the_way job objects (place_of job.tuples id)) (level (place_of job.tuples id) (place_of_carried job object) (as_long job.tuples id object.id))
+    ap (λ b. b || is_on_the_way job objects (place_of job.tuples id)) (level (place_of job.tuples id) (place_of_carried job object)
+    (as_long job.tuples id object.id))
     ∙ ap (λ b. has job (place_of job.tuples id) object || b) (way_at_place job id objects)
 
 -- an object that has something at a path has its place there or above
-pub below_object : (job : Job) (object : Carried) (path : Path) → is_some (entry_of_object job path object) ≡ true → leads (place_of_carried job object) path ≡ true
+pub below_object : (job : Job) (object : Carried) (path : Path) → is_some (entry_of_object job path object) ≡ true
+    → leads (place_of_carried job object) path ≡ true
 below_object job object path h = by (rest_below (place_of_carried job object) path) h
   where
     by : (o : Option Path) → is_some (option_and_then (object_of object.id object.files job.meta job.algorithm) o) ≡ true → is_some o ≡ true
@@ -49,7 +70,8 @@ below_object job object path h = by (rest_below (place_of_carried job object) pa
     by (Some rest) h = refl
 
 -- so do objects
-some_below : (job : Job) (id : List ℕ) (objects : List Carried) → is_some (entry_of_objects job objects (place_of job.tuples id)) ≡ true → list_any (has job (place_of job.tuples id)) objects ≡ true
+some_below : (job : Job) (id : List ℕ) (objects : List Carried) → is_some (entry_of_objects job objects (place_of job.tuples id)) ≡ true
+    → list_any (has job (place_of job.tuples id)) objects ≡ true
 some_below _ _ [] h = absurd (false≢true h)
 some_below job id (object ∷ objects) h = by (entry_of_object job (place_of job.tuples id) object) refl (λ k. some_below job id objects k) h
   where
@@ -68,11 +90,14 @@ some_below job id (object ∷ objects) h = by (entry_of_object job (place_of job
 
 -- at a place something stands with some objects exactly where it stood before, or one of them has the place
 pub stands_with_objects : (job : Job) (id : List ℕ) (objects : List Carried) (t : Tree)
-    → is_some (with_objects job objects t (place_of job.tuples id)) ≡ (is_some (t (place_of job.tuples id)) || list_any (has job (place_of job.tuples id)) objects)
+    → is_some (with_objects job objects t (place_of job.tuples id)) ≡ (is_some (t (place_of job.tuples id))
+    || list_any (has job (place_of job.tuples id)) objects)
 stands_with_objects job id objects t =
-    by (t (place_of job.tuples id)) (entry_of_objects job objects (place_of job.tuples id)) (is_on_the_way job objects (place_of job.tuples id)) (way_at_place job id objects) (some_below job id objects)
+    by (t (place_of job.tuples id)) (entry_of_objects job objects (place_of job.tuples id)) (is_on_the_way job objects (place_of job.tuples id))
+    (way_at_place job id objects) (some_below job id objects)
   where
-    by : (here inside : Option Entry) (way : Bool) → way ≡ list_any (has job (place_of job.tuples id)) objects → (is_some inside ≡ true → list_any (has job (place_of job.tuples id)) objects ≡ true)
+    by : (here inside : Option Entry) (way : Bool) → way ≡ list_any (has job (place_of job.tuples id)) objects
+        → (is_some inside ≡ true → list_any (has job (place_of job.tuples id)) objects ≡ true)
         → is_some (option_or here (option_or inside (folder_where way))) ≡ (is_some here || list_any (has job (place_of job.tuples id)) objects)
     by (Some entry) inside way is has = refl
     by None (Some entry) way is has = sym (has refl)
@@ -87,24 +112,28 @@ claims job place item = has_place job place item.verdict
 
 -- one item more: its place counts, whether it is carried or was taken before
 one_more : (job : Job) (root : Tree) (earlier : List Item) (place : Path) (verdict : Verdict) → is_some (root place) ≡ false
-    → (list_any (claims job place) earlier || list_any (has job place) (carried_by job (is_taken job root earlier verdict) verdict)) ≡ (list_any (claims job place) earlier || has_place job place verdict)
+    → (list_any (claims job place) earlier || list_any (has job place) (carried_by job (is_taken job root earlier verdict) verdict))
+    ≡ (list_any (claims job place) earlier || has_place job place verdict)
 one_more job root earlier place (Named id object) free = by_cause (cause_of job.limits object)
   where
     none_either : (t : Bool) → list_any (has job place) (cond t [] []) ≡ false
     none_either true = refl
     none_either false = refl
 
-    one : (t : Bool) → list_any (has job place) (cond t [] (record { id = id; files = files (entries object.inside) } ∷ [])) ≡ cond t false (has job place (record { id = id; files = files (entries object.inside) }))
+    one : (t : Bool) → list_any (has job place) (cond t [] (record { id = id; files = files (entries object.inside) } ∷ []))
+        ≡ cond t false (has job place (record { id = id; files = files (entries object.inside) }))
     one true = refl
     one false = or_false (has job place (record { id = id; files = files (entries object.inside) }))
 
-    here : (t s : Bool) → (s ≡ true → t ≡ list_any (claims job place) earlier) → (list_any (claims job place) earlier || cond t false s) ≡ (list_any (claims job place) earlier || s)
+    here : (t s : Bool) → (s ≡ true → t ≡ list_any (claims job place) earlier)
+        → (list_any (claims job place) earlier || cond t false s) ≡ (list_any (claims job place) earlier || s)
     here true true tells = ap (λ b. b || false) (sym (tells refl)) ∙ sym (ap (λ b. b || true) (sym (tells refl)))
     here true false tells = refl
     here false s tells = refl
 
     by_cause : (why : Option Cause)
-        → (list_any (claims job place) earlier || list_any (has job place) (cond (is_taken_place job root earlier (place_of job.tuples id)) [] (carried_by_outcome id (outcome_by (files (entries object.inside)) why))))
+        → (list_any (claims job place) earlier || list_any (has job place)
+        (cond (is_taken_place job root earlier (place_of job.tuples id)) [] (carried_by_outcome id (outcome_by (files (entries object.inside)) why))))
         ≡ (list_any (claims job place) earlier || (is_none why && same_path (place_of job.tuples id) place))
     by_cause (Some why) = ap (λ b. list_any (claims job place) earlier || b) (none_either (is_taken_place job root earlier (place_of job.tuples id)))
     by_cause None =
@@ -122,7 +151,8 @@ or_assoc false _ _ = refl
 
 -- so for the first items, after earlier ones
 first_ones : (job : Job) (root : Tree) (earlier others : List Item) (k : ℕ) (place : Path) → is_some (root place) ≡ false
-    → (list_any (claims job place) earlier || list_any (has job place) (carried job (take k (marked_after job root earlier others)))) ≡ list_any (claims job place) (earlier ++ take k others)
+    → (list_any (claims job place) earlier || list_any (has job place) (carried job (take k (marked_after job root earlier others))))
+    ≡ list_any (claims job place) (earlier ++ take k others)
 first_ones job _ earlier _ zero place _ = or_false (list_any (claims job place) earlier) ∙ ap (list_any (claims job place)) (sym (append_nil earlier))
 first_ones job _ earlier [] (suc _) place _ = or_false (list_any (claims job place) earlier) ∙ ap (list_any (claims job place)) (sym (append_nil earlier))
 first_ones job root earlier (item ∷ others) (suc k) place free =
@@ -142,7 +172,8 @@ pub taken_by_carried : (job : Job) (source : Forest) (root : Tree) (k : ℕ) (pl
     → (is_some (root place) || list_any (has job place) (carried_among job source root k)) ≡ is_taken_place job root (take k (items job source)) place
 taken_by_carried job source root k place = by (is_some (root place)) refl
   where
-    by : (t : Bool) → is_some (root place) ≡ t → (t || list_any (has job place) (carried_among job source root k)) ≡ (t || list_any (claims job place) (take k (items job source)))
+    by : (t : Bool) → is_some (root place) ≡ t → (t || list_any (has job place) (carried_among job source root k))
+        ≡ (t || list_any (claims job place) (take k (items job source)))
     by true e = refl
     by false e = first_ones job root [] (items job source) k place e
 
@@ -162,7 +193,8 @@ marked_item job source root k m is = by (slice_get (items job source) k) (sym (t
     by None h = absurd (cc)
     by (Some item) h = (
       ap (option_map (λ (m : Marked). m.0)) h,
-      sym (ap (λ (m : Marked). m.1) (some_is h)) ∙ ap (λ (i : Item). is_taken job root (take k (items job source)) i.verdict) (ap (λ (m : Marked). m.0) (some_is h)),
+      sym (ap (λ (m : Marked). m.1) (some_is h)) ∙ ap (λ (i : Item). is_taken job root (take k (items job source)) i.verdict)
+          (ap (λ (m : Marked). m.0) (some_is h)),
     )
       where
         some_is : {a b : Marked} → Some a ≡ Some b → a ≡ b

@@ -52,7 +52,8 @@ module _ (job : Job) (source : Forest) (root : Tree) (k : ℕ) (next : Carried) 
   stays_whole : (object : Carried) → StandsWhole job before object → StandsWhole job (after job source root (suc k)) object
   stays_whole object stands q =
       ap (λ (t : Tree). t path) (after_grows job source root k next gaps is)
-      ∙ ap (λ (o : Option Path). placed_at inside o (with_folders (tuple_folders job next) before path)) (no_rest there path (false_from_ne_true (leads there path) apart))
+      ∙ ap (λ (o : Option Path). placed_at inside o (with_folders (tuple_folders job next) before path))
+      (no_rest there path (false_from_ne_true (leads there path) apart))
       ∙ stands_with_folders _ before (false_from_ne_true (is_one path (tuple_folders job next)) long)
       ∙ stands q
     where
@@ -78,7 +79,8 @@ module _ (job : Job) (source : Forest) (root : Tree) (k : ℕ) (next : Carried) 
       long one =
           let above = is_above _ there one in
           let short = above.short in
-          let more : length (place_of_carried job object ++ q) ≡ length (place_of_carried job object) + length q = length-append (place_of_carried job object) q in
+          let more : length (place_of_carried job object ++ q) ≡ length (place_of_carried job object) + length q = length-append (place_of_carried job object) q
+          in
           let same_long = level in
           omega (arith, short, more, same_long)
 
@@ -88,19 +90,25 @@ abbrev AllWhole : Job → Forest → Tree → ℕ → Type 0
 AllWhole job source root k = All (StandsWhole job (after job source root k)) (carried_among job source root k)
 
 -- with one item more
-one_item_more : (job : Job) (source : Forest) {root : Tree} (k : ℕ) → HasNoGaps root → AllWhole job source root k → (o : Option Marked) → slice_get (marked job source root) k ≡ o → AllWhole job source root (suc k)
+one_item_more : (job : Job) (source : Forest) {root : Tree} (k : ℕ) → HasNoGaps root → AllWhole job source root k → (o : Option Marked)
+    → slice_get (marked job source root) k ≡ o → AllWhole job source root (suc k)
 one_item_more job source {root} k _ earlier None e =
     subst (λ (l : List Marked). All (StandsWhole job (with_objects job (carried job l) (base job.tuples root))) (carried job l)) (sym (none_more _ k e)) earlier
 one_item_more job source {root} k gaps earlier (Some m) e = elim (one_or_none job m.1 m.0.verdict) [
   | inl none ↦ (let same = after_stays job source root k m e none in
-      let objects : carried_among job source root (suc k) ≡ carried_among job source root k = carried_grows job source root k m e ∙ ap (λ (l : List Carried). carried_among job source root k ++ l) none ∙ append_nil (carried_among job source root k) in
-      subst (λ (t : Tree). All (StandsWhole job t) (carried_among job source root (suc k))) (sym same) (subst (λ (l : List Carried). All (StandsWhole job (after job source root k)) l) (sym objects) earlier))
+      let objects : carried_among job source root (suc k) ≡ carried_among job source root k = carried_grows job source root k m e
+      ∙ ap (λ (l : List Carried). carried_among job source root k ++ l) none ∙ append_nil (carried_among job source root k) in
+      subst (λ (t : Tree). All (StandsWhole job t) (carried_among job source root (suc k))) (sym same)
+      (subst (λ (l : List Carried). All (StandsWhole job (after job source root k)) l) (sym objects) earlier))
   | inr one ↦ (let is : IsCarriedAs job source root k one.0 = (m, e, one.1) in
-      let objects : carried_among job source root (suc k) ≡ carried_among job source root k ++ one.0 ∷ [] = carried_grows job source root k m e ∙ ap (λ (l : List Carried). carried_among job source root k ++ l) one.1 in
+      let objects : carried_among job source root (suc k) ≡ carried_among job source root k ++ one.0 ∷ [] = carried_grows job source root k m e
+      ∙ ap (λ (l : List Carried). carried_among job source root k ++ l) one.1 in
       subst (λ (l : List Carried). All (StandsWhole job (after job source root (suc k))) l) (sym objects)
       (All-append (StandsWhole job (after job source root (suc k))) (carried_among job source root k) (one.0 ∷ [])
-      (All-weaker (StandsWhole job (after job source root k)) (StandsWhole job (after job source root (suc k))) (λ object stands. stays_whole job source root k one.0 gaps is object stands) (carried_among job source root k) earlier)
-      (All-cons (StandsWhole job (after job source root (suc k))) one.0 [] (new_whole job source root k one.0 gaps is) (All-nil (StandsWhole job (after job source root (suc k)))))))
+      (All-weaker (StandsWhole job (after job source root k)) (StandsWhole job (after job source root (suc k)))
+      (λ object stands. stays_whole job source root k one.0 gaps is object stands) (carried_among job source root k) earlier)
+      (All-cons (StandsWhole job (after job source root (suc k))) one.0 [] (new_whole job source root k one.0 gaps is)
+      (All-nil (StandsWhole job (after job source root (suc k)))))))
 ]
 
 pub carried_stand_whole : CarriedStandWhole
@@ -121,7 +129,8 @@ in_order object = comes_in_order object.files
 pub carried_have_their_files : CarriedHaveTheirFiles
 carried_have_their_files job source start proper tree = by
   where
-    all_are : (carried_among job source (root_in start) (length (items job source)) ≡ all_carried job source (root_in start)) × (after job source (root_in start) (length (items job source)) ≡ after_all job source (root_in start))
+    all_are : (carried_among job source (root_in start) (length (items job source)) ≡ all_carried job source (root_in start))
+        × (after job source (root_in start) (length (items job source)) ≡ after_all job source (root_in start))
     all_are = let all = all_items_are_all job source (root_in start) (length (items job source)) (omega arith) in (all.0, all.1)
 
     whole : All (StandsWhole job (after_all job source (root_in start))) (all_carried job source (root_in start))
@@ -133,12 +142,15 @@ carried_have_their_files job source start proper tree = by
     ordered : All (λ object. in_order object ≡ true) (all_carried job source (root_in start))
     ordered =
         each_passes in_order _
-        (subst (λ (l : List Carried). list_all in_order l ≡ true) (all_are).0 (carried_files_come_in_order job source (root_in start) (length (items job source)) proper))
+        (subst (λ (l : List Carried). list_all in_order l ≡ true) (all_are).0
+        (carried_files_come_in_order job source (root_in start) (length (items job source)) proper))
 
-    its_files : (object : Carried) → StandsWhole job (after_all job source (root_in start)) object → in_order object ≡ true → HasItsFiles job (with_root start (after_all job source (root_in start))) object
+    its_files : (object : Carried) → StandsWhole job (after_all job source (root_in start)) object → in_order object ≡ true
+        → HasItsFiles job (with_root start (after_all job source (root_in start))) object
     its_files object stands order apart =
         let parts = and_parts _ _ order in
-        state_is_the_files object.id object.files job.meta job.algorithm (with_root start (after_all job source (root_in start))) (storage_root ++ place_of_carried job object) parts.0 parts.1 apart stands
+        state_is_the_files object.id object.files job.meta job.algorithm (with_root start (after_all job source (root_in start)))
+        (storage_root ++ place_of_carried job object) parts.0 parts.1 apart stands
 
     by : All (HasItsFiles job (with_root start (after_all job source (root_in start)))) (all_carried job source (root_in start))
     by i other within = its_files (slice_index_or (all_carried job source (root_in start)) i other) (whole i other within) (ordered i other within)

@@ -35,7 +35,8 @@ pub top_of_object : (job : Job) (object : Carried) → object_of object.id objec
 top_of_object job object =
     let rows = rows_of job.algorithm object.files in
     let all = object_files job.algorithm (inventory_text object.id rows job.meta job.algorithm) (stored_files rows (bytes_in object.files)) in
-    ap (λ (o : Option (List ℕ)). file_or_folder o (leads_to all [])) (top_of_files job.algorithm (inventory_text object.id rows job.meta job.algorithm) (stored_files rows (bytes_in object.files)))
+    ap (λ (o : Option (List ℕ)). file_or_folder o (leads_to all [])) (top_of_files job.algorithm (inventory_text object.id rows job.meta job.algorithm)
+    (stored_files rows (bytes_in object.files)))
 
 -- ---- the top of a base
 
@@ -77,18 +78,23 @@ short_as job id path h other = let same = as_long job.tuples id other in omega (
 pub none_of_objects : (job : Job) (path : Path) (objects : List Carried) → IsShort job path → entry_of_objects job objects path ≡ None
 none_of_objects _ _ [] _ = refl
 none_of_objects job path (object ∷ objects) short =
-    ap (λ (o : Option Entry). option_or o (entry_of_objects job objects path)) (none_of_object job object path (longer (place_of_carried job object) path (short object.id)))
+    ap (λ (o : Option Entry). option_or o (entry_of_objects job objects path))
+    (none_of_object job object path (longer (place_of_carried job object) path (short object.id)))
     ∙ none_of_objects job path objects short
 
-pub entries-append : (job : Job) (path : Path) (first later : List Carried) → entry_of_objects job (first ++ later) path ≡ option_or (entry_of_objects job first path) (entry_of_objects job later path)
+pub entries-append : (job : Job) (path : Path) (first later : List Carried)
+    → entry_of_objects job (first ++ later) path ≡ option_or (entry_of_objects job first path) (entry_of_objects job later path)
 entries-append _ _ [] _ = refl
-entries-append job path (object ∷ first) later = ap (option_or (entry_of_object job path object)) (entries-append job path first later) ∙ by (entry_of_object job path object)
+entries-append job path (object ∷ first) later = ap (option_or (entry_of_object job path object)) (entries-append job path first later)
+    ∙ by (entry_of_object job path object)
   where
-    by : (o : Option Entry) → option_or o (option_or (entry_of_objects job first path) (entry_of_objects job later path)) ≡ option_or (option_or o (entry_of_objects job first path)) (entry_of_objects job later path)
+    by : (o : Option Entry) → option_or o (option_or (entry_of_objects job first path) (entry_of_objects job later path))
+        ≡ option_or (option_or o (entry_of_objects job first path)) (entry_of_objects job later path)
     by None = refl
     by (Some entry) = refl
 
-pub way-append : (job : Job) (path : Path) (first later : List Carried) → is_on_the_way job (first ++ later) path ≡ (is_on_the_way job first path || is_on_the_way job later path)
+pub way-append : (job : Job) (path : Path) (first later : List Carried)
+    → is_on_the_way job (first ++ later) path ≡ (is_on_the_way job first path || is_on_the_way job later path)
 way-append job path first later = list_any-append (λ (object : Carried). is_some (rest_below path (place_of_carried job object))) first later
 
 -- a path on the way to objects leads to one of their places
@@ -100,19 +106,23 @@ pub leads_to_one : {job : Job} {path : Path} (objects : List Carried) → is_on_
 leads_to_one [] h = absurd (false≢true h)
 leads_to_one {job} {path} (object ∷ objects) h = by (leads path (place_of_carried job object)) refl (λ k. leads_to_one objects k) h
   where
-    by : (t : Bool) → leads path (place_of_carried job object) ≡ t → (is_on_the_way job objects path ≡ true → LeadsToOne job path) → (t || is_on_the_way job objects path) ≡ true → LeadsToOne job path
+    by : (t : Bool) → leads path (place_of_carried job object) ≡ t → (is_on_the_way job objects path ≡ true → LeadsToOne job path)
+        → (t || is_on_the_way job objects path) ≡ true → LeadsToOne job path
     by true e later h = record { id = object.id; on = e }
     by false e later h = later h
 
 -- on the way to a place objects have folders alone
-folder_on_the_way : (job : Job) (path : Path) (id : List ℕ) (object : Carried) (here : Option Entry) → leads path (place_of job.tuples id) ≡ true → option_or here (Some Folder) ≡ Some Folder
+folder_on_the_way : (job : Job) (path : Path) (id : List ℕ) (object : Carried) (here : Option Entry) → leads path (place_of job.tuples id) ≡ true
+    → option_or here (Some Folder) ≡ Some Folder
     → option_or (option_or (entry_of_object job path object) here) (Some Folder) ≡ Some Folder
 folder_on_the_way job path id object here on later = by (rest_below (place_of_carried job object) path) refl
   where
-    at : (rest : Path) → path ≡ place_of_carried job object ++ rest → option_or (option_or (object_of object.id object.files job.meta job.algorithm rest) here) (Some Folder) ≡ Some Folder
+    at : (rest : Path) → path ≡ place_of_carried job object ++ rest → option_or (option_or (object_of object.id object.files job.meta job.algorithm rest) here)
+        (Some Folder) ≡ Some Folder
     at [] is = ap (λ (o : Option Entry). option_or (option_or o here) (Some Folder)) (top_of_object job object)
     at (name ∷ rest) is =
-        let long : length path ≡ length (place_of_carried job object) + length (name ∷ rest) = ap length is ∙ length-append (place_of_carried job object) (name ∷ rest) in
+        let long : length path ≡ length (place_of_carried job object) + length (name ∷ rest) = ap length is
+        ∙ length-append (place_of_carried job object) (name ∷ rest) in
         let same : length (place_of_carried job object) ≡ length (place_of job.tuples id) = as_long job.tuples object.id id in
         absurd (true≢false (sym on ∙ longer path (place_of job.tuples id) (omega (arith, long, same))))
 
@@ -121,7 +131,8 @@ folder_on_the_way job path id object here on later = by (rest_below (place_of_ca
     by None e = later
     by (Some rest) e = at rest (whole_of _ path rest e)
 
-pub folders_on_the_way : (job : Job) (path : Path) (id : List ℕ) (objects : List Carried) → leads path (place_of job.tuples id) ≡ true → option_or (entry_of_objects job objects path) (Some Folder) ≡ Some Folder
+pub folders_on_the_way : (job : Job) (path : Path) (id : List ℕ) (objects : List Carried) → leads path (place_of job.tuples id) ≡ true
+    → option_or (entry_of_objects job objects path) (Some Folder) ≡ Some Folder
 folders_on_the_way _ _ _ [] _ = refl
 folders_on_the_way job path id (object ∷ objects) on = folder_on_the_way job path id object _ on (folders_on_the_way job path id objects on)
 
@@ -137,17 +148,20 @@ in_two_lots_at : (job : Job) (first later : List Carried) (folders : List Path) 
 in_two_lots_at job first later folders t to path =
     by (t path) (entry_of_objects job first path) (is_on_the_way job first path) (is_one path folders) refl refl
     ∙ sym (ap (λ o. option_or (t path) (option_or o (folder_where (is_on_the_way job (first ++ later) path)))) (entries-append job path first later)
-    ∙ ap (λ b. option_or (t path) (option_or (option_or (entry_of_objects job first path) (entry_of_objects job later path)) (folder_where b))) (way-append job path first later))
+    ∙ ap (λ b. option_or (t path) (option_or (option_or (entry_of_objects job first path) (entry_of_objects job later path)) (folder_where b)))
+    (way-append job path first later))
   where
     by : (here inside : Option Entry) (way one : Bool) → is_on_the_way job first path ≡ way → is_one path folders ≡ one
-        → option_or (option_or (option_or here (option_or inside (folder_where way))) (folder_where one)) (option_or (entry_of_objects job later path) (folder_where (is_on_the_way job later path)))
+        → option_or (option_or (option_or here (option_or inside (folder_where way))) (folder_where one))
+        (option_or (entry_of_objects job later path) (folder_where (is_on_the_way job later path)))
         ≡ option_or here (option_or (option_or inside (entry_of_objects job later path)) (folder_where (way || is_on_the_way job later path)))
     by (Some entry) inside way one w o = refl
     by None (Some entry) way one w o = refl
     by None None true one w o = let place = leads_to_one {job = job} first w in sym (folders_on_the_way job path place.id later place.on)
     by None None false true w o =
         let parts = to path o in
-        sym (ap (λ (e : Option Entry). option_or e (folder_where (is_on_the_way job later path))) (none_of_objects job path later parts.0) ∙ ap folder_where parts.1)
+        sym (ap (λ (e : Option Entry). option_or e (folder_where (is_on_the_way job later path))) (none_of_objects job path later parts.0)
+        ∙ ap folder_where parts.1)
     by None None false false w o = refl
 
 pub in_two_lots : (job : Job) (first later : List Carried) (folders : List Path) (t : Tree) → AreFoldersTo job later folders

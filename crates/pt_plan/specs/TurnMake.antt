@@ -1,5 +1,31 @@
 -- The turns that make an object in `staging`: one part of it each, and one block of a file that is copied.
-use Rattle.std.specs.Prelude.{◌≡◌, ℕ, suc, ◌+◌, ◌-◌, ◌==◌, ◌&&◌, Bool, true, false, cond, codes, nat_lt, List, [], ◌∷◌, ◌++◌, length, take, Option, None, Some, slice_get, Ok, Err}
+use Rattle.std.specs.Prelude.{
+  ◌≡◌,
+  ℕ,
+  suc,
+  ◌+◌,
+  ◌-◌,
+  ◌==◌,
+  ◌&&◌,
+  Bool,
+  true,
+  false,
+  cond,
+  codes,
+  nat_lt,
+  List,
+  [],
+  ◌∷◌,
+  ◌++◌,
+  length,
+  take,
+  Option,
+  None,
+  Some,
+  slice_get,
+  Ok,
+  Err,
+}
 use Rattle.std.specs.Option.{option_map_or}
 use Rattle.std.specs.Str.{bytes_eq}
 use Rattle.pt_object.specs.Algorithm.{digest_of}

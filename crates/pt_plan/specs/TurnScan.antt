@@ -1,5 +1,30 @@
 -- The turns of the scan of an object: each of its files is read once, for its digest and its length.
-use Rattle.std.specs.Prelude.{◌≡◌, ℕ, ◌+◌, ◌-◌, ◌==◌, ◌&&◌, ◌||◌, Bool, true, false, cond, nat_le, nat_lt, not, List, [], ◌∷◌, ◌++◌, drop, length, take, None, Some, Ok}
+use Rattle.std.specs.Prelude.{
+  ◌≡◌,
+  ℕ,
+  ◌+◌,
+  ◌-◌,
+  ◌==◌,
+  ◌&&◌,
+  ◌||◌,
+  Bool,
+  true,
+  false,
+  cond,
+  nat_le,
+  nat_lt,
+  not,
+  List,
+  [],
+  ◌∷◌,
+  ◌++◌,
+  drop,
+  length,
+  take,
+  None,
+  Some,
+  Ok,
+}
 use Rattle.pt_object.specs.Algorithm.{digest_of}
 use Rattle.pt_object.specs.Contents.{noted}
 use Rattle.pt_object.specs.Rows.{row_of}

@@ -7,8 +7,8 @@ use pt_tree::{MemoryFault, TreeFault};
 use std::alloc::{AllocError, AllocFailed};
 use thiserror::Error;
 
-/// Why a run ended before its end. Each ends it: every later step answers `Ended`. A turn never answers `Turns` or
-/// `Ended`: these two are the run's own.
+/// Why a run ended before its end. Each ends it: every later step answers `Ended`. A turn never
+/// answers `Turns` or `Ended`: these two are the run's own.
 #[derive(Clone, Copy, Debug, PartialEq, Eq, Error)]
 pub enum Fault {
     /// A call of the source failed.
@@ -26,14 +26,15 @@ pub enum Fault {
     /// The source's top holds no file `pairtree_version0_1` or no directory `pairtree_root`.
     #[error("not a Pairtree 0.1 store")]
     NotPairtree,
-    /// `pairtree_prefix` isn't a file of at most 1,024 bytes that is UTF-8 without the line ends at its end.
+    /// `pairtree_prefix` isn't a file of at most 1,024 bytes that is UTF-8 without the line ends at
+    /// its end.
     #[error("the prefix file is not a text of at most 1024 bytes")]
     Prefix,
     /// Something named `staging` stands in the destination.
     #[error("a staging directory is left in the destination")]
     StagingLeft,
-    /// What is named `ocfl` isn't a storage root of this program and this layout, or something that isn't a directory
-    /// has the name of a tuple directory on an object's way.
+    /// What is named `ocfl` isn't a storage root of this program and this layout, or something that
+    /// isn't a directory has the name of a tuple directory on an object's way.
     #[error("the ocfl directory of the destination cannot be used")]
     Target,
     /// A file of the source read otherwise the second time.
@@ -48,8 +49,8 @@ pub enum Fault {
 }
 
 impl Fault {
-    /// The fault's number: 1 `Source`, 2 `Dest`, 3 `Log`, 4 `Memory`, 5 `NotPairtree`, 6 `Prefix`, 7 `StagingLeft`,
-    /// 8 `Target`, 9 `Changed`, 10 `Turns`, 11 `Ended`.
+    /// The fault's number: 1 `Source`, 2 `Dest`, 3 `Log`, 4 `Memory`, 5 `NotPairtree`, 6 `Prefix`,
+    /// 7 `StagingLeft`, 8 `Target`, 9 `Changed`, 10 `Turns`, 11 `Ended`.
     pub fn number(&self) -> u8
         ensures { result ≡ fault_number self.now }
     {

@@ -11,13 +11,14 @@ ghost use Rattle.pt_plan.specs.ShareLaws.{ChoicesLeaveTheWhole, ChoicesMeetInFol
 ghost use Rattle.pt_plan.specs.ShareLaws.{SharesLeaveTheWhole, SharesMeetInFolders, SharesTellTheWhole};
 ghost use Rattle.pt_plan.specs.WholeLaws.{CarriedHaveTheirFiles, CarriedStandWhole};
 
-/// In the order of the walk the files of a directory have logical paths that come in order, none leading to another: what
-/// the laws on objects ask of them.
+/// In the order of the walk the files of a directory have logical paths that come in order, none
+/// leading to another: what the laws on objects ask of them.
 pub fn files_come_in_order()
     ensures { FilesComeInOrder }
 {}
 
-/// So do the files of each object that is carried from a source whose names rise, whatever root stands.
+/// So do the files of each object that is carried from a source whose names rise, whatever root
+/// stands.
 pub fn carried_files_come_in_order()
     ensures { CarriedFilesComeInOrder }
 {}
@@ -37,7 +38,8 @@ pub fn text_grows()
     ensures { TextGrows }
 {}
 
-/// With all items, the root is the one after the whole run, and the text is the log but for the end line.
+/// With all items, the root is the one after the whole run, and the text is the log but for the end
+/// line.
 pub fn all_items_are_all()
     ensures { AllItemsAreAll }
 {}
@@ -57,8 +59,9 @@ pub fn named_is_not_reserved()
     ensures { NamedIsNotReserved }
 {}
 
-/// At a place that isn't reserved something stands after the first items exactly where it is taken by them: no place is a
-/// root file, a folder above one, a tuple directory, or inside another object.
+/// At a place that isn't reserved something stands after the first items exactly where it is taken
+/// by them: no place is a root file, a folder above one, a tuple directory, or inside another
+/// object.
 pub fn place_stands_where_taken()
     ensures { PlaceStandsWhereTaken }
 {}
@@ -68,8 +71,8 @@ pub fn next_place_stands_where_taken()
     ensures { NextPlaceStandsWhereTaken }
 {}
 
-/// The lines of the first items tell how many of these are carried, how many places are taken, and how many are passed
-/// over.
+/// The lines of the first items tell how many of these are carried, how many places are taken, and
+/// how many are passed over.
 pub fn lines_tell_numbers()
     ensures { LinesTellNumbers }
 {}
@@ -89,15 +92,16 @@ pub fn counts_grow()
     ensures { CountsGrow }
 {}
 
-/// The root that any fault leaves of a run over no root or a usable one is one that a run can end with, and a whole run
-/// over it leaves what one undisturbed run over the first leaves. So it is after any number of such faults.
+/// The root that any fault leaves of a run over no root or a usable one is one that a run can end
+/// with, and a whole run over it leaves what one undisturbed run over the first leaves. So it is
+/// after any number of such faults.
 pub fn rerun_ends_alike()
     ensures { RerunEndsAlike }
 {}
 
-/// What any fault leaves of a run that might have ended well is, once `staging` is taken away, a start from which a run may
-/// end well, and that run then leaves the very destination that one undisturbed run leaves: the same root, and all beside
-/// it as it was.
+/// What any fault leaves of a run that might have ended well is, once `staging` is taken away, a
+/// start from which a run may end well, and that run then leaves the very destination that one
+/// undisturbed run leaves: the same root, and all beside it as it was.
 pub fn rerun_leaves_the_same()
     ensures { RerunLeavesTheSame }
 {}
@@ -112,8 +116,8 @@ pub fn roots_have_no_gaps()
     ensures { RootsHaveNoGaps }
 {}
 
-/// With one item more that is carried, the root has its tuple directories and its object at its place, and is as it was
-/// elsewhere.
+/// With one item more that is carried, the root has its tuple directories and its object at its
+/// place, and is as it was elsewhere.
 pub fn after_grows()
     ensures { AfterGrows }
 {}
@@ -133,7 +137,8 @@ pub fn root_is_made_in_place()
     ensures { RootIsMadeInPlace }
 {}
 
-/// What stands in `staging`, moved to a place of the storage root, stands at that place of the root.
+/// What stands in `staging`, moved to a place of the storage root, stands at that place of the
+/// root.
 pub fn object_is_moved_in()
     ensures { ObjectIsMovedIn }
 {}
@@ -148,73 +153,79 @@ pub fn root_is_its_own()
     ensures { RootIsItsOwn }
 {}
 
-/// What a fault leaves of a source that tells is such as is left of any source: objects at places where nothing stood,
-/// each whole.
+/// What a fault leaves of a source that tells is such as is left of any source: objects at places
+/// where nothing stood, each whole.
 pub fn faults_leave_what_is_kept()
     ensures { FaultsLeaveWhatIsKept }
 {}
 
-/// An object made of rows of which none leads to another is whole, with what is held where their contents are stored.
-/// It is the object of those files where that has the rows' digests.
+/// An object made of rows of which none leads to another is whole, with what is held where their
+/// contents are stored. It is the object of those files where that has the rows' digests.
 pub fn rows_make_whole_objects()
     ensures { RowsMakeWholeObjects }
 {}
 
-/// The limit of turns has no part in what is carried and told: a run with another one leaves the same root.
+/// The limit of turns has no part in what is carried and told: a run with another one leaves the
+/// same root.
 pub fn turns_have_no_part()
     ensures { TurnsHaveNoPart }
 {}
 
-/// The way to a place is as free after the first items as it was in the root: no object and no root file comes to stand
-/// in it.
+/// The way to a place is as free after the first items as it was in the root: no object and no root
+/// file comes to stand in it.
 pub fn way_stays_free()
     ensures { WayStaysFree }
 {}
 
-/// Each object that is carried of the first items stands whole at its place in the root after them: its OCFL object, path
-/// by path, and nothing else below it (OCFL 1.1, "Object Structure").
+/// Each object that is carried of the first items stands whole at its place in the root after them:
+/// its OCFL object, path by path, and nothing else below it (OCFL 1.1, "Object Structure").
 pub fn carried_stand_whole()
     ensures { CarriedStandWhole }
 {}
 
-/// In the destination that a run leaves that ends well, the state of the version of each object that is carried is its
-/// files, where no two of them whose bytes differ have one digest (OCFL 1.1, "Version Block").
+/// In the destination that a run leaves that ends well, the state of the version of each object
+/// that is carried is its files, where no two of them whose bytes differ have one digest (OCFL 1.1,
+/// "Version Block").
 pub fn carried_have_their_files()
     ensures { CarriedHaveTheirFiles }
 {}
 
-/// The logs of all shares of a store have together the lines of the whole's, each line in the log of one share: whatever is
-/// asked of lines, as many of the whole's are such as of the shares' together. So the numbers of their end lines add up.
+/// The logs of all shares of a store have together the lines of the whole's, each line in the log
+/// of one share: whatever is asked of lines, as many of the whole's are such as of the shares'
+/// together. So the numbers of their end lines add up.
 pub fn shares_tell_the_whole()
     ensures { SharesTellTheWhole }
 {}
 
-/// Over one root, what stands at a path after a run of the whole stands there after the run of some share, as it is, and
-/// nothing else stands there after any share's.
+/// Over one root, what stands at a path after a run of the whole stands there after the run of some
+/// share, as it is, and nothing else stands there after any share's.
 pub fn shares_leave_the_whole()
     ensures { SharesLeaveTheWhole }
 {}
 
-/// Where two shares have something at a path, it stood in the root that both began with, or else is a folder.
+/// Where two shares have something at a path, it stood in the root that both began with, or else is
+/// a folder.
 pub fn shares_meet_in_folders()
     ensures { SharesMeetInFolders }
 {}
 
-/// Over one root, what stands at a path after a run of the whole stands there after the run of some choice, as it is, and
-/// nothing else stands there after any choice's: where each identifier of the store is of one choice, and those of one place
-/// are of the same. Choices are shares, and shares of what begins with some texts.
+/// Over one root, what stands at a path after a run of the whole stands there after the run of some
+/// choice, as it is, and nothing else stands there after any choice's: where each identifier of the
+/// store is of one choice, and those of one place are of the same. Choices are shares, and shares
+/// of what begins with some texts.
 pub fn choices_leave_the_whole()
     ensures { ChoicesLeaveTheWhole }
 {}
 
-/// Where two such choices have something at a path, it stood in the root that both began with, or else is a folder.
+/// Where two such choices have something at a path, it stood in the root that both began with, or
+/// else is a folder.
 #[tactic(auto, using(crate::proofs::SharedRoots::choices_meet_in_folders))]
 pub fn choices_meet_in_folders()
     ensures { ChoicesMeetInFolders }
 {}
 
-/// The logs of all such choices have together the lines of the whole's that aren't of what is passed over, each line in the
-/// log of one choice.
+/// The logs of all such choices have together the lines of the whole's that aren't of what is
+/// passed over, each line in the log of one choice.
 #[tactic(auto, using(crate::proofs::SharedItems::choices_tell_the_whole))]
 pub fn choices_tell_the_whole()
     ensures { ChoicesTellTheWhole }

@@ -1,4 +1,5 @@
-//! The lines of a run's log as texts: each one compact JSON object with its keys in byte order, and LF.
+//! The lines of a run's log as texts: each one compact JSON object with its keys in byte order, and
+//! LF.
 
 ghost use Rattle.std.specs.Prelude.{◌≡◌, ◌++◌, ◌∷◌, ℕ, List, [], Some, codes, false, IfOk, OnOk};
 ghost use Rattle.std.specs.String.{string_bytes};
@@ -37,8 +38,8 @@ pub struct ToldObject<'m> {
     pub to: &'m NamePath,
 }
 
-// The members of the line of an object that was carried, in the order in which it has them. A derived `Serialize` says nothing of what it
-// writes, so these are by hand.
+// The members of the line of an object that was carried, in the order in which it has them. A
+// derived `Serialize` says nothing of what it writes, so these are by hand.
 #[derive(Drop)]
 struct DoneMembers<'m> {
     at: &'m str,
@@ -205,7 +206,8 @@ pub fn present_line(
     line_with(alloc, &members)
 }
 
-/// The line of a site, or of a shorty that isn't walked, that is passed over; `Memory` where a growth was refused.
+/// The line of a site, or of a shorty that isn't walked, that is passed over; `Memory` where a
+/// growth was refused.
 pub fn skip_line(alloc: Global, at: &NamePath, cause: Cause) -> Result<String, MemoryFault>
     ensures { IfOk result (λ text. string_bytes text ≡ line_text (SkippedLine at.now cause)) }
 {
@@ -229,15 +231,17 @@ pub fn end_line(alloc: Global, done: u64, present: u64, skipped: u64) -> Result<
     line_with(alloc, &members)
 }
 
-/// The names of a path with `/` between, as a line tells of it; `Memory` where a growth was refused.
+/// The names of a path with `/` between, as a line tells of it; `Memory` where a growth was
+/// refused.
 pub fn text_of(path: &NamePath) -> Result<String, MemoryFault>
     ensures { IfOk result (λ text. string_bytes text ≡ joined path.now) }
 {
     Ok(unsafe { String::from_utf8_unchecked(path.join()?) })
 }
 
-// The line with these members, each written as it is sent. It is the line that `line_of` makes of a `Value` with the same members, whose
-// keys and values take memory one by one. They are texts and numbers, so that nothing but memory can be wanting.
+// The line with these members, each written as it is sent. It is the line that `line_of` makes of a
+// `Value` with the same members, whose keys and values take memory one by one. They are texts and
+// numbers, so that nothing but memory can be wanting.
 fn line_with<T: Serialize>(alloc: Global, members: &T) -> Result<String, MemoryFault>
     ensures { IfOk result (λ text. (log : Log) × (json : List ℕ)
         × T.writes members.now (Some []) log × IsTextOf log json

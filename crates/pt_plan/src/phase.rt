@@ -1,8 +1,8 @@
 use crate::Object;
 use pt_tree::Kind;
 
-/// Where a run stands between two turns: what the next turn does. Each phase holds at most one identifier, one place
-/// and numbers.
+/// Where a run stands between two turns: what the next turn does. Each phase holds at most one
+/// identifier, one place and numbers.
 #[derive(Debug, Drop)]
 pub enum Phase {
     /// Opens the store and the destination.
@@ -19,7 +19,8 @@ pub enum Phase {
     Ended,
 }
 
-/// What is done before the first site is judged, in this order: a storage root is made, or else compared.
+/// What is done before the first site is judged, in this order: a storage root is made, or else
+/// compared.
 #[derive(Clone, Copy, Debug)]
 pub enum Opening {
     /// Lists the top of the source.

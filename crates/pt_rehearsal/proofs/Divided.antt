@@ -1,5 +1,38 @@
 -- What buckets have once a text was added, once one of them was divided, and once all of them were.
-use Rattle.std.proofs.Common.{◌≡◌, ◌∙◌, ℕ, zero, suc, ◌+◌, ◌*◌, ◌-◌, ◌/◌, ◌%◌, ◌<◌, ◌≤◌, inl, inr, Bool, true, false, List, [], ◌∷◌, ◌++◌, cond, length, set, arith, refl, ap, subst, sym, mod-lt, length-append, length-set}
+use Rattle.std.proofs.Common.{
+  ◌≡◌,
+  ◌∙◌,
+  ℕ,
+  zero,
+  suc,
+  ◌+◌,
+  ◌*◌,
+  ◌-◌,
+  ◌/◌,
+  ◌%◌,
+  ◌<◌,
+  ◌≤◌,
+  inl,
+  inr,
+  Bool,
+  true,
+  false,
+  List,
+  [],
+  ◌∷◌,
+  ◌++◌,
+  cond,
+  length,
+  set,
+  arith,
+  refl,
+  ap,
+  subst,
+  sym,
+  mod-lt,
+  length-append,
+  length-set,
+}
 use Rattle.std.specs.Prelude.{◌||◌, nat_lt, Option, Some}
 use Rattle.std.specs.Global.{Vec}
 use Rattle.std.specs.List.{slice_get}
@@ -37,7 +70,8 @@ get_last (x ∷ xs) v = get_last xs v
 
 -- ---- a text is added to its bucket
 
-pub put_held : (base : ℕ) (old new : List (Vec ℕ)) (text : List ℕ) (i : ℕ) (b b' : Vec ℕ) → i ≡ bucket_of base (length old) (hash_of text) → i < length old → slice_get old i ≡ Some b
+pub put_held : (base : ℕ) (old new : List (Vec ℕ)) (text : List ℕ) (i : ℕ) (b b' : Vec ℕ) → i ≡ bucket_of base (length old) (hash_of text) → i < length old
+    → slice_get old i ≡ Some b
     → new ≡ set old i b' → texts_in b'.items ≡ texts_in b.items ++ text ∷ [] → is_held base new ≡ with_text text (is_held base old)
 put_held base old new text i b b' at within is written more = λ k t. (one t) k
   where
@@ -62,7 +96,8 @@ put_held base old new text i b b' at within is written more = λ k t. (one t) k
         other off false same = refl
 
 -- a bucket whose texts are the same takes its place
-pub kept_held : (base : ℕ) (old new : List (Vec ℕ)) (i : ℕ) (b b' : Vec ℕ) → i < length old → slice_get old i ≡ Some b → new ≡ set old i b' → b'.items ≡ b.items → is_held base new ≡ is_held base old
+pub kept_held : (base : ℕ) (old new : List (Vec ℕ)) (i : ℕ) (b b' : Vec ℕ) → i < length old → slice_get old i ≡ Some b → new ≡ set old i b' → b'.items ≡ b.items
+    → is_held base new ≡ is_held base old
 kept_held base old new i b b' within is written same = λ k t. (one t) k
   where
     one : (t : List ℕ) → is_held base new t ≡ is_held base old t
@@ -100,7 +135,8 @@ first_held base b none = λ k t. (at (bucket_of base 1 (hash_of t)) t) k
 
 -- ---- a bucket is divided
 
-divided : (base : ℕ) (old : List (Vec ℕ)) (next : ℕ) (b stays goes : Vec ℕ) → 0 < base → base ≤ length old → next ≡ length old - base → slice_get old next ≡ Some b
+divided : (base : ℕ) (old : List (Vec ℕ)) (next : ℕ) (b stays goes : Vec ℕ) → 0 < base → base ≤ length old → next ≡ length old - base
+    → slice_get old next ≡ Some b
     → IsHalved base (length old) (texts_in b.items) (texts_in stays.items) (texts_in goes.items)
     → is_held base (set (old ++ goes ∷ []) next stays) ≡ is_held base old
 divided base old next b stays goes some enough turn is halved = λ k t. (one t) k
@@ -118,7 +154,8 @@ divided base old next b stays goes some enough turn is halved = λ k t. (one t) 
     one t = ap (λ n. held_in t (slice_get new (bucket_of base n (hash_of t)))) longer ∙ elim (cases_eq place count) [
       | inl here ↦
           let to : bucket_of base (count + 1) (hash_of t) ≡ count = cond-true _ place (place - base) (lt-ltb place (count + 1) (omega arith)) ∙ here in
-          let from : bucket_of base count (hash_of t) ≡ next = cond-false _ place (place - base) (le-ltb place count (omega arith)) ∙ ap (λ k. k - base) here ∙ sym turn in
+          let from : bucket_of base count (hash_of t) ≡ next = cond-false _ place (place - base) (le-ltb place count (omega arith)) ∙ ap (λ k. k - base) here
+          ∙ sym turn in
           ap (λ k. held_in t (slice_get new k)) to
           ∙ ap (held_in t) (get_beside (old ++ goes ∷ []) next count stays (λ same. omega arith) ∙ get_last old goes)
           ∙ holds_gone base count b.items stays.items goes.items t halved (eq-eqb place count here)
@@ -131,7 +168,8 @@ divided base old next b stays goes some enough turn is halved = λ k t. (one t) 
             ∙ holds_stayed base count b.items stays.items goes.items t halved (ne_eqb place count off)
             ∙ ap (held_in t) (sym is)
             ∙ ap (λ k. held_in t (slice_get old k)) same
-        | inr apart ↦ ap (held_in t) (get_beside (old ++ goes ∷ []) next (bucket_of base count (hash_of t)) stays apart ∙ get_before old goes (bucket_of base count (hash_of t)) inside)
+        | inr apart ↦ ap (held_in t) (get_beside (old ++ goes ∷ []) next (bucket_of base count (hash_of t)) stays apart
+            ∙ get_before old goes (bucket_of base count (hash_of t)) inside)
       ]
     ]
       where
@@ -144,14 +182,16 @@ divided base old next b stays goes some enough turn is halved = λ k t. (one t) 
         same_test : (place ≡ count → ⊥) → nat_lt place (count + 1) ≡ nat_lt place count
         same_test off = elim (cases_lt place count) [
           | inl less ↦ lt-ltb place (count + 1) (omega arith) ∙ sym (lt-ltb place count less)
-          | inr more ↦ le-ltb place (count + 1) (elim (cases_eq place count) [ inl here ↦ absurd (off here) | inr other ↦ omega arith ]) ∙ sym (le-ltb place count more)
+          | inr more ↦ le-ltb place (count + 1) (elim (cases_eq place count) [ inl here ↦ absurd (off here) | inr other ↦ omega arith ])
+              ∙ sym (le-ltb place count more)
         ]
 
         inside : bucket_of base count (hash_of t) < count
         inside = bucket_within base count (hash_of t) some enough
 
 -- the same by the number of buckets
-pub divided_by : (base : ℕ) (old : List (Vec ℕ)) (count next : ℕ) (b stays goes : Vec ℕ) → count ≡ length old → 0 < base → base ≤ length old → next ≡ count - base → slice_get old next ≡ Some b
+pub divided_by : (base : ℕ) (old : List (Vec ℕ)) (count next : ℕ) (b stays goes : Vec ℕ) → count ≡ length old → 0 < base → base ≤ length old
+    → next ≡ count - base → slice_get old next ≡ Some b
     → IsHalved base count (texts_in b.items) (texts_in stays.items) (texts_in goes.items)
     → is_held base (set (old ++ goes ∷ []) next stays) ≡ is_held base old
 divided_by base old count next b stays goes long some enough turn is halved =

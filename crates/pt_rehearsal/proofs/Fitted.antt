@@ -14,11 +14,26 @@ use Rattle.pt_object.proofs.Ways.{is_same, name_itself, same_name}
 use Rattle.pt_rehearsal.specs.Texts.{with_text}
 use Rattle.pt_rehearsal.specs.Seeing.{View, Within, is_folder, is_hidden, is_inside, is_itself, is_met, met_in, with_folder, with_met}
 use Rattle.pt_rehearsal.specs.Fitting.{Fits, FitsWithin}
-use Rattle.pt_rehearsal.proofs.Changes.{added_folder, added_none, added_off, nothing_below, or_later, put_at_none, put_folder, put_here, put_off, text_apart, text_once, told_apart, told_apart_back}
+use Rattle.pt_rehearsal.proofs.Changes.{
+  added_folder,
+  added_none,
+  added_off,
+  nothing_below,
+  or_later,
+  put_at_none,
+  put_folder,
+  put_here,
+  put_off,
+  text_apart,
+  text_once,
+  told_apart,
+  told_apart_back,
+}
 
 -- ---- a directory below the top, in a place that is known
 
-pub fits_noted : (v : View) (base : Tree) (now : Writing) (n m : List ℕ) (rest : Path) → AreNames (n ∷ m ∷ rest) → is_inside v.filling (n ∷ m ∷ rest) ≡ false → CanMake now.tree (n ∷ m ∷ rest)
+pub fits_noted : (v : View) (base : Tree) (now : Writing) (n m : List ℕ) (rest : Path) → AreNames (n ∷ m ∷ rest) → is_inside v.filling (n ∷ m ∷ rest) ≡ false
+    → CanMake now.tree (n ∷ m ∷ rest)
     → Fits v base now → Fits (with_folder (n ∷ m ∷ rest) v) base (after_mkdir (n ∷ m ∷ rest) now)
 fits_noted v base now n m rest names out can f = record {
   own = f.own;
@@ -38,16 +53,20 @@ fits_noted v base now n m rest names out can f = record {
     apart : (q : Path) → bytes_eq (joined q) (joined p) ≡ false → same_path q p ≡ false
     apart q isnt = told_apart (λ q. bytes_eq (joined q) (joined p)) q p isnt (name_itself (joined p))
 
-    folder : (q : Path) → AreNames q → (s : Bool) → bytes_eq (joined q) (joined p) ≡ s → ((s || v.folder (joined q)) || is_itself v.filling q) ≡ true → put now.tree p Folder q ≡ Some Folder
+    folder : (q : Path) → AreNames q → (s : Bool) → bytes_eq (joined q) (joined p) ≡ s → ((s || v.folder (joined q)) || is_itself v.filling q) ≡ true
+        → put now.tree p Folder q ≡ Some Folder
     folder q qn true same is = ap (put now.tree p Folder) (text_once q p qn names same) ∙ put_here now.tree p Folder
     folder q qn false off is = put_folder now.tree p q (f.folders q qn is)
 
-    inner : (w : Within) → is_inside (Some w) p ≡ false → FitsWithin v.folder base now.tree w → FitsWithin (with_text (joined p) v.folder) base (put now.tree p Folder) w
+    inner : (w : Within) → is_inside (Some w) p ≡ false → FitsWithin v.folder base now.tree w
+        → FitsWithin (with_text (joined p) v.folder) base (put now.tree p Folder) w
     inner w out u = record {
       named = u.named;
       fresh = u.fresh;
-      unmade = λ k isnt. put_off now.tree p Folder (w.name ∷ k ∷ []) (told_apart_back (is_inside (Some w)) (w.name ∷ k ∷ []) p (name_itself w.name) out) ∙ u.unmade k isnt;
-      apart = λ r rn. or_from (bytes_eq (joined (w.name ∷ r)) (joined p)) (v.folder (joined (w.name ∷ r))) (text_apart (w.name ∷ r) p rn names (other r)) (u.apart r rn);
+      unmade = λ k isnt. put_off now.tree p Folder (w.name ∷ k ∷ []) (told_apart_back (is_inside (Some w)) (w.name ∷ k ∷ []) p (name_itself w.name) out)
+          ∙ u.unmade k isnt;
+      apart = λ r rn. or_from (bytes_eq (joined (w.name ∷ r)) (joined p)) (v.folder (joined (w.name ∷ r))) (text_apart (w.name ∷ r) p rn names (other r))
+          (u.apart r rn);
     }
       where
         other : (r : Path) → w.name ∷ r ≡ p → ⊥
@@ -64,7 +83,8 @@ itself_is w (x ∷ y ∷ q) is = absurd (cc)
 pub some_inj : {A : Type 0} (a b : A) → Some a ≡ Some b → a ≡ b
 some_inj a b is = cc
 
-pub fits_begun : (v : View) (base : Tree) (now : Writing) (n : List ℕ) → AreNames (n ∷ []) → v.filling ≡ None → is_folder v (n ∷ []) ≡ false → is_hidden v (n ∷ []) ≡ false → CanMake now.tree (n ∷ [])
+pub fits_begun : (v : View) (base : Tree) (now : Writing) (n : List ℕ) → AreNames (n ∷ []) → v.filling ≡ None → is_folder v (n ∷ []) ≡ false
+    → is_hidden v (n ∷ []) ≡ false → CanMake now.tree (n ∷ [])
     → Fits v base now → Fits (record v { filling = Some (record { name = n; made = λ _. false }) }) base (after_mkdir (n ∷ []) now)
 fits_begun v base now n names none no_folder shown can f = record {
   own = f.own;
@@ -97,12 +117,14 @@ fits_begun v base now n names none no_folder shown can f = record {
     inner = record {
       named = names;
       fresh = sym (f.stands p names no_folder shown) ∙ can.absent;
-      unmade = λ m isnt. put_off now.tree p Folder (n ∷ m ∷ []) (told_apart_back (is_inside (Some w)) (n ∷ m ∷ []) p (name_itself n) refl) ∙ gap_below now.tree f.tree p (m ∷ []) can.absent;
+      unmade = λ m isnt. put_off now.tree p Folder (n ∷ m ∷ []) (told_apart_back (is_inside (Some w)) (n ∷ m ∷ []) p (name_itself n) refl)
+          ∙ gap_below now.tree f.tree p (m ∷ []) can.absent;
       apart = λ rest rn. no_text rest rn (v.folder (joined (n ∷ rest))) refl;
     }
       where
         no_text : (rest : Path) → AreNames (n ∷ rest) → (b : Bool) → v.folder (joined (n ∷ rest)) ≡ b → b ≡ false
-        no_text rest rn true is = absurd (nothing_below now.tree f.tree p rest can.absent (f.folders (n ∷ rest) rn (or_left (v.folder (joined (n ∷ rest))) (is_itself v.filling (n ∷ rest)) is)))
+        no_text rest rn true is = absurd (nothing_below now.tree f.tree p rest can.absent
+            (f.folders (n ∷ rest) rn (or_left (v.folder (joined (n ∷ rest))) (is_itself v.filling (n ∷ rest)) is)))
         no_text rest rn false is = refl
 
 -- ---- something in the directory that is filled
@@ -173,7 +195,8 @@ module _ (folder : List ℕ → Bool) (base t : Tree) (p : Path) (e : Entry) whe
   wholly None u = λ w is. absurd (cc)
   wholly (Some w) u = λ w' is. subst (FitsWithin folder base (put t p e)) (some_inj (met_in p w) w' is) (within_met w (u w refl))
 
-pub fits_hidden : (v : View) (base : Tree) (now : Writing) (p : Path) (e : Entry) (writing : Option Path) → is_inside v.filling p ≡ true → CanMake now.tree p → ((q : Path) → writing ≡ Some q → is_hidden v q ≡ true)
+pub fits_hidden : (v : View) (base : Tree) (now : Writing) (p : Path) (e : Entry) (writing : Option Path) → is_inside v.filling p ≡ true → CanMake now.tree p
+    → ((q : Path) → writing ≡ Some q → is_hidden v q ≡ true)
     → Fits v base now → Fits (with_met p v) base (record { tree = put now.tree p e; writing = writing })
 fits_hidden v base now p e writing inside can opened f = record {
   own = f.own;

@@ -5,7 +5,8 @@ use Rattle.std.specs.Option.{option_map}
 use Rattle.pt_tree.specs.Path.{Path}
 use Rattle.pt_rehearsal.specs.Seeing.{Becomes, View, Within, moved_known, renamed_to, with_folder}
 
-pub moved_top : (v w : View) (to : Path) (n : List ℕ) (filled : Option Within) → to ≡ n ∷ [] → v.filled ≡ None → w ≡ with_folder to v → filled ≡ renamed_to n v.filling
+pub moved_top : (v w : View) (to : Path) (n : List ℕ) (filled : Option Within) → to ≡ n ∷ [] → v.filled ≡ None → w ≡ with_folder to v
+    → filled ≡ renamed_to n v.filling
     → Becomes (moved_known v to) true v (record { folder = w.folder; filling = None; filled = filled; least = w.least })
 moved_top v w to n filled is nothing made named = rw (made, is, nothing, named) (refl, refl)
 

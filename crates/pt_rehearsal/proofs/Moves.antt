@@ -48,7 +48,8 @@ from_true : (b : Bool) (c : Bool) → (b ≡ true → c ≡ true) → c ≡ fals
 from_true true c on isnt = absurd (true≢false (sym (on refl) ∙ isnt))
 from_true false c on isnt = refl
 
-pub fits_moved : (v : View) (base : Tree) (now : Writing) (w : Within) (to : Path) (v' : View) → v.filling ≡ Some w → AreNames to → is_folder v to ≡ false → is_hidden v to ≡ false
+pub fits_moved : (v : View) (base : Tree) (now : Writing) (w : Within) (to : Path) (v' : View) → v.filling ≡ Some w → AreNames to → is_folder v to ≡ false
+    → is_hidden v to ≡ false
     → CanMove now.tree (w.name ∷ []) to → KnowsOn v w to v' → Fits v base now → Fits v' base (after_rename (w.name ∷ []) to now)
 fits_moved v base now w to v' is_filled names no_folder shown can knows f = record {
   own = f.own;
@@ -87,12 +88,14 @@ fits_moved v base now w to v' is_filled names no_folder shown can knows f = reco
     folder q qn is = by (bytes_eq (joined q) (joined to)) refl is
       where
         stood : t from ≡ Some Folder
-        stood = f.folders from u.named (or_right (v.folder (joined from)) (is_itself v.filling from) (ap (λ o. is_itself o from) is_filled ∙ name_itself w.name))
+        stood = f.folders from u.named (or_right (v.folder (joined from)) (is_itself v.filling from) (ap (λ o. is_itself o from) is_filled
+            ∙ name_itself w.name))
 
         top : moved t from to to ≡ Some Folder
         top = ap (λ o. moved_at t from o (rest_below from to) to) (ap (rest_below to) (sym (append_nil to)) ∙ rest_of to []) ∙ ap t (append_nil from) ∙ stood
 
-        elsewhere : t q ≡ Some Folder → v.folder (joined q) ≡ true → (o o' : Option Path) → rest_below to q ≡ o → rest_below from q ≡ o' → moved t from to q ≡ Some Folder
+        elsewhere : t q ≡ Some Folder → v.folder (joined q) ≡ true → (o o' : Option Path) → rest_below to q ≡ o → rest_below from q ≡ o'
+            → moved t from to q ≡ Some Folder
         elsewhere here text (Some rest) o' below under = absurd (nothing_below t f.tree to rest at_to (ap t (sym (whole_of to q rest below)) ∙ here))
         elsewhere here text None (Some rest) below under =
             let whole : q ≡ w.name ∷ rest = whole_of from q rest under in
@@ -101,13 +104,15 @@ fits_moved v base now w to v' is_filled names no_folder shown can knows f = reco
 
         by : (s : Bool) → bytes_eq (joined q) (joined to) ≡ s → (s || v.folder (joined q)) ≡ true → moved t from to q ≡ Some Folder
         by true same is = ap (moved t from to) (text_once q to qn names same) ∙ top
-        by false off is = elsewhere (f.folders q qn (or_left (v.folder (joined q)) (is_itself v.filling q) is)) is (rest_below to q) (rest_below from q) refl refl
+        by false off is = elsewhere (f.folders q qn (or_left (v.folder (joined q)) (is_itself v.filling q) is)) is (rest_below to q) (rest_below from q) refl
+            refl
 
     texts : (q : Path) → is_folder v' q ≡ false → (bytes_eq (joined q) (joined to) ≡ false) × (v.folder (joined q) ≡ false)
     texts q isnt = or_parts (bytes_eq (joined q) (joined to)) (v.folder (joined q))
         (ap (λ (g : List ℕ → Bool). g (joined q)) (sym knows.folder) ∙ (or_parts (v'.folder (joined q)) (is_itself v'.filling q) isnt).0)
 
-    stands : (q : Path) → AreNames q → is_folder v' q ≡ false → is_hidden v' q ≡ false → (o : Option Path) → rest_below to q ≡ o → (o' : Option Path) → rest_below from q ≡ o' → moved t from to q ≡ base q
+    stands : (q : Path) → AreNames q → is_folder v' q ≡ false → is_hidden v' q ≡ false → (o : Option Path) → rest_below to q ≡ o → (o' : Option Path)
+        → rest_below from q ≡ o' → moved t from to q ≡ base q
     stands q qn isnt seen (Some []) below o' under =
         let same : q ≡ to = whole_of to q [] below ∙ append_nil to in
         absurd (true≢false (sym (text_of q to same) ∙ (texts q isnt).0))

@@ -21,7 +21,8 @@ name_free n is =
     let all = forbidden (length n == 0) (nat_lt 255 (length n)) (is_utf8 n) (is_forbidden_name n) is in
     free_by n (second (list_any (λ b. b == 47) n) (list_any is_nul n) (bytes_eq n (46 ∷ [])) (bytes_eq n (46 ∷ 46 ∷ [])) all)
   where
-    forbidden : (a b c d : Bool) → is_none (cond a (Some fault.Empty) (cond b (Some fault.TooLong) (cond c (cond d (Some fault.Forbidden) None) (Some fault.NotUtf8)))) ≡ true → d ≡ false
+    forbidden : (a b c d : Bool) → is_none (cond a (Some fault.Empty) (cond b (Some fault.TooLong)
+        (cond c (cond d (Some fault.Forbidden) None) (Some fault.NotUtf8)))) ≡ true → d ≡ false
     forbidden true b c d is = absurd (cc)
     forbidden false true c d is = absurd (cc)
     forbidden false false false d is = absurd (cc)

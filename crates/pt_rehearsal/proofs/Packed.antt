@@ -1,5 +1,31 @@
 -- The texts of a bucket: one more, no NUL in any, and those that stay and go when it is divided.
-use Rattle.std.proofs.Common.{◌≡◌, ◌∙◌, ℕ, ◌+◌, ◌<◌, Bool, true, false, Bor, List, [], ◌∷◌, ◌++◌, append-nil, cond, drop, get_or, length, map, subst, take, arith, refl, ap, sym}
+use Rattle.std.proofs.Common.{
+  ◌≡◌,
+  ◌∙◌,
+  ℕ,
+  ◌+◌,
+  ◌<◌,
+  Bool,
+  true,
+  false,
+  Bor,
+  List,
+  [],
+  ◌∷◌,
+  ◌++◌,
+  append-nil,
+  cond,
+  drop,
+  get_or,
+  length,
+  map,
+  subst,
+  take,
+  arith,
+  refl,
+  ap,
+  sym,
+}
 use Rattle.std.specs.Prelude.{◌||◌, not}
 use Rattle.std.specs.List.{All, filter, list_any, onto_first, slice_split}
 use Rattle.std.specs.Str.{bytes_eq}
@@ -25,7 +51,8 @@ split_more : (bytes text : List ℕ) → slice_split is_nul (bytes ++ 0 ∷ text
 split_more [] text = refl
 split_more (x ∷ bytes) text = by (split_more bytes text) (is_nul x)
   where
-    by : slice_split is_nul (bytes ++ 0 ∷ text) ≡ slice_split is_nul bytes ++ slice_split is_nul text → (b : Bool) → cond b ([] ∷ slice_split is_nul (bytes ++ 0 ∷ text)) (onto_first x (slice_split is_nul (bytes ++ 0 ∷ text)))
+    by : slice_split is_nul (bytes ++ 0 ∷ text) ≡ slice_split is_nul bytes ++ slice_split is_nul text → (b : Bool)
+        → cond b ([] ∷ slice_split is_nul (bytes ++ 0 ∷ text)) (onto_first x (slice_split is_nul (bytes ++ 0 ∷ text)))
         ≡ cond b ([] ∷ slice_split is_nul bytes) (onto_first x (slice_split is_nul bytes)) ++ slice_split is_nul text
     by later true = ap (λ (l : List (List ℕ)). [] ∷ l) later
     by later false = ap (onto_first x) later ∙ onto_more x (slice_split is_nul bytes) (slice_split is_nul text) _ (length-slice_split is_nul bytes)
@@ -51,7 +78,8 @@ split_free : (bytes : List ℕ) → All HasNoNul (slice_split is_nul bytes)
 split_free [] = All-cons HasNoNul [] [] (All-nil (λ b. is_nul b ≡ false)) (All-nil HasNoNul)
 split_free (x ∷ bytes) = by (split_free bytes) (is_nul x) refl
   where
-    by : All HasNoNul (slice_split is_nul bytes) → (b : Bool) → is_nul x ≡ b → All HasNoNul (cond b ([] ∷ slice_split is_nul bytes) (onto_first x (slice_split is_nul bytes)))
+    by : All HasNoNul (slice_split is_nul bytes) → (b : Bool) → is_nul x ≡ b
+        → All HasNoNul (cond b ([] ∷ slice_split is_nul bytes) (onto_first x (slice_split is_nul bytes)))
     by later true is = All-cons HasNoNul [] (slice_split is_nul bytes) (All-nil (λ b. is_nul b ≡ false)) later
     by later false is = first (slice_split is_nul bytes) later
       where
@@ -68,10 +96,12 @@ texts_free bytes = rest (slice_split is_nul bytes) (split_free bytes)
     rest (p ∷ ps) all = All-tail HasNoNul p ps all
 
 -- so none of them has, where they were taken out
-pub free_at : (bytes : List ℕ) (texts : List (Bor (List ℕ))) (i : ℕ) (d : Bor (List ℕ)) → map (λ (t : Bor (List ℕ)). t.now) texts ≡ texts_in bytes → i < length texts → HasNoNul (get_or texts i d).now
+pub free_at : (bytes : List ℕ) (texts : List (Bor (List ℕ))) (i : ℕ) (d : Bor (List ℕ)) → map (λ (t : Bor (List ℕ)). t.now) texts ≡ texts_in bytes
+    → i < length texts → HasNoNul (get_or texts i d).now
 free_at bytes texts i d are within =
     subst HasNoNul (get_or-map (λ (t : Bor (List ℕ)). t.now) texts i d d.now within)
-    (All-same HasNoNul (map (λ (t : Bor (List ℕ)). t.now) texts) (texts_in bytes) are (texts_free bytes) i d.now (omega (arith, length-map texts (λ (t : Bor (List ℕ)). t.now))))
+    (All-same HasNoNul (map (λ (t : Bor (List ℕ)). t.now) texts) (texts_in bytes) are (texts_free bytes) i d.now
+    (omega (arith, length-map texts (λ (t : Bor (List ℕ)). t.now))))
 
 -- ---- a bucket is divided
 
@@ -84,7 +114,8 @@ module _ (base count : ℕ) (bytes stays goes t : List ℕ) (halved : IsHalved b
   pub holds_stayed : goes_on base count t ≡ false → holds t stays ≡ holds t bytes
   holds_stayed off =
       ap (list_any (bytes_eq t)) halved.stay
-      ∙ any-filter_same (bytes_eq t) (λ k. not (goes_on base count k)) true (λ k same. ap (λ k. not (goes_on base count k)) (sym (same_name t k same)) ∙ ap not off)
+      ∙ any-filter_same (bytes_eq t) (λ k. not (goes_on base count k)) true (λ k same. ap (λ k. not (goes_on base count k)) (sym (same_name t k same))
+      ∙ ap not off)
       (texts_in bytes)
 
 -- ---- one text more is divided
@@ -106,15 +137,19 @@ module _ (base count : ℕ) (texts : List (Bor (List ℕ))) (i : ℕ) (d : Bor (
   pub gone_too : (more : List (List ℕ)) → IsHalved base count before stays goes → i < length texts → goes_on base count text ≡ true → more ≡ goes ++ text ∷ []
       → IsHalved base count (map (λ (t : Bor (List ℕ)). t.now) (take (i + 1) texts)) stays more
   gone_too more h within on longer = record {
-    stay = h.stay ∙ sym (append-nil (filter (λ t. not (goes_on base count t)) before)) ∙ sym (filter_push (λ t. not (goes_on base count t)) before text false (ap not on))
+    stay = h.stay ∙ sym (append-nil (filter (λ t. not (goes_on base count t)) before))
+        ∙ sym (filter_push (λ t. not (goes_on base count t)) before text false (ap not on))
         ∙ ap (filter (λ t. not (goes_on base count t))) (sym (grown within));
-    go = longer ∙ ap (λ (l : List (List ℕ)). l ++ text ∷ []) h.go ∙ sym (filter_push (goes_on base count) before text true on) ∙ ap (filter (goes_on base count)) (sym (grown within));
+    go = longer ∙ ap (λ (l : List (List ℕ)). l ++ text ∷ []) h.go ∙ sym (filter_push (goes_on base count) before text true on)
+        ∙ ap (filter (goes_on base count)) (sym (grown within));
   }
 
-  pub stayed_too : (more : List (List ℕ)) → IsHalved base count before stays goes → i < length texts → goes_on base count text ≡ false → more ≡ stays ++ text ∷ []
+  pub stayed_too : (more : List (List ℕ)) → IsHalved base count before stays goes → i < length texts → goes_on base count text ≡ false
+      → more ≡ stays ++ text ∷ []
       → IsHalved base count (map (λ (t : Bor (List ℕ)). t.now) (take (i + 1) texts)) more goes
   stayed_too more h within off longer = record {
     stay = longer ∙ ap (λ (l : List (List ℕ)). l ++ text ∷ []) h.stay ∙ sym (filter_push (λ t. not (goes_on base count t)) before text true (ap not off))
         ∙ ap (filter (λ t. not (goes_on base count t))) (sym (grown within));
-    go = h.go ∙ sym (append-nil (filter (goes_on base count) before)) ∙ sym (filter_push (goes_on base count) before text false off) ∙ ap (filter (goes_on base count)) (sym (grown within));
+    go = h.go ∙ sym (append-nil (filter (goes_on base count) before)) ∙ sym (filter_push (goes_on base count) before text false off)
+        ∙ ap (filter (goes_on base count)) (sym (grown within));
   }

@@ -34,7 +34,8 @@ use Rattle.pt_rehearsal.proofs.Steps.{fits_dir, fits_file, fits_move, fits_nothi
 
 module _ {S F D : Type 0} {sys : OfSystem S F D} {handle : OfHandle F} {file : OfInput F}
     {dir : OfInput D} (old new : HostDest S F D sys handle file dir)
-    (keeps : (new.folder ≡ old.folder) × IsSetAs old.longest old.synced new.longest new.synced) (writing : new.writing ≡ old.writing) (unsynced : new.unsynced ≡ old.unsynced) where
+    (keeps : (new.folder ≡ old.folder) × IsSetAs old.longest old.synced new.longest new.synced) (writing : new.writing ≡ old.writing) (unsynced : new.unsynced
+    ≡ old.unsynced) where
   -- the system isn't asked
   pub unasked : new.syscalls.system ≡ old.syscalls.system → SameFolder old new
   unasked system = (keeps.0, keeps.1, writing, unsynced, ap (λ s. sys.kept s old.folder.path.now) system)
@@ -43,13 +44,27 @@ module _ {S F D : Type 0} {sys : OfSystem S F D} {handle : OfHandle F} {file : O
   pub looked : KindLaw sys.kept sys.looks → {T : Type 0} (leads : Result Kind Error → Result T TreeFault → Type 0) (p : Path) (result : Result T TreeFault)
       → Looks leads old new p result → SameFolder old new
   looked law leads p result (inl refused) = unasked refused.1
-  looked law leads p result (inr asked) = (keeps.0, keeps.1, writing, unsynced, kind_keeps sys.kept old.folder.path.now sys.looks law leads old.syscalls.system new.syscalls.system p result asked.1)
+  looked law leads p result (inr asked) = (
+    keeps.0,
+    keeps.1,
+    writing,
+    unsynced,
+    kind_keeps sys.kept old.folder.path.now sys.looks law leads old.syscalls.system
+        new.syscalls.system p result asked.1,
+  )
 
   -- it is asked for first bytes
-  pub peeked : PeekLaw sys.kept file.left sys.opens → (p : Path) (block : List ℕ) (result : Result (Unit {0}) TreeFault) → Peeks old new p block result → SameFolder old new
+  pub peeked : PeekLaw sys.kept file.left sys.opens → (p : Path) (block : List ℕ) (result : Result (Unit {0}) TreeFault) → Peeks old new p block result
+      → SameFolder old new
   peeked law p block result (inl refused) = unasked refused.1
-  peeked law p block result (inr asked) =
-      (keeps.0, keeps.1, writing, unsynced, peek_keeps sys.kept old.folder.path.now file.left file.reads sys.opens law old.syscalls.system new.syscalls.system p block result asked.1)
+  peeked law p block result (inr asked) = (
+    keeps.0,
+    keeps.1,
+    writing,
+    unsynced,
+    peek_keeps sys.kept old.folder.path.now file.left file.reads sys.opens law old.syscalls.system new.syscalls.system p
+        block result asked.1,
+  )
 
 module _ {S F D : Type 0} {sys : OfSystem S F D} {handle : OfHandle F} {file : OfInput F}
     {dir : OfInput D} where
@@ -81,7 +96,8 @@ module _ (told : Option Writing) (v : View) (steps : List Step) (p : Path) (name
   unfolding IsKindAt
   kind_of_folder is = by told (folder_told is)
     where
-      by : (o : Option Writing) → ((w : Writing) → o ≡ Some w → (played steps w.tree).tree p ≡ Some Folder) → ForSome (told_over o steps) (λ s. option_map kind_of_entry (s.tree p) ≡ Some Dir)
+      by : (o : Option Writing) → ((w : Writing) → o ≡ Some w → (played steps w.tree).tree p ≡ Some Folder)
+          → ForSome (told_over o steps) (λ s. option_map kind_of_entry (s.tree p) ≡ Some Dir)
       by None stands = λ s of. absurd (cc)
       by (Some w) stands = λ s of.
           let same : played steps w.tree ≡ s = cc in
@@ -99,7 +115,8 @@ module _ (told : Option Writing) (v : View) (steps : List Step) (p : Path) (name
     kinds_still (Err e) is = tt
     kinds_still (Ok k) is = by told still_told is
       where
-        by : (o : Option Writing) → ((w : Writing) → o ≡ Some w → (played steps w.tree).tree p ≡ w.tree p) → ForSome o (λ s. option_map kind_of_entry (s.tree p) ≡ k)
+        by : (o : Option Writing) → ((w : Writing) → o ≡ Some w → (played steps w.tree).tree p ≡ w.tree p)
+            → ForSome o (λ s. option_map kind_of_entry (s.tree p) ≡ k)
             → ForSome (told_over o steps) (λ s. option_map kind_of_entry (s.tree p) ≡ k)
         by None still is = λ s of. absurd (cc)
         by (Some w) still is = λ s of.
@@ -111,22 +128,26 @@ module _ (told : Option Writing) (v : View) (steps : List Step) (p : Path) (name
     can_peek_still can = λ w of.
         subst (λ e. IsSome (bytes_of e)) (still_told w of) (can (played steps w.tree) (ap (λ o. told_over o steps) of))
 
-    pub peeked_still : (block : List ℕ) (result : Result (Unit {0}) TreeFault) → OnOk result (IsPeeked told p block) → OnOk result (IsPeeked (told_over told steps) p block)
+    pub peeked_still : (block : List ℕ) (result : Result (Unit {0}) TreeFault) → OnOk result (IsPeeked told p block)
+        → OnOk result (IsPeeked (told_over told steps) p block)
     unfolding IsPeeked
     peeked_still block (Err e) is = tt
     peeked_still block (Ok x) is = by told still_told is
       where
-        by : (o : Option Writing) → ((w : Writing) → o ≡ Some w → (played steps w.tree).tree p ≡ w.tree p) → ForSome o (λ s. option_map (take 8192) (bytes_of (s.tree p)) ≡ Some block)
+        by : (o : Option Writing) → ((w : Writing) → o ≡ Some w → (played steps w.tree).tree p ≡ w.tree p)
+            → ForSome o (λ s. option_map (take 8192) (bytes_of (s.tree p)) ≡ Some block)
             → ForSome (told_over o steps) (λ s. option_map (take 8192) (bytes_of (s.tree p)) ≡ Some block)
         by None still is = λ s of. absurd (cc)
         by (Some w) still is = λ s of.
             let same : played steps w.tree ≡ s = cc in
-            subst (λ (s : Writing). option_map (take 8192) (bytes_of (s.tree p)) ≡ Some block) same (ap (λ e. option_map (take 8192) (bytes_of e)) (still w refl) ∙ is w refl)
+            subst (λ (s : Writing). option_map (take 8192) (bytes_of (s.tree p)) ≡ Some block) same
+            (ap (λ e. option_map (take 8192) (bytes_of e)) (still w refl) ∙ is w refl)
 
 -- ---- where the folder tells, what is remembered fits
 
 -- the same folder, by the same word
-pub fits_still : (told told' : Option Writing) (v v' : View) (steps : List Step) → told' ≡ told → v' ≡ v → ∥ FitsTold told v steps ∥₁ → ∥ FitsTold told' v' steps ∥₁
+pub fits_still : (told told' : Option Writing) (v v' : View) (steps : List Step) → told' ≡ told → v' ≡ v → ∥ FitsTold told v steps ∥₁
+    → ∥ FitsTold told' v' steps ∥₁
 fits_still told told' v v' steps same seen f =
     ∥∥₁_map f (λ f. subst (λ v. FitsTold told' v steps) (sym seen) (subst (λ told. FitsTold told v steps) (sym same) f))
 
@@ -143,36 +164,48 @@ becomes_next (Some next) can old new is b = ap Some (sym b.1)
 
 module _ (told told' : Option Writing) (v v' : View) (steps steps' : List Step) (same : told' ≡ told) where
   -- a change that may be made of what is played
-  by_step : (step : Step) → steps' ≡ step ∷ steps → ((w : Writing) → told ≡ Some w → Fits v w.tree (played steps w.tree) → Fits v' w.tree (played (step ∷ steps) w.tree))
+  by_step : (step : Step) → steps' ≡ step ∷ steps → ((w : Writing) → told ≡ Some w → Fits v w.tree (played steps w.tree)
+      → Fits v' w.tree (played (step ∷ steps) w.tree))
       → ∥ FitsTold told v steps ∥₁ → ∥ FitsTold told' v' steps' ∥₁
   by_step step more on f =
       ∥∥₁_map f (λ f. subst (λ told. FitsTold told v' steps') (sym same) (subst (λ steps. FitsTold told v' steps) (sym more) (λ w is. on w is (f w is))))
 
-  pub fits_dir_made : (p : Path) → AreNames p → MayMake (told_over told steps) p → made_dir v p ≡ Some v' → steps' ≡ MadeDir p ∷ steps → ∥ FitsTold told v steps ∥₁ → ∥ FitsTold told' v' steps' ∥₁
+  pub fits_dir_made : (p : Path) → AreNames p → MayMake (told_over told steps) p → made_dir v p ≡ Some v' → steps' ≡ MadeDir p ∷ steps
+      → ∥ FitsTold told v steps ∥₁ → ∥ FitsTold told' v' steps' ∥₁
   unfolding MayMake
-  fits_dir_made p names can is more f = by_step (MadeDir p) more (λ w told_is. fits_dir v v' w.tree (played steps w.tree) p names (can (played steps w.tree) (ap (λ o. told_over o steps) told_is)) is) f
+  fits_dir_made p names can is more f = by_step (MadeDir p) more (λ w told_is. fits_dir v v' w.tree (played steps w.tree) p names
+      (can (played steps w.tree) (ap (λ o. told_over o steps) told_is)) is) f
 
-  pub fits_file_made : (p : Path) → MayMake (told_over told steps) p → made_file v p ≡ Some v' → steps' ≡ MadeFile p ∷ steps → ∥ FitsTold told v steps ∥₁ → ∥ FitsTold told' v' steps' ∥₁
+  pub fits_file_made : (p : Path) → MayMake (told_over told steps) p → made_file v p ≡ Some v' → steps' ≡ MadeFile p ∷ steps → ∥ FitsTold told v steps ∥₁
+      → ∥ FitsTold told' v' steps' ∥₁
   unfolding MayMake
-  fits_file_made p can is more f = by_step (MadeFile p) more (λ w told_is. fits_file v v' w.tree (played steps w.tree) p (can (played steps w.tree) (ap (λ o. told_over o steps) told_is)) is) f
+  fits_file_made p can is more f = by_step (MadeFile p) more (λ w told_is. fits_file v v' w.tree (played steps w.tree) p
+      (can (played steps w.tree) (ap (λ o. told_over o steps) told_is)) is) f
 
-  pub fits_move_made : (from to : Path) → AreNames to → MayMove (told_over told steps) from to → moved_to v from to ≡ Some v' → steps' ≡ Moved from to ∷ steps → ∥ FitsTold told v steps ∥₁ → ∥ FitsTold told' v' steps' ∥₁
+  pub fits_move_made : (from to : Path) → AreNames to → MayMove (told_over told steps) from to → moved_to v from to ≡ Some v' → steps' ≡ Moved from to ∷ steps
+      → ∥ FitsTold told v steps ∥₁ → ∥ FitsTold told' v' steps' ∥₁
   unfolding MayMove
   fits_move_made from to names can is more f =
-      by_step (Moved from to) more (λ w told_is. fits_move v v' w.tree (played steps w.tree) from to names (can (played steps w.tree) (ap (λ o. told_over o steps) told_is)) is) f
+      by_step (Moved from to) more (λ w told_is. fits_move v v' w.tree (played steps w.tree) from to names
+      (can (played steps w.tree) (ap (λ o. told_over o steps) told_is)) is) f
 
-pub fits_piece_added : (told : Option Writing) (v : View) (steps steps' : List Step) (piece : List ℕ) → steps' ≡ Added piece ∷ steps → ∥ FitsTold told v steps ∥₁ → ∥ FitsTold told v steps' ∥₁
-fits_piece_added told v steps steps' piece more f = by_step told told v v steps steps' refl (Added piece) more (λ w is. fits_added v w.tree (played steps w.tree) piece) f
+pub fits_piece_added : (told : Option Writing) (v : View) (steps steps' : List Step) (piece : List ℕ) → steps' ≡ Added piece ∷ steps
+    → ∥ FitsTold told v steps ∥₁ → ∥ FitsTold told v steps' ∥₁
+fits_piece_added told v steps steps' piece more f = by_step told told v v steps steps' refl (Added piece) more
+    (λ w is. fits_added v w.tree (played steps w.tree) piece) f
 
-pub fits_closed : (told : Option Writing) (v : View) (steps steps' : List Step) → steps' ≡ Closed ∷ steps → ∥ FitsTold told v steps ∥₁ → ∥ FitsTold told v steps' ∥₁
+pub fits_closed : (told : Option Writing) (v : View) (steps steps' : List Step) → steps' ≡ Closed ∷ steps → ∥ FitsTold told v steps ∥₁
+    → ∥ FitsTold told v steps' ∥₁
 fits_closed told v steps steps' more f = by_step told told v v steps steps' refl Closed more (λ w is. fits_finished v w.tree (played steps w.tree)) f
 
 -- nothing was asked for yet
-pub fits_anew : (told : Option Writing) (v : View) (steps : List Step) → v ≡ nothing → steps ≡ [] → ((w : Writing) → told ≡ Some w → IsTree w.tree) → ∥ FitsTold told v steps ∥₁
+pub fits_anew : (told : Option Writing) (v : View) (steps : List Step) → v ≡ nothing → steps ≡ [] → ((w : Writing) → told ≡ Some w → IsTree w.tree)
+    → ∥ FitsTold told v steps ∥₁
 fits_anew told v steps none no_step tree = ∣ subst (FitsTold told v) (sym no_step) (fits_new told v none tree) ∣₁
 
 module _ {S F D : Type 0} {sys : OfSystem S F D} {handle : OfHandle F} {file : OfInput F}
     {dir : OfInput D} where
   -- what a folder tells is a tree
-  pub dest_tree : (d : HostDest S F D sys handle file dir) → ((t : Tree) → (sys.kept d.syscalls.system d.folder.path.now).tree ≡ Some t → IsTree t) → (w : Writing) → told_by d ≡ Some w → IsTree w.tree
+  pub dest_tree : (d : HostDest S F D sys handle file dir) → ((t : Tree) → (sys.kept d.syscalls.system d.folder.path.now).tree ≡ Some t → IsTree t)
+      → (w : Writing) → told_by d ≡ Some w → IsTree w.tree
   dest_tree d law w is = tree_with (sys.kept d.syscalls.system d.folder.path.now) d.unsynced d.writing w law d.back is

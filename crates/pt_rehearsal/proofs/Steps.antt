@@ -1,5 +1,29 @@
 -- What is remembered fits what is played, call by call.
-use Rattle.std.proofs.Common.{◌≡◌, ◌∙◌, ◌<◌, ◌≤◌, ◌+◌, ℕ, suc, Bool, true, false, List, [], ◌∷◌, ◌++◌, cond, length, refl, ap, sym, subst, arith, lt-ltb, ltb-true}
+use Rattle.std.proofs.Common.{
+  ◌≡◌,
+  ◌∙◌,
+  ◌<◌,
+  ◌≤◌,
+  ◌+◌,
+  ℕ,
+  suc,
+  Bool,
+  true,
+  false,
+  List,
+  [],
+  ◌∷◌,
+  ◌++◌,
+  cond,
+  length,
+  refl,
+  ap,
+  sym,
+  subst,
+  arith,
+  lt-ltb,
+  ltb-true,
+}
 use Rattle.std.specs.Prelude.{◌||◌, nat_lt, Option, None, Some}
 use Rattle.std.specs.Str.{bytes_eq}
 use Rattle.std.proofs.lemmas.Bool.{ltb-false, or_left, or_parts, or_right, true≢false}
@@ -9,7 +33,31 @@ use Rattle.pt_tree.specs.Name.{AreNames}
 use Rattle.pt_tree.specs.Path.{Path, joined}
 use Rattle.pt_tree.specs.Tree.{Bytes, CanMake, CanMove, Folder, IsTree, Tree}
 use Rattle.pt_object.proofs.Ways.{name_itself}
-use Rattle.pt_rehearsal.specs.Seeing.{View, Within, begun_at, is_folder, is_hidden, is_inside, is_itself, is_met, lesser, made_dir, made_dir_as, made_file, made_file_as, made_known, moved_as, moved_at_top, moved_known, moved_to, nothing, renamed_to, seen_at, seen_by, with_met}
+use Rattle.pt_rehearsal.specs.Seeing.{
+  View,
+  Within,
+  begun_at,
+  is_folder,
+  is_hidden,
+  is_inside,
+  is_itself,
+  is_met,
+  lesser,
+  made_dir,
+  made_dir_as,
+  made_file,
+  made_file_as,
+  made_known,
+  moved_as,
+  moved_at_top,
+  moved_known,
+  moved_to,
+  nothing,
+  renamed_to,
+  seen_at,
+  seen_by,
+  with_met,
+}
 use Rattle.pt_rehearsal.specs.declared.remembered.Seen.{Seen}
 use Rattle.pt_rehearsal.specs.declared.remembered.Seen.TheVariants as seen
 use Rattle.pt_rehearsal.specs.Fitting.{Fits}
@@ -55,10 +103,12 @@ inside_of true v next p is = (refl, cc)
 inside_of false v next p is = absurd (cc)
 
 -- a directory
-pub fits_dir : (v next : View) (base : Tree) (now : Writing) (p : Path) → AreNames p → CanMake now.tree p → made_dir v p ≡ Some next → Fits v base now → Fits next base (after_mkdir p now)
+pub fits_dir : (v next : View) (base : Tree) (now : Writing) (p : Path) → AreNames p → CanMake now.tree p → made_dir v p ≡ Some next → Fits v base now
+    → Fits next base (after_mkdir p now)
 fits_dir v next base now p names can is f = by (seen_at v p) refl is
   where
-    known : (p : Path) → AreNames p → CanMake now.tree p → is_folder v p ≡ false → is_hidden v p ≡ false → made_known v p ≡ Some next → Fits next base (after_mkdir p now)
+    known : (p : Path) → AreNames p → CanMake now.tree p → is_folder v p ≡ false → is_hidden v p ≡ false → made_known v p ≡ Some next
+        → Fits next base (after_mkdir p now)
     known [] names can isnt shown is = absurd (cc)
     known (n ∷ []) names can isnt shown is = begun v.filling refl is
       where
@@ -78,7 +128,8 @@ fits_dir v next base now p names can is f = by (seen_at v p) refl is
     by seen.Standing said is = let so = standing_is v p said in known p names can so.0 so.1 is
 
 -- a file
-pub fits_file : (v next : View) (base : Tree) (now : Writing) (p : Path) → CanMake now.tree p → made_file v p ≡ Some next → Fits v base now → Fits next base (after_create p now)
+pub fits_file : (v next : View) (base : Tree) (now : Writing) (p : Path) → CanMake now.tree p → made_file v p ≡ Some next → Fits v base now
+    → Fits next base (after_create p now)
 fits_file v next base now p can is f = by (seen_at v p) is
   where
     by : (s : Seen) → made_file_as s v p ≡ Some next → Fits next base (after_create p now)
@@ -95,7 +146,12 @@ fits_file v next base now p can is f = by (seen_at v p) is
 
 -- to a place at the top: what was made in the directory is hidden there
 knows_at_top : (v : View) (w : Within) (n : List ℕ) → v.filled ≡ None
-    → KnowsOn v w (n ∷ []) (record { folder = λ t. bytes_eq t (joined (n ∷ [])) || v.folder t; filling = None; filled = Some (record w { name = n }); least = v.least })
+    → KnowsOn v w (n ∷ []) (record {
+      folder = λ t. bytes_eq t (joined (n ∷ [])) || v.folder t;
+      filling = None;
+      filled = Some (record w { name = n });
+      least = v.least;
+    })
 knows_at_top v w n none = record {
   folder = refl;
   filling = refl;
@@ -107,7 +163,13 @@ knows_at_top v w n none = record {
 
 -- below the top: all that is deeper is hidden
 knows_below : (v : View) (w : Within) (n m : List ℕ) (rest : Path)
-    → KnowsOn v w (n ∷ m ∷ rest) (record { folder = λ t. bytes_eq t (joined (n ∷ m ∷ rest)) || v.folder t; filling = None; filled = v.filled; least = lesser v.least (length (n ∷ m ∷ rest)) })
+    → KnowsOn v w (n ∷ m ∷ rest) (record {
+      folder = λ t. bytes_eq t (joined (n ∷ m ∷ rest)) || v.folder t;
+      filling = None;
+      filled = v.filled;
+      least = lesser
+          v.least (length (n ∷ m ∷ rest));
+    })
 knows_below v w n m rest = record {
   folder = refl;
   filling = refl;
@@ -142,13 +204,16 @@ knows_below v w n m rest = record {
         more_than a b c is = omega arith
 
     deeper : (r : List ℕ) (more : Path) → nat_lt (lesser v.least depth) (length ((n ∷ m ∷ rest) ++ r ∷ more)) ≡ true
-    deeper r more = lt-ltb (lesser v.least depth) (length ((n ∷ m ∷ rest) ++ r ∷ more)) (less_than (lesser v.least depth) depth _ (at_most v.least depth) (longer r more))
+    deeper r more = lt-ltb (lesser v.least depth) (length ((n ∷ m ∷ rest) ++ r ∷ more))
+        (less_than (lesser v.least depth) depth _ (at_most v.least depth) (longer r more))
 
     keeps : (q : Path) (met : Bool) → (met || nat_lt v.least (length q)) ≡ true → (met || nat_lt (lesser v.least depth) (length q)) ≡ true
     keeps q true is = refl
-    keeps q false is = lt-ltb (lesser v.least depth) (length q) (less_than (lesser v.least depth) v.least (length q) (at_most_first v.least depth) (ltb-true v.least (length q) is))
+    keeps q false is = lt-ltb (lesser v.least depth) (length q) (less_than (lesser v.least depth) v.least (length q) (at_most_first v.least depth)
+        (ltb-true v.least (length q) is))
 
-module _ (v next : View) (base : Tree) (now : Writing) (to : Path) (names : AreNames to) (f : Fits v base now) (w : Within) (is_filled : v.filling ≡ Some w) (can : CanMove now.tree (w.name ∷ []) to) where
+module _ (v next : View) (base : Tree) (now : Writing) (to : Path) (names : AreNames to) (f : Fits v base now) (w : Within) (is_filled : v.filling ≡ Some w)
+    (can : CanMove now.tree (w.name ∷ []) to) where
   abbrev AfterMove : View → Type 0
   AfterMove next = Fits next base (after_rename (w.name ∷ []) to now)
 
@@ -162,7 +227,12 @@ module _ (v next : View) (base : Tree) (now : Writing) (to : Path) (names : AreN
       top : (o : Option Within) → v.filled ≡ o → moved_at_top n o v ≡ Some next → AfterMove next
       top (Some u) none is = absurd (cc)
       top None none is =
-          subst AfterMove (ap (λ o. record { folder = λ t. bytes_eq t (joined (n ∷ [])) || v.folder t; filling = None; filled = renamed_to n o; least = v.least }) (sym is_filled) ∙ some_inj _ next is)
+          subst AfterMove (ap (λ o. record {
+            folder = λ t. bytes_eq t (joined (n ∷ [])) || v.folder t;
+            filling = None;
+            filled = renamed_to n o;
+            least = v.least;
+          }) (sym is_filled) ∙ some_inj _ next is)
           (moved_so _ isnt shown (subst (λ (p : Path). KnowsOn v w p (at_top n)) (sym same) (knows_at_top v w n none)))
         where
           at_top : List ℕ → View
@@ -172,17 +242,25 @@ module _ (v next : View) (base : Tree) (now : Writing) (to : Path) (names : AreN
       (moved_so _ isnt shown (subst (λ (p : Path). KnowsOn v w p below) (sym same) (knows_below v w n m rest)))
     where
       below : View
-      below = record { folder = λ t. bytes_eq t (joined (n ∷ m ∷ rest)) || v.folder t; filling = None; filled = v.filled; least = lesser v.least (length (n ∷ m ∷ rest)) }
+      below = record {
+        folder = λ t. bytes_eq t (joined (n ∷ m ∷ rest)) || v.folder t;
+        filling = None;
+        filled = v.filled;
+        least = lesser v.least
+            (length (n ∷ m ∷ rest));
+      }
 
   seen_so : (s : Seen) → seen_at v to ≡ s → moved_as s v to ≡ Some next → AfterMove next
   seen_so seen.Folder said is = absurd (cc)
   seen_so seen.Hidden said is = absurd (cc)
   seen_so seen.Standing said is = let so = standing_is v to said in known to refl so.0 so.1 is
 
-pub fits_move : (v next : View) (base : Tree) (now : Writing) (from to : Path) → AreNames to → CanMove now.tree from to → moved_to v from to ≡ Some next → Fits v base now → Fits next base (after_rename from to now)
+pub fits_move : (v next : View) (base : Tree) (now : Writing) (from to : Path) → AreNames to → CanMove now.tree from to → moved_to v from to ≡ Some next
+    → Fits v base now → Fits next base (after_rename from to now)
 fits_move v next base now from to names can is f = by v.filling refl (is_itself v.filling from) refl is
   where
-    by : (o : Option Within) → v.filling ≡ o → (b : Bool) → is_itself v.filling from ≡ b → cond b (moved_as (seen_at v to) v to) None ≡ Some next → Fits next base (after_rename from to now)
+    by : (o : Option Within) → v.filling ≡ o → (b : Bool) → is_itself v.filling from ≡ b → cond b (moved_as (seen_at v to) v to) None ≡ Some next
+        → Fits next base (after_rename from to now)
     by o filled false off is = absurd (cc)
     by None filled true on is = absurd (true≢false (sym on ∙ ap (λ o. is_itself o from) filled))
     by (Some w) filled true on is =

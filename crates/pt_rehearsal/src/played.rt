@@ -1,4 +1,5 @@
-//! What a destination was asked to do, as proofs alone know it: no code reads it, and it takes no memory.
+//! What a destination was asked to do, as proofs alone know it: no code reads it, and it takes no
+//! memory.
 ghost use Rattle.std.specs.Prelude.{◌≡◌, List, []};
 ghost use base.Fml.{ftrue};
 ghost use Rattle.pt_rehearsal.specs.Steps.{Step, steps_code};
@@ -6,11 +7,12 @@ ghost use Rattle.pt_rehearsal.specs.Steps.{Step, steps_code};
 use pt_tree::NamePath;
 use std::marker::Model;
 
-/// The steps that a destination was asked for, the last one first. They exist in proofs alone: at run time this is nothing,
-/// and its calls do nothing.
+/// The steps that a destination was asked for, the last one first. They exist in proofs alone: at
+/// run time this is nothing, and its calls do nothing.
 ///
-/// So a device that keeps none of the bytes that it is given can tell a tree that holds them. What it tells is bound by the
-/// answers that it really gives: its trait's clauses hold them against what it tells.
+/// So a device that keeps none of the bytes that it is given can tell a tree that holds them. What
+/// it tells is bound by the answers that it really gives: its trait's clauses hold them against
+/// what it tells.
 #[derive(Drop)]
 pub struct Played {
     pub ghost steps: { List Step } by { steps_code },

@@ -17,14 +17,16 @@ use pt_folder::{HostDest, Input, System};
 use pt_tree::{Block, Dest, Kind, NamePath, TreeFault};
 use std::alloc::Global;
 
-/// A rehearsal over a folder as destination: it looks where the folder would be looked at, makes and changes nothing, and
-/// answers as the folder would after the calls that it was asked for. Where the folder tells its tree, it tells the tree that
-/// the folder would hold then.
+/// A rehearsal over a folder as destination: it looks where the folder would be looked at, makes
+/// and changes nothing, and answers as the folder would after the calls that it was asked for.
+/// Where the folder tells its tree, it tells the tree that the folder would hold then.
 ///
-/// It keeps no contents. It remembers a text for each directory that it would have made and for each place that it would have
-/// moved something to; of what lies in what was moved, and in the directory at the top that is being filled, it knows nothing
-/// but that it would have been made, and a call that asks for that is refused: `Device`, counted as a failure. So is a file
-/// that would be made elsewhere, and a move of anything but that directory. A run asks for none of these.
+/// It keeps no contents. It remembers a text for each directory that it would have made and for
+/// each place that it would have moved something to; of what lies in what was moved, and in the
+/// directory at the top that is being filled, it knows nothing but that it would have been made,
+/// and a call that asks for that is refused: `Device`, counted as a failure. So is a file that
+/// would be made elsewhere, and a move of anything but that directory. A run asks for none of
+/// these.
 #[derive(Drop)]
 pub struct Rehearsal<'a, S: System> {
     dest: HostDest<'a, S>,
@@ -36,8 +38,8 @@ pub struct Rehearsal<'a, S: System> {
 impl<'a, S: System> Rehearsal<'a, S> {
     ghost use Rattle.pt_rehearsal.specs.Rehearsal.{told};
 
-    /// A rehearsal over a folder, of which nothing is put onto the disk, that remembers nothing yet. It calls nothing and
-    /// takes no memory.
+    /// A rehearsal over a folder, of which nothing is put onto the disk, that remembers nothing
+    /// yet. It calls nothing and takes no memory.
     pub fn new(alloc: Global, dest: HostDest<'a, S>) -> Rehearsal<'a, S>
         ensures still { lasting result.dest ≡ lasting dest.entry }
         ensures longest { longest_of result.dest ≡ longest_of dest.entry }
@@ -221,7 +223,8 @@ impl<'a, S: System> Dest for Rehearsal<'a, S> {
     }
 }
 
-// Whether a directory may be made, as far as the folder knows: its path isn't too long, and one at the top needs the folder.
+// Whether a directory may be made, as far as the folder knows: its path isn't too long, and one at
+// the top needs the folder.
 fn may_make_dir<S: System>(dest: &mut HostDest<'_, S>, path: &NamePath) -> Result<(), TreeFault>
     ensures fits { OnOk result (length (entry_text (folder_path dest.old) path.now)
         ≤ longest_of dest.old) }

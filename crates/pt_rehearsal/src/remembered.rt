@@ -1,4 +1,5 @@
-//! What a rehearsal remembers of what it would have made: a text for each directory and each object, and no more.
+//! What a rehearsal remembers of what it would have made: a text for each directory and each
+//! object, and no more.
 ghost use Rattle.std.specs.Prelude.{◌≡◌, ◌||◌, IfOk, OnErr, OnOk, true};
 ghost use Rattle.std.specs.Option.{option_map};
 ghost use Rattle.pt_tree.specs.Name.{AreNames};
@@ -29,9 +30,10 @@ struct Inner {
     names: TextSet,
 }
 
-/// What would have been made: the texts of directories, of those of two names and more and of those to which something was
-/// moved; the directory at the top that is being filled; the one that was moved to a place at the top; and the least number
-/// of names of a place below the top to which something was moved, whose inside isn't remembered.
+/// What would have been made: the texts of directories, of those of two names and more and of those
+/// to which something was moved; the directory at the top that is being filled; the one that was
+/// moved to a place at the top; and the least number of names of a place below the top to which
+/// something was moved, whose inside isn't remembered.
 #[derive(Drop)]
 pub(crate) struct Remembered {
     alloc: Global,
@@ -82,9 +84,9 @@ impl Remembered {
         Seen::Standing
     }
 
-    /// A directory would have been made at a path. It answers whether that can be remembered: not where something would
-    /// stand, nor below what isn't remembered, nor a second one at the top beside one that is being filled. After `Memory`
-    /// nothing is changed.
+    /// A directory would have been made at a path. It answers whether that can be remembered: not
+    /// where something would stand, nor below what isn't remembered, nor a second one at the top
+    /// beside one that is being filled. After `Memory` nothing is changed.
     pub fn make_dir(&mut self, path: &NamePath) -> Result<bool, MemoryFault>
         ensures ok { IfOk result (λ can.
             Becomes (made_dir (view self.old) path.now) can (view self.old) (view self.new)) }
@@ -99,8 +101,8 @@ impl Remembered {
         }
     }
 
-    /// A file would have been made at a path. It answers whether that can be remembered: in the directory that is being
-    /// filled alone. After `Memory` nothing is changed.
+    /// A file would have been made at a path. It answers whether that can be remembered: in the
+    /// directory that is being filled alone. After `Memory` nothing is changed.
     pub fn create_new(&mut self, path: &NamePath) -> Result<bool, MemoryFault>
         ensures ok { IfOk result (λ can.
             Becomes (made_file (view self.old) path.now) can (view self.old) (view self.new)) }
@@ -113,9 +115,9 @@ impl Remembered {
         }
     }
 
-    /// What stands at `from` would have been moved. It answers whether that can be remembered: where `from` is the directory
-    /// that is being filled, nothing would stand at `to`, and, where `to` is at the top, none was moved there before. After
-    /// `Memory` nothing is changed.
+    /// What stands at `from` would have been moved. It answers whether that can be remembered:
+    /// where `from` is the directory that is being filled, nothing would stand at `to`, and, where
+    /// `to` is at the top, none was moved there before. After `Memory` nothing is changed.
     pub fn rename(&mut self, from: &NamePath, to: &NamePath) -> Result<bool, MemoryFault>
         ensures ok { IfOk result (λ can.
             Becomes (moved_to (view self.old) from.now to.now) can
@@ -173,7 +175,8 @@ impl Remembered {
         }
     }
 
-    // The directory that is being filled goes to a path, of this text, of which nothing is remembered.
+    // The directory that is being filled goes to a path, of this text, of which nothing is
+    // remembered.
     fn move_known(&mut self, to: &NamePath, text: &[u8]) -> Result<bool, MemoryFault>
         requires text { text.now ≡ joined to.now }
         requires named { AreNames to.now }

@@ -1,8 +1,9 @@
 //! A set of texts, which lie packed in buckets.
 //!
-//! A bucket is one list of bytes: its texts one behind another, a NUL before each. The hash of a text says in which bucket it
-//! lies (linear hashing: as the set grows, one bucket after another is divided in two, so that a bucket stays short). This
-//! equals all texts in one list that is looked through from its start.
+//! A bucket is one list of bytes: its texts one behind another, a NUL before each. The hash of a
+//! text says in which bucket it lies (linear hashing: as the set grows, one bucket after another is
+//! divided in two, so that a bucket stays short). This equals all texts in one list that is looked
+//! through from its start.
 ghost use Rattle.std.specs.Prelude.{◌≡◌, ◌<◌, ◌≤◌, ◌++◌, ◌∷◌, [], false, length, map, max, IfOk, List, OnErr, OnOk, ℕ};
 ghost use Rattle.std.specs.Borrow.{Bor};
 ghost use Rattle.pt_rehearsal.specs.Buckets.{HasNoNul, IsHalved, bucket_of, hash_of, holds, texts_in};
@@ -105,7 +106,8 @@ impl TextSet {
         }
     }
 
-    // Makes one bucket more, unless there are as many as there can be. After `Memory` the set is as before.
+    // Makes one bucket more, unless there are as many as there can be. After `Memory` the set is as
+    // before.
     fn grow(&mut self) -> Result<(), MemoryFault>
         ensures same { has self.new ≡ has self.old }
         ensures some { OnOk result (0 < length self.new.buckets.items) }
@@ -141,8 +143,9 @@ impl TextSet {
     }
 }
 
-// The hash of a text: the lower half of that by FNV-1a. The last three bytes hardly reach the least bits of the upper half, so that by it
-// directories that differ in their last tuple alone would lie in few buckets.
+// The hash of a text: the lower half of that by FNV-1a. The last three bytes hardly reach the least
+// bits of the upper half, so that by it directories that differ in their last tuple alone would lie
+// in few buckets.
 fn hash(text: &[u8]) -> usize
     ensures { result ≡ hash_of text.now }
 {
@@ -163,7 +166,8 @@ fn holds(bucket: &[u8], text: &[u8]) -> bool
         .any(|held| held == text)
 }
 
-// Adds a text to a bucket, and asks for no more room than it takes. After `Memory` the bucket is as before.
+// Adds a text to a bucket, and asks for no more room than it takes. After `Memory` the bucket is as
+// before.
 fn append(bucket: &mut Vec<u8>, text: &[u8]) -> Result<(), MemoryFault>
     requires { HasNoNul text.now }
     ensures ok { OnOk result (texts_in bucket.new.items
@@ -182,7 +186,8 @@ fn append(bucket: &mut Vec<u8>, text: &[u8]) -> Result<(), MemoryFault>
     }
 }
 
-// The texts of a bucket. Room for them is asked for once: `collect` goes on where the room that it asks for ahead is refused.
+// The texts of a bucket. Room for them is asked for once: `collect` goes on where the room that it
+// asks for ahead is refused.
 fn texts_of(alloc: Global, bucket: &[u8]) -> Result<Vec<&[u8]>, MemoryFault>
     ensures { IfOk result (λ texts. map (λ (t : Bor (List ℕ)). t.now) texts.items
         ≡ texts_in bucket.now) }

@@ -12,12 +12,26 @@ use Rattle.pt_object.specs.Object.{bytes_in, object_files, rows_of, stored_files
 use Rattle.pt_object.specs.Rows.{row_of}
 use Rattle.pt_object.specs.Script.{MakeFile, MakeFolder, item_in}
 use Rattle.pt_object.specs.Scripts.{object_items, staging}
-use Rattle.pt_run_tests.specs.WorkedObjects.{EqualContentsPaths, FourFilesStored, NoFilesPaths, OneFileObject, OneFileScript, RootStands, SharedFolders, one_file, one_file_inventory, one_file_sidecar, worked_meta}
+use Rattle.pt_run_tests.specs.WorkedObjects.{
+  EqualContentsPaths,
+  FourFilesStored,
+  NoFilesPaths,
+  OneFileObject,
+  OneFileScript,
+  RootStands,
+  SharedFolders,
+  one_file,
+  one_file_inventory,
+  one_file_sidecar,
+  worked_meta,
+}
 use Rattle.pt_object.specs.declared.algorithm.Algorithm.TheVariants.{Sha512}
 use Rattle.pt_object.specs.declared.rows.Row.{Row}
 
 abbrev digest_of_abc : List ℕ
-digest_of_abc = 221 ∷ 175 ∷ 53 ∷ 161 ∷ 147 ∷ 97 ∷ 122 ∷ 186 ∷ 204 ∷ 65 ∷ 115 ∷ 73 ∷ 174 ∷ 32 ∷ 65 ∷ 49 ∷ 18 ∷ 230 ∷ 250 ∷ 78 ∷ 137 ∷ 169 ∷ 126 ∷ 162 ∷ 10 ∷ 158 ∷ 238 ∷ 230 ∷ 75 ∷ 85 ∷ 211 ∷ 154 ∷ 33 ∷ 146 ∷ 153 ∷ 42 ∷ 39 ∷ 79 ∷ 193 ∷ 168 ∷ 54 ∷ 186 ∷ 60 ∷ 35 ∷ 163 ∷ 254 ∷ 235 ∷ 189 ∷ 69 ∷ 77 ∷ 68 ∷ 35 ∷ 100 ∷ 60 ∷ 232 ∷ 14 ∷ 42 ∷ 154 ∷ 201 ∷ 79 ∷ 165 ∷ 76 ∷ 164 ∷ 159 ∷ []
+digest_of_abc = 221 ∷ 175 ∷ 53 ∷ 161 ∷ 147 ∷ 97 ∷ 122 ∷ 186 ∷ 204 ∷ 65 ∷ 115 ∷ 73 ∷ 174 ∷ 32 ∷ 65 ∷ 49 ∷ 18 ∷ 230 ∷ 250 ∷ 78 ∷ 137 ∷ 169 ∷ 126 ∷ 162 ∷ 10 ∷ 158
+    ∷ 238 ∷ 230 ∷ 75 ∷ 85 ∷ 211 ∷ 154 ∷ 33 ∷ 146 ∷ 153 ∷ 42 ∷ 39 ∷ 79 ∷ 193 ∷ 168 ∷ 54 ∷ 186 ∷ 60 ∷ 35 ∷ 163 ∷ 254 ∷ 235 ∷ 189 ∷ 69 ∷ 77 ∷ 68 ∷ 35 ∷ 100 ∷ 60
+    ∷ 232 ∷ 14 ∷ 42 ∷ 154 ∷ 201 ∷ 79 ∷ 165 ∷ 76 ∷ 164 ∷ 159 ∷ []
 
 one_row : rows_of Sha512 one_file ≡ row_of (codes "a.txt" ∷ []) digest_of_abc 3 ∷ []
 one_row = ap (λ (d : List ℕ). row_of (codes "a.txt" ∷ []) d 3 ∷ []) digest_of_abc_512

@@ -15,7 +15,41 @@ use Rattle.pt_tree.specs.Tree.{Entry, bytes_of}
 use Rattle.pt_plan.specs.Carried.{IsUsable}
 use Rattle.pt_plan.proofs.LaterRoots.{new_root_files}
 use Rattle.pt_run_tests.specs.WorkedStores.{flat_job, store_of_one_object, worked_job}
-use Rattle.pt_run_tests.specs.WorkedRuns.{UsableRootsAreTold, WorkOfSkips, altered_root, BadNamesLog, DividedLog, EmptyStoreLog, ExtensionsLog, OneIdentifierFlatLog, OneObjectFlatLog, OneObjectIsNamed, PrefixIsRead, StoresAreKnown, StraysLog, FirstBadEntryCounts, LengthsAreLimited, DepthsAreLimited, EmptyDirectoriesAreCounted, DividedSitesAreGathered, OneObjectIsCarried, WorkOfFirstRuns, WorkWithOtherTuples, BoundOfEmptyStore, SecondRunCarriesNothing, WorkOfSecondRun, WorkOfGathering, BoundOfEqualContents, BoundOfGathering, OneObjectLog, LinesComeInOrder, LineFeedLog, PresentComesFirst, WaysAreTold, DepthsOfChains}
+use Rattle.pt_run_tests.specs.WorkedRuns.{
+  UsableRootsAreTold,
+  WorkOfSkips,
+  altered_root,
+  BadNamesLog,
+  DividedLog,
+  EmptyStoreLog,
+  ExtensionsLog,
+  OneIdentifierFlatLog,
+  OneObjectFlatLog,
+  OneObjectIsNamed,
+  PrefixIsRead,
+  StoresAreKnown,
+  StraysLog,
+  FirstBadEntryCounts,
+  LengthsAreLimited,
+  DepthsAreLimited,
+  EmptyDirectoriesAreCounted,
+  DividedSitesAreGathered,
+  OneObjectIsCarried,
+  WorkOfFirstRuns,
+  WorkWithOtherTuples,
+  BoundOfEmptyStore,
+  SecondRunCarriesNothing,
+  WorkOfSecondRun,
+  WorkOfGathering,
+  BoundOfEqualContents,
+  BoundOfGathering,
+  OneObjectLog,
+  LinesComeInOrder,
+  LineFeedLog,
+  PresentComesFirst,
+  WaysAreTold,
+  DepthsOfChains,
+}
 
 pub stores_are_known : StoresAreKnown
 unfolding is_utf8 chars encode short.first_words short.schedule short.rounds short.compress short.hash_after short.digest_bytes short.sha256 digest_number
@@ -30,30 +64,36 @@ unfolding is_utf8 chars encode short.first_words short.schedule short.rounds sho
 prefix_is_read = refl
 
 pub empty_store_log : EmptyStoreLog
-unfolding is_utf8 chars encode digits serde_json_on_literals short.first_words short.schedule short.rounds short.compress short.hash_after short.digest_bytes short.sha256 digest_number
+unfolding is_utf8 chars encode digits serde_json_on_literals short.first_words short.schedule short.rounds short.compress short.hash_after short.digest_bytes
+    short.sha256 digest_number
 empty_store_log = refl
 
 pub strays_log : StraysLog
-unfolding is_utf8 chars encode digits serde_json_on_literals short.first_words short.schedule short.rounds short.compress short.hash_after short.digest_bytes short.sha256 digest_number
+unfolding is_utf8 chars encode digits serde_json_on_literals short.first_words short.schedule short.rounds short.compress short.hash_after short.digest_bytes
+    short.sha256 digest_number
 strays_log = refl
 
 pub bad_names_log : BadNamesLog
-unfolding is_utf8 chars encode digits serde_json_on_literals short.first_words short.schedule short.rounds short.compress short.hash_after short.digest_bytes short.sha256 digest_number
+unfolding is_utf8 chars encode digits serde_json_on_literals short.first_words short.schedule short.rounds short.compress short.hash_after short.digest_bytes
+    short.sha256 digest_number
 bad_names_log = refl
 
 pub divided_log : DividedLog
 divided_log = (refl, refl)
 
 pub extensions_log : ExtensionsLog
-unfolding is_utf8 chars encode digits serde_json_on_literals short.first_words short.schedule short.rounds short.compress short.hash_after short.digest_bytes short.sha256 digest_number
+unfolding is_utf8 chars encode digits serde_json_on_literals short.first_words short.schedule short.rounds short.compress short.hash_after short.digest_bytes
+    short.sha256 digest_number
 extensions_log = refl
 
 pub one_object_flat_log : OneObjectFlatLog
-unfolding is_utf8 chars encode digits serde_json_on_literals short.first_words short.schedule short.rounds short.compress short.hash_after short.digest_bytes short.sha256 digest_number
+unfolding is_utf8 chars encode digits serde_json_on_literals short.first_words short.schedule short.rounds short.compress short.hash_after short.digest_bytes
+    short.sha256 digest_number
 one_object_flat_log = refl
 
 pub one_identifier_flat_log : OneIdentifierFlatLog
-unfolding is_utf8 chars encode digits serde_json_on_literals short.first_words short.schedule short.rounds short.compress short.hash_after short.digest_bytes short.sha256 digest_number
+unfolding is_utf8 chars encode digits serde_json_on_literals short.first_words short.schedule short.rounds short.compress short.hash_after short.digest_bytes
+    short.sha256 digest_number
 one_identifier_flat_log = refl
 
 pub first_bad_entry_counts : FirstBadEntryCounts
@@ -101,19 +141,23 @@ unfolding is_utf8 chars encode short.first_words short.schedule short.rounds sho
 work_of_second_run root h = rw h refl
 
 pub work_of_gathering : WorkOfGathering
-unfolding is_utf8 chars encode first_words schedule rounds compress hash_after digest_bytes sha512 short.first_words short.schedule short.rounds short.compress short.hash_after short.digest_bytes short.sha256 digest_number
+unfolding is_utf8 chars encode first_words schedule rounds compress hash_after digest_bytes sha512 short.first_words short.schedule short.rounds short.compress
+    short.hash_after short.digest_bytes short.sha256 digest_number
 work_of_gathering = refl
 
 pub bound_of_equal_contents : BoundOfEqualContents
-unfolding is_utf8 chars encode first_words schedule rounds compress hash_after digest_bytes sha512 short.first_words short.schedule short.rounds short.compress short.hash_after short.digest_bytes short.sha256 digest_number
+unfolding is_utf8 chars encode first_words schedule rounds compress hash_after digest_bytes sha512 short.first_words short.schedule short.rounds short.compress
+    short.hash_after short.digest_bytes short.sha256 digest_number
 bound_of_equal_contents = refl
 
 pub bound_of_gathering : BoundOfGathering
-unfolding is_utf8 chars encode first_words schedule rounds compress hash_after digest_bytes sha512 short.first_words short.schedule short.rounds short.compress short.hash_after short.digest_bytes short.sha256 digest_number
+unfolding is_utf8 chars encode first_words schedule rounds compress hash_after digest_bytes sha512 short.first_words short.schedule short.rounds short.compress
+    short.hash_after short.digest_bytes short.sha256 digest_number
 bound_of_gathering = refl
 
 pub one_object_log : OneObjectLog
-unfolding is_utf8 chars encode digits serde_json_on_literals short.first_words short.schedule short.rounds short.compress short.hash_after short.digest_bytes short.sha256 encode_with digest_number
+unfolding is_utf8 chars encode digits serde_json_on_literals short.first_words short.schedule short.rounds short.compress short.hash_after short.digest_bytes
+    short.sha256 encode_with digest_number
 one_object_log = refl
 
 pub lines_come_in_order : LinesComeInOrder
@@ -121,7 +165,8 @@ unfolding is_utf8 chars encode short.first_words short.schedule short.rounds sho
 lines_come_in_order = (refl, refl)
 
 pub line_feed_log : LineFeedLog
-unfolding is_utf8 chars encode digits serde_json_on_literals short.first_words short.schedule short.rounds short.compress short.hash_after short.digest_bytes short.sha256 digest_number
+unfolding is_utf8 chars encode digits serde_json_on_literals short.first_words short.schedule short.rounds short.compress short.hash_after short.digest_bytes
+    short.sha256 digest_number
 line_feed_log = refl
 
 pub present_comes_first : PresentComesFirst
@@ -129,7 +174,8 @@ unfolding is_utf8 chars encode short.first_words short.schedule short.rounds sho
 present_comes_first = refl
 
 pub ways_are_told : WaysAreTold
-unfolding is_utf8 chars encode short.first_words short.schedule short.rounds short.compress short.hash_after short.digest_bytes short.sha256 encode_with digest_number
+unfolding is_utf8 chars encode short.first_words short.schedule short.rounds short.compress short.hash_after short.digest_bytes short.sha256 encode_with
+    digest_number
 ways_are_told = (refl, refl, refl)
 
 pub depths_of_chains : DepthsOfChains
@@ -160,6 +206,7 @@ unfolding holds digits
 other_description usable = apart (ap (holds layout_text) (usable.files 1 ([], []) (omega arith)))
 
 pub usable_roots_are_told : UsableRootsAreTold
-unfolding is_utf8 chars encode short.first_words short.schedule short.rounds short.compress short.hash_after short.digest_bytes short.sha256 encode_with digest_number
+unfolding is_utf8 chars encode short.first_words short.schedule short.rounds short.compress short.hash_after short.digest_bytes short.sha256 encode_with
+    digest_number
 usable_roots_are_told =
     (record { files = new_root_files worked_job.tuples; ways = refl }, other_config, other_description, λ usable. apart usable.ways)

@@ -16,7 +16,31 @@ use Rattle.pt_plan.specs.Job.{Job}
 use Rattle.pt_plan.specs.Lines.{Done, Present, Skipped, all_lines, is_done, log_of}
 use Rattle.pt_plan.specs.Store.{has_prefix, is_store, prefix_of}
 use Rattle.pt_plan.specs.Work.{work}
-use Rattle.pt_run_tests.specs.WorkedStores.{at_abc, deep_store, divided_store, empty_store, flat_job, gathering_job, limited_job, no_root, object_abc, one_dir, one_file, prefixed_store, store, store_of_bad_names, store_of_equal_contents, store_of_extensions, store_of_nested_sites, store_of_one_identifier, store_of_one_object, store_of_strays, store_of_two_depths, store_to_gather, worked_job}
+use Rattle.pt_run_tests.specs.WorkedStores.{
+  at_abc,
+  deep_store,
+  divided_store,
+  empty_store,
+  flat_job,
+  gathering_job,
+  limited_job,
+  no_root,
+  object_abc,
+  one_dir,
+  one_file,
+  prefixed_store,
+  store,
+  store_of_bad_names,
+  store_of_equal_contents,
+  store_of_extensions,
+  store_of_nested_sites,
+  store_of_one_identifier,
+  store_of_one_object,
+  store_of_strays,
+  store_of_two_depths,
+  store_to_gather,
+  worked_job,
+}
 
 -- a lenient start: a version file and the directory are enough; what isn't a prefix is told, and none is read
 abbrev pub StoresAreKnown : Type 0

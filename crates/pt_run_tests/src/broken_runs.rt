@@ -59,11 +59,12 @@ fn a_log_may_fail_at_each_of_its_bytes(rt: HostRuntime) {
     assert!(rt; wrong.is_none(), "at byte {wrong:?}");
 }
 
-// How many steps went on, what the two steps after them answer, and the turns and the objects that are reported.
+// How many steps went on, what the two steps after them answer, and the turns and the objects that
+// are reported.
 type Ending = (u64, Result<Turn, Fault>, Result<Turn, Fault>, u64, u64);
 
-// A run that is stopped: what its job has that isn't as usual, how many bytes its log takes, how many steps are made while it
-// goes on, what is in its log then, and what comes after.
+// A run that is stopped: what its job has that isn't as usual, how many bytes its log takes, how
+// many steps are made while it goes on, what is in its log then, and what comes after.
 struct StoppedRun {
     settings: Settings,
     taken: Option<u64>,

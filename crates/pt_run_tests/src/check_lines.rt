@@ -7,8 +7,9 @@ use pt_memory::{MemLog, MemSource, SpoiledSource};
 use pt_name::Layout;
 use std::alloc::Global;
 
-// A check: the store's entries, where nothing can be read, how many calls of it pass, the further reasons of one that doesn't, the room of a
-// destination, whether its places have tuples, and the log.
+// A check: the store's entries, where nothing can be read, how many calls of it pass, the further
+// reasons of one that doesn't, the room of a destination, whether its places have tuples, and the
+// log.
 struct Row {
     entries: &'static str,
     spoiled: &'static [&'static str],
@@ -90,7 +91,8 @@ const PAST: Row = Row {
     log: "{\"as\":\"past\",\"path\":\"pairtree_root/a/bc\"}\n{\"as\":\"end\",\"bytes\":0,\"files\":1,\"folders\":3,\"largest\":0,\"longest\":24,\"objects\":0,\"sites\":2,\"told\":1}\n",
 };
 
-// After the top, `pairtree_root` and `ab` no call passes: each folder beside them is still met, and told.
+// After the top, `pairtree_root` and `ab` no call passes: each folder beside them is still met, and
+// told.
 const FAILING: Row = Row {
     entries: " ab/c/obj/f=abc de/f/obj/g=de",
     spoiled: &[],
@@ -101,7 +103,8 @@ const FAILING: Row = Row {
     log: "{\"as\":\"unreadable\",\"path\":\"pairtree_root/ab/c\",\"reason\":\"it failed\"}\n{\"as\":\"unreadable\",\"path\":\"pairtree_root/de\",\"reason\":\"it failed\"}\n{\"as\":\"end\",\"bytes\":0,\"files\":0,\"folders\":3,\"largest\":0,\"longest\":18,\"objects\":0,\"sites\":2,\"told\":2}\n",
 };
 
-// The site of `ab/c` lists its entries, but isn't judged: it counts as none, and has no object. The next one is whole.
+// The site of `ab/c` lists its entries, but isn't judged: it counts as none, and has no object. The
+// next one is whole.
 const PART: Row = Row {
     entries: " ab/c/obj/f=abc ab/c/de/obj/l? de/f/obj/g=de",
     spoiled: &["pairtree_root/ab/c"],
@@ -123,7 +126,8 @@ const PART_OF_TOP: Row = Row {
     log: "{\"as\":\"unreadable\",\"path\":\"\",\"reason\":\"it failed\"}\n{\"as\":\"unreadable\",\"path\":\"\",\"reason\":\"again\"}\n{\"as\":\"end\",\"bytes\":3,\"files\":1,\"folders\":3,\"largest\":3,\"longest\":24,\"objects\":1,\"sites\":3,\"told\":2}\n",
 };
 
-// There is room for the two bytes of `ff`, and not for the three of `d/f`; what is no file of an object needs none.
+// There is room for the two bytes of `ff`, and not for the three of `d/f`; what is no file of an
+// object needs none.
 const ROOM: Row = Row {
     entries: " ab/c/obj/d/f=abc ab/c/obj/ff=de ad/e/obj/longer/",
     spoiled: &[],
@@ -145,7 +149,8 @@ const RESERVED: Row = Row {
     log: "{\"as\":\"reserved\",\"path\":\"pairtree_root/ex/te/ns/io/ns\"}\n{\"as\":\"end\",\"bytes\":0,\"files\":1,\"folders\":6,\"largest\":0,\"longest\":34,\"objects\":1,\"sites\":6,\"told\":1}\n",
 };
 
-// The store of no entry lacks nothing; a source of nothing lacks the version's file and `pairtree_root`.
+// The store of no entry lacks nothing; a source of nothing lacks the version's file and
+// `pairtree_root`.
 const EMPTY: &str =
     "{\"as\":\"missing\",\"path\":\"pairtree_version0_1\"}\n{\"as\":\"missing\",\"path\":\"pairtree_root\"}\n{\"as\":\"end\",\"bytes\":0,\"files\":0,\"folders\":0,\"largest\":0,\"longest\":0,\"objects\":0,\"sites\":0,\"told\":2}\n";
 

@@ -1,11 +1,13 @@
-//! The destinations that runs over worked stores should leave: the files of a root and of objects, byte for byte.
+//! The destinations that runs over worked stores should leave: the files of a root and of objects,
+//! byte for byte.
 #![tactic(auto)]
 
 use pt_memory::MemDest;
 use pt_memory::texts::add;
 use std::alloc::{AllocError, Global};
 
-/// Files by their paths; a path that ends in `/` is a directory, and the text `*9` is nine letters `a`.
+/// Files by their paths; a path that ends in `/` is a directory, and the text `*9` is nine letters
+/// `a`.
 pub type Files = &'static [(&'static str, &'static str)];
 
 /// What stands in a destination, but for some files.
@@ -18,7 +20,8 @@ pub enum Base {
     Object(Frame),
 }
 
-/// The files of an object beside its contents: where it lies, its inventory, and the name and the text of its sidecar.
+/// The files of an object beside its contents: where it lies, its inventory, and the name and the
+/// text of its sidecar.
 #[derive(Clone, Copy)]
 pub struct Frame {
     pub place: &'static str,
@@ -78,7 +81,8 @@ fn letters(alloc: Global, count: &str) -> Option<String> {
     "a".repeat(alloc, count).ok()
 }
 
-// Adds what an object has beside its contents: its declaration, and its inventory at its top and in its version.
+// Adds what an object has beside its contents: its declaration, and its inventory at its top and in
+// its version.
 fn adds_frame(alloc: Global, dest: &mut MemDest, frame: &Frame) -> bool {
     adds_in(
         alloc,

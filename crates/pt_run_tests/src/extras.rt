@@ -9,7 +9,8 @@ use pt_memory::{MemLog, MemSource};
 use pt_move::Fault;
 use std::alloc::Global;
 
-// A walk: the store's entries, what its identifiers begin with, what is asked for, what stands in the destination, and the log.
+// A walk: the store's entries, what its identifiers begin with, what is asked for, what stands in
+// the destination, and the log.
 struct Row {
     entries: &'static str,
     prefix: &'static str,
@@ -48,7 +49,8 @@ const SAME: Row = Row {
     numbers: NONE,
 };
 
-// At each level; a file has the name of the extensions' folder, and a folder that of a file of the root.
+// At each level; a file has the name of the extensions' folder, and a folder that of a file of the
+// root.
 const STRAY: Row = Row {
     entries: " ab/c/obj/f=abc",
     prefix: "",
@@ -73,7 +75,8 @@ const STRAY: Row = Row {
     numbers: ExtraNumbers { extra: 0, stray: 6 },
 };
 
-// One isn't in the store; of the others one is at another place, one has no identifier, and one no inventory.
+// One isn't in the store; of the others one is at another place, one has no identifier, and one no
+// inventory.
 const EXTRA: Row = Row {
     entries: " ab/d/obj/f=abc",
     prefix: "",

@@ -13,7 +13,8 @@ use pt_tree::{Dest, Log, Source};
 use pt_walk::{Limits, LimitsFault};
 use std::alloc::Global;
 
-/// What a job has that isn't as usual: three tuples of three digits, SHA-512, the greatest limits, the whole store.
+/// What a job has that isn't as usual: three tuples of three digits, SHA-512, the greatest limits,
+/// the whole store.
 #[derive(Clone, Copy)]
 pub enum Settings {
     Usual,
@@ -86,8 +87,8 @@ fn share(settings: Settings) -> Result<Share, ShareFault> {
     }
 }
 
-// Makes so many steps, and stops at the first that doesn't answer `More`. Gives how many answered it, and the most
-// records held after one of those.
+// Makes so many steps, and stops at the first that doesn't answer `More`. Gives how many answered
+// it, and the most records held after one of those.
 pub fn make_steps<S: Source, D: Dest, L: Log>(
     mover: &mut Mover,
     source: &mut S,

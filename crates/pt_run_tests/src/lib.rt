@@ -1,6 +1,9 @@
-//! Tests of runs by the libraries' public calls: the definitions of a run over worked stores, and whole runs over trees
-//! in memory: their lines, what they leave, and how they end; and the lines and numbers of a check of a store, and of what a
-//! root has more. No code of the program stands on this crate.
+//! Tests of runs by the libraries' public calls: the definitions of a run over worked stores, and
+//! whole runs over trees in memory: their lines, what they leave, and how they end; and the lines
+//! and numbers of a check of a store, and of what a root has more. No code of the program stands on
+//! this crate.
+//!
+//! No guarantee of README rests on its definitions.
 #![tactic(auto)]
 
 #[cfg(test)]

@@ -30,7 +30,8 @@ const OF_ONE: &str =
 {"as":"end","done":1,"present":0,"skip":0}
 "#;
 
-// Stores with the limits of files, of the bytes of a path, of depth and of the bytes of a file, the turns and the lines.
+// Stores with the limits of files, of the bytes of a path, of depth and of the bytes of a file, the
+// turns and the lines.
 const LIMITED: &[Run<'static>] = &[
     Run(
         "ab/c/obj/a= ab/c/obj/b= ab/c/obj/z?",
@@ -161,8 +162,8 @@ fn goes_at_depth(alloc: Global, count: usize, turns: u64, is_passed: bool) -> bo
     }
 }
 
-// The number of directories, one in the other, whose innermost holds an object; the turns, and whether it is passed over at the
-// limit of depth.
+// The number of directories, one in the other, whose innermost holds an object; the turns, and
+// whether it is passed over at the limit of depth.
 const DEPTHS: &[(usize, u64, bool)] = &[
     (599, 1_832, false),
     (600, 1_817, true),
@@ -179,7 +180,8 @@ fn an_object_may_be_six_hundred_deep(rt: HostRuntime) {
     }
 }
 
-// An identifier of 1,002 bytes, a name of 255 and a file of 100,000: its place was computed apart from this program.
+// An identifier of 1,002 bytes, a name of 255 and a file of 100,000: its place was computed apart
+// from this program.
 const LONG_DIGEST: &str = "d026b9af8545d3b965fb83ab5f10d5072c902affb8dc2629ef670baf8c651d74";
 
 const A_100: &[u8] = &[b'a'; 100];

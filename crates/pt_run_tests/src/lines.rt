@@ -1,4 +1,5 @@
-//! The lines, the turns and the most records of runs over worked stores: objects, what is passed over or gathered, shares.
+//! The lines, the turns and the most records of runs over worked stores: objects, what is passed
+//! over or gathered, shares.
 #![tactic(auto)]
 
 use crate::expected_roots::{LINES, STORE};
@@ -378,8 +379,9 @@ fn divided_sites_are_gathered(rt: HostRuntime) {
     all_go(&rt, rt.alloc(), "gathered", GATHERED);
 }
 
-// With the limit of depth 3: objects of the shares 2 and 3 of 3, one of which is too deep, and what is passed over before an
-// identifier is carried: a name that reads nothing, a shorty below a name of one byte, one that is too deep, a divided site.
+// With the limit of depth 3: objects of the shares 2 and 3 of 3, one of which is too deep, and what
+// is passed over before an identifier is carried: a name that reads nothing, a shorty below a name
+// of one byte, one that is too deep, a divided site.
 const SHARED: &str = "ab/c/obj/a.txt=abc ab/cd/obj/b=z ab/cd/ef/obj/f= ab/cd/ef/gh/obj/f= \
     a/obj/f= a/bc/obj/f= de/x/note= de/x/obj/f= ^z/obj/f=";
 

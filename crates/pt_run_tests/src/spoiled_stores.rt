@@ -1,4 +1,5 @@
-//! Stores in memory of which something can't be read: how many lines a check tells of it, and how a run over the same store ends.
+//! Stores in memory of which something can't be read: how many lines a check tells of it, and how a
+//! run over the same store ends.
 #![tactic(auto)]
 
 use crate::jobs::{Settings, run};
@@ -9,7 +10,8 @@ use pt_name::Layout;
 use pt_tree::{MemoryFault, NamePath, TreeFault};
 use std::alloc::Global;
 
-// A store, and where nothing can be read in it; how many lines a check tells, and the number of the fault that a run answers.
+// A store, and where nothing can be read in it; how many lines a check tells, and the number of the
+// fault that a run answers.
 struct Row(&'static str, &'static [&'static str], u64, Option<u8>);
 
 const STORE: &str =
@@ -51,7 +53,8 @@ const OPENED: &[Row] = &[
     Row(STORE, &["pairtree_root/ab/c/obj/f"], 0, Some(1)),
 ];
 
-/// What is told of each call that fails. Where further reasons are given, what failed to list lists its entries all the same.
+/// What is told of each call that fails. Where further reasons are given, what failed to list lists
+/// its entries all the same.
 #[derive(Drop)]
 pub struct ItFailed {
     /// The further reasons.

@@ -1,4 +1,5 @@
-//! Runs over what stands in a destination already: what is looked at first, roots that are refused, and second runs.
+//! Runs over what stands in a destination already: what is looked at first, roots that are refused,
+//! and second runs.
 #![tactic(auto)]
 
 use crate::expected_roots::{

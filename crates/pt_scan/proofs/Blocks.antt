@@ -11,7 +11,8 @@ pub read_by : (block : List ℕ) (before after : DeviceStates) → Did (asks (Re
 unfolding Did Answers
 read_by block before after did = did.0.source.0
 
-pub next_block : (told : Option Reading) (old new : List ℕ) (answer : Answer) → IsRead told old → IfOk answer (KeepsBlock old new) → IfOk answer (IsNextBlock told new)
+pub next_block : (told : Option Reading) (old new : List ℕ) (answer : Answer) → IsRead told old → IfOk answer (KeepsBlock old new)
+    → IfOk answer (IsNextBlock told new)
 next_block told old new (Err why) read keeps = tt
 next_block told old new (Ok next) read keeps = by (is_reading next) keeps
   where

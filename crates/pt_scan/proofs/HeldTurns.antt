@@ -2,7 +2,36 @@
 use Rattle.std.proofs.Common.{◌≡◌, ℕ, List, refl, ap, ◌∙◌}
 use Rattle.std.specs.Prelude.{Option, Some, Ok}
 use Rattle.std.specs.String.{string_bytes}
-use Rattle.pt_state.proofs.Words.{Writing, Path, Kind, Frame, Line, with_trail, Did, FailsPartway, counted, Answers, Calls, Change, Changes, Finds, Puts, Reads, Untouched, DeviceStates, asks, dest_tree, does, tree_in, tells, Fault, Phase, Turned, counts_of, held_of}
+use Rattle.pt_state.proofs.Words.{
+  Writing,
+  Path,
+  Kind,
+  Frame,
+  Line,
+  with_trail,
+  Did,
+  FailsPartway,
+  counted,
+  Answers,
+  Calls,
+  Change,
+  Changes,
+  Finds,
+  Puts,
+  Reads,
+  Untouched,
+  DeviceStates,
+  asks,
+  dest_tree,
+  does,
+  tree_in,
+  tells,
+  Fault,
+  Phase,
+  Turned,
+  counts_of,
+  held_of,
+}
 use Rattle.pt_state.specs.declared.job.Report.{Report}
 use Rattle.pt_state.specs.declared.state.State.{State}
 use Rattle.pt_plan.specs.DeviceStates.{AsksNothing, ChangesNothing, LeavesPart}
@@ -15,7 +44,8 @@ use Rattle.pt_state.proofs.Turns.{Leads, turned_on}
 abbrev pub reads_and_tells : List ℕ → Line → Calls
 reads_and_tells block line = record { asked = Reads block; change = ChangesNothing; line = Some line }
 
-pub read_told : (block : List ℕ) (line : Line) (a b c : DeviceStates) → Did (asks (Reads block)) a b → Did (tells line) b c → Did (reads_and_tells block line) a c
+pub read_told : (block : List ℕ) (line : Line) (a b c : DeviceStates) → Did (asks (Reads block)) a b → Did (tells line) b c
+    → Did (reads_and_tells block line) a c
 unfolding Did Answers Changes Puts
 read_told block line a b c first next = (
   record {
@@ -26,7 +56,8 @@ read_told block line a b c first next = (
   next.1 ∙ first.1,
 )
 
-pub read_left : (block : List ℕ) (line : Line) (f : Fault) (a b c : DeviceStates) → Did (asks (Reads block)) a b → FailsPartway (tells line) f b c → FailsPartway (reads_and_tells block line) f a c
+pub read_left : (block : List ℕ) (line : Line) (f : Fault) (a b c : DeviceStates) → Did (asks (Reads block)) a b → FailsPartway (tells line) f b c
+    → FailsPartway (reads_and_tells block line) f a c
 unfolding Did FailsPartway Answers Changes Puts
 read_left block line f a b c first next = (
   record {
@@ -43,7 +74,8 @@ read_left block line f a b c first next = (
 abbrev pub finds_and_tells : Path → Option Kind → Line → Calls
 finds_and_tells path here line = record { asked = AsksNothing; change = Finds path here; line = Some line }
 
-pub looked_told : (path : Path) (here : Option Kind) (line : Line) (a b c : DeviceStates) → Did (does (Finds path here)) a b → Did (tells line) b c → Did (finds_and_tells path here line) a c
+pub looked_told : (path : Path) (here : Option Kind) (line : Line) (a b c : DeviceStates) → Did (does (Finds path here)) a b → Did (tells line) b c
+    → Did (finds_and_tells path here line) a c
 unfolding Did Answers Changes Puts
 looked_told path here line a b c first next = (
   record {
@@ -58,7 +90,8 @@ untouched : {o o' : Option Writing} {change : Change} → change ≡ ChangesNoth
 untouched is (Untouched it same) = same
 untouched is _ = absurd (cc)
 
-pub looked_left : (path : Path) (here : Option Kind) (line : Line) (f : Fault) (a b c : DeviceStates) → Did (does (Finds path here)) a b → FailsPartway (tells line) f b c → FailsPartway (finds_and_tells path here line) f a c
+pub looked_left : (path : Path) (here : Option Kind) (line : Line) (f : Fault) (a b c : DeviceStates) → Did (does (Finds path here)) a b
+    → FailsPartway (tells line) f b c → FailsPartway (finds_and_tells path here line) f a c
 unfolding Did FailsPartway Answers Changes Puts
 looked_left path here line f a b c first next = (
   record {
@@ -74,8 +107,17 @@ looked_left path here line f a b c first next = (
 
 -- ---- what is held
 
-pub moved : {s s' : State} {trail : List Frame} {counts : Report} → s'.job ≡ s.job → string_bytes s'.prefix ≡ string_bytes s.prefix → s'.trail ≡ trail → s'.rows ≡ s.rows → s'.contents ≡ s.contents → s'.counts ≡ counts → s'.hasher ≡ s.hasher → Moved trail counts s s'
-moved job prefix trail_is rows contents counts_are hasher = record { job = job; prefix = prefix; trail_is = trail_is; rows = rows; contents = contents; counts_are = counts_are; hasher = hasher }
+pub moved : {s s' : State} {trail : List Frame} {counts : Report} → s'.job ≡ s.job → string_bytes s'.prefix ≡ string_bytes s.prefix → s'.trail ≡ trail
+    → s'.rows ≡ s.rows → s'.contents ≡ s.contents → s'.counts ≡ counts → s'.hasher ≡ s.hasher → Moved trail counts s s'
+moved job prefix trail_is rows contents counts_are hasher = record {
+  job = job;
+  prefix = prefix;
+  trail_is = trail_is;
+  rows = rows;
+  contents = contents;
+  counts_are = counts_are;
+  hasher = hasher;
+}
 
 -- ---- turns
 

@@ -10,7 +10,35 @@ use Rattle.pt_name.specs.declared.identifying.PlacedObject.{PlacedObject}
 use Rattle.pt_name.specs.declared.identifying.Identification.{Identification}
 use Rattle.pt_name.specs.declared.identifying.Identification.TheVariants as answer
 use Rattle.pt_name.specs.declared.identifying.Refusal.{Refusal}
-use Rattle.pt_state.proofs.Words.{is_first, Item, Path, Kind, is_dir_entry, names_to, trail_path, Cause, Frame, Answer, Present, Skipped, with_trail, Did, FailsPartway, Walk, Finds, DeviceStates, does, tells, Fault, Phase, with_skipped, Turned, KeepsAll, held_of, job_of}
+use Rattle.pt_state.proofs.Words.{
+  is_first,
+  Item,
+  Path,
+  Kind,
+  is_dir_entry,
+  names_to,
+  trail_path,
+  Cause,
+  Frame,
+  Answer,
+  Present,
+  Skipped,
+  with_trail,
+  Did,
+  FailsPartway,
+  Walk,
+  Finds,
+  DeviceStates,
+  does,
+  tells,
+  Fault,
+  Phase,
+  with_skipped,
+  Turned,
+  KeepsAll,
+  held_of,
+  job_of,
+}
 use Rattle.pt_state.proofs.Words.fault
 use Rattle.pt_state.proofs.Words.phase
 use Rattle.pt_state.proofs.Words.stage
@@ -35,7 +63,8 @@ use Rattle.pt_scan.specs.Judging.{FindsObject, IsIdentified, PassesSite}
 
 -- ---- what the site is
 
-pub found_inner : (trail : List Frame) (items : List Item) (site : Path) (form : Form) → Some items ≡ innermost_listing trail → site ≡ trail_path trail → found items (at_of site) form ≡ found_at form trail
+pub found_inner : (trail : List Frame) (items : List Item) (site : Path) (form : Form) → Some items ≡ innermost_listing trail → site ≡ trail_path trail
+    → found items (at_of site) form ≡ found_at form trail
 found_inner [] items site form is at = absurd (cc)
 found_inner (frame ∷ frames) items site form is at = let same : items ≡ frame.listing = cc in λ i. found (same i) (at_of (at i)) form
 
@@ -55,9 +84,11 @@ pub skips_site : (s : State) (why : Cause) → finding.Skip why ≡ found_at (fo
 unfolding PassesSite
 skips_site s why is = ap (judged_by_finding (job_of s.job) (string_bytes s.prefix) (trail_path s.trail)) (sym is)
 
-pub led_on : (s s' : State) (w : DeviceStates) → finding.Interior ≡ found_at (form_of (job_of s.job)) s.trail → Moved s.trail s.counts s s' → Turned phase.Judge s s' w w (Ok phase.Walk)
+pub led_on : (s s' : State) (w : DeviceStates) → finding.Interior ≡ found_at (form_of (job_of s.job)) s.trail → Moved s.trail s.counts s s'
+    → Turned phase.Judge s s' w w (Ok phase.Walk)
 led_on s s' w is to =
-    moves w w (λ fed. Walk (LeadsOn _ (ap (λ (f : Finding). ours s.job.share (judged_by_finding (job_of s.job) (string_bytes s.prefix) (trail_path s.trail) f)) (sym is)))) (did_nothing w) to refl
+    moves w w (λ fed. Walk (LeadsOn _ (ap (λ (f : Finding). ours s.job.share (judged_by_finding (job_of s.job) (string_bytes s.prefix) (trail_path s.trail) f))
+    (sym is)))) (did_nothing w) to refl
 
 -- ---- a site that is passed over
 
@@ -66,19 +97,24 @@ skipped_first : (s : State) (why : Cause) → PassesSite s why → true ≡ is_f
 unfolding PassesSite
 skipped_first s why is first = ap (ours s.job.share) is ∙ ap (λ b. cond b (Skip why) Interior) (sym first)
 
-skipped_other : (s : State) (why : Cause) → PassesSite s why → false ≡ is_first s.job.share → judged_at (job_of s.job) (string_bytes s.prefix) s.trail ≡ Interior
+skipped_other : (s : State) (why : Cause) → PassesSite s why → false ≡ is_first s.job.share
+    → judged_at (job_of s.job) (string_bytes s.prefix) s.trail ≡ Interior
 unfolding PassesSite
 skipped_other s why is other = ap (ours s.job.share) is ∙ ap (λ b. cond b (Skip why) Interior) (sym other)
 
-pub passed_site : (s s' : State) (a b : DeviceStates) (path : Path) (why : Cause) → PassesSite s why → true ≡ is_first s.job.share → Did (tells (Skipped path why)) a b → path ≡ trail_path s.trail → Moved s.trail (with_skipped s.counts) s s' → Turned phase.Judge s s' a b (Ok phase.Walk)
+pub passed_site : (s s' : State) (a b : DeviceStates) (path : Path) (why : Cause) → PassesSite s why → true ≡ is_first s.job.share
+    → Did (tells (Skipped path why)) a b → path ≡ trail_path s.trail → Moved s.trail (with_skipped s.counts) s s' → Turned phase.Judge s s' a b (Ok phase.Walk)
 passed_site s s' a b path why line first told is to =
     moves a b (λ fed. Walk (IsSkipped _ why (skipped_first s why line first))) (rw is at told) to refl
 
-pub passed_site_front : (s s' : State) (a b : DeviceStates) (path : Path) (why : Cause) (f : Fault) (result : Answer) → IsErrAnd result (λ h. h ≡ f) → PassesSite s why → true ≡ is_first s.job.share → FailsPartway (tells (Skipped path why)) f a b → path ≡ trail_path s.trail → KeepsAll s s' → Turned phase.Judge s s' a b result
+pub passed_site_front : (s s' : State) (a b : DeviceStates) (path : Path) (why : Cause) (f : Fault) (result : Answer) → IsErrAnd result (λ h. h ≡ f)
+    → PassesSite s why → true ≡ is_first s.job.share → FailsPartway (tells (Skipped path why)) f a b → path ≡ trail_path s.trail → KeepsAll s s'
+    → Turned phase.Judge s s' a b result
 passed_site_front s s' a b path why f result is line first front there keeps =
     left_some a b f result is (λ fed. Walk (IsSkipped _ why (skipped_first s why line first))) (rw there at front) keeps
 
-pub passed_site_quietly : (s s' : State) (w : DeviceStates) (why : Cause) → PassesSite s why → false ≡ is_first s.job.share → Moved s.trail s.counts s s' → Turned phase.Judge s s' w w (Ok phase.Walk)
+pub passed_site_quietly : (s s' : State) (w : DeviceStates) (why : Cause) → PassesSite s why → false ≡ is_first s.job.share → Moved s.trail s.counts s s'
+    → Turned phase.Judge s s' w w (Ok phase.Walk)
 passed_site_quietly s s' w why line other to =
     moves w w (λ fed. Walk (LeadsOn _ (skipped_other s why line other))) (did_nothing w) to refl
 
@@ -111,7 +147,8 @@ object_below s site index is at = by s.trail site is at
     by (frame ∷ frames) site is at = rw (at) (below frame.listing (names_to frames) (form_of (job_of s.job)) is)
 
 -- what was asked for was the object of this site
-pub identified_here : (s : State) (site : Path) (prefix : List ℕ) (what : Identification) → what ≡ identification_of s.job.layout s.job.share prefix site → prefix ≡ string_bytes s.prefix → site ≡ trail_path s.trail → IsIdentified s what
+pub identified_here : (s : State) (site : Path) (prefix : List ℕ) (what : Identification) → what ≡ identification_of s.job.layout s.job.share prefix site
+    → prefix ≡ string_bytes s.prefix → site ≡ trail_path s.trail → IsIdentified s what
 unfolding IsIdentified
 identified_here s site prefix what is same there = is ∙ (λ i. identification_of s.job.layout s.job.share (same i) (there i))
 
@@ -121,18 +158,23 @@ read_at s = identifier_at s.job.layout (string_bytes s.prefix) (trail_path s.tra
 
 -- with an object the site is judged by its identifier
 by_object : (s : State) (index : Option ℕ) (read : Result (List ℕ) Refusal) → FindsObject s index → read_at s ≡ read
-    → judged_by_finding (job_of s.job) (string_bytes s.prefix) (trail_path s.trail) (found_at (form_of (job_of s.job)) s.trail) ≡ verdict_by_identifier index read
+    → judged_by_finding (job_of s.job) (string_bytes s.prefix) (trail_path s.trail) (found_at (form_of (job_of s.job)) s.trail)
+    ≡ verdict_by_identifier index read
 unfolding FindsObject
-by_object s None read found reads = ap (judged_by_finding (job_of s.job) (string_bytes s.prefix) (trail_path s.trail)) found ∙ ap (λ (r : Result (List ℕ) Refusal). verdict_by_identifier None r) reads
-by_object s (Some i) read found reads = ap (judged_by_finding (job_of s.job) (string_bytes s.prefix) (trail_path s.trail)) found ∙ ap (λ (r : Result (List ℕ) Refusal). verdict_by_identifier (Some i) r) reads
+by_object s None read found reads = ap (judged_by_finding (job_of s.job) (string_bytes s.prefix) (trail_path s.trail)) found
+    ∙ ap (λ (r : Result (List ℕ) Refusal). verdict_by_identifier None r) reads
+by_object s (Some i) read found reads = ap (judged_by_finding (job_of s.job) (string_bytes s.prefix) (trail_path s.trail)) found
+    ∙ ap (λ (r : Result (List ℕ) Refusal). verdict_by_identifier (Some i) r) reads
 
-pub skips_refused : (s : State) (index : Option ℕ) (why : Refusal) (c : Cause) → FindsObject s index → IsIdentified s (answer.Refused why) → c ≡ cause_of_refusal why → PassesSite s c
+pub skips_refused : (s : State) (index : Option ℕ) (why : Refusal) (c : Cause) → FindsObject s index → IsIdentified s (answer.Refused why)
+    → c ≡ cause_of_refusal why → PassesSite s c
 unfolding IsIdentified PassesSite
 skips_refused s index why c found is told =
     by_object s index (Err why) found (refused_as s.job.layout s.job.share why (read_at s) is) ∙ ap (λ (d : Cause). Skip d) (sym told)
 
 -- another share passes it
-pub passed_object : (s s' : State) (w : DeviceStates) (index : Option ℕ) → FindsObject s index → IsIdentified s answer.OtherShare → Moved s.trail s.counts s s' → Turned phase.Judge s s' w w (Ok phase.Walk)
+pub passed_object : (s s' : State) (w : DeviceStates) (index : Option ℕ) → FindsObject s index → IsIdentified s answer.OtherShare → Moved s.trail s.counts s s'
+    → Turned phase.Judge s s' w w (Ok phase.Walk)
 unfolding IsIdentified
 passed_object s s' w index found is to =
     let other = other_as s.job.layout s.job.share (read_at s) is in
@@ -143,7 +185,8 @@ passed_object s s' w index found is to =
 -- ---- an object whose place was asked for
 
 -- memory was short after it was asked for
-pub looked_short : (s s' : State) (a b : DeviceStates) (path : Path) (here : Option Kind) (result : Answer) → IsErrAnd result (λ h. h ≡ fault.Memory) → Did (does (Finds path here)) a b → KeepsAll s s' → Turned phase.Judge s s' a b result
+pub looked_short : (s s' : State) (a b : DeviceStates) (path : Path) (here : Option Kind) (result : Answer) → IsErrAnd result (λ h. h ≡ fault.Memory)
+    → Did (does (Finds path here)) a b → KeepsAll s s' → Turned phase.Judge s s' a b result
 looked_short s s' a b path here result is did keeps = stayed phase.Judge s s' a b fault.Memory result is (looked_stays path here a b did) keeps
 
 length-object : (index : Option ℕ) (trail : List Frame) → length (at_object index trail) ≡ length trail
@@ -160,25 +203,44 @@ module _ (s : State) (index : Option ℕ) (candidate : PlacedObject) (found : Fi
   named_at : judged_at (job_of s.job) (string_bytes s.prefix) s.trail ≡ Named candidate.id index
   named_at = ap (ours s.job.share) (by_object s index (Ok candidate.id) found read_as.id) ∙ ap (λ b. cond b (Named candidate.id index) Interior) read_as.mine
 
-  present_follows : (here : Kind) (fed : List ℕ) → Leads phase.Judge s fed (held_of s fed) (finds_and_tells (in_root candidate.place) (Some here) (Present (path_of_object index s.trail) candidate.id candidate.place)) (Ok phase.Walk)
+  present_follows : (here : Kind) (fed : List ℕ) → Leads phase.Judge s fed (held_of s fed)
+      (finds_and_tells (in_root candidate.place) (Some here) (Present (path_of_object index s.trail) candidate.id candidate.place)) (Ok phase.Walk)
   present_follows here fed = rw read_as.place (Walk (IsPresent (held_of s fed) index candidate.id here named_at))
 
-  pub told_present : (s' : State) (a b c : DeviceStates) (path at : Path) (here : Option Kind) (it : Kind) → Did (does (Finds path here)) a b → here ≡ Some it → path ≡ in_root candidate.place → Did (tells (Present at candidate.id candidate.place)) b c → at ≡ path_of_object index s.trail → Moved s.trail (with_present s.counts) s s'
+  pub told_present : (s' : State) (a b c : DeviceStates) (path at : Path) (here : Option Kind) (it : Kind) → Did (does (Finds path here)) a b → here ≡ Some it
+      → path ≡ in_root candidate.place → Did (tells (Present at candidate.id candidate.place)) b c → at ≡ path_of_object index s.trail
+      → Moved s.trail (with_present s.counts) s s'
       → Turned phase.Judge s s' a c (Ok phase.Walk)
-  told_present s' a b c path at here it did is there told place to = moves a c (present_follows it) (looked_told _ _ _ a b c (rw (is, there) at did) (rw place at told)) to refl
+  told_present s' a b c path at here it did is there told place to = moves a c (present_follows it)
+      (looked_told _ _ _ a b c (rw (is, there) at did) (rw place at told)) to refl
 
-  pub told_present_front : (s' : State) (a b c : DeviceStates) (path at : Path) (here : Option Kind) (it : Kind) (f : Fault) (result : Answer) → IsErrAnd result (λ h. h ≡ f) → Did (does (Finds path here)) a b → here ≡ Some it → path ≡ in_root candidate.place → FailsPartway (tells (Present at candidate.id candidate.place)) f b c → at ≡ path_of_object index s.trail → KeepsAll s s'
+  pub told_present_front : (s' : State) (a b c : DeviceStates) (path at : Path) (here : Option Kind) (it : Kind) (f : Fault) (result : Answer)
+      → IsErrAnd result (λ h. h ≡ f) → Did (does (Finds path here)) a b → here ≡ Some it → path ≡ in_root candidate.place
+      → FailsPartway (tells (Present at candidate.id candidate.place)) f b c → at ≡ path_of_object index s.trail → KeepsAll s s'
       → Turned phase.Judge s s' a c result
-  told_present_front s' a b c path at here it f result error did is there front place keeps = left_some a c f result error (present_follows it) (looked_left _ _ _ f a b c (rw (is, there) at did) (rw place at front)) keeps
+  told_present_front s' a b c path at here it f result error did is there front place keeps = left_some a c f result error (present_follows it)
+      (looked_left _ _ _ f a b c (rw (is, there) at did) (rw place at front)) keeps
 
-  new_follows : (fed : List ℕ) → Leads phase.Judge s fed (with_trail (held_of s fed) (at_object index s.trail)) (does (Finds (in_root candidate.place) None)) (Ok (phase.Carrying (record { id = candidate.id; place = candidate.place; gathered = is_none index; site = length s.trail; empty = 0 }) stage.Open))
+  new_follows : (fed : List ℕ) → Leads phase.Judge s fed (with_trail (held_of s fed) (at_object index s.trail)) (does (Finds (in_root candidate.place) None))
+      (Ok (phase.Carrying (record { id = candidate.id; place = candidate.place; gathered = is_none index; site = length s.trail; empty = 0 }) stage.Open))
   new_follows fed = rw read_as.place (Walk (IsNew (held_of s fed) index candidate.id named_at))
 
-  pub found_new : (s' : State) (a b : DeviceStates) (path : Path) (here : Option Kind) (gathered : Bool) (site : ℕ) (next : Phase) → Did (does (Finds path here)) a b → here ≡ None → path ≡ in_root candidate.place → next ≡ phase.Carrying (record { id = candidate.id; place = candidate.place; gathered = gathered; site = site; empty = 0 }) stage.Open → gathered ≡ is_none index → site ≡ length s'.trail
+  pub found_new : (s' : State) (a b : DeviceStates) (path : Path) (here : Option Kind) (gathered : Bool) (site : ℕ) (next : Phase)
+      → Did (does (Finds path here)) a b → here ≡ None → path ≡ in_root candidate.place
+      → next ≡ phase.Carrying (record { id = candidate.id; place = candidate.place; gathered = gathered; site = site; empty = 0 }) stage.Open
+      → gathered ≡ is_none index → site ≡ length s'.trail
       → Moved (at_object index s.trail) s.counts s s' → Turned phase.Judge s s' a b (Ok next)
   found_new s' a b path here gathered site next did is there then gather deep to =
-      let object_is : next ≡ phase.Carrying (record { id = candidate.id; place = candidate.place; gathered = is_none index; site = length s.trail; empty = 0 }) stage.Open =
-      then ∙ (λ i. phase.Carrying (record { id = candidate.id; place = candidate.place; gathered = gather i; site = (deep ∙ ap length to.trail_is ∙ length-object index s.trail) i; empty = 0 }) stage.Open) in
+      let object_is : next ≡ phase.Carrying (record { id = candidate.id; place = candidate.place; gathered = is_none index; site = length s.trail; empty = 0 })
+      stage.Open =
+      then ∙ (λ i. phase.Carrying (record {
+        id = candidate.id;
+        place = candidate.place;
+        gathered = gather i;
+        site = (deep ∙ ap length to.trail_is
+            ∙ length-object index s.trail) i;
+        empty = 0;
+      }) stage.Open) in
       rw object_is
       (moves a b new_follows (rw (there, is) at did) to refl)
 
@@ -194,6 +256,29 @@ object_place s index is = by s.trail is
   where
     by : (trail : List Frame) → found_at (form_of (job_of s.job)) trail ≡ finding.Candidate index → has_place index trail ≡ true
     by [] is = absurd (cc)
-    by (frame ∷ frames) is = let only = one_candidate frame.listing (at_of (names_to frames)) (form_of (job_of s.job)) index is in listed index frame.listing (slice_get frame.listing index) refl (ap is_dir_entry only.1)
+    by (frame ∷ frames) is = let only = one_candidate frame.listing (at_of (names_to frames)) (form_of (job_of s.job)) index is in listed index frame.listing
+        (slice_get frame.listing index) refl (ap is_dir_entry only.1)
 
-pub ruleset judging = (passed_site_quietly, passed_object, found_inner, found_none, finds_candidate, finds_gathered, skips_site, led_on, moved, front_none, passed_site, passed_site_front, object_below, identified_here, skips_refused, looked_short, looked_then, told_present, told_present_front, found_new, object_place)
+pub ruleset judging = (
+  passed_site_quietly,
+  passed_object,
+  found_inner,
+  found_none,
+  finds_candidate,
+  finds_gathered,
+  skips_site,
+  led_on,
+  moved,
+  front_none,
+  passed_site,
+  passed_site_front,
+  object_below,
+  identified_here,
+  skips_refused,
+  looked_short,
+  looked_then,
+  told_present,
+  told_present_front,
+  found_new,
+  object_place,
+)

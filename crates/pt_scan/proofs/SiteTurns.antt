@@ -2,7 +2,40 @@
 use Rattle.std.proofs.Common.{◌≡◌, ◌<◌, ◌≤◌, ℕ, Bool, true, false, List, [], ◌∷◌, refl, sym, ap, ◌∙◌, length, cond, ◌==◌}
 use Rattle.std.specs.Prelude.{Option, None, Some, Ok, IsErrAnd, IsSome}
 use Rattle.std.proofs.lemmas.Bool.{lt-ltb, le-ltb}
-use Rattle.pt_state.proofs.Words.{is_first, Item, Path, Reading, Kind, advanced, current_entry, entered, is_dir_entry, names_to, parent, trail_path, Cause, Frame, Answer, Line, Skipped, Did, FailsPartway, Walk, in_pairtree, Lists, DeviceStates, asks, no_calls, tells, Fault, with_skipped, Turned, KeepsAll, held_of, with_trail}
+use Rattle.pt_state.proofs.Words.{
+  is_first,
+  Item,
+  Path,
+  Reading,
+  Kind,
+  advanced,
+  current_entry,
+  entered,
+  is_dir_entry,
+  names_to,
+  parent,
+  trail_path,
+  Cause,
+  Frame,
+  Answer,
+  Line,
+  Skipped,
+  Did,
+  FailsPartway,
+  Walk,
+  in_pairtree,
+  Lists,
+  DeviceStates,
+  asks,
+  no_calls,
+  tells,
+  Fault,
+  with_skipped,
+  Turned,
+  KeepsAll,
+  held_of,
+  with_trail,
+}
 use Rattle.pt_state.proofs.Words.cause
 use Rattle.pt_state.proofs.Words.kind
 use Rattle.pt_state.proofs.Words.opening
@@ -25,7 +58,8 @@ use Rattle.pt_scan.specs.Walking.{EntersSite, IsAtShorty, PassesShorty}
 
 -- ---- a listing that is entered
 
-pub opened_root : (s s' : State) (a b : DeviceStates) (path : Path) (items : List Item) → Did (asks (Lists path items)) a b → path ≡ in_pairtree [] → Moved (entered items s.trail) s.counts s s' → Turned (phase.Opening opening.OpenRoot) s s' a b (Ok phase.Judge)
+pub opened_root : (s s' : State) (a b : DeviceStates) (path : Path) (items : List Item) → Did (asks (Lists path items)) a b → path ≡ in_pairtree []
+    → Moved (entered items s.trail) s.counts s s' → Turned (phase.Opening opening.OpenRoot) s s' a b (Ok phase.Judge)
 opened_root s s' a b path items did is to =
     moves a b (λ fed. Walk (OpensRoot _ items)) (rw is at did) to refl
 
@@ -34,15 +68,18 @@ may_list_root told path at may is = rw is may
 
 -- ---- entries that are no shorties, and ends
 
-pub passed_entry : (s s' : State) (w : DeviceStates) (name : List ℕ) (kind : Kind) → Some (name, kind) ≡ current_entry s.trail → false ≡ is_shorty (name, kind) → Moved (advanced s.trail) s.counts s s' → Turned phase.Walk s s' w w (Ok phase.Walk)
+pub passed_entry : (s s' : State) (w : DeviceStates) (name : List ℕ) (kind : Kind) → Some (name, kind) ≡ current_entry s.trail → false ≡ is_shorty (name, kind)
+    → Moved (advanced s.trail) s.counts s s' → Turned phase.Walk s s' w w (Ok phase.Walk)
 passed_entry s s' w name kind at is to =
     moves w w (λ fed. Walk (PassesEntry _ (name, kind) (sym at) (sym is))) (did_nothing w) to refl
 
-pub left_site : (s s' : State) (w : DeviceStates) → None ≡ current_entry s.trail → 1 < length s.trail → Moved (advanced (parent s.trail)) s.counts s s' → Turned phase.Walk s s' w w (Ok phase.Walk)
+pub left_site : (s s' : State) (w : DeviceStates) → None ≡ current_entry s.trail → 1 < length s.trail → Moved (advanced (parent s.trail)) s.counts s s'
+    → Turned phase.Walk s s' w w (Ok phase.Walk)
 left_site s s' w at more to =
     moves w w (λ fed. Walk (LeavesSite _ (sym at) (lt-ltb 1 (length s.trail) more))) (did_nothing w) to refl
 
-pub ended_walk : (s s' : State) (w : DeviceStates) → None ≡ current_entry s.trail → length s.trail ≤ 1 → Moved s.trail s.counts s s' → Turned phase.Walk s s' w w (Ok phase.End)
+pub ended_walk : (s s' : State) (w : DeviceStates) → None ≡ current_entry s.trail → length s.trail ≤ 1 → Moved s.trail s.counts s s'
+    → Turned phase.Walk s s' w w (Ok phase.End)
 ended_walk s s' w at few to =
     moves w w (λ fed. Walk (EndsWalk _ (sym at) (le-ltb 1 (length s.trail) few))) (did_nothing w) to refl
 
@@ -55,7 +92,8 @@ second (Some parts) = parts.1
 pub at_split : (site front : Path) (name : List ℕ) → Some (front, name) ≡ split_path site → cond (length name == 1) at.Last at.Pair ≡ at_of site
 at_split [] front name is = absurd (cc)
 at_split (x ∷ []) front name is = let same : name ≡ x = ap second is in ap (λ (n : List ℕ). cond (length n == 1) at.Last at.Pair) same
-at_split (x ∷ y ∷ p) front name is = let same : name ≡ last_name (y ∷ p) = ap second is in at_split (y ∷ p) (parent_of (y ∷ p)) name (ap (λ (n : List ℕ). Some (parent_of (y ∷ p), n)) same)
+at_split (x ∷ y ∷ p) front name is = let same : name ≡ last_name (y ∷ p) = ap second is in at_split (y ∷ p) (parent_of (y ∷ p)) name
+    (ap (λ (n : List ℕ). Some (parent_of (y ∷ p), n)) same)
 
 -- ---- shorties
 
@@ -72,7 +110,8 @@ pub shorty_is_some : (trail : List Frame) → IsAtShorty trail → IsSome (curre
 unfolding IsAtShorty
 shorty_is_some trail (name, (at, is)) = rw (at) refl
 
-pub may_enter_shorty : (told : Option Reading) (trail : List Frame) (path : Path) → MayEnter told trail → IsAtShorty trail → path ≡ in_pairtree (names_to trail) → CanList told path
+pub may_enter_shorty : (told : Option Reading) (trail : List Frame) (path : Path) → MayEnter told trail → IsAtShorty trail → path ≡ in_pairtree (names_to trail)
+    → CanList told path
 unfolding IsAtShorty MayEnter
 may_enter_shorty told trail path may (name, (at, is)) there = rw there (may name at)
 
@@ -83,35 +122,65 @@ module _ (s : State) (site : Path) (shorty : IsAtShorty s.trail) (there : site �
 
   pub is_deep : false ≡ is_last (at_of site) → s.job.limits.depth < length s.trail → PassesShorty s cause.Limit
   unfolding IsAtShorty PassesShorty
-  is_deep last deep = λ fed. IsDeep _ shorty.0 shorty.1.0 shorty.1.1 (sym (last ∙ (λ i. is_last (at_of (there i))))) (lt-ltb s.job.limits.depth (length s.trail) deep)
+  is_deep last deep = λ fed. IsDeep _ shorty.0 shorty.1.0 shorty.1.1 (sym (last ∙ (λ i. is_last (at_of (there i)))))
+      (lt-ltb s.job.limits.depth (length s.trail) deep)
 
   pub enters_site : false ≡ is_last (at_of site) → length s.trail ≤ s.job.limits.depth → EntersSite s
   unfolding IsAtShorty EntersSite
-  enters_site last shallow = λ fed items. EntersSiteOf _ shorty.0 items shorty.1.0 shorty.1.1 (sym (last ∙ (λ i. is_last (at_of (there i))))) (le-ltb s.job.limits.depth (length s.trail) shallow)
+  enters_site last shallow = λ fed items. EntersSiteOf _ shorty.0 items shorty.1.0 shorty.1.1 (sym (last ∙ (λ i. is_last (at_of (there i)))))
+      (le-ltb s.job.limits.depth (length s.trail) shallow)
 
 -- its line is told in the first share
 is_told : (told : Bool) (line : Line) → true ≡ told → tells line ≡ tells_if told line
 is_told told line is = ap (λ b. tells_if b line) is
 
-told_first : (s : State) (why : Cause) → PassesShorty s why → true ≡ is_first s.job.share → (fed : List ℕ) → Leads phase.Walk s fed (with_trail (held_of s fed) (advanced s.trail)) (tells (Skipped (names_to s.trail) why)) (Ok phase.Walk)
+told_first : (s : State) (why : Cause) → PassesShorty s why → true ≡ is_first s.job.share → (fed : List ℕ)
+    → Leads phase.Walk s fed (with_trail (held_of s fed) (advanced s.trail)) (tells (Skipped (names_to s.trail) why)) (Ok phase.Walk)
 unfolding PassesShorty
 told_first s why passes first fed = Walk (rw (← (is_told (is_first s.job.share) (Skipped (names_to s.trail) why) first)) at (passes fed))
 
-pub passed_shorty : (s s' : State) (a b : DeviceStates) (path : Path) (why : Cause) → PassesShorty s why → true ≡ is_first s.job.share → Did (tells (Skipped path why)) a b → path ≡ names_to s.trail → Moved (advanced s.trail) (with_skipped s.counts) s s' → Turned phase.Walk s s' a b (Ok phase.Walk)
+pub passed_shorty : (s s' : State) (a b : DeviceStates) (path : Path) (why : Cause) → PassesShorty s why → true ≡ is_first s.job.share
+    → Did (tells (Skipped path why)) a b → path ≡ names_to s.trail → Moved (advanced s.trail) (with_skipped s.counts) s s'
+    → Turned phase.Walk s s' a b (Ok phase.Walk)
 passed_shorty s s' a b path why passes first got is to = moves a b (told_first s why passes first) (rw is at got) to refl
 
-pub passed_front : (s s' : State) (a b : DeviceStates) (path : Path) (why : Cause) (f : Fault) (result : Answer) → IsErrAnd result (λ h. h ≡ f) → PassesShorty s why → true ≡ is_first s.job.share → FailsPartway (tells (Skipped path why)) f a b → path ≡ names_to s.trail → KeepsAll s s' → Turned phase.Walk s s' a b result
+pub passed_front : (s s' : State) (a b : DeviceStates) (path : Path) (why : Cause) (f : Fault) (result : Answer) → IsErrAnd result (λ h. h ≡ f)
+    → PassesShorty s why → true ≡ is_first s.job.share → FailsPartway (tells (Skipped path why)) f a b → path ≡ names_to s.trail → KeepsAll s s'
+    → Turned phase.Walk s s' a b result
 passed_front s s' a b path why f result is passes first front there keeps = left_some a b f result is (told_first s why passes first) (rw there at front) keeps
 
 -- in another share nothing is
-pub passed_quietly : (s s' : State) (w : DeviceStates) (why : Cause) → PassesShorty s why → false ≡ is_first s.job.share → Moved (advanced s.trail) s.counts s s' → Turned phase.Walk s s' w w (Ok phase.Walk)
+pub passed_quietly : (s s' : State) (w : DeviceStates) (why : Cause) → PassesShorty s why → false ≡ is_first s.job.share
+    → Moved (advanced s.trail) s.counts s s' → Turned phase.Walk s s' w w (Ok phase.Walk)
 unfolding PassesShorty
 passed_quietly s s' w why passes other to =
     let quiet : no_calls ≡ tells_if (is_first s.job.share) (Skipped (names_to s.trail) why) = ap (λ b. tells_if b (Skipped (names_to s.trail) why)) other in
     moves w w {calls = no_calls} (λ fed. Walk (rw quiet (passes fed))) (did_nothing w) to refl
 
-pub entered_site : (s s' : State) (a b : DeviceStates) (path : Path) (items : List Item) → EntersSite s → Did (asks (Lists path items)) a b → path ≡ in_pairtree (names_to s.trail) → Moved (entered items s.trail) s.counts s s' → Turned phase.Walk s s' a b (Ok phase.Judge)
+pub entered_site : (s s' : State) (a b : DeviceStates) (path : Path) (items : List Item) → EntersSite s → Did (asks (Lists path items)) a b
+    → path ≡ in_pairtree (names_to s.trail) → Moved (entered items s.trail) s.counts s s' → Turned phase.Walk s s' a b (Ok phase.Judge)
 unfolding EntersSite
 entered_site s s' a b path items line did is to = moves a b (λ fed. Walk (line fed items)) (rw is at did) to refl
 
-pub ruleset walking = (at_split, moved, short_asked, opened_root, may_list_root, passed_entry, left_site, ended_walk, at_shorty, shorty_is_dir, shorty_is_some, may_enter_shorty, is_past, is_deep, enters_site, front_none, passed_shorty, passed_front, passed_quietly, entered_site)
+pub ruleset walking = (
+  at_split,
+  moved,
+  short_asked,
+  opened_root,
+  may_list_root,
+  passed_entry,
+  left_site,
+  ended_walk,
+  at_shorty,
+  shorty_is_dir,
+  shorty_is_some,
+  may_enter_shorty,
+  is_past,
+  is_deep,
+  enters_site,
+  front_none,
+  passed_shorty,
+  passed_front,
+  passed_quietly,
+  entered_site,
+)

@@ -22,13 +22,14 @@ use pt_tree::{Kind, MemoryFault, NamePath};
 use pt_walk::{Cause, Finding, Form, Trail, judge as judged};
 use std::alloc::Global;
 
-/// Judges the site that was entered: it only leads on, is told in the log and passed over, or has an object, whose place
-/// is asked for. An object whose place is free is to be entered next; one whose place is taken is told in the log as
-/// present. An object of another share is passed without a line, and so is, in another share than the first, a site
-/// without an object that can be carried.
+/// Judges the site that was entered: it only leads on, is told in the log and passed over, or has
+/// an object, whose place is asked for. An object whose place is free is to be entered next; one
+/// whose place is taken is told in the log as present. An object of another share is passed without
+/// a line, and so is, in another share than the first, a site without an object that can be
+/// carried.
 ///
-/// Halts for `Dest` where the place can't be asked for, for `Log` where a line can't be put, and for `Memory` where a
-/// growth is refused; what is held stays then.
+/// Halts for `Dest` where the place can't be asked for, for `Log` where a line can't be put, and
+/// for `Memory` where a growth is refused; what is held stays then.
 pub fn judge<O: Io>(state: &mut State, out: &mut O) -> Result<Phase, Fault>
     requires { CanPass state.old }
     ensures turn { TakesTurn O.Io (0, 1) phase.Judge
@@ -91,8 +92,8 @@ fn pass_over<O: Io>(
     Ok(Phase::Walk)
 }
 
-// Asks what the names of a site say of its object, which is the entry of this index, or else is gathered. One of another
-// share is passed.
+// Asks what the names of a site say of its object, which is the entry of this index, or else is
+// gathered. One of another share is passed.
 fn judge_object<O: Io>(
     state: &mut State,
     site: &NamePath,

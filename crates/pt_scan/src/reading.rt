@@ -19,13 +19,14 @@ use pt_tree::{MemoryFault, NamePath};
 use pt_walk::{Cause, Trail};
 use std::mem;
 
-/// Reads one block of the open file, of which so many bytes were read, at most 2^43. The block is fed to the hasher, and
-/// reading goes on; at the end of the file its row and its content are noted, and the scan goes on behind it. Where the
-/// file is longer than the limit the object is told in the log and passed over, and the walk goes on at its site.
+/// Reads one block of the open file, of which so many bytes were read, at most 2^43. The block is
+/// fed to the hasher, and reading goes on; at the end of the file its row and its content are
+/// noted, and the scan goes on behind it. Where the file is longer than the limit the object is
+/// told in the log and passed over, and the walk goes on at its site.
 ///
-/// Halts for `Source` where the file can't be read, for `Log` where the line can't be put, and for `Memory` where a
-/// growth is refused. What is held stays then, but for the block, the hasher, and a row that was noted without its
-/// content.
+/// Halts for `Source` where the file can't be read, for `Log` where the line can't be put, and for
+/// `Memory` where a growth is refused. What is held stays then, but for the block, the hasher, and
+/// a row that was noted without its content.
 pub fn read<O: Io>(
     state: &mut State,
     object: Object,
@@ -42,7 +43,8 @@ pub fn read<O: Io>(
     take_block(state, object, bytes, out)
 }
 
-// Takes the block that was read: it is fed to the hasher, unless the file is too long; an empty one ends the file.
+// Takes the block that was read: it is fed to the hasher, unless the file is too long; an empty one
+// ends the file.
 fn take_block<O: Io>(
     state: &mut State,
     object: Object,
@@ -83,7 +85,8 @@ fn end_file(state: &mut State, object: Object, bytes: u64) -> Result<Phase, Faul
     Ok(Phase::Carrying(object, Stage::Scan))
 }
 
-// The logical path of the file at the trail's place. The names that lead to the object aren't made for it.
+// The logical path of the file at the trail's place. The names that lead to the object aren't made
+// for it.
 fn logical_path(object: &Object, trail: &Trail) -> Result<NamePath, MemoryFault>
     requires there { IsAtEntry object.now trail.now }
     ensures { IfOk result (λ path. path ≡ logical_path_of object.now trail.now) }

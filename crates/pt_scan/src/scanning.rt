@@ -25,12 +25,12 @@ use pt_tree::{Kind, MemoryFault, Name, NamePath};
 use pt_walk::{Cause, Trail, is_shorty};
 use std::alloc::Global;
 
-/// Enters the directory that encapsulates an object, at whose place the walk stands; a gathered object starts in its
-/// site. Where the directory is too deep the object is told in the log and passed over, and the walk goes on at its
-/// site.
+/// Enters the directory that encapsulates an object, at whose place the walk stands; a gathered
+/// object starts in its site. Where the directory is too deep the object is told in the log and
+/// passed over, and the walk goes on at its site.
 ///
-/// Halts for `Source` where the directory can't be listed, for `Log` where the line can't be put, and for `Memory` where
-/// a growth is refused; what is held stays then.
+/// Halts for `Source` where the directory can't be listed, for `Log` where the line can't be put,
+/// and for `Memory` where a growth is refused; what is held stays then.
 pub fn open_object<O: Io>(state: &mut State, object: Object, out: &mut O) -> Result<Phase, Fault>
     requires may { object.gathered ≡ false → MayEnter (O.states out.old).source state.old.trail }
     requires directory { object.gathered ≡ false
@@ -47,12 +47,13 @@ pub fn open_object<O: Io>(state: &mut State, object: Object, out: &mut O) -> Res
     enter_directory(state, object, out)
 }
 
-/// Looks at the next entry of an object: a directory is entered, a file opened; at its end a listing is left, and the
-/// object is made after the outermost. What is too deep, too many or too long, and what is neither a directory nor a file,
-/// is a cause against the object: it is told in the log and passed over, and the walk goes on at its site.
+/// Looks at the next entry of an object: a directory is entered, a file opened; at its end a
+/// listing is left, and the object is made after the outermost. What is too deep, too many or too
+/// long, and what is neither a directory nor a file, is a cause against the object: it is told in
+/// the log and passed over, and the walk goes on at its site.
 ///
-/// Halts for `Source` where a directory can't be listed or a file not be opened, for `Log` where the line can't be put,
-/// and for `Memory` where a growth is refused; what is held stays then.
+/// Halts for `Source` where a directory can't be listed or a file not be opened, for `Log` where
+/// the line can't be put, and for `Memory` where a growth is refused; what is held stays then.
 pub fn scan<O: Io>(state: &mut State, object: Object, out: &mut O) -> Result<Phase, Fault>
     requires enter { MayEnter (O.states out.old).source state.old.trail }
     requires open { MayOpen (O.states out.old).source state.old.trail }
@@ -166,7 +167,8 @@ fn meet_file<O: Io>(state: &mut State, object: Object, out: &mut O) -> Result<Ph
     Ok(Phase::Carrying(object, Stage::Read(0)))
 }
 
-// Of the path in the source of the entry at the trail's place, the names of the logical path: those behind the object's directory.
+// Of the path in the source of the entry at the trail's place, the names of the logical path: those
+// behind the object's directory.
 fn logical_names<'a>(object: &Object, trail: &Trail, path: &'a NamePath) -> &'a [Name]
     requires names { path.now ≡ in_pairtree (names_to trail.now) }
     requires there { IsAtEntry object.now trail.now }
@@ -190,7 +192,8 @@ fn is_longer(names: &[Name], most: u64) -> bool
     bytes > most as u128
 }
 
-// Leaves the innermost listing at its end: the object is made, if it was its outermost, or else the scan goes on behind it.
+// Leaves the innermost listing at its end: the object is made, if it was its outermost, or else the
+// scan goes on behind it.
 fn leave_listing(state: &mut State, object: Object, in_site: bool) -> Phase
     requires none { current_entry state.old.trail ≡ None }
     requires in_site { in_site ≡ is_in_site_of object state.old.trail }

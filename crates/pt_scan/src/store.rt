@@ -23,8 +23,9 @@ use std::alloc::Global;
 
 /// Lists the top.
 ///
-/// Halts for `NotPairtree` where it has no file `pairtree_version0_1` or no directory `pairtree_root`, for `Source` where it can't be
-/// listed, and for `Memory` where a growth is refused.
+/// Halts for `NotPairtree` where it has no file `pairtree_version0_1` or no directory
+/// `pairtree_root`, for `Source` where it can't be listed, and for `Memory` where a growth is
+/// refused.
 pub fn begin<O: Io>(state: &State, out: &mut O) -> Result<Phase, Fault>
     requires { CanList (O.states out.old).source [] }
     ensures turn { TakesTurn O.Io (1, 0) (phase.Opening opening.Begin)
@@ -49,8 +50,9 @@ fn is_store(listing: &Listing) -> bool
 
 /// Reads the prefix file, if it is there.
 ///
-/// Halts for `Prefix` where it is no file, has more than 1,024 bytes, or isn't UTF-8 without the line ends at its end, for `Source` where
-/// it can't be opened or read, and for `Memory` where a growth is refused. What is held stays then, but for the block.
+/// Halts for `Prefix` where it is no file, has more than 1,024 bytes, or isn't UTF-8 without the
+/// line ends at its end, for `Source` where it can't be opened or read, and for `Memory` where a
+/// growth is refused. What is held stays then, but for the block.
 pub fn find_prefix<O: Io>(
     state: &mut State,
     here: Option<Kind>,

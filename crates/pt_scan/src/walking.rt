@@ -20,7 +20,8 @@ use pt_walk::{At, Cause, Trail, is_shorty};
 
 /// Lists `pairtree_root` and enters it; nothing is entered yet. Gives the phase that judges it.
 ///
-/// Halts for `Source` where it can't be listed, and for `Memory` where a growth is refused; what is held stays then.
+/// Halts for `Source` where it can't be listed, and for `Memory` where a growth is refused; what is
+/// held stays then.
 pub fn open_root<O: Io>(state: &mut State, out: &mut O) -> Result<Phase, Fault>
     requires may { CanList (O.states out.old).source (in_pairtree_of []) }
     requires trail { state.old.trail ≡ [] }
@@ -33,12 +34,13 @@ pub fn open_root<O: Io>(state: &mut State, out: &mut O) -> Result<Phase, Fault>
     Ok(Phase::Judge)
 }
 
-/// Looks at the next entry of a site. A shorty is listed and entered, to be judged next (Pairtree 0.1, "Mapping
-/// identifiers to paths"); one that is too deep, or stands below a name of one byte, is passed over, and told in the log
-/// of the first share. Any other entry is passed. At its end the listing is left, and after the outermost the walk is done.
+/// Looks at the next entry of a site. A shorty is listed and entered, to be judged next (Pairtree
+/// 0.1, "Mapping identifiers to paths"); one that is too deep, or stands below a name of one byte,
+/// is passed over, and told in the log of the first share. Any other entry is passed. At its end
+/// the listing is left, and after the outermost the walk is done.
 ///
-/// Halts for `Source` where a shorty can't be listed, for `Log` where its line can't be put, and for `Memory` where a
-/// growth is refused; what is held stays then.
+/// Halts for `Source` where a shorty can't be listed, for `Log` where its line can't be put, and
+/// for `Memory` where a growth is refused; what is held stays then.
 pub fn walk<O: Io>(state: &mut State, out: &mut O) -> Result<Phase, Fault>
     requires may { MayEnter (O.states out.old).source state.old.trail }
     requires few { state.old.counts.skipped < 2 ^ 40 }

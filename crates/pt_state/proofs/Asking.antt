@@ -3,7 +3,47 @@ use Rattle.std.proofs.Common.{◌≡◌, ℕ, List, refl, sym, subst, ap, add-ze
 use Rattle.std.specs.Prelude.{Option, Some, Err, IsTrue, IsSome}
 use Rattle.std.specs.Io.KnownBytes.{Appends}
 use Rattle.std.specs.Option.{option_map}
-use Rattle.pt_state.proofs.Words.{MakeFolder, Line, line_text, Did, HasFailed, FailsPartway, FailsUnchanged, Adds, Answers, Asked, Change, Changes, Creates, Failures, Finds, Finishes, Lists, Makes, OfPiece, Opens, Puts, Reads, Renames, Untouched, asks, does, tree_in, tells, Fault, Writing, IsKindAt, after_create, AppendsFront, Path, Reading, after_open, Bytes, kind_of_entry, Kind}
+use Rattle.pt_state.proofs.Words.{
+  MakeFolder,
+  Line,
+  line_text,
+  Did,
+  HasFailed,
+  FailsPartway,
+  FailsUnchanged,
+  Adds,
+  Answers,
+  Asked,
+  Change,
+  Changes,
+  Creates,
+  Failures,
+  Finds,
+  Finishes,
+  Lists,
+  Makes,
+  OfPiece,
+  Opens,
+  Puts,
+  Reads,
+  Renames,
+  Untouched,
+  asks,
+  does,
+  tree_in,
+  tells,
+  Fault,
+  Writing,
+  IsKindAt,
+  after_create,
+  AppendsFront,
+  Path,
+  Reading,
+  after_open,
+  Bytes,
+  kind_of_entry,
+  Kind,
+}
 use Rattle.pt_plan.specs.RunFaults.{dest_fault, log_fault, source_fault}
 use Rattle.pt_plan.specs.Turn.{IsNotOfLog}
 use Rattle.pt_plan.specs.DeviceStates.{Peeks}
@@ -40,7 +80,8 @@ module _ (r r' : Option Reading) (w : Option Writing) (g : Option (List ℕ)) (n
   unfolding Did Changes Puts
   answers asked is count = (record { source = is; dest = refl; log = refl }, ap (λ (k : ℕ). failures k d l) count)
 
-  pub did_list : (p : Path) (entries : List Entry) → IsListed r p entries → IsTrue (names_rise entries) → r' ≡ r → n' ≡ n → Did (asks (Lists p entries)) (states r w g n d l) (states r' w g n' d l)
+  pub did_list : (p : Path) (entries : List Entry) → IsListed r p entries → IsTrue (names_rise entries) → r' ≡ r → n' ≡ n
+      → Did (asks (Lists p entries)) (states r w g n d l) (states r' w g n' d l)
   unfolding Answers
   did_list p entries is rise same count = answers (Lists p entries) (is, rise, same) count
 
@@ -48,7 +89,8 @@ module _ (r r' : Option Reading) (w : Option Writing) (g : Option (List ℕ)) (n
   unfolding Answers
   did_open p = answers (Opens p)
 
-  pub did_next : (block : List ℕ) → IsRead r block → r' ≡ option_map after_next r → n' ≡ n → Did (asks (Reads block)) (states r w g n d l) (states r' w g n' d l)
+  pub did_next : (block : List ℕ) → IsRead r block → r' ≡ option_map after_next r → n' ≡ n
+      → Did (asks (Reads block)) (states r w g n d l) (states r' w g n' d l)
   unfolding Answers
   did_next block read is count = answers (Reads block) (read, is) count
 
@@ -60,7 +102,8 @@ module _ (r r' : Option Reading) (w : Option Writing) (g : Option (List ℕ)) (n
   source_not_log tree.Device = tt
   source_not_log tree.Memory = tt
 
-  pub stays_source : (f : TreeFault) (h : Fault) → h ≡ source_fault f → r' ≡ r → IsCounted {T = Unit {0}} n n' (Err f) → FailsUnchanged h (states r w g n d l) (states r' w g n' d l)
+  pub stays_source : (f : TreeFault) (h : Fault) → h ≡ source_fault f → r' ≡ r → IsCounted {T = Unit {0}} n n' (Err f)
+      → FailsUnchanged h (states r w g n d l) (states r' w g n' d l)
   unfolding FailsUnchanged
   stays_source f h is same count = (ap tree_in same, refl, refl, rw is (source_counted f count), subst IsNotOfLog (sym is) (source_not_log f))
 
@@ -84,7 +127,8 @@ module _ (r : Option Reading) (w w' : Option Writing) (g : Option (List ℕ)) (n
   unfolding Changes
   did_kind p here is same count = changes (Finds p here) (is, same) count
 
-  pub did_peek : (p : Path) (block : List ℕ) → CanPeek w p → IsPeeked w p block → w' ≡ w → d' ≡ d → Did (does (Peeks p block)) (states r w g n d l) (states r w' g n d' l)
+  pub did_peek : (p : Path) (block : List ℕ) → CanPeek w p → IsPeeked w p block → w' ≡ w → d' ≡ d
+      → Did (does (Peeks p block)) (states r w g n d l) (states r w' g n d' l)
   unfolding Changes
   did_peek p block can is same count = changes (Peeks p block) (file_there w p can, is, same) count
 
@@ -116,19 +160,26 @@ module _ (r : Option Reading) (w w' : Option Writing) (g : Option (List ℕ)) (n
   dest_not_log tree.Device = tt
   dest_not_log tree.Memory = tt
 
-  pub stays_dest : (f : TreeFault) (h : Fault) → h ≡ dest_fault f → w' ≡ w → IsCounted {T = Unit {0}} d d' (Err f) → FailsUnchanged h (states r w g n d l) (states r w' g n d' l)
+  pub stays_dest : (f : TreeFault) (h : Fault) → h ≡ dest_fault f → w' ≡ w → IsCounted {T = Unit {0}} d d' (Err f)
+      → FailsUnchanged h (states r w g n d l) (states r w' g n d' l)
   unfolding FailsUnchanged
   stays_dest f h is same count = (refl, same, refl, rw is (dest_counted f count), subst IsNotOfLog (sym is) (dest_not_log f))
 
-  pub leaves_piece : (piece : List ℕ) (f : TreeFault) (h : Fault) → h ≡ dest_fault f → LeavesPart w w' piece → IsCounted {T = Unit {0}} d d' (Err f) → FailsPartway (does (Adds piece)) h (states r w g n d l) (states r w' g n d' l)
+  pub leaves_piece : (piece : List ℕ) (f : TreeFault) (h : Fault) → h ≡ dest_fault f → LeavesPart w w' piece → IsCounted {T = Unit {0}} d d' (Err f)
+      → FailsPartway (does (Adds piece)) h (states r w g n d l) (states r w' g n d' l)
   unfolding FailsPartway
-  leaves_piece piece f h is left count =
-      (record { read = tt; found = tt; source = refl; dest = OfPiece piece left.count left.left; log = refl }, rw is (dest_counted f count), subst IsNotOfLog (sym is) (dest_not_log f))
+  leaves_piece piece f h is left count = (
+    record { read = tt; found = tt; source = refl; dest = OfPiece piece left.count left.left; log = refl },
+    rw is (dest_counted f count),
+    subst IsNotOfLog
+        (sym is) (dest_not_log f),
+  )
 
 -- ---- the log
 
 module _ (r : Option Reading) (w : Option Writing) (g g' : Option (List ℕ)) (n d l l' : ℕ) where
-  pub did_put : (line : Line) (text : List ℕ) → text ≡ line_text line → Appends g g' text → l' ≡ l → Did (tells line) (states r w g n d l) (states r w g' n d l')
+  pub did_put : (line : Line) (text : List ℕ) → text ≡ line_text line → Appends g g' text → l' ≡ l
+      → Did (tells line) (states r w g n d l) (states r w g' n d l')
   unfolding Did Answers Changes Puts
   did_put line text is put count = (record { source = refl; dest = refl; log = rw is at put }, ap (λ (k : ℕ). failures n d k) count)
 
@@ -136,9 +187,26 @@ module _ (r : Option Reading) (w : Option Writing) (g g' : Option (List ℕ)) (n
   log_counted tree.Device is = (refl, refl, is)
   log_counted tree.Memory is = ap (λ (k : ℕ). failures n d k) is
 
-  pub leaves_front : (line : Line) (text : List ℕ) (f : TreeFault) (h : Fault) → text ≡ line_text line → h ≡ log_fault f → AppendsFront g g' text → IsCounted {T = Unit {0}} l l' (Err f) → FailsPartway (tells line) h (states r w g n d l) (states r w g' n d l')
+  pub leaves_front : (line : Line) (text : List ℕ) (f : TreeFault) (h : Fault) → text ≡ line_text line → h ≡ log_fault f → AppendsFront g g' text
+      → IsCounted {T = Unit {0}} l l' (Err f) → FailsPartway (tells line) h (states r w g n d l) (states r w g' n d l')
   unfolding FailsPartway
   leaves_front line text f h is why front count =
       (record { read = tt; found = tt; source = refl; dest = Untouched _ refl; log = rw is at front }, rw why (log_counted f count), tt)
 
-pub ruleset answering = (did_list, did_open, did_next, stays_source, did_kind, did_peek, did_mkdir, did_create, did_append, did_finish, did_rename, stays_dest, leaves_piece, did_put, leaves_front)
+pub ruleset answering = (
+  did_list,
+  did_open,
+  did_next,
+  stays_source,
+  did_kind,
+  did_peek,
+  did_mkdir,
+  did_create,
+  did_append,
+  did_finish,
+  did_rename,
+  stays_dest,
+  leaves_piece,
+  did_put,
+  leaves_front,
+)

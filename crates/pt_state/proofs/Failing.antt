@@ -44,13 +44,20 @@ module _ (r r' : Option Reading) (n n' : ℕ) (p : Path) where
   still : (f f' : Option Failing) → tree_in r' ≡ tree_in r → f' ≡ f → Fails r' f' → Fails r f
   still f f' tree is (inl fails) = inl (subst (λ (o : Option Failing). ForSome o (λ g. g.reading ≡ true)) is fails)
   still f f' tree is (inr (q, of, stands, fails)) =
-      inr (q, of, subst (λ (o : Option Forest). ForSome o (λ t. StandsAt t q)) tree stands, subst (λ (o : Option Failing). ForSome o (λ g. g.at q ≡ true)) is fails)
+      inr (
+        q,
+        of,
+        subst (λ (o : Option Forest). ForSome o (λ t. StandsAt t q)) tree stands,
+        subst (λ (o : Option Failing). ForSome o (λ g. g.at q ≡ true)) is
+            fails,
+      )
 
   fails_at : (g : Failing) → IsAskedFor p → ForSome (tree_in r) (λ tree. StandsAt tree p) → g.at p ≡ true → Fails r (Some g)
   fails_at g of stands fails = inr (p, of, stands, λ h is. held g h (λ k. k.at p ≡ true) is fails)
 
   -- a directory is listed
-  pub fails_list : {T : Type 0} (f f' : Option Failing) (result : Result T TreeFault) → CanList r p → IsAskedFor p → ListsAs f f' p result → r' ≡ r → IsCounted n n' result
+  pub fails_list : {T : Type 0} (f f' : Option Failing) (result : Result T TreeFault) → CanList r p → IsAskedFor p → ListsAs f f' p result → r' ≡ r
+      → IsCounted n n' result
       → FailsOnlyWhereAsked (source r f n) (source r' f' n')
   unfolding ListsAs
   fails_list None f' result can of lists same count = record { failed = inr (untold r); still = λ fails. untold r }
@@ -80,7 +87,8 @@ module _ (r r' : Option Reading) (n n' : ℕ) (p : Path) where
         λ h same. held g h (λ k. k.at q ≡ true) same (fails (record g { reading = g.at p }) is),
       )
 
-      by : (result : Result T TreeFault) → OpensWith g f' p result → OnOk result (r' ≡ option_map (after_open p) r) → OnErr result (r' ≡ r) → IsCounted n n' result
+      by : (result : Result T TreeFault) → OpensWith g f' p result → OnOk result (r' ≡ option_map (after_open p) r) → OnErr result (r' ≡ r)
+          → IsCounted n n' result
           → FailsOnlyWhereAsked (source r (Some g) n) (source r' f' n')
       by (Ok x) opens ok same count = record { failed = inl count; still = later opens (ap tree_in ok ∙ opened p r) }
       by (Err tree.Device) opens ok same count =
@@ -88,13 +96,15 @@ module _ (r r' : Option Reading) (n n' : ℕ) (p : Path) where
       by (Err tree.Memory) opens ok same count = record { failed = inl count; still = still (Some g) f' (ap tree_in same) opens }
 
 -- a block of the open file is read
-pub fails_next : {T : Type 0} (r r' : Option Reading) (n n' : ℕ) (f f' : Option Failing) (block : List ℕ) (result : Result T TreeFault) → ReadsAs f f' block result
+pub fails_next : {T : Type 0} (r r' : Option Reading) (n n' : ℕ) (f f' : Option Failing) (block : List ℕ) (result : Result T TreeFault)
+    → ReadsAs f f' block result
     → OnOk result (r' ≡ option_map after_next r) → OnErr result (r' ≡ r) → IsCounted n n' result → FailsOnlyWhereAsked (source r f n) (source r' f' n')
 unfolding ReadsAs
 fails_next r r' n n' None f' block result reads ok same count = record { failed = inr (untold r); still = λ fails. untold r }
 fails_next {T} r r' n n' (Some g) f' block result reads ok same count = by result (reads g refl) ok same count
   where
-    by : (result : Result T TreeFault) → (f' ≡ Some g) × ReadsWith g block result → OnOk result (r' ≡ option_map after_next r) → OnErr result (r' ≡ r) → IsCounted n n' result
+    by : (result : Result T TreeFault) → (f' ≡ Some g) × ReadsWith g block result → OnOk result (r' ≡ option_map after_next r) → OnErr result (r' ≡ r)
+        → IsCounted n n' result
         → FailsOnlyWhereAsked (source r (Some g) n) (source r' f' n')
     by (Ok x) goes ok same count = record { failed = inl count; still = still r r' n n' [] (Some g) f' (ap tree_in ok ∙ read_on r) goes.0 }
     by (Err tree.Device) goes ok same count =

@@ -3,7 +3,45 @@ use Rattle.std.proofs.Common.{◌≡◌, ℕ, List, [], ◌++◌, Bool, true, fa
 use Rattle.std.proofs.lemmas.List.{take_all}
 use Rattle.std.specs.Prelude.{Option, None, Some}
 use Rattle.std.specs.Option.{option_map}
-use Rattle.pt_state.proofs.Words.{MakeFile, Did, FailsPartway, FailsUnchanged, Adds, Answers, Asked, Calls, Change, Changes, Creates, Finds, Finishes, Lists, Makes, OfPiece, Opens, Puts, Reads, Untouched, DeviceStates, asks, dest_tree, does, no_calls, tree_in, Fault, Writing, after_create, Path, same_path, Reading, CanOpen, after_open, Bytes, Tree, Kind}
+use Rattle.pt_state.proofs.Words.{
+  MakeFile,
+  Did,
+  FailsPartway,
+  FailsUnchanged,
+  Adds,
+  Answers,
+  Asked,
+  Calls,
+  Change,
+  Changes,
+  Creates,
+  Finds,
+  Finishes,
+  Lists,
+  Makes,
+  OfPiece,
+  Opens,
+  Puts,
+  Reads,
+  Untouched,
+  DeviceStates,
+  asks,
+  dest_tree,
+  does,
+  no_calls,
+  tree_in,
+  Fault,
+  Writing,
+  after_create,
+  Path,
+  same_path,
+  Reading,
+  CanOpen,
+  after_open,
+  Bytes,
+  Tree,
+  Kind,
+}
 use Rattle.pt_object.specs.Script.{done}
 use Rattle.pt_object.proofs.Ways.{path_itself}
 use Rattle.pt_plan.specs.DeviceStates.{AsksNothing, LeavesPart, OfFile, OpensAndReads, WasRead, after_make}
@@ -48,7 +86,8 @@ stays_then f a b c first next = (next.0 ∙ first.0, next.1 ∙ first.1, next.2 
 pub asked_then : (asked : Asked) (f : Fault) (a b c : DeviceStates) → Did (asks asked) a b → FailsUnchanged f b c → FailsUnchanged f a c
 asked_then asked f a b c first next = stays_then f a b c (asked_stays asked a b first) next
 
-pub looked_then : (p : Path) (here : Option Kind) (f : Fault) (a b c : DeviceStates) → Did (does (Finds p here)) a b → FailsUnchanged f b c → FailsUnchanged f a c
+pub looked_then : (p : Path) (here : Option Kind) (f : Fault) (a b c : DeviceStates) → Did (does (Finds p here)) a b → FailsUnchanged f b c
+    → FailsUnchanged f a c
 looked_then p here f a b c first next = stays_then f a b c (looked_stays p here a b first) next
 
 -- a look leaves the very states
@@ -86,7 +125,8 @@ was_read (Opens path) r r' is = tt
 was_read (Reads block) r r' is = is.0
 was_read (OpensAndReads path block) r r' is = tt
 
-pub then_leaves : (asked : Asked) (change : Change) (f : Fault) (a b c : DeviceStates) → Did (asks asked) a b → FailsPartway (does change) f b c → FailsPartway (asks_and asked change) f a c
+pub then_leaves : (asked : Asked) (change : Change) (f : Fault) (a b c : DeviceStates) → Did (asks asked) a b → FailsPartway (does change) f b c
+    → FailsPartway (asks_and asked change) f a c
 unfolding Did FailsPartway Changes Puts
 then_leaves asked change f a b c first next = (
   record {
@@ -103,7 +143,11 @@ then_leaves asked change f a b c first next = (
 -- a call that changes nothing failed: nothing is left of the change
 pub leaves_none : (change : Change) (f : Fault) (a b : DeviceStates) → FailsUnchanged f a b → FailsPartway (does change) f a b
 unfolding FailsUnchanged FailsPartway
-leaves_none change f a b stays = (record { read = tt; found = tt; source = stays.0; dest = Untouched change (ap dest_tree stays.1); log = stays.2 }, stays.3, stays.4)
+leaves_none change f a b stays = (
+  record { read = tt; found = tt; source = stays.0; dest = Untouched change (ap dest_tree stays.1); log = stays.2 },
+  stays.3,
+  stays.4,
+)
 
 -- memory was short before anything was called
 pub leaves_short : (change : Change) (why : Fault) (w : DeviceStates) → why ≡ fault.Memory → FailsPartway (does change) why w w
@@ -120,7 +164,8 @@ pub can_read_opened : (a b : DeviceStates) (p : Path) → CanOpen a.source p →
 unfolding CanOpen CanRead Did Answers
 can_read_opened a b p can did = λ s e. let from = some_mapped (after_open p) a.source s (sym e ∙ did.0.source) in rw from.1.1 (can from.0 from.1.0)
 
-pub opens_and_reads : (a b c : DeviceStates) (p : Path) (block : List ℕ) → Did (asks (Opens p)) a b → Did (asks (Reads block)) b c → Did (asks (OpensAndReads p block)) a c
+pub opens_and_reads : (a b c : DeviceStates) (p : Path) (block : List ℕ) → Did (asks (Opens p)) a b → Did (asks (Reads block)) b c
+    → Did (asks (OpensAndReads p block)) a c
 unfolding Did Answers Changes Puts
 opens_and_reads a b c p block first next = (
   record {
@@ -140,15 +185,18 @@ filled t p bytes = λ i q. by q (same_path q p) i
     there : edited_by (λ old. old ++ bytes) (put t p (Bytes []) p) ≡ Some (Bytes bytes)
     there = ap (λ b. edited_by (λ old. old ++ bytes) (cond b (Some (Bytes [])) (t p))) (path_itself p)
 
-    by : (q : Path) (b : Bool) → cond b (edited_by (λ old. old ++ bytes) (put t p (Bytes []) p)) (cond b (Some (Bytes [])) (t q)) ≡ cond b (Some (Bytes bytes)) (t q)
+    by : (q : Path) (b : Bool) → cond b (edited_by (λ old. old ++ bytes) (put t p (Bytes []) p)) (cond b (Some (Bytes [])) (t q))
+        ≡ cond b (Some (Bytes bytes)) (t q)
     by q true = there
     by q false = refl
 
-made_file : (o : Option Writing) (p : Path) (bytes : List ℕ) → option_map after_finish (option_map (after_append bytes) (option_map (after_create p) o)) ≡ option_map (after_make (MakeFile p bytes)) o
+made_file : (o : Option Writing) (p : Path) (bytes : List ℕ) → option_map after_finish (option_map (after_append bytes) (option_map (after_create p) o))
+    ≡ option_map (after_make (MakeFile p bytes)) o
 made_file None p bytes = refl
 made_file (Some s) p bytes = ap (λ (t : Tree). Some (record { tree = t; writing = None })) (filled s.tree p bytes)
 
-part_file : (o : Option Writing) (p : Path) (bytes : List ℕ) → dest_tree (option_map (after_append bytes) (option_map (after_create p) o)) ≡ option_map (done (MakeFile p bytes)) (dest_tree o)
+part_file : (o : Option Writing) (p : Path) (bytes : List ℕ) → dest_tree (option_map (after_append bytes) (option_map (after_create p) o))
+    ≡ option_map (done (MakeFile p bytes)) (dest_tree o)
 part_file None p bytes = refl
 part_file (Some s) p bytes = ap (λ (t : Tree). Some t) (filled s.tree p bytes)
 
@@ -168,7 +216,8 @@ pub can_write_asked : (asked : Asked) (a b : DeviceStates) → CanWrite a.dest �
 unfolding Did Changes
 can_write_asked asked a b can did = rw did.0.dest can
 
-pub makes_file : (a b c d : DeviceStates) (p : Path) (bytes : List ℕ) → Did (does (Creates p)) a b → Did (does (Adds bytes)) b c → Did (does Finishes) c d → Did (does (Makes (MakeFile p bytes))) a d
+pub makes_file : (a b c d : DeviceStates) (p : Path) (bytes : List ℕ) → Did (does (Creates p)) a b → Did (does (Adds bytes)) b c → Did (does Finishes) c d
+    → Did (does (Makes (MakeFile p bytes))) a d
 unfolding Did Answers Changes Puts
 makes_file a b c d p bytes first next last = (
   record {
@@ -179,14 +228,17 @@ makes_file a b c d p bytes first next last = (
   last.1 ∙ next.1 ∙ first.1,
 )
 
-keeps_file : (a b c : Option Writing) (p : Path) (bytes : List ℕ) (part : Change) → part ≡ Adds bytes → b ≡ option_map (after_create p) a → LeavesPart b c part → LeavesPart a c (Makes (MakeFile p bytes))
+keeps_file : (a b c : Option Writing) (p : Path) (bytes : List ℕ) (part : Change) → part ≡ Adds bytes → b ≡ option_map (after_create p) a → LeavesPart b c part
+    → LeavesPart a c (Makes (MakeFile p bytes))
 keeps_file a b c p bytes part is first (Untouched change same) = OfFile p bytes 0 (same ∙ ap dest_tree first ∙ none_of_file a p)
 keeps_file a b c p bytes part is first (OfPiece piece count same) =
     let it : piece ≡ bytes = cc in
-    OfFile p bytes count (ap dest_tree (same ∙ ap (option_map (after_append (take count piece))) first) ∙ part_file a p (take count piece) ∙ ap (λ (l : List ℕ). option_map (done (MakeFile p (take count l))) (dest_tree a)) it)
+    OfFile p bytes count (ap dest_tree (same ∙ ap (option_map (after_append (take count piece))) first) ∙ part_file a p (take count piece)
+    ∙ ap (λ (l : List ℕ). option_map (done (MakeFile p (take count l))) (dest_tree a)) it)
 keeps_file _ _ _ _ _ _ is _ _ = absurd (cc)
 
-pub leaves_of_append : (a b c : DeviceStates) (p : Path) (bytes : List ℕ) (f : Fault) → Did (does (Creates p)) a b → FailsPartway (does (Adds bytes)) f b c → FailsPartway (does (Makes (MakeFile p bytes))) f a c
+pub leaves_of_append : (a b c : DeviceStates) (p : Path) (bytes : List ℕ) (f : Fault) → Did (does (Creates p)) a b → FailsPartway (does (Adds bytes)) f b c
+    → FailsPartway (does (Makes (MakeFile p bytes))) f a c
 unfolding Did FailsPartway Answers Changes Puts
 leaves_of_append a b c p bytes f first next = (
   record {
@@ -200,7 +252,8 @@ leaves_of_append a b c p bytes f first next = (
   next.2,
 )
 
-pub leaves_unfinished : (a b c d : DeviceStates) (p : Path) (bytes : List ℕ) (f : Fault) → Did (does (Creates p)) a b → Did (does (Adds bytes)) b c → FailsUnchanged f c d → FailsPartway (does (Makes (MakeFile p bytes))) f a d
+pub leaves_unfinished : (a b c d : DeviceStates) (p : Path) (bytes : List ℕ) (f : Fault) → Did (does (Creates p)) a b → Did (does (Adds bytes)) b c
+    → FailsUnchanged f c d → FailsPartway (does (Makes (MakeFile p bytes))) f a d
 unfolding Did FailsUnchanged FailsPartway Answers Changes Puts
 leaves_unfinished a b c d p bytes f first next last =
     let whole : take (length bytes) bytes ≡ bytes = take_all (length bytes) bytes (omega arith) in (
@@ -208,11 +261,22 @@ leaves_unfinished a b c d p bytes f first next last =
         read = tt;
         found = tt;
         source = last.0 ∙ ap tree_in (next.0.source ∙ first.0.source);
-        dest = OfFile p bytes (length bytes) (ap dest_tree (last.1 ∙ next.0.dest ∙ ap (option_map (after_append bytes)) first.0.dest) ∙ part_file a.dest p bytes ∙ ap (λ (l : List ℕ). option_map (done (MakeFile p l)) (dest_tree a.dest)) (sym whole));
+        dest = OfFile p bytes (length bytes) (ap dest_tree (last.1 ∙ next.0.dest ∙ ap (option_map (after_append bytes)) first.0.dest) ∙ part_file a.dest p bytes
+            ∙ ap (λ (l : List ℕ). option_map (done (MakeFile p l)) (dest_tree a.dest)) (sym whole));
         log = last.2 ∙ next.0.log ∙ first.0.log;
       },
       rw (next.1 ∙ first.1) at last.3,
       last.4,
     )
 
-pub ruleset together = (can_read_opened, opens_and_reads, asked_then, can_write_created, can_write_added, makes_file, leaves_none, leaves_of_append, leaves_unfinished)
+pub ruleset together = (
+  can_read_opened,
+  opens_and_reads,
+  asked_then,
+  can_write_created,
+  can_write_added,
+  makes_file,
+  leaves_none,
+  leaves_of_append,
+  leaves_unfinished,
+)

@@ -19,7 +19,30 @@ pub use Rattle.pt_plan.specs.TurnMake.{content_at}
 pub use Rattle.pt_plan.specs.TurnPlace.{bytes_in_rows}
 pub use Rattle.pt_plan.specs.TurnScan.{logical_path, to_site}
 pub use Rattle.pt_plan.specs.TurnWalk.{in_pairtree}
-pub use Rattle.pt_plan.specs.DeviceStates.{Adds, Asked, Calls, Change, Creates, Failures, Finds, Finishes, Lists, Makes, NewFile, OfPiece, Opens, Reads, Renames, Untouched, DeviceStates, asks, dest_tree, does, no_calls, tells}
+pub use Rattle.pt_plan.specs.DeviceStates.{
+  Adds,
+  Asked,
+  Calls,
+  Change,
+  Creates,
+  Failures,
+  Finds,
+  Finishes,
+  Lists,
+  Makes,
+  NewFile,
+  OfPiece,
+  Opens,
+  Reads,
+  Renames,
+  Untouched,
+  DeviceStates,
+  asks,
+  dest_tree,
+  does,
+  no_calls,
+  tells,
+}
 unfoldable pub use Rattle.pt_plan.specs.DeviceStates.{Answers, Changes, Puts}
 pub use Rattle.pt_plan.specs.declared.fault.Fault.{Fault}
 pub use Rattle.pt_plan.specs.declared.fault.Fault.TheVariants as fault

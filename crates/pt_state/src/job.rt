@@ -13,7 +13,8 @@ pub struct Job {
     pub algorithm: Algorithm,
     /// What an object, the walk and the run may have at most.
     pub limits: Limits,
-    /// Whether a site that holds more than one directory beside its shorties is carried as an object of its own.
+    /// Whether a site that holds more than one directory beside its shorties is carried as an
+    /// object of its own.
     pub gather: bool,
     /// The share of the store that is carried; another share's objects are passed without a line.
     pub share: Share,

@@ -1,7 +1,11 @@
 //! What a run holds, the calls that it makes of its devices, and the lines that it puts.
 //!
-//! What it promises: a call of the devices as one (`Io`) did what it was asked, or it failed, changed nothing or left a part of its piece,
-//! and halts the run for that device (`Called`, `Listed`, `Found`, `Wrote`, `Told`). A line is counted exactly where its `put` was answered Ok.
+//! What it promises: a call of the devices as one (`Io`) did what it was asked, or it failed,
+//! changed nothing or left a part of its piece, and halts the run for that device (`Called`,
+//! `Listed`, `Found`, `Wrote`, `Told`). A line is counted exactly where its `put` was answered Ok.
+//!
+//! Guarantees of README that rest on its definitions: Complete, Readable as OCFL, No half objects,
+//! Run it again, The log is true, It ends, and stays small, An audit is exact.
 #![tactic(auto, using(crate::proofs::StateRules::state_rules))]
 
 pub mod files;

@@ -1,7 +1,7 @@
 //! Puts the lines of a run's log. A line is counted where it was put whole.
 //!
-//! Each function halts for `Log` where its line can't be put, and for `Memory` where a growth is refused. Nothing is counted then; a part of the
-//! line may stand in the log.
+//! Each function halts for `Log` where its line can't be put, and for `Memory` where a growth is
+//! refused. Nothing is counted then; a part of the line may stand in the log.
 ghost use Rattle.std.specs.Prelude.{◌<◌, ◌^◌};
 ghost use Rattle.pt_plan.specs.Lines.{Present as PresentLine, Skipped as SkippedLine, End as EndLine};
 ghost use Rattle.pt_plan.specs.DeviceStates.{tells};

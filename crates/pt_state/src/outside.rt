@@ -1,4 +1,5 @@
-//! What stands outside a run: its three devices as one, each call of which answers why the run halts.
+//! What stands outside a run: its three devices as one, each call of which answers why the run
+//! halts.
 ghost use Rattle.std.proofs.Common.{◌∙◌, refl};
 ghost use Rattle.std.specs.Prelude.{◌≡◌, ◌+◌, ◌≤◌, ℕ, true, Some, IfErr, OnOk};
 ghost use Rattle.pt_object.specs.Script.{MakeFolder};
@@ -19,14 +20,16 @@ use pt_tree::{Block, Dest, Kind, Listing, Log, NamePath, Source};
 
 /// What stands outside a run: a source, a destination and a log.
 ///
-/// A call that fails for its device halts the run for that device, and one that wants memory for want of memory.
-/// It changes nothing then, but for `append` and `put`, which leave a part of what they were to add. Only `put` halts it for the log.
+/// A call that fails for its device halts the run for that device, and one that wants memory for
+/// want of memory. It changes nothing then, but for `append` and `put`, which leave a part of what
+/// they were to add. Only `put` halts it for the log.
 pub trait Io {
     /// What the three tell, and how often each failed.
     ghost states: { Self → DeviceStates };
 
-    /// It is over the same three devices; the source was called at most so many times more, and failed only where a run asks it, or at the
-    /// file that was open; and the destination was asked at most so many times more what stands.
+    /// It is over the same three devices; the source was called at most so many times more, and
+    /// failed only where a run asks it, or at the file that was open; and the destination was asked
+    /// at most so many times more what stands.
     ghost within: { ℕ → ℕ → Self → Self → Type 0 };
 
     /// Lists a directory of the source, the top or one of the pairtree.

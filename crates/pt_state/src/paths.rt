@@ -1,4 +1,5 @@
-//! The paths of a run, in the source and in the destination. Each is answered `Memory` where a growth was refused.
+//! The paths of a run, in the source and in the destination. Each is answered `Memory` where a
+//! growth was refused.
 ghost use Rattle.std.specs.Prelude.{◌≡◌, ◌++◌, IfOk, take, length, ◌≤◌, option_to_list};
 ghost use Rattle.std.specs.Option.{option_map};
 ghost use Rattle.pt_plan.specs.TurnMake.{staged_content, path_of_source};
@@ -31,7 +32,8 @@ pub fn in_storage_root(alloc: Global, path: &NamePath) -> Result<NamePath, Memor
     )
 }
 
-/// The path of the storage root that has the first so many names of a path there, or all if it has fewer.
+/// The path of the storage root that has the first so many names of a path there, or all if it has
+/// fewer.
 pub fn front_in_storage_root(
     alloc: Global,
     path: &NamePath,
@@ -54,7 +56,8 @@ pub fn in_staging(alloc: Global, path: &NamePath) -> Result<NamePath, MemoryFaul
     )
 }
 
-/// The path of the entry at a trail's place, from below `pairtree_root` on; the innermost listing's at its end.
+/// The path of the entry at a trail's place, from below `pairtree_root` on; the innermost listing's
+/// at its end.
 pub fn entry_path(trail: &Trail) -> Result<NamePath, MemoryFault>
     ensures { IfOk result (λ path. path ≡ names_to trail.now) }
 {
@@ -68,8 +71,9 @@ pub fn entry_in_pairtree(alloc: Global, trail: &Trail, room: usize) -> Result<Na
     with_entry(path_in_pairtree(alloc, trail, room)?, trail)
 }
 
-// The path in the source of a trail's innermost listing, with room for its entry and for so many more names. It is made from its first
-// name on, so that none has to move, as `in_pairtree` of the trail's path.
+// The path in the source of a trail's innermost listing, with room for its entry and for so many
+// more names. It is made from its first name on, so that none has to move, as `in_pairtree` of the
+// trail's path.
 fn path_in_pairtree(alloc: Global, trail: &Trail, room: usize) -> Result<NamePath, MemoryFault>
     ensures { IfOk result (λ path. path ≡ in_pairtree_of (trail_path trail.now)) }
 {
@@ -89,7 +93,8 @@ fn with_entry(mut path: NamePath, trail: &Trail) -> Result<NamePath, MemoryFault
     Ok(path)
 }
 
-/// The path of an object, from below `pairtree_root` on: its directory's, or its site's where it is gathered.
+/// The path of an object, from below `pairtree_root` on: its directory's, or its site's where it is
+/// gathered.
 pub fn object_path(object: &Object, trail: &Trail) -> Result<NamePath, MemoryFault>
     ensures { IfOk result (λ path. path ≡ path_of_source object.now trail.now) }
 {

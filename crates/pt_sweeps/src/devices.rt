@@ -1,5 +1,6 @@
-//! Sweeps over small stores in memory: each call of each device fails in turn, and the log at each of its bytes. They
-//! print a line for each store and device: how often it failed, and that all was well or what wasn't.
+//! Sweeps over small stores in memory: each call of each device fails in turn, and the log at each
+//! of its bytes. They print a line for each store and device: how often it failed, and that all was
+//! well or what wasn't.
 
 mod cases;
 mod sweep;

@@ -1,4 +1,5 @@
-//! Whole runs and audits over a system in memory, by the program's own calls. They print a line for each: that all is as it should be, or what isn't.
+//! Whole runs and audits over a system in memory, by the program's own calls. They print a line for
+//! each: that all is as it should be, or what isn't.
 
 mod audits;
 mod beside;

@@ -20,7 +20,8 @@ parent-last n (m ∷ p) = ap (λ (q : Path). n ∷ q) (parent-last m p)
 
 -- what stands, stands in a directory
 pub stands_in : (f : Forest) (n : List ℕ) (p : Path) → IsSome (tree_of f (n ∷ p)) → HasDir f (parent (n ∷ p))
-stands_in f n p h = dir-folder f (parent (n ∷ p)) (in_folder (Dir f) (parent (n ∷ p)) (last_name (n ∷ p)) (subst (λ q. IsSome (tree_of f q)) (sym (parent-last n p)) h))
+stands_in f n p h = dir-folder f (parent (n ∷ p)) (in_folder (Dir f) (parent (n ∷ p)) (last_name (n ∷ p))
+    (subst (λ q. IsSome (tree_of f q)) (sym (parent-last n p)) h))
 
 pub proper_dir_at : (f : Forest) (p : Path) (d : Forest) → is_proper f ≡ true → dir_at f p ≡ Some d → is_proper d ≡ true
 proper_dir_at f p d proper is = by (node_at (Dir f) p) refl is
@@ -32,14 +33,16 @@ proper_dir_at f p d proper is = by (node_at (Dir f) p) refl is
     by (Some (Dir e)) at is = let same : e ≡ d = cc in ap is_proper (sym same) ∙ proper_at (Dir f) p (Dir e) proper at
 
 -- taking away
-pub tree_taken : (f : Forest) (n : List ℕ) (p : Path) → is_proper f ≡ true → IsSome (tree_of f (n ∷ p)) → tree_of (changed (removed (last_name (n ∷ p))) f (parent (n ∷ p))) ≡ without (tree_of f) (n ∷ p)
+pub tree_taken : (f : Forest) (n : List ℕ) (p : Path) → is_proper f ≡ true → IsSome (tree_of f (n ∷ p))
+    → tree_of (changed (removed (last_name (n ∷ p))) f (parent (n ∷ p))) ≡ without (tree_of f) (n ∷ p)
 tree_taken f n p proper stands = let d = stands_in f n p stands in tree-removed_at f n p d.0 d.1 (proper_dir_at f (parent (n ∷ p)) d.0 proper d.1)
 
 pub proper_taken : (f : Forest) (name : List ℕ) (dir : Path) → is_proper f ≡ true → is_proper (changed (removed name) f dir) ≡ true
 proper_taken f name at proper = proper-changed (removed name) f at (λ d _ p. proper-removed name d p) proper
 
 -- adding to a file
-pub tree_appended : (f : Forest) (n : List ℕ) (p : Path) (piece : List ℕ) → IsSome (tree_of f (n ∷ p)) → tree_of (changed (rewritten (λ bytes. bytes ++ piece) (last_name (n ∷ p))) f (parent (n ∷ p))) ≡ added (tree_of f) (n ∷ p) piece
+pub tree_appended : (f : Forest) (n : List ℕ) (p : Path) (piece : List ℕ) → IsSome (tree_of f (n ∷ p))
+    → tree_of (changed (rewritten (λ bytes. bytes ++ piece) (last_name (n ∷ p))) f (parent (n ∷ p))) ≡ added (tree_of f) (n ∷ p) piece
 tree_appended f n p piece stands = let d = stands_in f n p stands in tree-edited_at piece f n p d.0 d.1
 
 pub proper_appended : (f : Forest) (g : List ℕ → List ℕ) (name : List ℕ) (dir : Path) → is_proper f ≡ true → is_proper (changed (rewritten g name) f dir) ≡ true

@@ -43,18 +43,21 @@ same_first F G n m x y f g b c same = elim (cases_Bool (is_before n m)) [
 ]
 
 -- the first entries hold the same
-same_held : (F G : Forest) (n m : List ℕ) (x y : Node) (f g : Forest) → Begins F n x f → Begins G m y g → ((q : Path) → tree_of F q ≡ tree_of G q) → (q : Path) → entry_below x q ≡ entry_below y q
+same_held : (F G : Forest) (n m : List ℕ) (x y : Node) (f g : Forest) → Begins F n x f → Begins G m y g → ((q : Path) → tree_of F q ≡ tree_of G q) → (q : Path)
+    → entry_below x q ≡ entry_below y q
 same_held F G n m x y f g b c same q =
     sym (at_first F n x f q b) ∙ same (n ∷ q) ∙ ap (λ (l : List ℕ). tree_of G (l ∷ q)) (same_first F G n m x y f g b c same) ∙ at_first G m y g q c
 
 -- and what follows them is the same
-same_after : (F G : Forest) (n m : List ℕ) (x y : Node) (f g : Forest) → Begins F n x f → Begins G m y g → ((q : Path) → tree_of F q ≡ tree_of G q) → (q : Path) → tree_of f q ≡ tree_of g q
+same_after : (F G : Forest) (n m : List ℕ) (x y : Node) (f g : Forest) → Begins F n x f → Begins G m y g → ((q : Path) → tree_of F q ≡ tree_of G q) → (q : Path)
+    → tree_of f q ≡ tree_of g q
 same_after F G n m x y f g b c same [] = refl
 same_after F G n m x y f g b c same (k ∷ q) = elim (cases_Bool (bytes_eq n k)) [
   | inl is ↦
       let k_is_n : n ≡ k = same_name n k is in
       let k_is_m : m ≡ k = sym (same_first F G n m x y f g b c same) ∙ k_is_n in
-      ap (below_of q) (ap (find f) (sym k_is_n) ∙ find_absent n f b.before b.proper) ∙ sym (ap (below_of q) (ap (find g) (sym k_is_m) ∙ find_absent m g c.before c.proper))
+      ap (below_of q) (ap (find f) (sym k_is_n) ∙ find_absent n f b.before b.proper)
+      ∙ sym (ap (below_of q) (ap (find g) (sym k_is_m) ∙ find_absent m g c.before c.proper))
   | inr apart ↦
       let apart_m = ap (λ (l : List ℕ). bytes_eq l k) (sym (same_first F G n m x y f g b c same)) ∙ apart in
       sym (ap (below_of q) (b.first k ∙ cond-false _ _ _ apart)) ∙ same (k ∷ q) ∙ ap (below_of q) (c.first k ∙ cond-false _ _ _ apart_m)
@@ -101,12 +104,18 @@ canonical (dir n d f) (dir m e g) p r same =
     let inside = canonical d e (proper_dir n d f p).3 (proper_dir m e g r).3 (same_held _ _ n m (Dir d) (Dir e) f g x y same) in
     let rest = canonical f g x.proper y.proper (same_after _ _ n m (Dir d) (Dir e) f g x y same) in
     λ i. dir (name i) (inside i) (rest i)
-canonical (file n a f) (other m g) p r same = let held : Some (Bytes a) ≡ Some Special = same_held _ _ n m (File a) Other f g (begins_file n a f p) (begins_other m g r) same [] in absurd (cc)
-canonical (file n a f) (dir m e g) p r same = let held : Some (Bytes a) ≡ Some Folder = same_held _ _ n m (File a) (Dir e) f g (begins_file n a f p) (begins_dir m e g r) same [] in absurd (cc)
-canonical (other n f) (file m b g) p r same = let held : Some Special ≡ Some (Bytes b) = same_held _ _ n m Other (File b) f g (begins_other n f p) (begins_file m b g r) same [] in absurd (cc)
-canonical (other n f) (dir m e g) p r same = let held : Some Special ≡ Some Folder = same_held _ _ n m Other (Dir e) f g (begins_other n f p) (begins_dir m e g r) same [] in absurd (cc)
-canonical (dir n d f) (file m b g) p r same = let held : Some Folder ≡ Some (Bytes b) = same_held _ _ n m (Dir d) (File b) f g (begins_dir n d f p) (begins_file m b g r) same [] in absurd (cc)
-canonical (dir n d f) (other m g) p r same = let held : Some Folder ≡ Some Special = same_held _ _ n m (Dir d) Other f g (begins_dir n d f p) (begins_other m g r) same [] in absurd (cc)
+canonical (file n a f) (other m g) p r same = let held : Some (Bytes a)
+    ≡ Some Special = same_held _ _ n m (File a) Other f g (begins_file n a f p) (begins_other m g r) same [] in absurd (cc)
+canonical (file n a f) (dir m e g) p r same = let held : Some (Bytes a)
+    ≡ Some Folder = same_held _ _ n m (File a) (Dir e) f g (begins_file n a f p) (begins_dir m e g r) same [] in absurd (cc)
+canonical (other n f) (file m b g) p r same = let held : Some Special ≡ Some (Bytes b) = same_held _ _ n m Other (File b) f g (begins_other n f p)
+    (begins_file m b g r) same [] in absurd (cc)
+canonical (other n f) (dir m e g) p r same = let held : Some Special ≡ Some Folder = same_held _ _ n m Other (Dir e) f g (begins_other n f p)
+    (begins_dir m e g r) same [] in absurd (cc)
+canonical (dir n d f) (file m b g) p r same = let held : Some Folder ≡ Some (Bytes b) = same_held _ _ n m (Dir d) (File b) f g (begins_dir n d f p)
+    (begins_file m b g r) same [] in absurd (cc)
+canonical (dir n d f) (other m g) p r same = let held : Some Folder ≡ Some Special = same_held _ _ n m (Dir d) Other f g (begins_dir n d f p)
+    (begins_other m g r) same [] in absurd (cc)
 
 -- the test finds it
 pub same_forest-itself : (f : Forest) → same_forest f f ≡ true
@@ -121,7 +130,8 @@ same_from_test none (file m b g) h = absurd (false≢true h)
 same_from_test none (other m g) h = absurd (false≢true h)
 same_from_test none (dir m e g) h = absurd (false≢true h)
 same_from_test (file n a f) none h = absurd (false≢true h)
-same_from_test (file n a f) (file m b g) h = let p = and_parts _ _ h in let q = and_parts _ _ p.1 in λ i. file (same_name n m p.0 i) (same_name a b q.0 i) (same_from_test f g q.1 i)
+same_from_test (file n a f) (file m b g) h = let p = and_parts _ _ h in let q = and_parts _ _ p.1 in λ i. file (same_name n m p.0 i) (same_name a b q.0 i)
+    (same_from_test f g q.1 i)
 same_from_test (file n a f) (other m g) h = absurd (false≢true h)
 same_from_test (file n a f) (dir m e g) h = absurd (false≢true h)
 same_from_test (other n f) none h = absurd (false≢true h)
@@ -131,4 +141,5 @@ same_from_test (other n f) (dir m e g) h = absurd (false≢true h)
 same_from_test (dir n d f) none h = absurd (false≢true h)
 same_from_test (dir n d f) (file m b g) h = absurd (false≢true h)
 same_from_test (dir n d f) (other m g) h = absurd (false≢true h)
-same_from_test (dir n d f) (dir m e g) h = let p = and_parts _ _ h in let q = and_parts _ _ p.1 in λ i. dir (same_name n m p.0 i) (same_from_test d e q.0 i) (same_from_test f g q.1 i)
+same_from_test (dir n d f) (dir m e g) h = let p = and_parts _ _ h in let q = and_parts _ _ p.1 in λ i. dir (same_name n m p.0 i) (same_from_test d e q.0 i)
+    (same_from_test f g q.1 i)

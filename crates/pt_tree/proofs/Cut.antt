@@ -1,5 +1,35 @@
 -- The names that are cut out of a path's text are the path's.
-use Rattle.std.proofs.Common.{◌≡◌, inl, inr, ℕ, Bool, true, false, List, [], ◌∷◌, ◌++◌, ◌==◌, refl, sym, ap, ◌∙◌, cond, append_assoc, take, drop, get_or, arith, ◌<◌, ◌≤◌, ◌+◌, zero, suc, add-one, subst}
+use Rattle.std.proofs.Common.{
+  ◌≡◌,
+  inl,
+  inr,
+  ℕ,
+  Bool,
+  true,
+  false,
+  List,
+  [],
+  ◌∷◌,
+  ◌++◌,
+  ◌==◌,
+  refl,
+  sym,
+  ap,
+  ◌∙◌,
+  cond,
+  append_assoc,
+  take,
+  drop,
+  get_or,
+  arith,
+  ◌<◌,
+  ◌≤◌,
+  ◌+◌,
+  zero,
+  suc,
+  add-one,
+  subst,
+}
 use Rattle.std.specs.Prelude.{◌||◌, nat_lt, length, Option, None, Some, Result, Err, IfErr, is_none}
 use Rattle.std.specs.List.{list_any, position, position_or_len}
 use Rattle.std.proofs.lemmas.Bool.{cond-true, cond-false}
@@ -17,7 +47,8 @@ one_piece : (x : List ℕ) → list_any (λ b. b == 47) x ≡ false → pieces x
 one_piece [] h = refl
 one_piece (b ∷ x) h = by (λ h. one_piece x h) (b == 47) refl h
   where
-    by : (list_any (λ b. b == 47) x ≡ false → pieces x ≡ x ∷ []) → (t : Bool) → (b == 47) ≡ t → (t || list_any (λ b. b == 47) x) ≡ false → cond t ([] ∷ pieces x) (onto (b ∷ []) (pieces x)) ≡ (b ∷ x) ∷ []
+    by : (list_any (λ b. b == 47) x ≡ false → pieces x ≡ x ∷ []) → (t : Bool) → (b == 47) ≡ t → (t || list_any (λ b. b == 47) x) ≡ false
+        → cond t ([] ∷ pieces x) (onto (b ∷ []) (pieces x)) ≡ (b ∷ x) ∷ []
     by later true is h = absurd (cc)
     by later false is h = ap (onto (b ∷ [])) (later h)
 
@@ -25,7 +56,8 @@ first_piece : (x ys : List ℕ) → list_any (λ b. b == 47) x ≡ false → pie
 first_piece [] ys h = refl
 first_piece (b ∷ x) ys h = by (λ h. first_piece x ys h) (b == 47) refl h
   where
-    by : (list_any (λ b. b == 47) x ≡ false → pieces (x ++ 47 ∷ ys) ≡ x ∷ pieces ys) → (t : Bool) → (b == 47) ≡ t → (t || list_any (λ b. b == 47) x) ≡ false → cond t ([] ∷ pieces (x ++ 47 ∷ ys)) (onto (b ∷ []) (pieces (x ++ 47 ∷ ys))) ≡ (b ∷ x) ∷ pieces ys
+    by : (list_any (λ b. b == 47) x ≡ false → pieces (x ++ 47 ∷ ys) ≡ x ∷ pieces ys) → (t : Bool) → (b == 47) ≡ t → (t || list_any (λ b. b == 47) x) ≡ false
+        → cond t ([] ∷ pieces (x ++ 47 ∷ ys)) (onto (b ∷ []) (pieces (x ++ 47 ∷ ys))) ≡ (b ∷ x) ∷ pieces ys
     by later true is h = absurd (cc)
     by later false is h = ap (onto (b ∷ [])) (later h)
 
@@ -34,7 +66,8 @@ Named n = is_name n ≡ true
 
 pieces-joined : (x : List ℕ) (p : Path) → AreNames (x ∷ p) → pieces (joined (x ∷ p)) ≡ x ∷ p
 pieces-joined x [] h = one_piece x (no_slash x (All-head Named x [] h))
-pieces-joined x (y ∷ p) h = first_piece x (joined (y ∷ p)) (no_slash x (All-head Named x (y ∷ p) h)) ∙ ap (λ (q : Path). x ∷ q) (pieces-joined y p (All-tail Named x (y ∷ p) h))
+pieces-joined x (y ∷ p) h = first_piece x (joined (y ∷ p)) (no_slash x (All-head Named x (y ∷ p) h))
+    ∙ ap (λ (q : Path). x ∷ q) (pieces-joined y p (All-tail Named x (y ∷ p) h))
 
 no_empty : (p : Path) → AreNames ([] ∷ p) → ⊥
 no_empty p h = let named : is_name [] ≡ true = All-head Named [] p h in absurd (cc)
@@ -48,10 +81,12 @@ names_back ((b ∷ x) ∷ y ∷ p) h = pieces-joined (b ∷ x) (y ∷ p) h
 
 -- ---- a text is cut at its first slash
 
-cut_from : (t : List ℕ) (i : ℕ) → i < length t → (get_or t i 0 == 47) ≡ true → ((k : ℕ) → k < i → (get_or t k 0 == 47) ≡ false) → pieces t ≡ take i t ∷ pieces (drop (suc i) t)
+cut_from : (t : List ℕ) (i : ℕ) → i < length t → (get_or t i 0 == 47) ≡ true → ((k : ℕ) → k < i → (get_or t k 0 == 47) ≡ false)
+    → pieces t ≡ take i t ∷ pieces (drop (suc i) t)
 cut_from [] i within at before = absurd (omega (arith, within))
 cut_from (b ∷ t) zero within at before = cond-true _ _ _ at
-cut_from (b ∷ t) (suc i) within at before = cond-false _ _ _ (before 0 (omega arith)) ∙ ap (onto (b ∷ [])) (cut_from t i (omega (arith, within)) at (λ k less. before (suc k) (omega (arith, less))))
+cut_from (b ∷ t) (suc i) within at before = cond-false _ _ _ (before 0 (omega arith))
+    ∙ ap (onto (b ∷ [])) (cut_from t i (omega (arith, within)) at (λ k less. before (suc k) (omega (arith, less))))
 
 cut_at : (t : List ℕ) (i : ℕ) → position (λ b. b == 47) t ≡ Some i → pieces t ≡ take i t ∷ pieces (drop (i + 1) t)
 cut_at t i found =
@@ -72,9 +107,11 @@ no_cut t none = no_cut_from t (λ k within. fails_before_first (λ b. b == 47) t
     far = past (position_or_len (λ b. b == 47) t) (length t) none
 
 -- one more piece, and those behind it
-pub added_more : (old mid new : Path) (t rest : List ℕ) (i : ℕ) → position (λ b. b == 47) t ≡ Some i → rest ≡ drop (i + 1) t → mid ≡ old ++ take i t ∷ [] → new ≡ mid ++ pieces rest → new ≡ old ++ pieces t
+pub added_more : (old mid new : Path) (t rest : List ℕ) (i : ℕ) → position (λ b. b == 47) t ≡ Some i → rest ≡ drop (i + 1) t → mid ≡ old ++ take i t ∷ []
+    → new ≡ mid ++ pieces rest → new ≡ old ++ pieces t
 added_more old mid new t rest i found left first next =
-    next ∙ ap (λ (ys : List ℕ). mid ++ pieces ys) left ∙ ap (λ (p : Path). p ++ pieces (drop (i + 1) t)) first ∙ append_assoc old (take i t ∷ []) (pieces (drop (i + 1) t)) ∙ ap (λ (p : Path). old ++ p) (sym (cut_at t i found))
+    next ∙ ap (λ (ys : List ℕ). mid ++ pieces ys) left ∙ ap (λ (p : Path). p ++ pieces (drop (i + 1) t)) first
+    ∙ append_assoc old (take i t ∷ []) (pieces (drop (i + 1) t)) ∙ ap (λ (p : Path). old ++ p) (sym (cut_at t i found))
 
 pub added_last : (old new : Path) (t : List ℕ) → position (λ b. b == 47) t ≡ None → new ≡ old ++ t ∷ [] → new ≡ old ++ pieces t
 added_last old new t none is = is ∙ ap (λ (p : Path). old ++ p) (sym (no_cut t none))
@@ -106,10 +143,12 @@ refused_first t i e found why = elim why [
   | inr is ↦ inr (ap first_refusal (cut_at t i found) ∙ refused_alone (name_refusal (take i t)) (first_refusal (pieces (drop (i + 1) t))) e is)
 ]
 
-pub refused_rest : (t rest : List ℕ) (i : ℕ) (e : NameFault) → position (λ b. b == 47) t ≡ Some i → rest ≡ drop (i + 1) t → is_name (take i t) ≡ true → IsRefusal (pieces rest) e → IsRefusal (pieces t) e
+pub refused_rest : (t rest : List ℕ) (i : ℕ) (e : NameFault) → position (λ b. b == 47) t ≡ Some i → rest ≡ drop (i + 1) t → is_name (take i t) ≡ true
+    → IsRefusal (pieces rest) e → IsRefusal (pieces t) e
 refused_rest t rest i e found left named why = elim why [
   | inl memory ↦ inl memory
-  | inr is ↦ inr (ap first_refusal (cut_at t i found) ∙ refused_later (name_refusal (take i t)) (first_refusal (pieces (drop (i + 1) t))) e named (ap (λ (ys : List ℕ). first_refusal (pieces ys)) (sym left) ∙ is))
+  | inr is ↦ inr (ap first_refusal (cut_at t i found) ∙ refused_later (name_refusal (take i t)) (first_refusal (pieces (drop (i + 1) t))) e named
+      (ap (λ (ys : List ℕ). first_refusal (pieces ys)) (sym left) ∙ is))
 ]
 
 pub refused_last : (t : List ℕ) (e : NameFault) → position (λ b. b == 47) t ≡ None → IsRefusal (t ∷ []) e → IsRefusal (pieces t) e

@@ -1,5 +1,29 @@
 -- Names joined with `/` between them, one after another, and two paths of one text.
-use Rattle.std.proofs.Common.{◌≡◌, ℕ, List, [], ◌∷◌, ◌++◌, ◌+◌, ◌<◌, ◌⊎◌, inl, inr, length, take, get_or, refl, arith, ◌∙◌, ap, sym, append_assoc, subst, zero, suc}
+use Rattle.std.proofs.Common.{
+  ◌≡◌,
+  ℕ,
+  List,
+  [],
+  ◌∷◌,
+  ◌++◌,
+  ◌+◌,
+  ◌<◌,
+  ◌⊎◌,
+  inl,
+  inr,
+  length,
+  take,
+  get_or,
+  refl,
+  arith,
+  ◌∙◌,
+  ap,
+  sym,
+  append_assoc,
+  subst,
+  zero,
+  suc,
+}
 use Rattle.std.specs.Prelude.{◌==◌, ◌||◌, Bool, true, false, cond, nat_lt, Some, None, is_none}
 use Rattle.std.specs.List.{list_any}
 use Rattle.std.specs.Str.{bytes_eq, is_utf8}
@@ -27,11 +51,13 @@ joined_more names i n text before within is so_far how =
           ap (λ (l : List ℕ). l ++ n) start ∙ sym (ap joined (more ∙ ap (λ (l : Path). l ++ n ∷ []) none))
     ]
   where
-    after_first : (names : Path) (i : ℕ) (n text before : List ℕ) → i < length names → text ≡ joined (take i names) → (0 < i) × (before ≡ text ++ 47 ∷ []) → before ++ n ≡ joined (take i names ++ n ∷ [])
+    after_first : (names : Path) (i : ℕ) (n text before : List ℕ) → i < length names → text ≡ joined (take i names) → (0 < i) × (before ≡ text ++ 47 ∷ [])
+        → before ++ n ≡ joined (take i names ++ n ∷ [])
     after_first [] i n text before within so_far later = absurd (omega arith)
     after_first (x ∷ names) zero n text before within so_far later = absurd (omega arith)
     after_first (x ∷ names) (suc i) n text before within so_far later =
-        ap (λ (l : List ℕ). l ++ n) (later.1 ∙ ap (λ (l : List ℕ). l ++ 47 ∷ []) so_far) ∙ append_assoc (joined (x ∷ take i names)) (47 ∷ []) n ∙ sym (joined-push x (take i names) n)
+        ap (λ (l : List ℕ). l ++ n) (later.1 ∙ ap (λ (l : List ℕ). l ++ 47 ∷ []) so_far) ∙ append_assoc (joined (x ∷ take i names)) (47 ∷ []) n
+        ∙ sym (joined-push x (take i names) n)
 
 -- ---- two paths of names whose texts are the same
 
@@ -43,7 +69,8 @@ no_slash n is =
     let all = forbidden (length n == 0) (nat_lt 255 (length n)) (is_utf8 n) (is_forbidden_name n) is in
     first (has_slash n) (list_any (λ b. b == 0) n) (bytes_eq n (46 ∷ [])) (bytes_eq n (46 ∷ 46 ∷ [])) all
   where
-    forbidden : (a b c d : Bool) → is_none (cond a (Some fault.Empty) (cond b (Some fault.TooLong) (cond c (cond d (Some fault.Forbidden) None) (Some fault.NotUtf8)))) ≡ true → d ≡ false
+    forbidden : (a b c d : Bool) → is_none (cond a (Some fault.Empty) (cond b (Some fault.TooLong)
+        (cond c (cond d (Some fault.Forbidden) None) (Some fault.NotUtf8)))) ≡ true → d ≡ false
     forbidden true b c d is = absurd (cc)
     forbidden false true c d is = absurd (cc)
     forbidden false false false d is = absurd (cc)

@@ -7,7 +7,31 @@ use Rattle.std.proofs.lemmas.Bool.{and_from}
 use Rattle.pt_tree.specs.Name.{is_name}
 use Rattle.pt_tree.specs.Path.{Path, rest_below, parent, last_name, split_path}
 use Rattle.pt_tree.proofs.Paths.{split_parts}
-use Rattle.pt_tree.specs.Forest.{Forest, none, file, other, dir, Node, File, Dir, Other, find, node_at, as_dir, dir_at, is_proper, first_name, first_node, first_alone, inserted, removed, changed, picked, picked_at, named}
+use Rattle.pt_tree.specs.Forest.{
+  Forest,
+  none,
+  file,
+  other,
+  dir,
+  Node,
+  File,
+  Dir,
+  Other,
+  find,
+  node_at,
+  as_dir,
+  dir_at,
+  is_proper,
+  first_name,
+  first_node,
+  first_alone,
+  inserted,
+  removed,
+  changed,
+  picked,
+  picked_at,
+  named,
+}
 use Rattle.pt_tree.specs.Tree.{Tree, entry_of, tree_of, moved, moved_at, without, without_at, CanMove}
 use Rattle.pt_tree.proofs.Finding.{proper_file, proper_other, proper_dir}
 use Rattle.pt_tree.specs.TreeLaws.{entry_below}
@@ -62,7 +86,8 @@ picked_in (dir m e f) (k ∷ p) d n proper is =
     by (λ h. picked_in e p d n parts.3 h) (λ h. picked_in f (k ∷ p) d n parts.2 h) (bytes_eq m k) is
   where
     by : (dir_at e p ≡ Some d → picked_at e p n ≡ picked n d) → (dir_at f (k ∷ p) ≡ Some d → picked_at f (k ∷ p) n ≡ picked n d) → (t : Bool)
-        → option_and_then as_dir (option_and_then (λ node. node_at node p) (cond t (Some (Dir e)) (find f k))) ≡ Some d → cond t (picked_at e p n) (picked_at f (k ∷ p) n) ≡ picked n d
+        → option_and_then as_dir (option_and_then (λ node. node_at node p) (cond t (Some (Dir e)) (find f k))) ≡ Some d
+        → cond t (picked_at e p n) (picked_at f (k ∷ p) n) ≡ picked n d
     by inside later true h = inside h
     by inside later false h = later h
 
@@ -72,7 +97,8 @@ node-append (File b) (n ∷ p) q y is = absurd (cc)
 node-append Other (n ∷ p) q y is = absurd (cc)
 node-append (Dir f) (n ∷ p) q y is = by (λ z h. node-append z p q y h) (find f n) is
   where
-    by : ((z : Node) → node_at z p ≡ Some y → node_at z (p ++ q) ≡ node_at y q) → (o : Option Node) → option_and_then (λ node. node_at node p) o ≡ Some y → option_and_then (λ node. node_at node (p ++ q)) o ≡ node_at y q
+    by : ((z : Node) → node_at z p ≡ Some y → node_at z (p ++ q) ≡ node_at y q) → (o : Option Node) → option_and_then (λ node. node_at node p) o ≡ Some y
+        → option_and_then (λ node. node_at node (p ++ q)) o ≡ node_at y q
     by below None h = absurd (cc)
     by below (Some z) h = below z h
 
@@ -83,7 +109,8 @@ node-last f n [] d is = by (find f n) ∙ (let same : f ≡ d = cc in ap (λ (e 
     by : (o : Option Node) → option_and_then (λ node. node_at node []) o ≡ o
     by None = refl
     by (Some x) = refl
-node-last f n (m ∷ p) d is = let way = on_the_way f n (parent (m ∷ p)) d is in ap (λ o. option_and_then (λ node. node_at node (m ∷ p)) o) way.1 ∙ node-last way.0 m p d way.2
+node-last f n (m ∷ p) d is = let way = on_the_way f n (parent (m ∷ p)) d is in ap (λ o. option_and_then (λ node. node_at node (m ∷ p)) o) way.1
+    ∙ node-last way.0 m p d way.2
 
 -- something stands there
 abbrev HasNode : Forest → Path → Type 0
@@ -102,7 +129,8 @@ parent_apart [] n q h = absurd (cc)
 parent_apart (x ∷ p) n [] h = refl
 parent_apart (x ∷ p) n (m ∷ q) h = by (bytes_eq x n) (parent_apart p m q) h
   where
-    by : (t : Bool) → (rest_below p (m ∷ q) ≡ None → rest_below p (parent (m ∷ q)) ≡ None) → cond t (rest_below p (m ∷ q)) None ≡ None → cond t (rest_below p (parent (m ∷ q))) None ≡ None
+    by : (t : Bool) → (rest_below p (m ∷ q) ≡ None → rest_below p (parent (m ∷ q)) ≡ None) → cond t (rest_below p (m ∷ q)) None ≡ None
+        → cond t (rest_below p (parent (m ∷ q))) None ≡ None
     by true later h = later h
     by false later h = refl
 
@@ -154,11 +182,13 @@ module _ (f : Forest) (x : List ℕ) (from : Path) (y : List ℕ) (to : Path) (p
   absent = absent_last left y to target.0 target.1 (not_below (y ∷ to) can.apart ∙ can.target.absent)
 
   pub tree_renamed : tree_of (changed (inserted leaf) left (parent (y ∷ to))) ≡ moved (tree_of f) (x ∷ from) (y ∷ to)
-  tree_renamed = λ i q. (at q ∙ ap (λ (t : Tree). spliced (rest_below (y ∷ to) q) (entry_below held.0) (t q)) tree_left ∙ by q (rest_below (y ∷ to) q) (rest_below (x ∷ from) q)) i
+  tree_renamed = λ i q. (at q ∙ ap (λ (t : Tree). spliced (rest_below (y ∷ to) q) (entry_below held.0) (t q)) tree_left
+      ∙ by q (rest_below (y ∷ to) q) (rest_below (x ∷ from) q)) i
     where
       at : (q : Path) → tree_of (changed (inserted leaf) left (parent (y ∷ to))) q ≡ spliced (rest_below (y ∷ to) q) (entry_below held.0) (tree_of left q)
       at q = tree-changed_at (λ rest _. entry_below held.0 rest) (inserted leaf) left y to target.0 q target.1
-          (λ r. tree-inserted leaf target.0 held.0 r leaf_is.1 (ap (find target.0) leaf_is.0 ∙ absent) ∙ ap (λ (l : List ℕ). spliced (rest_below (l ∷ []) r) (entry_below held.0) (tree_of target.0 r)) leaf_is.0)
+          (λ r. tree-inserted leaf target.0 held.0 r leaf_is.1 (ap (find target.0) leaf_is.0 ∙ absent)
+          ∙ ap (λ (l : List ℕ). spliced (rest_below (l ∷ []) r) (entry_below held.0) (tree_of target.0 r)) leaf_is.0)
 
       by : (q : Path) (o w : Option Path) → spliced o (entry_below held.0) (without_at w (tree_of f q)) ≡ moved_at (tree_of f) (x ∷ from) o w q
       by q (Some rest) w = ap (option_map entry_of) (sym (node-append (Dir f) (x ∷ from) rest held.0 held.1))
@@ -168,13 +198,16 @@ module _ (f : Forest) (x : List ℕ) (from : Path) (y : List ℕ) (to : Path) (p
   pub proper_renamed : is_name (last_name (y ∷ to)) ≡ true → is_proper (changed (inserted leaf) left (parent (y ∷ to))) ≡ true
   proper_renamed name =
       let left_proper = proper_taken f (last_name (x ∷ from)) (parent (x ∷ from)) proper in
-      let picked_proper = ap is_proper (picked_in f (parent (x ∷ from)) source.0 (last_name (x ∷ from)) proper source.1) ∙ proper-picked (last_name (x ∷ from)) source.0 (proper_dir_at f (parent (x ∷ from)) source.0 proper source.1) in
+      let picked_proper = ap is_proper (picked_in f (parent (x ∷ from)) source.0 (last_name (x ∷ from)) proper source.1)
+      ∙ proper-picked (last_name (x ∷ from)) source.0 (proper_dir_at f (parent (x ∷ from)) source.0 proper source.1) in
       proper-changed (inserted leaf) left (parent (y ∷ to)) (λ d is proper_d.
       let same : target.0 ≡ d = cc (target.1) in
-      proper-inserted leaf d held.0 leaf_is.1 (proper_named (last_name (y ∷ to)) _ name picked_proper) (ap (find d) leaf_is.0 ∙ ap (λ (e : Forest). find e (last_name (y ∷ to))) (sym same) ∙ absent) proper_d) left_proper
+      proper-inserted leaf d held.0 leaf_is.1 (proper_named (last_name (y ∷ to)) _ name picked_proper) (ap (find d) leaf_is.0
+      ∙ ap (λ (e : Forest). find e (last_name (y ∷ to))) (sym same) ∙ absent) proper_d) left_proper
 
 -- the move, for paths that are split
-pub rename_at : (f : Forest) (from to from_at to_at : Path) (from_name to_name : List ℕ) → Some (from_at, from_name) ≡ split_path from → Some (to_at, to_name) ≡ split_path to
+pub rename_at : (f : Forest) (from to from_at to_at : Path) (from_name to_name : List ℕ) → Some (from_at, from_name) ≡ split_path from
+    → Some (to_at, to_name) ≡ split_path to
     → is_proper f ≡ true → CanMove (tree_of f) from to → is_name to_name ≡ true
     → (tree_of (changed (inserted (named to_name (picked_at f from_at from_name))) (changed (removed from_name) f from_at) to_at) ≡ moved (tree_of f) from to)
     × (is_proper (changed (inserted (named to_name (picked_at f from_at from_name))) (changed (removed from_name) f from_at) to_at) ≡ true)
@@ -184,6 +217,7 @@ rename_at f (x ∷ from) (y ∷ to) from_at to_at from_name to_name is_from is_t
     let a = split_parts (x ∷ from) from_at from_name is_from in
     let b = split_parts (y ∷ to) to_at to_name is_to in
     let same : changed (inserted (named to_name (picked_at f from_at from_name))) (changed (removed from_name) f from_at) to_at
-    ≡ changed (inserted (named (last_name (y ∷ to)) (picked_at f (parent (x ∷ from)) (last_name (x ∷ from))))) (changed (removed (last_name (x ∷ from))) f (parent (x ∷ from))) (parent (y ∷ to)) =
+    ≡ changed (inserted (named (last_name (y ∷ to)) (picked_at f (parent (x ∷ from)) (last_name (x ∷ from)))))
+    (changed (removed (last_name (x ∷ from))) f (parent (x ∷ from))) (parent (y ∷ to)) =
     λ i. changed (inserted (named (b.1 i) (picked_at f (a.0 i) (a.1 i)))) (changed (removed (a.1 i)) f (a.0 i)) (b.0 i) in
     (ap tree_of same ∙ tree_renamed f x from y to proper can, ap is_proper same ∙ proper_renamed f x from y to proper can (ap is_name (sym b.1) ∙ name))

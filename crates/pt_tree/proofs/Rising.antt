@@ -11,14 +11,16 @@ use Rattle.pt_tree.specs.Listing.{Item, is_before, names_rise, can_follow, listi
 use Rattle.pt_tree.specs.Forest.{Forest, none, file, other, dir, listing_of, comes_before, is_proper}
 
 -- it goes by the last entry
-pub can_follow-last : (items : List Item) (name : List ℕ) (last : Item) → slice_get items (length items - 1) ≡ Some last → can_follow items name ≡ is_before last.0 name
+pub can_follow-last : (items : List Item) (name : List ℕ) (last : Item) → slice_get items (length items - 1) ≡ Some last
+    → can_follow items name ≡ is_before last.0 name
 can_follow-last [] name last e = absurd (cc)
 can_follow-last (x ∷ []) name last e = let same : x ≡ last = cc in ap (λ (y : Item). is_before y.0 name) same
 can_follow-last (x ∷ y ∷ items) name last e =
     let at : suc (suc (length items)) - 1 ≡ suc (suc (length items) - 1) = omega arith in
     can_follow-last (y ∷ items) name last (sym (ap (λ k. slice_get (x ∷ y ∷ items) k) at) ∙ e)
 
-pub names_rise-push : (items : List Item) (name : List ℕ) (kind : Kind) → names_rise items ≡ true → can_follow items name ≡ true → names_rise (items ++ (name, kind) ∷ []) ≡ true
+pub names_rise-push : (items : List Item) (name : List ℕ) (kind : Kind) → names_rise items ≡ true → can_follow items name ≡ true
+    → names_rise (items ++ (name, kind) ∷ []) ≡ true
 names_rise-push [] name kind rise follows = refl
 names_rise-push (x ∷ []) name kind rise follows = and_from _ _ follows refl
 names_rise-push (x ∷ y ∷ items) name kind rise follows =
@@ -31,7 +33,8 @@ can_follow-rises [] x rest rise = refl
 can_follow-rises (y ∷ []) x rest rise = (and_parts (is_before y.0 x.0) (names_rise (x ∷ rest)) rise).0
 can_follow-rises (y ∷ z ∷ items) x rest rise = can_follow-rises (z ∷ items) x rest (and_parts (is_before y.0 z.0) (names_rise (z ∷ items ++ x ∷ rest)) rise).1
 
-follows_first : (name : List ℕ) (f : Forest) → comes_before name f ≡ true → (k : Kind) → names_rise (listing_of f) ≡ true → names_rise ((name, k) ∷ listing_of f) ≡ true
+follows_first : (name : List ℕ) (f : Forest) → comes_before name f ≡ true → (k : Kind) → names_rise (listing_of f) ≡ true
+    → names_rise ((name, k) ∷ listing_of f) ≡ true
 follows_first name none before k rise = refl
 follows_first name (file n b f) before k rise = and_from _ _ before rise
 follows_first name (other n f) before k rise = and_from _ _ before rise
@@ -48,7 +51,8 @@ names_rise-proper (dir n e f) proper =
     let p = and_parts _ _ (and_parts _ _ proper).1 in
     follows_first n f p.0 kind.Dir (names_rise-proper f (and_parts _ _ p.1).1)
 
-pub refused_late : (items : List Item) (name : List ℕ) (e : ListingFault) (P : Unit {0} → Type 0) → can_follow items name ≡ true → e ≡ fault.NotRising → Answers (listing_refusal items name) fault.Memory (Err e) P → ⊥
+pub refused_late : (items : List Item) (name : List ℕ) (e : ListingFault) (P : Unit {0} → Type 0) → can_follow items name ≡ true → e ≡ fault.NotRising
+    → Answers (listing_refusal items name) fault.Memory (Err e) P → ⊥
 refused_late items name e P follows is answer =
     let Q : Bool → Type 0 = λ b. Answers (cond b None (Some fault.NotRising)) fault.Memory (Err e) P in
     let memory : e ≡ fault.Memory = subst Q follows answer in

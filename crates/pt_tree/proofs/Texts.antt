@@ -7,7 +7,8 @@ use Rattle.std.proofs.lemmas.Bool.{false_from_ne_true, cases_Bool}
 use Rattle.pt_tree.specs.Name.{is_name}
 
 -- what `from_utf8` answers is the test
-pub is_ok-is_utf8 : {T E : Type 0} (r : Result T E) (bs : List ℕ) (P : T → Type 0) (Q : E → Type 0) → MatchResult r (λ s. P s × IsUtf8 bs) (λ e. (IsUtf8 bs → ⊥) × Q e) → is_ok r ≡ is_utf8 bs
+pub is_ok-is_utf8 : {T E : Type 0} (r : Result T E) (bs : List ℕ) (P : T → Type 0) (Q : E → Type 0)
+    → MatchResult r (λ s. P s × IsUtf8 bs) (λ e. (IsUtf8 bs → ⊥) × Q e) → is_ok r ≡ is_utf8 bs
 is_ok-is_utf8 (Ok s) bs P Q h = sym (is_utf8-from_IsUtf8 bs h.1)
 is_ok-is_utf8 (Err e) bs P Q h = sym (false_from_ne_true (is_utf8 bs) (λ t. h.0 (IsUtf8-from_is_utf8 bs t)))
 

@@ -13,7 +13,8 @@ unfolding CanList
 may_list told path there s is = there s.tree (ap tree_in is)
 
 -- its listing is that of the tree
-pub listed_in : (told : Option Reading) (path : Path) (items : List Item) → IsListed told path items → ForSome (tree_in told) (λ tree. listing_at tree path ≡ Some items)
+pub listed_in : (told : Option Reading) (path : Path) (items : List Item) → IsListed told path items
+    → ForSome (tree_in told) (λ tree. listing_at tree path ≡ Some items)
 unfolding IsListed
 listed_in None path items listed tree is = absurd (cc)
 listed_in (Some s) path items listed tree is = let same : s.tree ≡ tree = cc in subst (λ (t : Forest). listing_at t path ≡ Some items) same (listed s refl)

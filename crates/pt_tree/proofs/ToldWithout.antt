@@ -41,7 +41,8 @@ is_listed names (Some s) p items may listed = λ r is.
     let same : Some (listing_of held.0) ≡ Some items = ap (option_map listing_of) (sym held.1) ∙ listed s refl in
     let whole : listing_of held.0 ≡ items = cc in
     subst (λ (r : Reading). listing_at r.tree p ≡ Some (left_in names items)) (left_of names s r is)
-    (ap (option_map listing_of) left.1 ∙ ap (λ f. Some (listing_of f)) held.2 ∙ ap Some (listing-without names held.0) ∙ ap (λ xs. Some (left_in names xs)) whole)
+    (ap (option_map listing_of) left.1 ∙ ap (λ f. Some (listing_of f)) held.2 ∙ ap Some (listing-without names held.0)
+    ∙ ap (λ xs. Some (left_in names xs)) whole)
 
 -- whatever was listed
 pub lists_as : {T : Type 0} (old new : Option Failing) (p : Path) (x y : T) → ListsAs old new p (Ok x) → ListsAs old new p (Ok y)
@@ -102,12 +103,14 @@ unfolding IsRead
 is_read names None block read = λ r is. absurd (cc)
 is_read names (Some s) block read = λ r is. subst (λ (r : Reading). option_map (take 8192) r.unread ≡ Some block) (left_of names s r is) (read s refl)
 
-pub block_read : {E : Type 0} (names : List (List ℕ)) (told : Option Reading) (block : List ℕ) (result : Result (Unit {0}) E) → MatchResult result (λ _. IsRead told block) (λ _. block ≡ [])
+pub block_read : {E : Type 0} (names : List (List ℕ)) (told : Option Reading) (block : List ℕ) (result : Result (Unit {0}) E)
+    → MatchResult result (λ _. IsRead told block) (λ _. block ≡ [])
     → MatchResult result (λ _. IsRead (told_without names told) block) (λ _. block ≡ [])
 block_read names told block (Ok x) read = is_read names told block read
 block_read names told block (Err fault) none = none
 
-pub is_moved : (names : List (List ℕ)) (told : Option Reading) → told_without names (option_map after_next told) ≡ option_map after_next (told_without names told)
+pub is_moved : (names : List (List ℕ)) (told : Option Reading) → told_without names (option_map after_next told)
+    ≡ option_map after_next (told_without names told)
 is_moved names None = refl
 is_moved names (Some s) = refl
 

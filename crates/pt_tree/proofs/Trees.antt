@@ -5,7 +5,24 @@ use Rattle.std.specs.Option.{option_map, option_and_then}
 use Rattle.std.specs.Str.{bytes_eq}
 use Rattle.std.proofs.lemmas.Bool.{cond-true, cond-false}
 use Rattle.pt_tree.specs.Path.{Path, rest_below}
-use Rattle.pt_tree.specs.Forest.{Forest, Node, File, Dir, Other, find, node_at, as_dir, dir_at, is_proper, first_name, first_node, inserted, removed, rewritten, changed}
+use Rattle.pt_tree.specs.Forest.{
+  Forest,
+  Node,
+  File,
+  Dir,
+  Other,
+  find,
+  node_at,
+  as_dir,
+  dir_at,
+  is_proper,
+  first_name,
+  first_node,
+  inserted,
+  removed,
+  rewritten,
+  changed,
+}
 use Rattle.pt_tree.specs.Tree.{Entry, entry_of, tree_of, edited_by}
 use Rattle.pt_tree.specs.TreeLaws.{entry_below}
 use Rattle.pt_tree.proofs.Names.{same_name}
@@ -46,28 +63,34 @@ tree-changed g f (n ∷ path) d (m ∷ q) is =
     by way.0 way.1 (tree-changed g way.0 path d q way.2) (bytes_eq n m) refl
   where
     by : (e : Forest) → find f n ≡ Some (Dir e) → tree_of (changed g e path) q ≡ spliced (rest_below path q) (tree_of (g d)) (tree_of e q)
-        → (t : Bool) → bytes_eq n m ≡ t → tree_of (changed g f (n ∷ path)) (m ∷ q) ≡ spliced (cond t (rest_below path q) None) (tree_of (g d)) (tree_of f (m ∷ q))
+        → (t : Bool) → bytes_eq n m ≡ t → tree_of (changed g f (n ∷ path)) (m ∷ q)
+        ≡ spliced (cond t (rest_below path q) None) (tree_of (g d)) (tree_of f (m ∷ q))
     by e found below true at =
         ap (λ o. option_map entry_of (option_and_then (λ node. node_at node q) o)) (find-changed g f n path e m found ∙ cond-true _ _ _ at)
         ∙ below
-        ∙ ap (λ o. spliced (rest_below path q) (tree_of (g d)) (option_map entry_of (option_and_then (λ node. node_at node q) o))) (sym found ∙ ap (find f) (same_name n m at))
+        ∙ ap (λ o. spliced (rest_below path q) (tree_of (g d)) (option_map entry_of (option_and_then (λ node. node_at node q) o))) (sym found
+        ∙ ap (find f) (same_name n m at))
     by e found below false apart =
         ap (λ o. option_map entry_of (option_and_then (λ node. node_at node q) o)) (find-changed g f n path e m found ∙ cond-false _ _ _ apart)
 
 pub tree-inserted : (leaf d : Forest) (x : Node) (q : Path) → first_node leaf ≡ Some x → find d (first_name leaf) ≡ None
     → tree_of (inserted leaf d) q ≡ spliced (rest_below (first_name leaf ∷ []) q) (entry_below x) (tree_of d q)
 tree-inserted leaf d x [] is absent = refl
-tree-inserted leaf d x (m ∷ q) is absent = ap (λ o. option_map entry_of (option_and_then (λ node. node_at node q) o)) (find-inserted leaf d x m is absent) ∙ by (bytes_eq (first_name leaf) m)
+tree-inserted leaf d x (m ∷ q) is absent = ap (λ o. option_map entry_of (option_and_then (λ node. node_at node q) o)) (find-inserted leaf d x m is absent)
+    ∙ by (bytes_eq (first_name leaf) m)
   where
-    by : (t : Bool) → option_map entry_of (option_and_then (λ node. node_at node q) (cond t (Some x) (find d m))) ≡ spliced (cond t (Some q) None) (entry_below x) (tree_of d (m ∷ q))
+    by : (t : Bool) → option_map entry_of (option_and_then (λ node. node_at node q) (cond t (Some x) (find d m)))
+        ≡ spliced (cond t (Some q) None) (entry_below x) (tree_of d (m ∷ q))
     by true = refl
     by false = refl
 
-pub tree-removed : (n : List ℕ) (d : Forest) (q : Path) → is_proper d ≡ true → tree_of (removed n d) q ≡ spliced (rest_below (n ∷ []) q) (λ _. None) (tree_of d q)
+pub tree-removed : (n : List ℕ) (d : Forest) (q : Path) → is_proper d ≡ true
+    → tree_of (removed n d) q ≡ spliced (rest_below (n ∷ []) q) (λ _. None) (tree_of d q)
 tree-removed n d [] proper = refl
 tree-removed n d (m ∷ q) proper = ap (λ o. option_map entry_of (option_and_then (λ node. node_at node q) o)) (find-removed n d m proper) ∙ by (bytes_eq n m)
   where
-    by : (t : Bool) → option_map entry_of (option_and_then (λ node. node_at node q) (cond t None (find d m))) ≡ spliced (cond t (Some q) None) (λ _. None) (tree_of d (m ∷ q))
+    by : (t : Bool) → option_map entry_of (option_and_then (λ node. node_at node q) (cond t None (find d m)))
+        ≡ spliced (cond t (Some q) None) (λ _. None) (tree_of d (m ∷ q))
     by true = refl
     by false = refl
 
@@ -82,7 +105,8 @@ tree-rewritten g n d [] = refl
 tree-rewritten g n d (m ∷ q) = ap (λ o. option_map entry_of (option_and_then (λ node. node_at node q) o)) (find-rewritten g n d m) ∙ by (bytes_eq n m) refl
   where
     at : (q : Path) (o : Option Node) → option_map entry_of (option_and_then (λ node. node_at node q) (option_map (node_edited g) o))
-        ≡ edited_below g (option_map entry_of (option_and_then (λ node. node_at node []) o)) q (option_map entry_of (option_and_then (λ node. node_at node q) o))
+        ≡ edited_below g (option_map entry_of (option_and_then (λ node. node_at node []) o)) q
+        (option_map entry_of (option_and_then (λ node. node_at node q) o))
     at [] None = refl
     at [] (Some (File b)) = refl
     at [] (Some (Dir e)) = refl
@@ -92,7 +116,8 @@ tree-rewritten g n d (m ∷ q) = ap (λ o. option_map entry_of (option_and_then 
     at (k ∷ q) (Some (Dir e)) = refl
     at (k ∷ q) (Some Other) = refl
 
-    by : (t : Bool) → bytes_eq n m ≡ t → option_map entry_of (option_and_then (λ node. node_at node q) (cond t (option_map (node_edited g) (find d m)) (find d m)))
+    by : (t : Bool) → bytes_eq n m ≡ t → option_map entry_of (option_and_then (λ node. node_at node q)
+        (cond t (option_map (node_edited g) (find d m)) (find d m)))
         ≡ spliced (cond t (Some q) None) (λ rest. edited_below g (tree_of d (n ∷ [])) rest (tree_of d (m ∷ q))) (tree_of d (m ∷ q))
     by true same = at q (find d m) ∙ ap (λ (l : List ℕ). edited_below g (tree_of d (l ∷ [])) q (tree_of d (m ∷ q))) (sym (same_name n m same))
     by false apart = refl

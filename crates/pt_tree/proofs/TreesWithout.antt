@@ -5,7 +5,26 @@ use Rattle.std.specs.Option.{option_map, option_and_then}
 use Rattle.std.specs.Str.{bytes_eq}
 use Rattle.std.proofs.lemmas.Bool.{cases_Bool, cond-true, cond-false}
 use Rattle.pt_tree.specs.declared.kind.Kind.TheVariants as kind
-use Rattle.pt_tree.specs.Forest.{Forest, none, file, other, dir, Node, File, Dir, Other, as_dir, as_file, dir_at, file_at, find, kind_at, kind_of, listing_of, node_at}
+use Rattle.pt_tree.specs.Forest.{
+  Forest,
+  none,
+  file,
+  other,
+  dir,
+  Node,
+  File,
+  Dir,
+  Other,
+  as_dir,
+  as_file,
+  dir_at,
+  file_at,
+  find,
+  kind_at,
+  kind_of,
+  listing_of,
+  node_at,
+}
 use Rattle.pt_tree.specs.Listing.{Item, is_among, left_in}
 use Rattle.pt_tree.specs.Path.{Path}
 use Rattle.pt_tree.proofs.Names.{same_name}
@@ -104,7 +123,8 @@ file_found names f p bytes is = by (node_at (Dir (without names f)) p) refl is
     by (Some x) at is = let held = node_found names (Dir f) p x at in from x held.0 held.1 held.2 is
 
 -- nothing stands past one of the names, and all else as it is left
-node_at-without : (names : List (List ℕ)) (x : Node) (p : Path) → node_at (node_without names x) p ≡ cond (is_past names p) None (entry_without names (node_at x p))
+node_at-without : (names : List (List ℕ)) (x : Node) (p : Path) → node_at (node_without names x) p
+    ≡ cond (is_past names p) None (entry_without names (node_at x p))
 node_at-without names x [] = refl
 node_at-without names (File b) (n ∷ p) = none_left (is_past names (n ∷ p))
   where
@@ -148,18 +168,21 @@ listing-without names none = refl
 listing-without names (file k b f) = listed (is_among names k) (listing-without names f)
   where
     listed : (a : Bool) → listing_of (without names f) ≡ left_in names (listing_of f)
-        → listing_of (cond a (without names f) (file k b (without names f))) ≡ cond (not a) ((k, kind.File) ∷ left_in names (listing_of f)) (left_in names (listing_of f))
+        → listing_of (cond a (without names f) (file k b (without names f)))
+        ≡ cond (not a) ((k, kind.File) ∷ left_in names (listing_of f)) (left_in names (listing_of f))
     listed true later = later
     listed false later = ap (λ (items : List Item). (k, kind.File) ∷ items) later
 listing-without names (other k f) = listed (is_among names k) (listing-without names f)
   where
     listed : (a : Bool) → listing_of (without names f) ≡ left_in names (listing_of f)
-        → listing_of (cond a (without names f) (other k (without names f))) ≡ cond (not a) ((k, kind.Other) ∷ left_in names (listing_of f)) (left_in names (listing_of f))
+        → listing_of (cond a (without names f) (other k (without names f)))
+        ≡ cond (not a) ((k, kind.Other) ∷ left_in names (listing_of f)) (left_in names (listing_of f))
     listed true later = later
     listed false later = ap (λ (items : List Item). (k, kind.Other) ∷ items) later
 listing-without names (dir k d f) = listed (is_among names k) (listing-without names f)
   where
     listed : (a : Bool) → listing_of (without names f) ≡ left_in names (listing_of f)
-        → listing_of (cond a (without names f) (dir k (without names d) (without names f))) ≡ cond (not a) ((k, kind.Dir) ∷ left_in names (listing_of f)) (left_in names (listing_of f))
+        → listing_of (cond a (without names f) (dir k (without names d) (without names f)))
+        ≡ cond (not a) ((k, kind.Dir) ∷ left_in names (listing_of f)) (left_in names (listing_of f))
     listed true later = later
     listed false later = ap (λ (items : List Item). (k, kind.Dir) ∷ items) later

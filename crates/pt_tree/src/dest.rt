@@ -9,12 +9,13 @@ use crate::{Block, Kind, NamePath, TreeFault};
 
 /// A tree of files to write into.
 ///
-/// A destination may tell what it holds: then contracts say what its calls give and leave. No call changes whether it
-/// tells. A failed call changes nothing, but for a failed `append`. It may count how often it is asked what stands; `kind`
-/// and `peek` raise that number by one, failed or not, and no other call does.
+/// A destination may tell what it holds: then contracts say what its calls give and leave. No call
+/// changes whether it tells. A failed call changes nothing, but for a failed `append`. It may count
+/// how often it is asked what stands; `kind` and `peek` raise that number by one, failed or not,
+/// and no other call does.
 ///
-/// Each call answers `Device` only where the count of failures rose in it, or stood at its greatest value, 2^64 - 1;
-/// and `Memory` where a growth was refused.
+/// Each call answers `Device` only where the count of failures rose in it, or stood at its greatest
+/// value, 2^64 - 1; and `Memory` where a growth was refused.
 pub trait Dest {
     /// What it tells, if it does: its tree, and which file is open.
     ghost told: { Self → Option Writing };
@@ -22,7 +23,8 @@ pub trait Dest {
     /// How often it failed, up to 2^64 - 1.
     ghost failed: { Self → ℕ };
 
-    /// It was asked so many times what stands, by `kind` and `peek`. One that keeps no such number leaves it open.
+    /// It was asked so many times what stands, by `kind` and `peek`. One that keeps no such number
+    /// leaves it open.
     ghost looked: { Self → ℕ → Type 0 } = { λ _ _. ⊤ };
 
     /// What no call changes beside: it is the first device still, as its calls left it.
@@ -32,7 +34,8 @@ pub trait Dest {
     fn failures(&self) -> u64
         ensures { result ≡ failed self.now };
 
-    /// The kind of what stands at a path, links not followed; None where nothing does, also below what is no directory.
+    /// The kind of what stands at a path, links not followed; None where nothing does, also below
+    /// what is no directory.
     fn kind(&mut self, path: &NamePath) -> Result<Option<Kind>, TreeFault>
         ensures kind { IfOk result (λ kind. IsKindAt (told self.old) path.now kind) }
         ensures same { told self.new ≡ told self.old }
@@ -40,7 +43,8 @@ pub trait Dest {
         ensures looks { IsOneMoreCall (looked self.old) (looked self.new) }
         ensures keeps { keeps self.old self.new };
 
-    /// The block becomes the first bytes of the file at a path, up to 8,192. On a fault the block is empty.
+    /// The block becomes the first bytes of the file at a path, up to 8,192. On a fault the block
+    /// is empty.
     ///
     /// Where the destination tells, a file has to be there.
     fn peek(&mut self, path: &NamePath, block: &mut Block) -> Result<(), TreeFault>
@@ -52,7 +56,8 @@ pub trait Dest {
         ensures looks { IsOneMoreCall (looked self.old) (looked self.new) }
         ensures keeps { keeps self.old self.new };
 
-    /// Makes a directory. Where the destination tells, the path has to be absent and its parent a directory.
+    /// Makes a directory. Where the destination tells, the path has to be absent and its parent a
+    /// directory.
     fn mkdir(&mut self, path: &NamePath) -> Result<(), TreeFault>
         requires { MayMake (told self.old) path.now }
         ensures made { OnOk result (told self.new
@@ -62,8 +67,8 @@ pub trait Dest {
         ensures looks { AreAsManyCalls (looked self.old) (looked self.new) }
         ensures keeps { keeps self.old self.new };
 
-    /// Makes an empty file and opens it; a file that was open keeps its bytes. Where the destination tells, the path
-    /// has to be absent and its parent a directory.
+    /// Makes an empty file and opens it; a file that was open keeps its bytes. Where the
+    /// destination tells, the path has to be absent and its parent a directory.
     fn create(&mut self, path: &NamePath) -> Result<(), TreeFault>
         requires { MayMake (told self.old) path.now }
         ensures made { OnOk result (told self.new
@@ -73,7 +78,8 @@ pub trait Dest {
         ensures looks { AreAsManyCalls (looked self.old) (looked self.new) }
         ensures keeps { keeps self.old self.new };
 
-    /// Adds a piece to the open file, which stays open. A failed call leaves a part of the piece, from its start.
+    /// Adds a piece to the open file, which stays open. A failed call leaves a part of the piece,
+    /// from its start.
     ///
     /// Where the destination tells, a file has to be open.
     fn append(&mut self, piece: &[u8]) -> Result<(), TreeFault>
@@ -96,8 +102,8 @@ pub trait Dest {
 
     /// Moves what stands at `from`, with all below, to `to`; a file that is open there is closed.
     ///
-    /// Where the destination tells, something has to stand at `from`; `to` has to be absent, its parent a directory,
-    /// and not at or below `from`.
+    /// Where the destination tells, something has to stand at `from`; `to` has to be absent, its
+    /// parent a directory, and not at or below `from`.
     fn rename(&mut self, from: &NamePath, to: &NamePath) -> Result<(), TreeFault>
         requires { MayMove (told self.old) from.now to.now }
         ensures moved { OnOk result (told self.new

@@ -16,8 +16,8 @@ use crate::{Block, Ignored, Kind, Listing, ListsNamed, NamePath, Source, TreeFau
 
 /// A source as if the entries with some names weren't there, whatever they are and hold.
 ///
-/// Where the source tells, this one tells its tree without them, in every directory. Each call is one call of the source,
-/// and fails where that fails.
+/// Where the source tells, this one tells its tree without them, in every directory. Each call is
+/// one call of the source, and fails where that fails.
 #[derive(Drop)]
 pub struct Ignoring<S: Source> {
     source: S,

@@ -30,7 +30,8 @@ impl ListingFault {
     }
 }
 
-/// What a directory holds, seen as the list of its names and kinds. The names rise in the order of their bytes.
+/// What a directory holds, seen as the list of its names and kinds. The names rise in the order of
+/// their bytes.
 #[derive(Debug, Drop)]
 pub struct Listing {
     items: Vec<(Name, Kind)>,
@@ -66,8 +67,9 @@ impl Listing {
         })
     }
 
-    /// Adds an entry at the end. `NotRising` where the name doesn't come after the last one in the order of their
-    /// bytes; `Memory` where a growth was refused. After either the listing is as before.
+    /// Adds an entry at the end. `NotRising` where the name doesn't come after the last one in the
+    /// order of their bytes; `Memory` where a growth was refused. After either the listing is as
+    /// before.
     pub fn add(&mut self, name: Name, kind: Kind) -> Result<(), ListingFault>
         ensures answer { Answers (listing_refusal self.old name) ListingFault.Memory result
             (λ _. self.new ≡ self.old ++ (name, kind) ∷ []) }

@@ -7,8 +7,9 @@ use crate::TreeFault;
 
 /// What takes the lines of a run, one behind the other.
 ///
-/// A log may tell its bytes, and goes on telling. `Device` is answered only where the count of failures rose in the
-/// call, or stood at its greatest value, 2^64 - 1; and `Memory` where a growth was refused.
+/// A log may tell its bytes, and goes on telling. `Device` is answered only where the count of
+/// failures rose in the call, or stood at its greatest value, 2^64 - 1; and `Memory` where a growth
+/// was refused.
 pub trait Log {
     /// The bytes that it holds, if it tells them.
     ghost told: { Self → Option (List ℕ) };

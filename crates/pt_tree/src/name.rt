@@ -55,7 +55,8 @@ impl NameFault {
     }
 }
 
-/// The name of an entry of a directory: 1 to 255 bytes of UTF-8 without `/` and NUL, neither `.` nor `..`.
+/// The name of an entry of a directory: 1 to 255 bytes of UTF-8 without `/` and NUL, neither `.`
+/// nor `..`.
 ///
 /// A copy shares its text, or has it too where it is short.
 #[derive(Debug, Drop)]
@@ -95,8 +96,8 @@ impl Model for Name {
 impl Name {
     /// The name with these bytes.
     ///
-    /// Refused, in this order, as `Empty`, `TooLong` (over 255 bytes), `NotUtf8` and `Forbidden` (it holds `/` or
-    /// NUL, or is `.` or `..`); then as `Memory`, where the copy was refused.
+    /// Refused, in this order, as `Empty`, `TooLong` (over 255 bytes), `NotUtf8` and `Forbidden`
+    /// (it holds `/` or NUL, or is `.` or `..`); then as `Memory`, where the copy was refused.
     pub fn of(alloc: Global, bytes: &[u8]) -> Result<Name, NameFault>
         ensures { Answers (name_refusal bytes.now) NameFault.Memory result
             (λ name. name ≡ bytes.now) }
@@ -110,7 +111,8 @@ impl Name {
         }
     }
 
-    /// A name that is known beforehand, whose bytes aren't looked at again. `Memory` where a growth was refused.
+    /// A name that is known beforehand, whose bytes aren't looked at again. `Memory` where a growth
+    /// was refused.
     pub fn of_known<K: KnownName>(alloc: Global, known: K) -> Result<Name, MemoryFault>
         ensures { IfOk result (λ name. name ≡ K.known_text known) }
     {
@@ -129,7 +131,8 @@ impl Name {
         }
     }
 
-    // The equality of two names, as their `==`, which is called only where one of them is not short.
+    // The equality of two names, as their `==`, which is called only where one of them is not
+    // short.
     pub(crate) fn same(&self, other: &Name) -> bool
         ensures { result ≡ bytes_eq self.now other.now }
     {

@@ -6,7 +6,8 @@ use crate::{MemoryFault, Name};
 use std::alloc::Global;
 use std::rc::Rc;
 
-// So few names are copied: a list that is shared is reached by one jump more, each time that it is read.
+// So few names are copied: a list that is shared is reached by one jump more, each time that it is
+// read.
 const FEW: usize = 8;
 
 // A list of names. Only one of its own is ever changed.

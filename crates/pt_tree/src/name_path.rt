@@ -62,7 +62,8 @@ impl NamePath {
         })
     }
 
-    /// The path of these names, for keeping: of one name, and of more than eight, a copy takes no memory. `Memory` where a growth was refused.
+    /// The path of these names, for keeping: of one name, and of more than eight, a copy takes no
+    /// memory. `Memory` where a growth was refused.
     pub fn of_names(alloc: Global, names: &[Name]) -> Result<NamePath, MemoryFault>
         ensures { IfOk result (λ path. path ≡ names.now) }
     {
@@ -95,9 +96,11 @@ impl NamePath {
         })
     }
 
-    /// The path whose names stand in a text with `/` between, as `join` writes it; the empty text is the top.
+    /// The path whose names stand in a text with `/` between, as `join` writes it; the empty text
+    /// is the top.
     ///
-    /// A piece that is no name is refused as by `Name::of`, the first of them; `Memory` where a growth was refused.
+    /// A piece that is no name is refused as by `Name::of`, the first of them; `Memory` where a
+    /// growth was refused.
     pub fn of_text(alloc: Global, text: &[u8]) -> Result<NamePath, NameFault>
         ensures path { IfOk result (λ path. path ≡ names_in text.now) }
         ensures refused { IfErr result (λ fault. IsRefusal (names_in text.now) fault) }
@@ -123,7 +126,8 @@ impl NamePath {
         })
     }
 
-    /// A path of its own with these names behind this one's, as `with_names` of a copy. `Memory` where a growth was refused.
+    /// A path of its own with these names behind this one's, as `with_names` of a copy. `Memory`
+    /// where a growth was refused.
     pub fn concat(&self, names: &[Name]) -> Result<NamePath, MemoryFault>
         ensures { IfOk result (λ longer. longer ≡ self.now ++ names.now) }
     {
@@ -134,7 +138,8 @@ impl NamePath {
         })
     }
 
-    /// The path of the entry of this name in the directory at this one. `Memory` where a growth was refused.
+    /// The path of the entry of this name in the directory at this one. `Memory` where a growth was
+    /// refused.
     pub fn child(&self, name: &Name) -> Result<NamePath, MemoryFault>
         ensures { IfOk result (λ longer. longer ≡ self.now ++ name.now ∷ []) }
     {
@@ -273,8 +278,8 @@ impl NamePath {
         Ok(text)
     }
 
-    /// Adds the names with `/` between to a text, of whatever bytes. After `Memory`, where a growth was refused, some of them may
-    /// stand there.
+    /// Adds the names with `/` between to a text, of whatever bytes. After `Memory`, where a growth
+    /// was refused, some of them may stand there.
     pub fn join_behind(&self, text: &mut Vec<u8>) -> Result<(), MemoryFault>
         ensures names { OnOk result (text.new.items ≡ text.old.items ++ joined self.now) }
         ensures utf8 { OnOk result (IsTrue (is_utf8 (joined self.now))) }
@@ -291,8 +296,8 @@ impl NamePath {
         Ok(())
     }
 
-    // How many bytes of room `join_behind` needs at most, up to 2^64 - 1: those of the names with a `/` behind each, and 22 more; none for
-    // the top.
+    // How many bytes of room `join_behind` needs at most, up to 2^64 - 1: those of the names with a
+    // `/` behind each, and 22 more; none for the top.
     fn text_room(&self) -> usize {
         let mut room: usize = if self.is_empty() { 0 } else { ROOM };
         for name in self.names() {
@@ -325,7 +330,8 @@ impl Eq for NamePath {
     ghost laws = { lists_equiv nat_list_eq_equiv };
 }
 
-// Adds a name at the end of a text, and gives the new end. Behind it zeros are made for the others, if the next is short.
+// Adds a name at the end of a text, and gives the new end. Behind it zeros are made for the others,
+// if the next is short.
 fn put_first(name: &Name, others: &[Name], text: &mut Vec<u8>) -> Result<usize, MemoryFault>
     ensures bytes { IfOk result (λ n. take n text.new.items ≡ text.old.items ++ name.now) }
     ensures within { IfOk result (λ n. n ≤ length text.new.items) }
@@ -348,8 +354,9 @@ fn add_zeros_for(names: &[Name], text: &mut Vec<u8>)
     }
 }
 
-// Adds a slash and a name at the end of a text, and gives the new end. Zeros may stand behind it, before and afterwards, over which a short
-// name is put. Where they are too few, they are cut off, and new ones are made for the last `left` of `others`, if the next is short too.
+// Adds a slash and a name at the end of a text, and gives the new end. Zeros may stand behind it,
+// before and afterwards, over which a short name is put. Where they are too few, they are cut off,
+// and new ones are made for the last `left` of `others`, if the next is short too.
 fn put_next(
     name: &Name,
     others: &[Name],

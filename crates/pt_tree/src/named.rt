@@ -6,7 +6,8 @@ use crate::{Listing, NamePath, Source, TreeFault};
 
 /// A source that can list a directory past entries whose bytes are no name.
 pub trait ListsNamed: Source {
-    /// As `list`, but such entries are left out, and their bytes become `refused`, sorted. Each source says for itself what these are.
+    /// As `list`, but such entries are left out, and their bytes become `refused`, sorted. Each
+    /// source says for itself what these are.
     ///
     /// Where the source tells, each entry has a name, so that all are listed.
     fn list_named(

@@ -7,16 +7,19 @@ ghost use Rattle.pt_tree.specs.Agree.{AgreeIn, eight_from};
 
 use crate::MemoryFault;
 
-// How many bytes it has at most: as many as fit beside their number and a slash in a name of 24 bytes.
+// How many bytes it has at most: as many as fit beside their number and a slash in a name of 24
+// bytes.
 pub(crate) const SHORT: usize = 21;
 
 // How many bytes the array has: the slash and the text.
 pub(crate) const ROOM: usize = 22;
 
-// For at most so many short names zeros are made at once: a long name cuts off what is left of them.
+// For at most so many short names zeros are made at once: a long name cuts off what is left of
+// them.
 const AHEAD: usize = 16;
 
-// A text of at most 21 bytes. The array has a slash, then the text, then zeros: in a path most names come behind a slash.
+// A text of at most 21 bytes. The array has a slash, then the text, then zeros: in a path most
+// names come behind a slash.
 #[derive(Drop)]
 pub(crate) struct Short {
     len: u8,
@@ -69,8 +72,9 @@ impl Short {
         self.add_from(0, text)
     }
 
-    // Adds what stands from a place on, as `extend_from_slice` of it does: all up to the array's end is copied, a length that the
-    // compiler knows, and the text is cut behind the bytes. It asks for room for all that is copied.
+    // Adds what stands from a place on, as `extend_from_slice` of it does: all up to the array's
+    // end is copied, a length that the compiler knows, and the text is cut behind the bytes. It
+    // asks for room for all that is copied.
     #[inline(always)]
     fn add_from(&self, start: usize, text: &mut Vec<u8>) -> Result<(), MemoryFault>
         requires { start ≤ 1 }
@@ -83,8 +87,9 @@ impl Short {
         Ok(())
     }
 
-    // Puts a slash and the bytes over the first of some zeros, and says how many they are: the whole array is put there, which ends
-    // in zeros. None where the zeros are fewer than the array; they stay then.
+    // Puts a slash and the bytes over the first of some zeros, and says how many they are: the
+    // whole array is put there, which ends in zeros. None where the zeros are fewer than the array;
+    // they stay then.
     pub(crate) fn put_behind_slash(&self, zeros: &mut [u8]) -> Option<usize>
         ensures bytes { MatchOption result (length zeros.old < 22)
             (λ n. take n zeros.new ≡ 47 ∷ short_bytes self.now) }
@@ -96,8 +101,8 @@ impl Short {
         Some(1 + self.len as usize)
     }
 
-    // Whether it has the same bytes as another, as `==` of `bytes`: the whole arrays are compared, which have the same slash in
-    // front and zeros behind.
+    // Whether it has the same bytes as another, as `==` of `bytes`: the whole arrays are compared,
+    // which have the same slash in front and zeros behind.
     pub(crate) fn same(&self, other: &Short) -> bool
         ensures { result ≡ bytes_eq (short_bytes self.now) (short_bytes other.now) }
     {
@@ -112,8 +117,8 @@ impl Short {
     }
 }
 
-// Adds zeros to a text, over which short names can be put: for so many, for 16 at most, and no more than it has room for, so that it
-// doesn't grow.
+// Adds zeros to a text, over which short names can be put: for so many, for 16 at most, and no more
+// than it has room for, so that it doesn't grow.
 pub(crate) fn add_zeros(text: &mut Vec<u8>, names: usize)
     ensures kept { take (length text.old.items) text.new.items ≡ text.old.items }
     ensures within { length text.new.items ≤ vec_capacity text.old }
@@ -123,8 +128,9 @@ pub(crate) fn add_zeros(text: &mut Vec<u8>, names: usize)
     let _ = text.resize(text.len() + zeros, 0);
 }
 
-// The array, copied by pieces of 2, 4 and 16 bytes. A name is handed on by value, in registers, and these pieces fit where the array stands
-// in it; as a whole the compiler takes it into others, which it puts down in memory and takes up again.
+// The array, copied by pieces of 2, 4 and 16 bytes. A name is handed on by value, in registers, and
+// these pieces fit where the array stands in it; as a whole the compiler takes it into others,
+// which it puts down in memory and takes up again.
 fn by_pieces(held: &[u8; ROOM]) -> [u8; ROOM]
     ensures { result ≡ held.now }
 {
@@ -135,7 +141,8 @@ fn by_pieces(held: &[u8; ROOM]) -> [u8; ROOM]
     bytes
 }
 
-// The equality of two arrays, by three words that reach over all bytes. No word ends it, so that no branch hangs on the bytes.
+// The equality of two arrays, by three words that reach over all bytes. No word ends it, so that no
+// branch hangs on the bytes.
 fn same_arrays(a: &[u8; ROOM], b: &[u8; ROOM]) -> bool
     ensures { result ≡ bytes_eq a.now b.now }
 {

@@ -10,18 +10,20 @@ use crate::{Block, Kind, Listing, NamePath, TreeFault};
 
 /// A tree of files to read from.
 ///
-/// A source may tell what it holds: then contracts say what its calls give. It may also tell where it fails. No call changes
-/// its tree, at which paths it fails, or whether it tells. Each call but `failures` raises the number of calls by one, failed
-/// or not, told or not; a running program can't ask for that number.
+/// A source may tell what it holds: then contracts say what its calls give. It may also tell where
+/// it fails. No call changes its tree, at which paths it fails, or whether it tells. Each call but
+/// `failures` raises the number of calls by one, failed or not, told or not; a running program
+/// can't ask for that number.
 ///
-/// Each call answers `Device` only where the count of failures rose in it, or stood at its greatest value, 2^64 - 1;
-/// and `Memory` where a growth was refused.
+/// Each call answers `Device` only where the count of failures rose in it, or stood at its greatest
+/// value, 2^64 - 1; and `Memory` where a growth was refused.
 pub trait Source {
     /// What it tells, if it does: its tree, and what is left of the open file.
     ghost told: { Self → Option Reading };
 
-    /// Where it fails, if it tells that: at which paths nothing is listed, or opened and read to its end, and a look at an entry may fail,
-    /// while elsewhere no call fails; and whether reading the open file on fails so. Who tells this should tell its tree.
+    /// Where it fails, if it tells that: at which paths nothing is listed, or opened and read to
+    /// its end, and a look at an entry may fail, while elsewhere no call fails; and whether reading
+    /// the open file on fails so. Who tells this should tell its tree.
     ghost failing: { Self → Option Failing };
 
     /// How often it failed, up to 2^64 - 1.
@@ -37,7 +39,8 @@ pub trait Source {
     fn failures(&self) -> u64
         ensures { result ≡ failed self.now };
 
-    /// The names and kinds in the directory at a path, in the order of the names' bytes. Links aren't followed.
+    /// The names and kinds in the directory at a path, in the order of the names' bytes. Links
+    /// aren't followed.
     ///
     /// Where the source tells, a directory has to be there. The open file stays as it is.
     fn list(&mut self, path: &NamePath) -> Result<Listing, TreeFault>
@@ -51,7 +54,8 @@ pub trait Source {
 
     /// The kind of what stands at a path, links not followed; None where nothing does.
     ///
-    /// Where the source tells, a directory has to be above the path; the top has none above. The open file stays as it is.
+    /// Where the source tells, a directory has to be above the path; the top has none above. The
+    /// open file stays as it is.
     fn kind(&mut self, path: &NamePath) -> Result<Option<Kind>, TreeFault>
         requires { CanLook (tree_in (told self.old)) path.now }
         ensures kind { IfOk result (λ here. IsSeen (tree_in (told self.old)) path.now here) }
@@ -61,7 +65,8 @@ pub trait Source {
         ensures calls { IsOneMoreCall (called self.old) (called self.new) }
         ensures keeps { keeps self.old self.new };
 
-    /// Makes the file at a path the open one, read from its start; after a fault the open file stays as it was.
+    /// Makes the file at a path the open one, read from its start; after a fault the open file
+    /// stays as it was.
     ///
     /// Where the source tells, a file has to be there.
     fn open(&mut self, path: &NamePath) -> Result<(), TreeFault>
@@ -74,8 +79,9 @@ pub trait Source {
         ensures calls { IsOneMoreCall (called self.old) (called self.new) }
         ensures keeps { keeps self.old self.new };
 
-    /// The block becomes the next bytes of the open file: 8,192 of them unless the file ends first, none at its end,
-    /// and none again after it. On a fault the block is empty, and the file is read on from where it was.
+    /// The block becomes the next bytes of the open file: 8,192 of them unless the file ends first,
+    /// none at its end, and none again after it. On a fault the block is empty, and the file is
+    /// read on from where it was.
     ///
     /// Where the source tells, a file has to be open.
     fn next(&mut self, block: &mut Block) -> Result<(), TreeFault>

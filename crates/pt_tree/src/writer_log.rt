@@ -58,8 +58,9 @@ impl<W: Write> Log for WriterLog<W> {
     }
 }
 
-/// Writes all the bytes and flushes. An error ends it, as `WriteZero` does where the writer takes nothing of a piece that isn't
-/// empty: then a front of the bytes was written. Nothing is tried again.
+/// Writes all the bytes and flushes. An error ends it, as `WriteZero` does where the writer takes
+/// nothing of a piece that isn't empty: then a front of the bytes was written. Nothing is tried
+/// again.
 pub fn write_out<W: Write>(out: &mut W, bytes: &[u8]) -> io::Result<()>
     ensures ok { OnOk result (Appends (W.contents out.old) (W.contents out.new) bytes.now) }
     ensures part { OnErr result

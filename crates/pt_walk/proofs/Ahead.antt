@@ -5,7 +5,26 @@ use Rattle.std.specs.Option.{option_and_then, option_map}
 use Rattle.pt_tree.specs.declared.kind.Kind.TheVariants as kind
 use Rattle.pt_tree.specs.Listing.{Item}
 use Rattle.pt_tree.specs.Path.{Path}
-use Rattle.pt_tree.specs.Forest.{Forest, none, file, other, dir, Node, File, Dir, Other, as_dir, as_file, dir_at, file_at, is_proper, kind_of, listing_at, listing_of, node_at}
+use Rattle.pt_tree.specs.Forest.{
+  Forest,
+  none,
+  file,
+  other,
+  dir,
+  Node,
+  File,
+  Dir,
+  Other,
+  as_dir,
+  as_file,
+  dir_at,
+  file_at,
+  is_proper,
+  kind_of,
+  listing_at,
+  listing_of,
+  node_at,
+}
 use Rattle.pt_tree.proofs.AtPaths.{proper_dir_at}
 use Rattle.pt_walk.specs.declared.frame.Frame.{Frame}
 use Rattle.pt_walk.specs.Left.{bytes_at, entries_from, inside_at}
@@ -20,7 +39,8 @@ pub record Ahead (top : Forest) (path : Path) (place : ℕ) (item : Item) : Type
   pub rest_is : entries_from place (inside_at top path) ≡ with_entry item.0 node (entries_from (place + 1) (inside_at top path))
   pub node_is : node_at (Dir top) (path ++ item.0 ∷ []) ≡ Some node
 
-pub ahead : (top : Forest) (path : Path) (items : List Item) (place : ℕ) (item : Item) → is_proper top ≡ true → listing_at top path ≡ Some items → slice_get items place ≡ Some item → Ahead top path place item
+pub ahead : (top : Forest) (path : Path) (items : List Item) (place : ℕ) (item : Item) → is_proper top ≡ true → listing_at top path ≡ Some items
+    → slice_get items place ≡ Some item → Ahead top path place item
 ahead top path items place item proper listed e =
     let at = dir_listed top path items listed in
     let here : inside_at top path ≡ at.inside = ap (λ o. unwrap_or o none) at.dir_is in
@@ -45,14 +65,16 @@ nothing_from (other n f) (suc i) e = nothing_from f i e
 nothing_from (dir n d f) (suc i) e = nothing_from f i e
 
 -- at the end nothing is left of the directory
-pub nothing_ahead : (top : Forest) (path : Path) (items : List Item) (place : ℕ) → listing_at top path ≡ Some items → slice_get items place ≡ None → entries_from place (inside_at top path) ≡ none
+pub nothing_ahead : (top : Forest) (path : Path) (items : List Item) (place : ℕ) → listing_at top path ≡ Some items → slice_get items place ≡ None
+    → entries_from place (inside_at top path) ≡ none
 nothing_ahead top path items place listed e =
     let at = dir_listed top path items listed in
     let here : inside_at top path ≡ at.inside = ap (λ o. unwrap_or o none) at.dir_is in
     ap (entries_from place) here ∙ nothing_from at.inside place (ap (λ l. slice_get l place) at.items_are ∙ e)
 
 -- the path of a directory that is entered
-pub names_to-entry : (frame : Frame) (frames : List Frame) (item : Item) → entry_at frame ≡ Some item → names_to (frame ∷ frames) ≡ names_to frames ++ item.0 ∷ []
+pub names_to-entry : (frame : Frame) (frames : List Frame) (item : Item) → entry_at frame ≡ Some item
+    → names_to (frame ∷ frames) ≡ names_to frames ++ item.0 ∷ []
 names_to-entry frame frames item e = ap (λ o. names_to frames ++ option_to_list (option_map (λ (x : Item). x.0) o)) e
 
 -- the entry is a directory
@@ -61,7 +83,8 @@ pub record DirAhead (top : Forest) (path : Path) (place : ℕ) (name : List ℕ)
   pub dir_is : dir_at top (path ++ name ∷ []) ≡ Some (inside_at top (path ++ name ∷ []))
 
 dir_from : (top : Forest) (path : Path) (place : ℕ) (name : List ℕ) (node : Node) → kind_of node ≡ kind.Dir
-    → entries_from place (inside_at top path) ≡ with_entry name node (entries_from (place + 1) (inside_at top path)) → node_at (Dir top) (path ++ name ∷ []) ≡ Some node → DirAhead top path place name
+    → entries_from place (inside_at top path) ≡ with_entry name node (entries_from (place + 1) (inside_at top path))
+    → node_at (Dir top) (path ++ name ∷ []) ≡ Some node → DirAhead top path place name
 dir_from top path place name (File bytes) is rest at = absurd (cc)
 dir_from top path place name Other is rest at = absurd (cc)
 dir_from top path place name (Dir inside) is rest at =
@@ -72,7 +95,8 @@ dir_from top path place name (Dir inside) is rest at =
       dir_is = there ∙ ap (λ (d : Forest). Some d) (sym here);
     }
 
-pub dir_ahead : (top : Forest) (path : Path) (items : List Item) (place : ℕ) (name : List ℕ) → is_proper top ≡ true → listing_at top path ≡ Some items → slice_get items place ≡ Some (name, kind.Dir) → DirAhead top path place name
+pub dir_ahead : (top : Forest) (path : Path) (items : List Item) (place : ℕ) (name : List ℕ) → is_proper top ≡ true → listing_at top path ≡ Some items
+    → slice_get items place ≡ Some (name, kind.Dir) → DirAhead top path place name
 dir_ahead top path items place name proper listed e =
     let it = ahead top path items place (name, kind.Dir) proper listed e in
     dir_from top path place name it.node it.kind_is it.rest_is it.node_is
@@ -83,7 +107,8 @@ pub record FileAhead (top : Forest) (path : Path) (place : ℕ) (name : List ℕ
   pub file_is : file_at top (path ++ name ∷ []) ≡ Some (bytes_at top (path ++ name ∷ []))
 
 file_from : (top : Forest) (path : Path) (place : ℕ) (name : List ℕ) (node : Node) → kind_of node ≡ kind.File
-    → entries_from place (inside_at top path) ≡ with_entry name node (entries_from (place + 1) (inside_at top path)) → node_at (Dir top) (path ++ name ∷ []) ≡ Some node → FileAhead top path place name
+    → entries_from place (inside_at top path) ≡ with_entry name node (entries_from (place + 1) (inside_at top path))
+    → node_at (Dir top) (path ++ name ∷ []) ≡ Some node → FileAhead top path place name
 file_from top path place name (Dir inside) is rest at = absurd (cc)
 file_from top path place name Other is rest at = absurd (cc)
 file_from top path place name (File bytes) is rest at =
@@ -94,19 +119,22 @@ file_from top path place name (File bytes) is rest at =
       file_is = there ∙ ap (λ (b : List ℕ). Some b) (sym here);
     }
 
-pub file_ahead : (top : Forest) (path : Path) (items : List Item) (place : ℕ) (name : List ℕ) → is_proper top ≡ true → listing_at top path ≡ Some items → slice_get items place ≡ Some (name, kind.File) → FileAhead top path place name
+pub file_ahead : (top : Forest) (path : Path) (items : List Item) (place : ℕ) (name : List ℕ) → is_proper top ≡ true → listing_at top path ≡ Some items
+    → slice_get items place ≡ Some (name, kind.File) → FileAhead top path place name
 file_ahead top path items place name proper listed e =
     let it = ahead top path items place (name, kind.File) proper listed e in
     file_from top path place name it.node it.kind_is it.rest_is it.node_is
 
 other_from : (top : Forest) (path : Path) (place : ℕ) (name : List ℕ) (node : Node) → kind_of node ≡ kind.Other
-    → entries_from place (inside_at top path) ≡ with_entry name node (entries_from (place + 1) (inside_at top path)) → entries_from place (inside_at top path) ≡ other name (entries_from (place + 1) (inside_at top path))
+    → entries_from place (inside_at top path) ≡ with_entry name node (entries_from (place + 1) (inside_at top path))
+    → entries_from place (inside_at top path) ≡ other name (entries_from (place + 1) (inside_at top path))
 other_from top path place name (File bytes) is rest = absurd (cc)
 other_from top path place name (Dir inside) is rest = absurd (cc)
 other_from top path place name Other is rest = rest
 
 -- the entry is neither
-pub other_ahead : (top : Forest) (path : Path) (items : List Item) (place : ℕ) (name : List ℕ) → is_proper top ≡ true → listing_at top path ≡ Some items → slice_get items place ≡ Some (name, kind.Other)
+pub other_ahead : (top : Forest) (path : Path) (items : List Item) (place : ℕ) (name : List ℕ) → is_proper top ≡ true → listing_at top path ≡ Some items
+    → slice_get items place ≡ Some (name, kind.Other)
     → entries_from place (inside_at top path) ≡ other name (entries_from (place + 1) (inside_at top path))
 other_ahead top path items place name proper listed e =
     let it = ahead top path items place (name, kind.Other) proper listed e in

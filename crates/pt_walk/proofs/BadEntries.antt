@@ -60,7 +60,8 @@ bad_first limits depth held front others entry why good bad =
 -- what is said of the first bad entry
 abbrev Splits : Bounds → ℕ → ℕ → List Entry → Option (Entry × Cause) → List Entry → Type 0
 Splits limits depth held all found before =
-    MatchOption found (before ≡ all) (λ bad. (others : List Entry) × (all ≡ before ++ bad.0 ∷ others) × (entry_cause limits depth (held + length (files before)) bad.0 ≡ Some bad.1))
+    MatchOption found (before ≡ all) (λ bad. (others : List Entry) × (all ≡ before ++ bad.0 ∷ others)
+    × (entry_cause limits depth (held + length (files before)) bad.0 ≡ Some bad.1))
 
 splits_more : (limits : Bounds) (depth held : ℕ) (entry : Entry) (others : List Entry) (found : Option (Entry × Cause)) (before : List Entry)
     → Splits limits depth (files_with held entry) others found before → Splits limits depth held (entry ∷ others) found (entry ∷ before)
@@ -72,9 +73,13 @@ pub splits : SplitsAtTheFirstBad
 splits limits depth held [] = refl
 splits limits depth held (entry ∷ others) = by_cause (entry_cause limits depth held entry) refl (splits limits depth (files_with held entry) others)
   where
-    by_cause : (why : Option Cause) → entry_cause limits depth held entry ≡ why → Splits limits depth (files_with held entry) others (first_bad limits depth (files_with held entry) others) (before_bad limits depth (files_with held entry) others)
-        → Splits limits depth held (entry ∷ others) (bad_or why entry (first_bad limits depth (files_with held entry) others)) (cond (is_none why) (entry ∷ before_bad limits depth (files_with held entry) others) [])
-    by_cause None is h = splits_more limits depth held entry others (first_bad limits depth (files_with held entry) others) (before_bad limits depth (files_with held entry) others) h
+    by_cause : (why : Option Cause) → entry_cause limits depth held entry ≡ why
+        → Splits limits depth (files_with held entry) others (first_bad limits depth (files_with held entry) others)
+        (before_bad limits depth (files_with held entry) others)
+        → Splits limits depth held (entry ∷ others) (bad_or why entry (first_bad limits depth (files_with held entry) others))
+        (cond (is_none why) (entry ∷ before_bad limits depth (files_with held entry) others) [])
+    by_cause None is h = splits_more limits depth held entry others (first_bad limits depth (files_with held entry) others)
+        (before_bad limits depth (files_with held entry) others) h
     by_cause (Some why) is h =
         let at : held + 0 ≡ held = omega arith in
         (others, refl, ap (λ n. entry_cause limits depth n entry) at ∙ is)

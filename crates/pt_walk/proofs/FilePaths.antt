@@ -52,7 +52,8 @@ held-below path (file name bytes after) = ap (λ l. (path ++ name ∷ []) ∷ l)
 held-below path (other name after) = held-below path after
 held-below path (dir name inside after) =
     held-dir path name inside after
-    ∙ ap (λ l. l ++ held path after) (held-below (path ++ name ∷ []) inside ∙ sym (below-twice path (name ∷ []) (held [] inside)) ∙ ap (below path) (sym (held-below (name ∷ []) inside)))
+    ∙ ap (λ l. l ++ held path after) (held-below (path ++ name ∷ []) inside ∙ sym (below-twice path (name ∷ []) (held [] inside))
+    ∙ ap (below path) (sym (held-below (name ∷ []) inside)))
     ∙ ap (λ l. below path (held (name ∷ []) inside) ++ l) (held-below path after)
     ∙ sym (below-append path (held (name ∷ []) inside) (held [] after))
     ∙ ap (below path) (sym (held-dir [] name inside after))
@@ -110,7 +111,8 @@ all_parts-below n p (x ∷ xs) h =
     (ap (λ b. cond b (parts_before p x) (is_before n n)) (name_itself n) ∙ parts.0)
     (all_parts-below n p xs parts.1)
 
-in_order-dir : (n : List ℕ) (xs ys : List Path) → part_in_order xs ≡ true → part_in_order ys ≡ true → list_all (begins_after n) ys ≡ true → part_in_order (below (n ∷ []) xs ++ ys) ≡ true
+in_order-dir : (n : List ℕ) (xs ys : List Path) → part_in_order xs ≡ true → part_in_order ys ≡ true → list_all (begins_after n) ys ≡ true
+    → part_in_order (below (n ∷ []) xs ++ ys) ≡ true
 unfolding below
 in_order-dir n [] ys a b after = b
 in_order-dir n (x ∷ xs) ys a b after =
@@ -124,7 +126,8 @@ unfolding held
 in_order none proper = refl
 in_order (file name bytes after) proper =
     let parts = proper_file name bytes after proper in
-    and_from (list_all (parts_before (name ∷ [])) (held [] after)) (part_in_order (held [] after)) (all_parts-after name [] (held [] after) (held-after name after parts.2 parts.1)) (in_order after parts.2)
+    and_from (list_all (parts_before (name ∷ [])) (held [] after)) (part_in_order (held [] after))
+    (all_parts-after name [] (held [] after) (held-after name after parts.2 parts.1)) (in_order after parts.2)
 in_order (other name after) proper = in_order after (proper_other name after proper).2
 in_order (dir name inside after) proper =
     let parts = proper_dir name inside after proper in
@@ -137,7 +140,8 @@ logical-below n [] name h = refl
 logical-below n ([] ∷ xs) name h = absurd (cc)
 logical-below n ((m ∷ x) ∷ xs) name h =
     let parts = and_parts (is_logical (m ∷ x)) (list_all is_logical xs) h in
-    and_from (is_logical (n ∷ m ∷ x)) (list_all is_logical (below (n ∷ []) xs)) (and_from (is_name n) (list_all is_name (m ∷ x)) name parts.0) (logical-below n xs name parts.1)
+    and_from (is_logical (n ∷ m ∷ x)) (list_all is_logical (below (n ∷ []) xs)) (and_from (is_name n) (list_all is_name (m ∷ x)) name parts.0)
+    (logical-below n xs name parts.1)
 
 logical : (f : Forest) → is_proper f ≡ true → list_all is_logical (held [] f) ≡ true
 unfolding held
@@ -149,7 +153,8 @@ logical (other name after) proper = logical after (proper_other name after prope
 logical (dir name inside after) proper =
     let parts = proper_dir name inside after proper in
     ap (list_all is_logical) (held-dir [] name inside after ∙ ap (λ l. l ++ held [] after) (held-below (name ∷ []) inside))
-    ∙ all-append is_logical (below (name ∷ []) (held [] inside)) (held [] after) (logical-below name (held [] inside) parts.0 (logical inside parts.3)) (logical after parts.2)
+    ∙ all-append is_logical (below (name ∷ []) (held [] inside)) (held [] after) (logical-below name (held [] inside) parts.0 (logical inside parts.3))
+    (logical after parts.2)
 
 pub files_part : FilesPartInOrder
 unfolding held
@@ -173,11 +178,13 @@ gathered_proper none proper = refl
 gathered_proper (file name bytes after) proper =
     let parts = proper_file name bytes after proper in
     and_from (is_name name) (comes_before name (without_shorties after) && is_proper (without_shorties after)) parts.0
-    (and_from (comes_before name (without_shorties after)) (is_proper (without_shorties after)) (comes_before-gathered name after parts.2 parts.1) (gathered_proper after parts.2))
+    (and_from (comes_before name (without_shorties after)) (is_proper (without_shorties after)) (comes_before-gathered name after parts.2 parts.1)
+    (gathered_proper after parts.2))
 gathered_proper (other name after) proper =
     let parts = proper_other name after proper in
     and_from (is_name name) (comes_before name (without_shorties after) && is_proper (without_shorties after)) parts.0
-    (and_from (comes_before name (without_shorties after)) (is_proper (without_shorties after)) (comes_before-gathered name after parts.2 parts.1) (gathered_proper after parts.2))
+    (and_from (comes_before name (without_shorties after)) (is_proper (without_shorties after)) (comes_before-gathered name after parts.2 parts.1)
+    (gathered_proper after parts.2))
 gathered_proper (dir name inside after) proper =
     let parts = proper_dir name inside after proper in
     elim (cases_Bool (is_short name)) [
@@ -185,6 +192,7 @@ gathered_proper (dir name inside after) proper =
       | inr long ↦
           ap (λ b. is_proper (cond b (without_shorties after) (dir name inside (without_shorties after)))) long
           ∙ and_from (is_name name) (comes_before name (without_shorties after) && (is_proper inside && is_proper (without_shorties after))) parts.0
-          (and_from (comes_before name (without_shorties after)) (is_proper inside && is_proper (without_shorties after)) (comes_before-gathered name after parts.2 parts.1)
+          (and_from (comes_before name (without_shorties after)) (is_proper inside && is_proper (without_shorties after))
+          (comes_before-gathered name after parts.2 parts.1)
           (and_from (is_proper inside) (is_proper (without_shorties after)) parts.3 (gathered_proper after parts.2)))
     ]

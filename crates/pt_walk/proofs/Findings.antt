@@ -16,7 +16,8 @@ front_shorty : (j : ℕ) (x : Item) (items : List Item) → non_shorties_from j 
 front_shorty j x items e = elim (cases_Bool (is_shorty x)) [
   | inl shorty ↦ (shorty, sym (ap (λ b. cond b (non_shorties_from (j + 1) items) ((j, x.1) ∷ non_shorties_from (j + 1) items)) shorty) ∙ e)
   | inr longer ↦
-      let counted : (j, x.1) ∷ non_shorties_from (j + 1) items ≡ [] = sym (ap (λ b. cond b (non_shorties_from (j + 1) items) ((j, x.1) ∷ non_shorties_from (j + 1) items)) longer) ∙ e in
+      let counted : (j, x.1) ∷ non_shorties_from (j + 1) items ≡ [] = sym
+      (ap (λ b. cond b (non_shorties_from (j + 1) items) ((j, x.1) ∷ non_shorties_from (j + 1) items)) longer) ∙ e in
       absurd (cc)
 ]
 
@@ -36,14 +37,16 @@ record Sole (j : ℕ) (items : List Item) (i : ℕ) (k : Kind) : Type 0 where
   longer : is_shorty (name, k) ≡ false
   others : (m : ℕ) (item : Item) → slice_get items m ≡ Some item → (m ≡ place → ⊥) → is_shorty item ≡ true
 
-others_later : (x : Item) (items : List Item) (place : ℕ) → is_shorty x ≡ true → ((m : ℕ) (item : Item) → slice_get items m ≡ Some item → (m ≡ place → ⊥) → is_shorty item ≡ true)
+others_later : (x : Item) (items : List Item) (place : ℕ) → is_shorty x ≡ true
+    → ((m : ℕ) (item : Item) → slice_get items m ≡ Some item → (m ≡ place → ⊥) → is_shorty item ≡ true)
     → (m : ℕ) (item : Item) → slice_get (x ∷ items) m ≡ Some item → (m ≡ suc place → ⊥) → is_shorty item ≡ true
 others_later x items place shorty others zero item at apart =
     let same : x ≡ item = cc in
     subst (λ (y : Item). is_shorty y ≡ true) same shorty
 others_later x items place shorty others (suc m) item at apart = others m item at (λ same. apart (ap suc same))
 
-others_behind : (j : ℕ) (x : Item) (items : List Item) → non_shorties_from (j + 1) items ≡ [] → (m : ℕ) (item : Item) → slice_get (x ∷ items) m ≡ Some item → (m ≡ zero → ⊥) → is_shorty item ≡ true
+others_behind : (j : ℕ) (x : Item) (items : List Item) → non_shorties_from (j + 1) items ≡ [] → (m : ℕ) (item : Item) → slice_get (x ∷ items) m ≡ Some item
+    → (m ≡ zero → ⊥) → is_shorty item ≡ true
 others_behind j x items e zero item at apart = absurd (apart refl)
 others_behind j x items e (suc m) item at apart = all_shorties (j + 1) items e m item at
 
@@ -62,7 +65,8 @@ sole j (x ∷ items) i k e = elim (cases_Bool (is_shorty x)) [
         others = others_later x items it.place shorty it.others;
       }
   | inr longer ↦
-      let counted : (j, x.1) ∷ non_shorties_from (j + 1) items ≡ (i, k) ∷ [] = sym (ap (λ b. cond b (non_shorties_from (j + 1) items) ((j, x.1) ∷ non_shorties_from (j + 1) items)) longer) ∙ e in
+      let counted : (j, x.1) ∷ non_shorties_from (j + 1) items ≡ (i, k)
+      ∷ [] = sym (ap (λ b. cond b (non_shorties_from (j + 1) items) ((j, x.1) ∷ non_shorties_from (j + 1) items)) longer) ∙ e in
       let rest : non_shorties_from (j + 1) items ≡ [] = cc in
       let first : (j, x.1) ≡ (i, k) = cc in
       let at = ap (λ (p : ℕ × Kind). p.0) first in
@@ -89,7 +93,8 @@ candidate_alone form.Plain items (p ∷ q ∷ l) i e = absurd (cc)
 candidate_alone form.Gathering items (p ∷ q ∷ l) i e = absurd (cc)
 
 Only : List Item → ℕ → Type 0
-Only items i = (name : List ℕ) × (slice_get items i ≡ Some (name, kind.Dir)) × (is_short name ≡ false) × ((j : ℕ) (item : Item) → slice_get items j ≡ Some item → (j ≡ i → ⊥) → is_shorty item ≡ true)
+Only items i = (name : List ℕ) × (slice_get items i ≡ Some (name, kind.Dir)) × (is_short name ≡ false) × ((j : ℕ) (item : Item) → slice_get items j ≡ Some item
+    → (j ≡ i → ⊥) → is_shorty item ≡ true)
 
 only : (items : List Item) (i : ℕ) → non_shorties items ≡ (i, kind.Dir) ∷ [] → Only items i
 unfolding Only

@@ -18,12 +18,15 @@ last_index n xs f fs len e =
 -- reading it
 pub get_or-last : {X : Type 0} → (n : ℕ) (xs : List X) (f : X) (fs : List X) (d : X) → n ≡ length xs → reverse xs ≡ f ∷ fs → get_or xs (n - 1) d ≡ f
 get_or-last n xs f fs d len e =
-    ap (λ i. get_or xs i d) (last_index n xs f fs len e) ∙ ap (λ l. get_or l (length (reverse fs)) d) (from_reverse xs f fs e) ∙ get_or-append_seam (reverse fs) f [] d
+    ap (λ i. get_or xs i d) (last_index n xs f fs len e) ∙ ap (λ l. get_or l (length (reverse fs)) d) (from_reverse xs f fs e)
+    ∙ get_or-append_seam (reverse fs) f [] d
 
 -- writing it
-pub reverse-set_last : {X : Type 0} → (n : ℕ) (xs : List X) (f : X) (fs : List X) (g : X) → n ≡ length xs → reverse xs ≡ f ∷ fs → reverse (set xs (n - 1) g) ≡ g ∷ fs
+pub reverse-set_last : {X : Type 0} → (n : ℕ) (xs : List X) (f : X) (fs : List X) (g : X) → n ≡ length xs → reverse xs ≡ f ∷ fs
+    → reverse (set xs (n - 1) g) ≡ g ∷ fs
 reverse-set_last n xs f fs g len e =
-    let written = ap (λ i. set xs i g) (last_index n xs f fs len e) ∙ ap (λ l. set l (length (reverse fs)) g) (from_reverse xs f fs e) ∙ set-append_seam (reverse fs) f [] g in
+    let written = ap (λ i. set xs i g) (last_index n xs f fs len e) ∙ ap (λ l. set l (length (reverse fs)) g) (from_reverse xs f fs e)
+    ∙ set-append_seam (reverse fs) f [] g in
     ap reverse written ∙ reverse-append (reverse fs) (g ∷ []) ∙ ap (λ l. g ∷ l) (reverse-reverse fs)
 
 -- all but it
@@ -32,11 +35,13 @@ reverse-take_front n xs [] len e =
     let none : xs ≡ [] = sym (reverse-reverse xs) ∙ ap reverse e in
     ap (λ (l : List Frame). reverse (take (n - 1) l)) none ∙ ap reverse (take-nil (n - 1))
 reverse-take_front n xs (f ∷ fs) len e =
-    let front = ap (λ i. take i xs) (last_index n xs f fs len e) ∙ ap (λ l. take (length (reverse fs)) l) (from_reverse xs f fs e) ∙ take-append_seam (reverse fs) (f ∷ []) in
+    let front = ap (λ i. take i xs) (last_index n xs f fs len e) ∙ ap (λ l. take (length (reverse fs)) l) (from_reverse xs f fs e)
+    ∙ take-append_seam (reverse fs) (f ∷ []) in
     ap reverse front ∙ reverse-reverse fs
 
 -- the names at the places of all but it
-pub names_to-front : (n : ℕ) (frames trail : List Frame) → n ≡ length frames → reverse frames ≡ trail → names_to (reverse (take (n - 1) frames)) ≡ trail_path trail
+pub names_to-front : (n : ℕ) (frames trail : List Frame) → n ≡ length frames → reverse frames ≡ trail
+    → names_to (reverse (take (n - 1) frames)) ≡ trail_path trail
 names_to-front n frames trail len view = ap names_to (reverse-take_front n frames trail len view)
 
 -- the last so many are the first of the reverse
@@ -54,5 +59,7 @@ reverse-drop k xs =
     ]
 
 -- the names at the places of the innermost
-pub names_to-inner : (n k : ℕ) (frames trail : List Frame) → n ≡ length frames → reverse frames ≡ trail → names_to (reverse (drop (n - k) frames)) ≡ names_to (take k trail)
-names_to-inner n k frames trail len view = ap (λ i. names_to (reverse (drop (i - k) frames))) len ∙ ap names_to (reverse-drop k frames) ∙ ap (λ l. names_to (take k l)) view
+pub names_to-inner : (n k : ℕ) (frames trail : List Frame) → n ≡ length frames → reverse frames ≡ trail
+    → names_to (reverse (drop (n - k) frames)) ≡ names_to (take k trail)
+names_to-inner n k frames trail len view = ap (λ i. names_to (reverse (drop (i - k) frames))) len ∙ ap names_to (reverse-drop k frames)
+    ∙ ap (λ l. names_to (take k l)) view

@@ -6,7 +6,16 @@ use Rattle.pt_tree.specs.Forest.{Forest, none, dir, Node, File, Dir, Other, kind
 use Rattle.pt_walk.specs.declared.frame.Frame.{Frame}
 use Rattle.pt_walk.specs.Left.{bytes_at, entries_after, entries_from, entries_left, inside_at, is_passed, of_object}
 use Rattle.pt_walk.specs.Object.{entries_in, without_shorties}
-use Rattle.pt_walk.specs.ObjectWalk.{StartsWithTheObject, StartsWithTheGathered, ReadsTheNextFile, MeetsTheNextOther, EntersTheNextDirectory, PassesTheNextShorty, LeavesTheDirectory, EndsWithTheObject}
+use Rattle.pt_walk.specs.ObjectWalk.{
+  StartsWithTheObject,
+  StartsWithTheGathered,
+  ReadsTheNextFile,
+  MeetsTheNextOther,
+  EntersTheNextDirectory,
+  PassesTheNextShorty,
+  LeavesTheDirectory,
+  EndsWithTheObject,
+}
 use Rattle.pt_walk.specs.Trail.{entered, names_to}
 use Rattle.pt_walk.proofs.Ahead.{ahead, dir_ahead, file_ahead, other_ahead, names_to-entry, nothing_ahead}
 use Rattle.pt_walk.proofs.Standing.{with_entry}
@@ -21,7 +30,8 @@ of_object-kept false zero name node after kept = refl
 of_object-kept gathered (suc k) name node after kept = refl
 
 -- one that is passed isn't
-of_object-passed : (gathered : Bool) (k : ℕ) (name : List ℕ) (node : Node) (after : Forest) → is_passed gathered k (name, kind_of node) ≡ true → of_object gathered k (with_entry name node after) ≡ of_object gathered k after
+of_object-passed : (gathered : Bool) (k : ℕ) (name : List ℕ) (node : Node) (after : Forest) → is_passed gathered k (name, kind_of node) ≡ true
+    → of_object gathered k (with_entry name node after) ≡ of_object gathered k after
 of_object-passed true zero name (File bytes) after passed = absurd (cc)
 of_object-passed true zero name Other after passed = absurd (cc)
 of_object-passed true zero name (Dir inside) after passed = ap (λ b. cond b (without_shorties after) (dir name inside (without_shorties after))) passed
@@ -45,17 +55,21 @@ of_object-none gathered (suc k) = refl
 
 -- the next entry, what is inside it, and the others
 entry_next : (gathered : Bool) (top : Forest) (k : ℕ) (frame : Frame) (frames : List Frame) (name : List ℕ) (node : Node)
-    → entries_from frame.place (inside_at top (names_to frames)) ≡ with_entry name node (entries_from (frame.place + 1) (inside_at top (names_to frames))) → is_passed gathered k (name, kind_of node) ≡ false
+    → entries_from frame.place (inside_at top (names_to frames)) ≡ with_entry name node (entries_from (frame.place + 1) (inside_at top (names_to frames)))
+    → is_passed gathered k (name, kind_of node) ≡ false
     → entries_left gathered top (suc k) (frame ∷ frames)
-    ≡ entries_in (names_to (take k frames)) (with_entry name node (of_object gathered k (entries_from (frame.place + 1) (inside_at top (names_to frames))))) ++ entries_after gathered top k frames
+    ≡ entries_in (names_to (take k frames)) (with_entry name node (of_object gathered k (entries_from (frame.place + 1) (inside_at top (names_to frames)))))
+    ++ entries_after gathered top k frames
 entry_next gathered top k frame frames name node rest kept =
     ap (λ (f : Forest). entries_in (names_to (take k frames)) (of_object gathered k f) ++ entries_after gathered top k frames) rest
-    ∙ ap (λ (f : Forest). entries_in (names_to (take k frames)) f ++ entries_after gathered top k frames) (of_object-kept gathered k name node (entries_from (frame.place + 1) (inside_at top (names_to frames))) kept)
+    ∙ ap (λ (f : Forest). entries_in (names_to (take k frames)) f ++ entries_after gathered top k frames)
+    (of_object-kept gathered k name node (entries_from (frame.place + 1) (inside_at top (names_to frames))) kept)
 
 pub starts : StartsWithTheObject
 starts top frame frames name inside e inside_is =
     let names : names_to (frame ∷ frames) ≡ names_to frames ++ name ∷ [] = names_to-entry frame frames (name, kind.Dir) e in
-    append-nil (entries_in [] (inside_at top (names_to (frame ∷ frames)))) ∙ ap (λ q. entries_in [] (inside_at top q)) names ∙ ap (entries_in []) (sym inside_is)
+    append-nil (entries_in [] (inside_at top (names_to (frame ∷ frames)))) ∙ ap (λ q. entries_in [] (inside_at top q)) names
+    ∙ ap (entries_in []) (sym inside_is)
 
 pub starts_gathered : StartsWithTheGathered
 starts_gathered top frame frames = append-nil (entries_in [] (without_shorties (inside_at top (names_to frames))))
@@ -67,7 +81,8 @@ reads gathered top k frame frames name proper fits e =
 
 pub meets : MeetsTheNextOther
 meets gathered top k frame frames name proper fits e =
-    entry_next gathered top k frame frames name Other (other_ahead top (names_to frames) frame.listing frame.place name proper fits.0 e) (never_passed_other gathered k name)
+    entry_next gathered top k frame frames name Other (other_ahead top (names_to frames) frame.listing frame.place name proper fits.0 e)
+    (never_passed_other gathered k name)
 
 pub enters : EntersTheNextDirectory
 enters gathered top k frame frames name inside proper fits e kept inside_is =
@@ -80,7 +95,8 @@ enters gathered top k frame frames name inside proper fits e kept inside_is =
     entry_next gathered top k frame frames name (Dir inner) it.rest_is kept
     ∙ append_assoc ((own ++ name ∷ [], Dir inner) ∷ entries_in (own ++ name ∷ []) inner) after (entries_after gathered top k frames)
     ∙ ap (λ q. (own ++ name ∷ [], Dir inner) ∷ (entries_in q inner ++ entries_after gathered top (suc k) (frame ∷ frames))) (sym own_names)
-    ∙ ap (λ q. (own ++ name ∷ [], Dir inner) ∷ (entries_in (names_to (take (suc k) (frame ∷ frames))) (inside_at top q) ++ entries_after gathered top (suc k) (frame ∷ frames))) (sym names)
+    ∙ ap (λ q. (own ++ name ∷ [], Dir inner) ∷ (entries_in (names_to (take (suc k) (frame ∷ frames))) (inside_at top q)
+    ++ entries_after gathered top (suc k) (frame ∷ frames))) (sym names)
     ∙ ap (λ d. (own ++ name ∷ [], Dir d) ∷ entries_left gathered top (suc (suc k)) (entered (listing_of inside) (frame ∷ frames))) (sym inside_is)
 
 pub passes : PassesTheNextShorty

@@ -26,7 +26,8 @@ dir_listed top path items e = by_node (node_at (Dir top) path) refl e
     by_node (Some (Dir inside)) is h = record { inside = inside; dir_is = ap (option_and_then as_dir) is; node_is = is; items_are = cc }
 
 -- one name further
-pub node_below : (top : Forest) (path : Path) (name : List ℕ) (inside : Forest) → node_at (Dir top) path ≡ Some (Dir inside) → node_at (Dir top) (path ++ name ∷ []) ≡ find inside name
+pub node_below : (top : Forest) (path : Path) (name : List ℕ) (inside : Forest) → node_at (Dir top) path ≡ Some (Dir inside)
+    → node_at (Dir top) (path ++ name ∷ []) ≡ find inside name
 node_below top path name inside is = node-append (Dir top) path (name ∷ []) (Dir inside) is ∙ and_then_some (find inside name)
   where
     and_then_some : (o : Option Node) → option_and_then (λ n. node_at n []) o ≡ o

@@ -9,7 +9,8 @@ use Rattle.pt_walk.specs.Trail.{advanced, are_outer, current_entry, entry_at, ha
 use Rattle.pt_walk.proofs.LastFrame.{get_or-last, reverse-set_last}
 
 -- the frame that was changed was the innermost
-pub sought-set : (n : ℕ) (frames trail : List Frame) (place : ℕ) (frame : Frame) → n ≡ length frames → reverse frames ≡ trail → has_place place trail ≡ true → frame ≡ get_or frames (n - 1) frame
+pub sought-set : (n : ℕ) (frames trail : List Frame) (place : ℕ) (frame : Frame) → n ≡ length frames → reverse frames ≡ trail → has_place place trail ≡ true
+    → frame ≡ get_or frames (n - 1) frame
     → reverse (set frames (n - 1) (record { listing = frame.listing; place = place })) ≡ sought place trail
 sought-set n frames [] place frame len view has read = absurd (cc)
 sought-set n frames (f ∷ fs) place frame len view has read =
@@ -31,13 +32,15 @@ within_some f some = by_entry (entry_at f) refl some
     by_entry (Some x) e h = slice_get_within f.listing f.place x e
 
 -- the place of an entry is below the length
-pub place_within : (n : ℕ) (frames trail : List Frame) (frame : Frame) → n ≡ length frames → reverse frames ≡ trail → IsSome (current_entry trail) → frame ≡ get_or frames (n - 1) frame → frame.place < length frame.listing
+pub place_within : (n : ℕ) (frames trail : List Frame) (frame : Frame) → n ≡ length frames → reverse frames ≡ trail → IsSome (current_entry trail)
+    → frame ≡ get_or frames (n - 1) frame → frame.place < length frame.listing
 place_within n frames [] frame len view some read = absurd (cc)
 place_within n frames (f ∷ fs) frame len view some read =
     let same : frame ≡ f = read ∙ get_or-last n frames f fs frame len view in
     subst (λ (g : Frame). g.place < length g.listing) (sym same) (within_some f some)
 
-pub advanced-set : (n : ℕ) (frames trail : List Frame) (frame : Frame) → n ≡ length frames → reverse frames ≡ trail → IsSome (current_entry trail) → frame ≡ get_or frames (n - 1) frame
+pub advanced-set : (n : ℕ) (frames trail : List Frame) (frame : Frame) → n ≡ length frames → reverse frames ≡ trail → IsSome (current_entry trail)
+    → frame ≡ get_or frames (n - 1) frame
     → reverse (set frames (n - 1) (record { listing = frame.listing; place = frame.place + 1 })) ≡ advanced trail
 advanced-set n frames [] frame len view some read = absurd (cc)
 advanced-set n frames (f ∷ fs) frame len view some read =

@@ -1,5 +1,29 @@
 -- The sites of a tree that are listed are the directories that shorties lead to.
-use Rattle.std.proofs.Common.{◌≡◌, ◌≤◌, ◌⊎◌, inl, inr, ℕ, suc, ◌+◌, List, [], ◌∷◌, ◌++◌, length, true, false, refl, arith, ◌∙◌, ap, sym, subst, append_assoc, length-append}
+use Rattle.std.proofs.Common.{
+  ◌≡◌,
+  ◌≤◌,
+  ◌⊎◌,
+  inl,
+  inr,
+  ℕ,
+  suc,
+  ◌+◌,
+  List,
+  [],
+  ◌∷◌,
+  ◌++◌,
+  length,
+  true,
+  false,
+  refl,
+  arith,
+  ◌∙◌,
+  ap,
+  sym,
+  subst,
+  append_assoc,
+  length-append,
+}
 use Rattle.std.specs.Prelude.{Bool, ◌||◌, ◌==◌, cond, nat_lt, Option, None, Some}
 use Rattle.std.specs.Option.{option_and_then}
 use Rattle.std.specs.Str.{bytes_eq}
@@ -18,13 +42,15 @@ use Rattle.pt_walk.proofs.Findings.{last_name_says}
 use Rattle.pt_walk.proofs.Paths.{file_leads_nowhere, other_leads_nowhere}
 
 -- what is found in a directory has a later name than what comes before it
-found_later : (n : List ℕ) (f : Forest) (first : List ℕ) (node : Node) → is_proper f ≡ true → comes_before n f ≡ true → find f first ≡ Some node → is_before n first ≡ true
+found_later : (n : List ℕ) (f : Forest) (first : List ℕ) (node : Node) → is_proper f ≡ true → comes_before n f ≡ true → find f first ≡ Some node
+    → is_before n first ≡ true
 found_later n none first node proper before e = absurd (cc)
 found_later n (file m b f) first node proper before e =
     let parts = proper_file m b f proper in
     elim (cases_Bool (bytes_eq m first)) [
       | inl same ↦ subst (λ (x : List ℕ). is_before n x ≡ true) ((bytes_eq-Decides m first).0 same) before
-      | inr apart ↦ found_later n f first node parts.2 (comes_before-trans n m f before parts.1) (sym (ap (λ t. cond t (Some (File b)) (find f first)) apart) ∙ e)
+      | inr apart ↦ found_later n f first node parts.2 (comes_before-trans n m f before parts.1) (sym (ap (λ t. cond t (Some (File b)) (find f first)) apart)
+          ∙ e)
     ]
 found_later n (other m f) first node proper before e =
     let parts = proper_other m f proper in
@@ -36,18 +62,22 @@ found_later n (dir m d f) first node proper before e =
     let parts = proper_dir m d f proper in
     elim (cases_Bool (bytes_eq m first)) [
       | inl same ↦ subst (λ (x : List ℕ). is_before n x ≡ true) ((bytes_eq-Decides m first).0 same) before
-      | inr apart ↦ found_later n f first node parts.2 (comes_before-trans n m f before parts.1) (sym (ap (λ t. cond t (Some (Dir d)) (find f first)) apart) ∙ e)
+      | inr apart ↦ found_later n f first node parts.2 (comes_before-trans n m f before parts.1) (sym (ap (λ t. cond t (Some (Dir d)) (find f first)) apart)
+          ∙ e)
     ]
 
 -- what stands in the rest of a directory stands in it
-stands_later : (n : List ℕ) (node : Node) (f : Forest) (first : List ℕ) (rest : Path) (inside : Forest) → is_proper f ≡ true → comes_before n f ≡ true → node_at (Dir f) (first ∷ rest) ≡ Some (Dir inside)
+stands_later : (n : List ℕ) (node : Node) (f : Forest) (first : List ℕ) (rest : Path) (inside : Forest) → is_proper f ≡ true → comes_before n f ≡ true
+    → node_at (Dir f) (first ∷ rest) ≡ Some (Dir inside)
     → option_and_then (λ m. node_at m rest) (cond (bytes_eq n first) (Some node) (find f first)) ≡ Some (Dir inside)
 stands_later n node f first rest inside proper before h = by_found (find f first) refl h
   where
-    by_found : (o : Option Node) → find f first ≡ o → option_and_then (λ m. node_at m rest) o ≡ Some (Dir inside) → option_and_then (λ m. node_at m rest) (cond (bytes_eq n first) (Some node) (find f first)) ≡ Some (Dir inside)
+    by_found : (o : Option Node) → find f first ≡ o → option_and_then (λ m. node_at m rest) o ≡ Some (Dir inside)
+        → option_and_then (λ m. node_at m rest) (cond (bytes_eq n first) (Some node) (find f first)) ≡ Some (Dir inside)
     by_found None found e = absurd (cc)
     by_found (Some it) found e =
-        ap (λ b. option_and_then (λ m. node_at m rest) (cond b (Some node) (find f first))) (before_differs n first (found_later n f first it proper before found))
+        ap (λ b. option_and_then (λ m. node_at m rest) (cond b (Some node) (find f first)))
+        (before_differs n first (found_later n f first it proper before found))
         ∙ ap (option_and_then (λ m. node_at m rest)) found ∙ e
 
 among_parts : (x : Site) (xs ys : List Site) → IsAmongSites x (xs ++ ys) → IsAmongSites x xs ⊎ IsAmongSites x ys
@@ -100,8 +130,10 @@ record Reached (depth : ℕ) (path : Path) (f : Forest) (to : Path) (inside : Fo
   way : is_way (first ∷ rest) ≡ true
   deep : length path + suc (length rest) ≤ depth
 
-reached_after : (depth : ℕ) (path : Path) (n : List ℕ) (f whole : Forest) (node : Node) (to : Path) (inside : Forest) → is_proper f ≡ true → comes_before n f ≡ true
-    → ((first : List ℕ) (rest : Path) → node_at (Dir whole) (first ∷ rest) ≡ option_and_then (λ m. node_at m rest) (cond (bytes_eq n first) (Some node) (find f first)))
+reached_after : (depth : ℕ) (path : Path) (n : List ℕ) (f whole : Forest) (node : Node) (to : Path) (inside : Forest) → is_proper f ≡ true
+    → comes_before n f ≡ true
+    → ((first : List ℕ) (rest : Path) → node_at (Dir whole) (first ∷ rest)
+    ≡ option_and_then (λ m. node_at m rest) (cond (bytes_eq n first) (Some node) (find f first)))
     → Reached depth path f to inside → Reached depth path whole to inside
 reached_after depth path n f whole node to inside proper before opens it = record {
   first = it.first;
@@ -113,7 +145,8 @@ reached_after depth path n f whole node to inside proper before opens it = recor
   deep = it.deep;
 }
 
-reached_here : (depth : ℕ) (path : Path) (n : List ℕ) (d f : Forest) (to : Path) (inside : Forest) → is_short n ≡ true → path ++ n ∷ [] ≡ to → visit_of depth path d ≡ Listed inside → Reached depth path (dir n d f) to inside
+reached_here : (depth : ℕ) (path : Path) (n : List ℕ) (d f : Forest) (to : Path) (inside : Forest) → is_short n ≡ true → path ++ n ∷ [] ≡ to
+    → visit_of depth path d ≡ Listed inside → Reached depth path (dir n d f) to inside
 reached_here depth path n d f to inside short to_is visit =
     let tests = listed_tests (is_last (at_of path)) (nat_lt depth (length path + 1)) d (listed_inside (visit_of depth path d) inside visit) in
     let same = listed_same (is_last (at_of path)) (nat_lt depth (length path + 1)) d inside visit in
@@ -128,7 +161,8 @@ reached_here depth path n d f to inside short to_is visit =
       deep = omega (arith, within);
     }
 
-reached_below : (depth : ℕ) (path : Path) (n : List ℕ) (d f : Forest) (to : Path) (inside : Forest) → is_short n ≡ true → is_listed (visit_of depth path d) ≡ true → Reached depth (path ++ n ∷ []) d to inside → Reached depth path (dir n d f) to inside
+reached_below : (depth : ℕ) (path : Path) (n : List ℕ) (d f : Forest) (to : Path) (inside : Forest) → is_short n ≡ true
+    → is_listed (visit_of depth path d) ≡ true → Reached depth (path ++ n ∷ []) d to inside → Reached depth path (dir n d f) to inside
 reached_below depth path n d f to inside short listed it =
     let tests = listed_tests (is_last (at_of path)) (nat_lt depth (length path + 1)) d listed in
     let two = two_bytes (length n == 1) (length n == 2) (ap is_last (sym (last_name_says path n)) ∙ it.may_lead) short in
@@ -144,7 +178,8 @@ reached_below depth path n d f to inside short listed it =
       deep = omega (arith, within, long);
     }
 
-reached : (depth : ℕ) (path : Path) (f : Forest) (to : Path) (inside : Forest) → is_proper f ≡ true → IsAmongSites (to, Listed inside) (sites_in depth path f) → Reached depth path f to inside
+reached : (depth : ℕ) (path : Path) (f : Forest) (to : Path) (inside : Forest) → is_proper f ≡ true → IsAmongSites (to, Listed inside) (sites_in depth path f)
+    → Reached depth path f to inside
 reached depth path none to inside proper h = absurd h
 reached depth path (file n b f) to inside proper h =
     let parts = proper_file n b f proper in
@@ -165,7 +200,8 @@ reached depth path (dir n d f) to inside proper h =
                 let under = among_walked visit (to, Listed inside) inner below in
                 reached_below depth path n d f to inside chosen.0 under.0 (reached depth (path ++ n ∷ []) d to inside parts.3 under.1)
           ]
-      | inr after ↦ reached_after depth path n f (dir n d f) (Dir d) to inside parts.2 parts.1 (λ first rest. refl) (reached depth path f to inside parts.2 after)
+      | inr after ↦ reached_after depth path n f (dir n d f) (Dir d) to inside parts.2 parts.1 (λ first rest. refl)
+          (reached depth path f to inside parts.2 after)
     ]
 
 pub listed_reached : ListedSitesAreReached
@@ -205,16 +241,20 @@ visit_listed depth path d may_lead deep =
 -- what is listed inside a directory is listed at the end of a longer path
 Inside : ℕ → Path → Forest → Forest → Path → Type 0
 Inside depth path d inside rest =
-    (first : List ℕ) (after : Path) → rest ≡ first ∷ after → is_last (at_of path) ≡ false → is_way (first ∷ after) ≡ true → length path + suc (length after) ≤ depth → IsAmongSites (path ++ first ∷ after, Listed inside) (sites_in depth path d)
+    (first : List ℕ) (after : Path) → rest ≡ first ∷ after → is_last (at_of path) ≡ false → is_way (first ∷ after) ≡ true
+    → length path + suc (length after) ≤ depth → IsAmongSites (path ++ first ∷ after, Listed inside) (sites_in depth path d)
 
-front_listed : (depth : ℕ) (path : Path) (n : List ℕ) (d inside : Forest) (rest : Path) → Inside depth (path ++ n ∷ []) d inside rest → node_at (Dir d) rest ≡ Some (Dir inside) → is_last (at_of path) ≡ false → is_way (n ∷ rest) ≡ true
+front_listed : (depth : ℕ) (path : Path) (n : List ℕ) (d inside : Forest) (rest : Path) → Inside depth (path ++ n ∷ []) d inside rest
+    → node_at (Dir d) rest ≡ Some (Dir inside) → is_last (at_of path) ≡ false → is_way (n ∷ rest) ≡ true
     → length path + suc (length rest) ≤ depth
-    → IsAmongSites (path ++ n ∷ rest, Listed inside) (cond (is_short n) ((path ++ n ∷ [], visit_of depth path d) ∷ walked (visit_of depth path d) (sites_in depth (path ++ n ∷ []) d)) [])
+    → IsAmongSites (path ++ n ∷ rest, Listed inside) (cond (is_short n) ((path ++ n ∷ [], visit_of depth path d)
+    ∷ walked (visit_of depth path d) (sites_in depth (path ++ n ∷ []) d)) [])
 unfolding Inside
 front_listed depth path n d inside [] each there may_lead way deep =
     let same : d ≡ inside = cc in
     let visit = visit_listed depth path d may_lead deep ∙ ap (λ (x : Forest). Listed x) same in
-    among_choice (is_short n) (path ++ n ∷ [], Listed inside) (path ++ n ∷ [], visit_of depth path d) (walked (visit_of depth path d) (sites_in depth (path ++ n ∷ []) d)) way (inl (ap (λ (v : Visit). (path ++ n ∷ [], v)) visit))
+    among_choice (is_short n) (path ++ n ∷ [], Listed inside) (path ++ n ∷ [], visit_of depth path d)
+    (walked (visit_of depth path d) (sites_in depth (path ++ n ∷ []) d)) way (inl (ap (λ (v : Visit). (path ++ n ∷ [], v)) visit))
 front_listed depth path n d inside (m ∷ rest) each there may_lead way deep =
     let parts = and_parts (length n == 2) (is_way (m ∷ rest)) way in
     let long = length-append path (n ∷ []) in
@@ -224,33 +264,43 @@ front_listed depth path n d inside (m ∷ rest) each there may_lead way deep =
     let inner = sites_in depth (path ++ n ∷ []) d in
     let below = each m rest refl leads parts.1 far in
     let moved = subst (λ (p : Path). IsAmongSites (p, Listed inside) inner) (append_assoc path (n ∷ []) (m ∷ rest)) below in
-    among_choice (is_short n) (path ++ n ∷ m ∷ rest, Listed inside) (path ++ n ∷ [], visit_of depth path d) (walked (visit_of depth path d) inner) (or_right (length n == 1) (length n == 2) parts.0)
+    among_choice (is_short n) (path ++ n ∷ m ∷ rest, Listed inside) (path ++ n ∷ [], visit_of depth path d) (walked (visit_of depth path d) inner)
+    (or_right (length n == 1) (length n == 2) parts.0)
     (inr (subst (λ (v : Visit). IsAmongSites (path ++ n ∷ m ∷ rest, Listed inside) (walked v inner)) (sym (visit_listed depth path d may_lead near)) moved))
 
-listed_in : (depth : ℕ) (path : Path) (f : Forest) (first : List ℕ) (rest : Path) (inside : Forest) → node_at (Dir f) (first ∷ rest) ≡ Some (Dir inside) → is_last (at_of path) ≡ false → is_way (first ∷ rest) ≡ true
+listed_in : (depth : ℕ) (path : Path) (f : Forest) (first : List ℕ) (rest : Path) (inside : Forest) → node_at (Dir f) (first ∷ rest) ≡ Some (Dir inside)
+    → is_last (at_of path) ≡ false → is_way (first ∷ rest) ≡ true
     → length path + suc (length rest) ≤ depth → IsAmongSites (path ++ first ∷ rest, Listed inside) (sites_in depth path f)
 unfolding Inside
 listed_in depth path none first rest inside there may_lead way deep = absurd (cc)
 listed_in depth path (file n b f) first rest inside there may_lead way deep = elim (cases_Bool (bytes_eq n first)) [
-  | inl same ↦ absurd (file_leads_nowhere b rest inside (sym (ap (λ t. option_and_then (λ m. node_at m rest) (cond t (Some (File b)) (find f first))) same) ∙ there))
-  | inr apart ↦ listed_in depth path f first rest inside (sym (ap (λ t. option_and_then (λ m. node_at m rest) (cond t (Some (File b)) (find f first))) apart) ∙ there) may_lead way deep
+  | inl same ↦ absurd (file_leads_nowhere b rest inside (sym (ap (λ t. option_and_then (λ m. node_at m rest) (cond t (Some (File b)) (find f first))) same)
+      ∙ there))
+  | inr apart ↦ listed_in depth path f first rest inside (sym (ap (λ t. option_and_then (λ m. node_at m rest) (cond t (Some (File b)) (find f first))) apart)
+      ∙ there) may_lead way deep
 ]
 listed_in depth path (other n f) first rest inside there may_lead way deep = elim (cases_Bool (bytes_eq n first)) [
-  | inl same ↦ absurd (other_leads_nowhere rest inside (sym (ap (λ t. option_and_then (λ m. node_at m rest) (cond t (Some Other) (find f first))) same) ∙ there))
-  | inr apart ↦ listed_in depth path f first rest inside (sym (ap (λ t. option_and_then (λ m. node_at m rest) (cond t (Some Other) (find f first))) apart) ∙ there) may_lead way deep
+  | inl same ↦ absurd (other_leads_nowhere rest inside (sym (ap (λ t. option_and_then (λ m. node_at m rest) (cond t (Some Other) (find f first))) same)
+      ∙ there))
+  | inr apart ↦ listed_in depth path f first rest inside (sym (ap (λ t. option_and_then (λ m. node_at m rest) (cond t (Some Other) (find f first))) apart)
+      ∙ there) may_lead way deep
 ]
 listed_in depth path (dir n d f) first rest inside there may_lead way deep =
     let front = cond (is_short n) ((path ++ n ∷ [], visit_of depth path d) ∷ walked (visit_of depth path d) (sites_in depth (path ++ n ∷ []) d)) [] in
     elim (cases_Bool (bytes_eq n first)) [
       | inl same ↦
           let is : n ≡ first = (bytes_eq-Decides n first).0 same in
-          let within : node_at (Dir d) rest ≡ Some (Dir inside) = sym (ap (λ t. option_and_then (λ m. node_at m rest) (cond t (Some (Dir d)) (find f first))) same) ∙ there in
-          let each : Inside depth (path ++ n ∷ []) d inside rest = λ m after rest_is. listed_in depth (path ++ n ∷ []) d m after inside (ap (node_at (Dir d)) (sym rest_is) ∙ within) in
+          let within : node_at (Dir d) rest ≡ Some (Dir inside) = sym (ap (λ t. option_and_then (λ m. node_at m rest) (cond t (Some (Dir d)) (find f first)))
+          same) ∙ there in
+          let each : Inside depth (path ++ n ∷ []) d inside rest = λ m after rest_is. listed_in depth (path ++ n ∷ []) d m after inside
+          (ap (node_at (Dir d)) (sym rest_is) ∙ within) in
           let found = front_listed depth path n d inside rest each within may_lead (ap (λ (x : List ℕ). is_way (x ∷ rest)) is ∙ way) deep in
-          among_left (path ++ first ∷ rest, Listed inside) front (sites_in depth path f) (subst (λ (x : List ℕ). IsAmongSites (path ++ x ∷ rest, Listed inside) front) is found)
+          among_left (path ++ first ∷ rest, Listed inside) front (sites_in depth path f)
+          (subst (λ (x : List ℕ). IsAmongSites (path ++ x ∷ rest, Listed inside) front) is found)
       | inr apart ↦
           among_right (path ++ first ∷ rest, Listed inside) front (sites_in depth path f)
-          (listed_in depth path f first rest inside (sym (ap (λ t. option_and_then (λ m. node_at m rest) (cond t (Some (Dir d)) (find f first))) apart) ∙ there) may_lead way deep)
+          (listed_in depth path f first rest inside (sym (ap (λ t. option_and_then (λ m. node_at m rest) (cond t (Some (Dir d)) (find f first))) apart) ∙ there)
+          may_lead way deep)
     ]
 
 pub reached_listed : ReachedSitesAreListed

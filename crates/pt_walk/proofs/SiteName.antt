@@ -19,7 +19,8 @@ abbrev pub at_entry : Option Item → At
 at_entry None = at.Root
 at_entry (Some item) = cond (length item.0 == 1) at.Last at.Pair
 
-around : (n : ℕ) (frames : List Frame) (f g : Frame) (fs : List Frame) (d : Frame) → n ≡ length frames → reverse frames ≡ f ∷ g ∷ fs → get_or frames (n - 2) d ≡ g
+around : (n : ℕ) (frames : List Frame) (f g : Frame) (fs : List Frame) (d : Frame) → n ≡ length frames → reverse frames ≡ f ∷ g ∷ fs
+    → get_or frames (n - 2) d ≡ g
 around n frames f g fs d len view =
     let whole : frames ≡ reverse fs ++ g ∷ f ∷ [] = sym (reverse-reverse frames) ∙ ap reverse view ∙ reverse-append (f ∷ g ∷ []) fs in
     let count = len ∙ ap length whole ∙ length-append (reverse fs) (g ∷ f ∷ []) in
@@ -30,7 +31,8 @@ by_entry : (path : Path) (o : Option Item) → is_dir_entry o ≡ true → at_en
 by_entry path None is = absurd (cc)
 by_entry path (Some item) is = sym (last_name_says path item.0)
 
-pub at_around : (n : ℕ) (frames trail : List Frame) (frame : Frame) → n ≡ length frames → reverse frames ≡ trail → is_trail trail ≡ true → 2 ≤ n → frame ≡ get_or frames (n - 2) frame → at_entry (entry_at frame) ≡ at_of (trail_path trail)
+pub at_around : (n : ℕ) (frames trail : List Frame) (frame : Frame) → n ≡ length frames → reverse frames ≡ trail → is_trail trail ≡ true → 2 ≤ n
+    → frame ≡ get_or frames (n - 2) frame → at_entry (entry_at frame) ≡ at_of (trail_path trail)
 at_around n frames [] frame len view is two read =
     let none : frames ≡ [] = sym (reverse-reverse frames) ∙ ap reverse view in
     absurd (omega (arith, len, ap length none, two))

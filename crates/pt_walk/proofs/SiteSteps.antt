@@ -14,9 +14,11 @@ use Rattle.pt_walk.proofs.Ahead.{ahead, dir_ahead, names_to-entry, nothing_ahead
 use Rattle.pt_walk.proofs.Standing.{with_entry}
 
 -- the next site, what is walked below it, and the others
-shorty_next : (depth : ℕ) (top : Forest) (frame : Frame) (frames : List Frame) (name : List ℕ) (path : Path) (inside : Forest) → is_proper top ≡ true → Fits top (frame ∷ frames)
+shorty_next : (depth : ℕ) (top : Forest) (frame : Frame) (frames : List Frame) (name : List ℕ) (path : Path) (inside : Forest) → is_proper top ≡ true
+    → Fits top (frame ∷ frames)
     → entry_at frame ≡ Some (name, kind.Dir) → is_short name ≡ true → path ≡ names_to frames ++ name ∷ [] → inside ≡ inside_at top path
-    → sites_left depth top (frame ∷ frames) ≡ (path, visit_of depth (names_to frames) inside) ∷ (walked (visit_of depth (names_to frames) inside) (sites_in depth path inside) ++ sites_left depth top (advanced (frame ∷ frames)))
+    → sites_left depth top (frame ∷ frames) ≡ (path, visit_of depth (names_to frames) inside)
+    ∷ (walked (visit_of depth (names_to frames) inside) (sites_in depth path inside) ++ sites_left depth top (advanced (frame ∷ frames)))
 shorty_next depth top frame frames name path inside proper fits e short path_is inside_is =
     let it = dir_ahead top (names_to frames) frame.listing frame.place name proper fits.0 e in
     let own = names_to frames ++ name ∷ [] in
@@ -52,12 +54,14 @@ passes depth top frame frames name path inside proper fits e short path_is insid
     shorty_next depth top frame frames name path inside proper fits e short path_is inside_is
     ∙ ap (λ (l : List Site). (path, visit) ∷ (l ++ sites_left depth top (advanced (frame ∷ frames)))) (not_walked visit (sites_in depth path inside) unlisted)
 
-no_site : (depth : ℕ) (path : Path) (name : List ℕ) (node : Node) (after : Forest) → is_shorty (name, kind_of node) ≡ false → sites_in depth path (with_entry name node after) ≡ sites_in depth path after
+no_site : (depth : ℕ) (path : Path) (name : List ℕ) (node : Node) (after : Forest) → is_shorty (name, kind_of node) ≡ false
+    → sites_in depth path (with_entry name node after) ≡ sites_in depth path after
 no_site depth path name (File bytes) after apart = refl
 no_site depth path name Other after apart = refl
 no_site depth path name (Dir inside) after apart =
     ap
-    (λ b. cond b ((path ++ name ∷ [], visit_of depth path inside) ∷ walked (visit_of depth path inside) (sites_in depth (path ++ name ∷ []) inside)) [] ++ sites_in depth path after)
+    (λ b. cond b ((path ++ name ∷ [], visit_of depth path inside) ∷ walked (visit_of depth path inside) (sites_in depth (path ++ name ∷ []) inside)) []
+    ++ sites_in depth path after)
     apart
 
 pub passes_others : PassesNonShorties
@@ -65,11 +69,13 @@ passes_others depth top frame frames item proper fits e apart =
     let it = ahead top (names_to frames) frame.listing frame.place item proper fits.0 e in
     let after = entries_from (frame.place + 1) (inside_at top (names_to frames)) in
     ap (λ (f : Forest). sites_in depth (names_to frames) f ++ sites_after depth top frames) it.rest_is
-    ∙ ap (λ (l : List Site). l ++ sites_after depth top frames) (no_site depth (names_to frames) item.0 it.node after (ap (λ k. is_shorty (item.0, k)) it.kind_is ∙ apart))
+    ∙ ap (λ (l : List Site). l ++ sites_after depth top frames) (no_site depth (names_to frames) item.0 it.node after
+    (ap (λ k. is_shorty (item.0, k)) it.kind_is ∙ apart))
 
 pub leaves : LeavesTheSite
 leaves depth top frame outer frames fits e =
-    ap (λ (f : Forest). sites_in depth (names_to (outer ∷ frames)) f ++ sites_after depth top (outer ∷ frames)) (nothing_ahead top (names_to (outer ∷ frames)) frame.listing frame.place fits.0 e)
+    ap (λ (f : Forest). sites_in depth (names_to (outer ∷ frames)) f ++ sites_after depth top (outer ∷ frames))
+    (nothing_ahead top (names_to (outer ∷ frames)) frame.listing frame.place fits.0 e)
 
 pub ends : EndsWithTheTop
 ends depth top frame fits e =

@@ -13,7 +13,8 @@ use Rattle.pt_tree.proofs.Rising.{names_rise-proper}
 use Rattle.pt_walk.specs.Left.{entries_from}
 
 -- each name comes before all later ones
-before_later : (name : List ℕ) (k : Kind) (items : List Item) (i : ℕ) (item : Item) → names_rise ((name, k) ∷ items) ≡ true → slice_get items i ≡ Some item → is_before name item.0 ≡ true
+before_later : (name : List ℕ) (k : Kind) (items : List Item) (i : ℕ) (item : Item) → names_rise ((name, k) ∷ items) ≡ true → slice_get items i ≡ Some item
+    → is_before name item.0 ≡ true
 before_later name k [] i item rise e = absurd (cc)
 before_later name k (x ∷ items) zero item rise e =
     let same : x ≡ item = cc in
@@ -40,7 +41,8 @@ first_found name found node later same =
     let itself : bytes_eq name found ≡ true = ap (λ n. bytes_eq name n) (sym same) ∙ name_itself name in
     ap (λ b. cond b (Some node) later) itself
 
-later_found : (name : List ℕ) (k : Kind) (items : List Item) (i : ℕ) (item : Item) (node sought : Node) (later : Option Node) → names_rise ((name, k) ∷ items) ≡ true → slice_get items i ≡ Some item → later ≡ Some sought
+later_found : (name : List ℕ) (k : Kind) (items : List Item) (i : ℕ) (item : Item) (node sought : Node) (later : Option Node)
+    → names_rise ((name, k) ∷ items) ≡ true → slice_get items i ≡ Some item → later ≡ Some sought
     → cond (bytes_eq name item.0) (Some node) later ≡ Some sought
 later_found name k items i item node sought later rise e found =
     let apart = before_differs name item.0 (before_later name k items i item rise e) in

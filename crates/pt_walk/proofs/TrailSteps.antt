@@ -1,5 +1,29 @@
 -- A trail through a tree, step by step.
-use Rattle.std.proofs.Common.{◌≡◌, ℕ, List, [], ◌∷◌, ◌++◌, ◌+◌, ◌&&◌, length, true, refl, arith, ◌∙◌, ap, sym, subst, zero, suc, take, drop, append-nil, append_assoc, length-append}
+use Rattle.std.proofs.Common.{
+  ◌≡◌,
+  ℕ,
+  List,
+  [],
+  ◌∷◌,
+  ◌++◌,
+  ◌+◌,
+  ◌&&◌,
+  length,
+  true,
+  refl,
+  arith,
+  ◌∙◌,
+  ap,
+  sym,
+  subst,
+  zero,
+  suc,
+  take,
+  drop,
+  append-nil,
+  append_assoc,
+  length-append,
+}
 use Rattle.std.specs.Prelude.{Option, None, Some, unwrap_or, option_to_list}
 use Rattle.std.specs.Option.{option_and_then, option_map}
 use Rattle.std.proofs.lemmas.Bool.{and_from, and_parts}
@@ -10,7 +34,17 @@ use Rattle.pt_tree.proofs.AtPaths.{proper_dir_at}
 use Rattle.pt_walk.specs.Left.{inside_at, listed_from}
 use Rattle.pt_walk.specs.Trail.{are_outer, entry_at, is_dir_entry, is_frame, names_to, name_at}
 use Rattle.pt_walk.specs.declared.frame.Frame.{Frame}
-use Rattle.pt_walk.specs.TrailLaws.{FitsWhenEntered, FitsWhenMoved, DirectoryIsThere, FileIsThere, ListingIsThere, PathGrows, HoldsWhatIsListed, PathSplits, PathHasANameForEach}
+use Rattle.pt_walk.specs.TrailLaws.{
+  FitsWhenEntered,
+  FitsWhenMoved,
+  DirectoryIsThere,
+  FileIsThere,
+  ListingIsThere,
+  PathGrows,
+  HoldsWhatIsListed,
+  PathSplits,
+  PathHasANameForEach,
+}
 use Rattle.pt_walk.proofs.Ahead.{dir_ahead, file_ahead, names_to-entry}
 use Rattle.pt_walk.proofs.Paths.{dir_listed}
 
@@ -40,23 +74,27 @@ pub path_grows : PathGrows
 path_grows = names_to-entry
 
 -- one directory more lists its entries
-listed_from-push : (node : Node) (path : Path) (name : List ℕ) (inside : Forest) → node_at node (path ++ name ∷ []) ≡ Some (Dir inside) → listed_from node (path ++ name ∷ []) ≡ listed_from node path + length (listing_of inside)
+listed_from-push : (node : Node) (path : Path) (name : List ℕ) (inside : Forest) → node_at node (path ++ name ∷ []) ≡ Some (Dir inside)
+    → listed_from node (path ++ name ∷ []) ≡ listed_from node path + length (listing_of inside)
 listed_from-push (File bytes) [] name inside e = absurd (cc)
 listed_from-push (File bytes) (n ∷ path) name inside e = absurd (cc)
 listed_from-push Other [] name inside e = absurd (cc)
 listed_from-push Other (n ∷ path) name inside e = absurd (cc)
 listed_from-push (Dir d) [] name inside e = by_found (find d name) e
   where
-    by_found : (o : Option Node) → option_and_then (λ n. node_at n []) o ≡ Some (Dir inside) → length (listing_of d) + unwrap_or (option_map (λ n. listed_from n []) o) 0 ≡ length (listing_of d) + length (listing_of inside)
+    by_found : (o : Option Node) → option_and_then (λ n. node_at n []) o ≡ Some (Dir inside)
+        → length (listing_of d) + unwrap_or (option_map (λ n. listed_from n []) o) 0 ≡ length (listing_of d) + length (listing_of inside)
     by_found None h = absurd (cc)
     by_found (Some node) h =
         let is : node ≡ Dir inside = cc in
         ap (λ n. length (listing_of d) + listed_from n []) is
 listed_from-push (Dir d) (n ∷ path) name inside e = by_found (λ node. listed_from-push node path name inside) (find d n) e
   where
-    by_found : ((node : Node) → node_at node (path ++ name ∷ []) ≡ Some (Dir inside) → listed_from node (path ++ name ∷ []) ≡ listed_from node path + length (listing_of inside)) → (o : Option Node)
+    by_found : ((node : Node) → node_at node (path ++ name ∷ []) ≡ Some (Dir inside)
+        → listed_from node (path ++ name ∷ []) ≡ listed_from node path + length (listing_of inside)) → (o : Option Node)
         → option_and_then (λ m. node_at m (path ++ name ∷ [])) o ≡ Some (Dir inside)
-        → length (listing_of d) + unwrap_or (option_map (λ m. listed_from m (path ++ name ∷ [])) o) 0 ≡ length (listing_of d) + unwrap_or (option_map (λ m. listed_from m path) o) 0 + length (listing_of inside)
+        → length (listing_of d) + unwrap_or (option_map (λ m. listed_from m (path ++ name ∷ [])) o) 0
+        ≡ length (listing_of d) + unwrap_or (option_map (λ m. listed_from m path) o) 0 + length (listing_of inside)
     by_found each None h = absurd (cc)
     by_found each (Some node) h =
         let more = each node h in

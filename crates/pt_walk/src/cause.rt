@@ -25,8 +25,8 @@ pub enum Cause {
 }
 
 impl Cause {
-    /// The cause's number: 1 `Root`, 2 `Empty`, 3 `Split`, 4 `Past`, 5 `Name`, 6 `Utf8`, 7 `Other`, 8 `Limit`,
-    /// 9 `Reserved`.
+    /// The cause's number: 1 `Root`, 2 `Empty`, 3 `Split`, 4 `Past`, 5 `Name`, 6 `Utf8`, 7 `Other`,
+    /// 8 `Limit`, 9 `Reserved`.
     pub fn number(&self) -> u8
         ensures { result ≡ cause_number self.now }
     {
@@ -43,7 +43,8 @@ impl Cause {
         }
     }
 
-    /// The cause's word in the log: `root`, `empty`, `split`, `past`, `name`, `utf8`, `other`, `limit`, `reserved`.
+    /// The cause's word in the log: `root`, `empty`, `split`, `past`, `name`, `utf8`, `other`,
+    /// `limit`, `reserved`.
     pub fn word(&self) -> &'static str
         ensures { result.now ≡ cause_word self.now }
     {

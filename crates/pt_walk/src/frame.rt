@@ -11,7 +11,8 @@ pub struct Frame {
 }
 
 impl Frame {
-    /// Adds the name of the entry at the place, if one is there. `Memory` where a growth was refused.
+    /// Adds the name of the entry at the place, if one is there. `Memory` where a growth was
+    /// refused.
     pub fn add_name(&self, path: &mut NamePath) -> Result<(), MemoryFault>
         ensures { OnOk result (path.new ≡ path.old ++ name_at self.now) }
     {

@@ -1,4 +1,5 @@
-//! Laws on what a walk finds, and on what of it is still to come. Each is the contract of a function that does nothing.
+//! Laws on what a walk finds, and on what of it is still to come. Each is the contract of a
+//! function that does nothing.
 ghost use Rattle.pt_walk.specs.SitesReached.{ListedSitesAreReached, ReachedSitesAreListed};
 ghost use Rattle.pt_walk.specs.ObjectPaths.{FilesPartInOrder, GatheredIsProper};
 ghost use Rattle.pt_walk.specs.ObjectLaws.{CountsInTurn, LooksBehindGoodEntries, GoodEntriesGrow, BadEntryIsFirst, SplitsAtTheFirstBad};
@@ -14,17 +15,20 @@ pub fn pair_finds_as_last()
     ensures { PairFindsAsLast }
 {}
 
-/// A walk through the sites starts with the top directory: all other sites are still to come when its listing is entered.
+/// A walk through the sites starts with the top directory: all other sites are still to come when
+/// its listing is entered.
 pub fn starts_with_the_top()
     ensures { StartsWithTheTop }
 {}
 
-/// Where a shorty is entered that is listed, it is the next site, and the other sites are still to come from its listing on.
+/// Where a shorty is entered that is listed, it is the next site, and the other sites are still to
+/// come from its listing on.
 pub fn enters_the_next_site()
     ensures { EntersTheNextSite }
 {}
 
-/// Where a shorty isn't listed, it comes next, and the others are still to come from the next entry on.
+/// Where a shorty isn't listed, it comes next, and the others are still to come from the next entry
+/// on.
 pub fn passes_the_next_site()
     ensures { PassesTheNextSite }
 {}
@@ -49,12 +53,14 @@ pub fn starts_with_the_object()
     ensures { StartsWithTheObject }
 {}
 
-/// A walk through an object that is gathered starts in its site: all its entries but its shorties are still to come.
+/// A walk through an object that is gathered starts in its site: all its entries but its shorties
+/// are still to come.
 pub fn starts_with_the_gathered()
     ensures { StartsWithTheGathered }
 {}
 
-/// A file at the innermost place is the next entry of the object; the others are still to come from the next place on.
+/// A file at the innermost place is the next entry of the object; the others are still to come from
+/// the next place on.
 pub fn reads_the_next_file()
     ensures { ReadsTheNextFile }
 {}
@@ -64,7 +70,8 @@ pub fn meets_the_next_other()
     ensures { MeetsTheNextOther }
 {}
 
-/// A directory of the object that is entered is its next entry; the others are still to come from its listing on.
+/// A directory of the object that is entered is its next entry; the others are still to come from
+/// its listing on.
 pub fn enters_the_next_directory()
     ensures { EntersTheNextDirectory }
 {}
@@ -74,7 +81,8 @@ pub fn passes_the_next_shorty()
     ensures { PassesTheNextShorty }
 {}
 
-/// Leaving a listing of the object at its end, and moving on by one in the one around it, leaves out no entry.
+/// Leaving a listing of the object at its end, and moving on by one in the one around it, leaves
+/// out no entry.
 pub fn leaves_the_directory()
     ensures { LeavesTheDirectory }
 {}
@@ -84,12 +92,14 @@ pub fn ends_with_the_object()
     ensures { EndsWithTheObject }
 {}
 
-/// A trail through a tree is one still when the listing of the directory at its innermost place is entered.
+/// A trail through a tree is one still when the listing of the directory at its innermost place is
+/// entered.
 pub fn fits_when_entered()
     ensures { FitsWhenEntered }
 {}
 
-/// A trail through a tree is one still when its innermost place moves, and when its innermost listing is left.
+/// A trail through a tree is one still when its innermost place moves, and when its innermost
+/// listing is left.
 pub fn fits_when_moved()
     ensures { FitsWhenMoved }
 {}
@@ -114,12 +124,14 @@ pub fn path_grows()
     ensures { PathGrows }
 {}
 
-/// A trail through a tree holds as many records as the directories from the top down to the innermost have entries.
+/// A trail through a tree holds as many records as the directories from the top down to the
+/// innermost have entries.
 pub fn holds_what_is_listed()
     ensures { HoldsWhatIsListed }
 {}
 
-/// A candidate is a directory with a longer name than a shorty has, and every other entry of its site is a shorty.
+/// A candidate is a directory with a longer name than a shorty has, and every other entry of its
+/// site is a shorty.
 pub fn candidate_is_the_only_non_shorty()
     ensures { CandidateIsTheOnlyNonShorty }
 {}
@@ -134,7 +146,8 @@ pub fn last_name_says_where()
     ensures { LastNameSaysWhere }
 {}
 
-/// The files of some entries and then of others are those of the first and then of the others; so it is with the number of directories without entries.
+/// The files of some entries and then of others are those of the first and then of the others; so
+/// it is with the number of directories without entries.
 pub fn counts_in_turn()
     ensures { CountsInTurn }
 {}
@@ -154,7 +167,8 @@ pub fn bad_entry_is_first()
     ensures { BadEntryIsFirst }
 {}
 
-/// The first bad entry of an object stands behind those before it, and there is a cause for it; without one no entry is bad.
+/// The first bad entry of an object stands behind those before it, and there is a cause for it;
+/// without one no entry is bad.
 pub fn splits_at_the_first_bad()
     ensures { SplitsAtTheFirstBad }
 {}
@@ -169,7 +183,8 @@ pub fn path_has_a_name_for_each()
     ensures { PathHasANameForEach }
 {}
 
-/// The paths of an object's files are one or more names each, rise name by name, and none is another or leads to it.
+/// The paths of an object's files are one or more names each, rise name by name, and none is
+/// another or leads to it.
 pub fn files_part_in_order()
     ensures { FilesPartInOrder }
 {}
@@ -179,12 +194,14 @@ pub fn gathered_is_proper()
     ensures { GatheredIsProper }
 {}
 
-/// What stands below a directory of a tree is what stands in it, and a directory of a proper tree is proper.
+/// What stands below a directory of a tree is what stands in it, and a directory of a proper tree
+/// is proper.
 pub fn reads_below_a_directory()
     ensures { ReadsBelowADirectory }
 {}
 
-/// Each site that is listed is a directory that shorties lead to, none of them below a name of one byte, and no more of them than the limit allows.
+/// Each site that is listed is a directory that shorties lead to, none of them below a name of one
+/// byte, and no more of them than the limit allows.
 pub fn listed_sites_are_reached()
     ensures { ListedSitesAreReached }
 {}

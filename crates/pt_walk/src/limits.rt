@@ -37,9 +37,9 @@ impl LimitsFault {
     }
 }
 
-/// The limits of a run, none of them 0: at most 1,000,000 files in one object, 4,000 bytes in one logical path with
-/// its slashes, 600 names from below the top directory to a directory that is listed, 2^43 bytes in one file, and
-/// 2^40 turns of one run.
+/// The limits of a run, none of them 0: at most 1,000,000 files in one object, 4,000 bytes in one
+/// logical path with its slashes, 600 names from below the top directory to a directory that is
+/// listed, 2^43 bytes in one file, and 2^40 turns of one run.
 #[derive(Clone, Copy, Debug, PartialEq, Eq)]
 pub struct Limits {
     files: u64,
@@ -82,8 +82,8 @@ impl Model for Limits {
 }
 
 impl Limits {
-    /// The limits with these numbers, in this order. Refused as `Zero` where one of them is 0, and then as `TooLarge`
-    /// where one is above its greatest value.
+    /// The limits with these numbers, in this order. Refused as `Zero` where one of them is 0, and
+    /// then as `TooLarge` where one is above its greatest value.
     pub fn of(
         files: u64,
         path_bytes: u64,
@@ -148,7 +148,8 @@ impl Limits {
         self.path_bytes
     }
 
-    /// How many names may lead from below the top directory to a directory that is listed, 1 to 600.
+    /// How many names may lead from below the top directory to a directory that is listed, 1 to
+    /// 600.
     pub fn depth(&self) -> u64
         ensures value { result ≡ self.now.depth }
         ensures limits { IsTrue (are_limits self.now) }

@@ -6,7 +6,8 @@ ghost use Rattle.pt_walk.specs.NonShorties.{non_shorty_kind, one_more, summary};
 use crate::Cause;
 use pt_tree::{Kind, Listing, Name};
 
-/// Where a site stands: it is the top directory `pairtree_root`, or its own name has two bytes, or one.
+/// Where a site stands: it is the top directory `pairtree_root`, or its own name has two bytes, or
+/// one.
 #[derive(Clone, Copy, Debug, PartialEq, Eq)]
 pub enum At {
     /// It is `pairtree_root`.
@@ -17,7 +18,8 @@ pub enum At {
     Last,
 }
 
-/// Whether what a site holds beside its shorties makes an object where it is more than one directory.
+/// Whether what a site holds beside its shorties makes an object where it is more than one
+/// directory.
 #[derive(Clone, Copy, Debug, PartialEq, Eq)]
 pub enum Form {
     /// It makes none.
@@ -41,12 +43,13 @@ pub enum Finding {
 
 /// What a site is, by what its directory holds. It takes no memory.
 ///
-/// A shorty is a directory whose name has one or two bytes, one piece of a cleaned identifier (Pairtree 0.1,
-/// "Identifier string cleaning" and "Mapping identifiers to paths"). The top directory only leads on where it holds
-/// nothing but shorties, and else is passed over as `root`. Any other site is passed over as `empty` where it holds
-/// nothing, only leads on where it holds nothing but shorties, and where it holds one directory beside its shorties
-/// and nothing else that directory is the candidate. Otherwise it is passed over as `split` in the form `Plain`, and
-/// is an object of its own in the form `Gathering`.
+/// A shorty is a directory whose name has one or two bytes, one piece of a cleaned identifier
+/// (Pairtree 0.1, "Identifier string cleaning" and "Mapping identifiers to paths"). The top
+/// directory only leads on where it holds nothing but shorties, and else is passed over as `root`.
+/// Any other site is passed over as `empty` where it holds nothing, only leads on where it holds
+/// nothing but shorties, and where it holds one directory beside its shorties and nothing else that
+/// directory is the candidate. Otherwise it is passed over as `split` in the form `Plain`, and is
+/// an object of its own in the form `Gathering`.
 pub fn judge(listing: &Listing, at: At, form: Form) -> Finding
     ensures { result ≡ found listing.now at form }
 {
@@ -101,8 +104,8 @@ fn non_shorty(listing: &Listing, i: usize) -> Option<Kind>
     }
 }
 
-/// Whether an entry is a shorty: a directory whose name has one or two bytes, one piece of a cleaned identifier
-/// (Pairtree 0.1, "Mapping identifiers to paths").
+/// Whether an entry is a shorty: a directory whose name has one or two bytes, one piece of a
+/// cleaned identifier (Pairtree 0.1, "Mapping identifiers to paths").
 pub fn is_shorty(name: &Name, kind: Kind) -> bool
     ensures { result ≡ is_shorty_item (name.now, kind) }
 {

@@ -12,9 +12,9 @@ use pt_tree::{Kind, Listing, MemoryFault, Name, NamePath};
 use std::alloc::Global;
 use std::marker::Model;
 
-/// The listings on the way to where a walk stands, each with the place reached in it, from 0 to its length. It is seen
-/// as their list, the innermost first. The place of each but the innermost is at the directory that was entered from
-/// it.
+/// The listings on the way to where a walk stands, each with the place reached in it, from 0 to its
+/// length. It is seen as their list, the innermost first. The place of each but the innermost is at
+/// the directory that was entered from it.
 #[derive(Debug, Drop)]
 pub struct Trail {
     // The innermost is the last.
@@ -43,8 +43,8 @@ impl Trail {
         }
     }
 
-    /// Enters a listing, at its place 0. There is none yet, or the innermost place is at a directory. After `Memory`
-    /// the trail is as before.
+    /// Enters a listing, at its place 0. There is none yet, or the innermost place is at a
+    /// directory. After `Memory` the trail is as before.
     pub fn enter(&mut self, listing: Listing) -> Result<(), MemoryFault>
         requires { IsTrue (can_enter self.old) }
         ensures ok { OnOk result (self.new ≡ entered listing self.old) }
@@ -54,7 +54,8 @@ impl Trail {
         Ok(())
     }
 
-    /// Moves the innermost place: there is an innermost listing, and the place is one of it or its end.
+    /// Moves the innermost place: there is an innermost listing, and the place is one of it or its
+    /// end.
     pub fn seek(&mut self, place: usize)
         requires { IsTrue (has_place place self.old) }
         ensures { self.new ≡ sought place self.old }
@@ -74,8 +75,8 @@ impl Trail {
         frame.place += 1;
     }
 
-    /// Leaves the innermost listing, of which there is one. The place of the one around it stays at the directory that
-    /// is left.
+    /// Leaves the innermost listing, of which there is one. The place of the one around it stays at
+    /// the directory that is left.
     pub fn leave(&mut self)
         requires { 0 < length self.old }
         ensures { self.new ≡ parent self.old }
@@ -83,7 +84,8 @@ impl Trail {
         let _ = self.frames.pop();
     }
 
-    /// The entry at the innermost place; None at the end of the listing, and where there are no listings.
+    /// The entry at the innermost place; None at the end of the listing, and where there are no
+    /// listings.
     pub fn current(&self) -> Option<(&Name, Kind)>
         ensures { items_lent result ≡ current_entry self.now }
     {
@@ -107,8 +109,8 @@ impl Trail {
         self.frames.len()
     }
 
-    /// The path from the outermost listing to the innermost: the names at the places of all but the innermost.
-    /// `Memory` where a growth was refused.
+    /// The path from the outermost listing to the innermost: the names at the places of all but the
+    /// innermost. `Memory` where a growth was refused.
     pub fn path(&self) -> Result<NamePath, MemoryFault>
         ensures { IfOk result (λ path. path ≡ trail_path self.now) }
     {
@@ -126,8 +128,9 @@ impl Trail {
         with_names(above, &self.frames[..outer])
     }
 
-    /// The names at the places of so many of the innermost listings, or of all where there are fewer, the innermost last: the end of the
-    /// path to the entry at the trail's place, made without the names in front of it. `Memory` where a growth was refused.
+    /// The names at the places of so many of the innermost listings, or of all where there are
+    /// fewer, the innermost last: the end of the path to the entry at the trail's place, made
+    /// without the names in front of it. `Memory` where a growth was refused.
     pub fn inner_path(&self, listings: usize) -> Result<NamePath, MemoryFault>
         ensures { IfOk result (λ path. path ≡ names_to (take listings self.now)) }
     {
@@ -137,8 +140,9 @@ impl Trail {
         with_names(path, inner)
     }
 
-    /// Where the directory of the innermost listing stands as a site, by the last name of `path`, which isn't made: it is the
-    /// one at the place of the listing around it; `Root` where none is around. It takes no memory.
+    /// Where the directory of the innermost listing stands as a site, by the last name of `path`,
+    /// which isn't made: it is the one at the place of the listing around it; `Root` where none is
+    /// around. It takes no memory.
     pub fn site_position(&self) -> At
         ensures { result ≡ at_of (trail_path self.now) }
     {
@@ -166,7 +170,8 @@ impl Trail {
     }
 }
 
-// A path with the names at the places of these listings behind it, of which the innermost is the last.
+// A path with the names at the places of these listings behind it, of which the innermost is the
+// last.
 fn with_names(above: NamePath, frames: &[Frame]) -> Result<NamePath, MemoryFault>
     ensures { IfOk result (λ path. path ≡ above ++ names_to (reverse frames.now)) }
 {

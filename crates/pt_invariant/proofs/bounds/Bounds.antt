@@ -61,27 +61,36 @@ below_greatest {xs} it = not_above 0 xs it.index it.is
 abbrev item_here : Job → Forest → Path → Item
 item_here job source path = item_of job (prefix_of source) (path, Listed (inside_at (pairtree_of source) path))
 
-within_item : (job : Job) (source : Forest) {path : Path} (count : ℕ) {n : ℕ} → slice_get (sites_of job.limits.depth source) count ≡ Some (path, Listed (inside_at (pairtree_of source) path))
+within_item : (job : Job) (source : Forest) {path : Path} (count : ℕ) {n : ℕ}
+    → slice_get (sites_of job.limits.depth source) count ≡ Some (path, Listed (inside_at (pairtree_of source) path))
     → IsOne n (held_at_item job (pairtree_of source) (item_here job source path)) → n ≤ bound job source
 within_item job source {path} count site it =
     below_greatest
-    (one_in_all (held_at_item job (pairtree_of source)) (items job source) count (get_map (item_of job (prefix_of source)) (sites_of job.limits.depth source) count _ site) it)
+    (one_in_all (held_at_item job (pairtree_of source)) (items job source) count
+    (get_map (item_of job (prefix_of source)) (sites_of job.limits.depth source) count _ site) it)
 
 -- what is listed on the way to a site that is listed
-pub site_within : (job : Job) (source : Forest) {path : Path} (count : ℕ) → slice_get (sites_of job.limits.depth source) count ≡ Some (path, Listed (inside_at (pairtree_of source) path))
+pub site_within : (job : Job) (source : Forest) {path : Path} (count : ℕ)
+    → slice_get (sites_of job.limits.depth source) count ≡ Some (path, Listed (inside_at (pairtree_of source) path))
     → listed (pairtree_of source) path ≤ bound job source
 site_within job source {path} count site = within_item job source count site (record { index = 0; is = refl })
 
 -- and, with all records of the object, at a directory of it
-pub object_within : (job : Job) (source : Forest) {path : Path} (count : ℕ) {id : List ℕ} {object : PairtreeObject} {directory : Path} → slice_get (sites_of job.limits.depth source) count ≡ Some (path, Listed (inside_at (pairtree_of source) path))
-    → verdict_of job (prefix_of source) path (Listed (inside_at (pairtree_of source) path)) ≡ Named id object → is_too_deep job.limits object ≡ false → IsOne directory ([] ∷ dirs (scanned job.limits object))
+pub object_within : (job : Job) (source : Forest) {path : Path} (count : ℕ) {id : List ℕ} {object : PairtreeObject} {directory : Path}
+    → slice_get (sites_of job.limits.depth source) count ≡ Some (path, Listed (inside_at (pairtree_of source) path))
+    → verdict_of job (prefix_of source) path (Listed (inside_at (pairtree_of source) path)) ≡ Named id object → is_too_deep job.limits object ≡ false
+    → IsOne directory ([] ∷ dirs (scanned job.limits object))
     → listed (pairtree_of source) (object.at ++ directory) + records_of job (files (scanned job.limits object)) ≤ bound job source
 object_within job source {path} count {object} {directory} site named shallow one =
     within_item job source count site
     (one_behind (listed top path ∷ [])
     (rw named
     (rw shallow
-    (record { index = one.index; is = get_map (λ (p : Path). listed top (object.at ++ p) + records_of job (files (scanned job.limits object))) ([] ∷ dirs (scanned job.limits object)) one.index directory one.is }))))
+    (record {
+      index = one.index;
+      is = get_map (λ (p : Path). listed top (object.at ++ p) + records_of job (files (scanned job.limits object)))
+          ([] ∷ dirs (scanned job.limits object)) one.index directory one.is;
+    }))))
   where
     top : Forest
     top = pairtree_of source
@@ -96,35 +105,44 @@ pub fewer_records : (job : Job) (some others : List File) → records_of job som
 fewer_records job some others =
     let algorithm = job.algorithm in
     let rows : rows_of algorithm (some ++ others) ≡ rows_of algorithm some ++ rows_of algorithm others = map-append (row_of_file algorithm) some others in
-    let more : length (distinct (rows_of algorithm (some ++ others))) ≡ length (distinct (rows_of algorithm some)) + length (distinct_after (rows_of algorithm some) (rows_of algorithm others)) =
-    ap (λ l. length (distinct l)) rows ∙ ap length (distinct_in_turn [] (rows_of algorithm some) (rows_of algorithm others)) ∙ length-append (distinct (rows_of algorithm some)) (distinct_after (rows_of algorithm some) (rows_of algorithm others)) in
+    let more : length (distinct (rows_of algorithm (some ++ others))) ≡ length (distinct (rows_of algorithm some))
+    + length (distinct_after (rows_of algorithm some) (rows_of algorithm others)) =
+    ap (λ l. length (distinct l)) rows ∙ ap length (distinct_in_turn [] (rows_of algorithm some) (rows_of algorithm others))
+    ∙ length-append (distinct (rows_of algorithm some)) (distinct_after (rows_of algorithm some) (rows_of algorithm others)) in
     let long = length-append some others in
     omega (arith, more, long)
 
 -- entries without a cause are scanned
-pub scanned_front : (job : Job) (object : PairtreeObject) (front left : List Entry) → entries object.inside ≡ front ++ left → first_bad job.limits (length object.at) 0 front ≡ None
+pub scanned_front : (job : Job) (object : PairtreeObject) (front left : List Entry) → entries object.inside ≡ front ++ left
+    → first_bad job.limits (length object.at) 0 front ≡ None
     → scanned job.limits object ≡ front ++ before_bad job.limits (length object.at) (0 + length (files front)) left
-scanned_front job object front left all good = ap (before_bad job.limits (length object.at) 0) all ∙ (looks_behind job.limits (length object.at) 0 front left good).1
+scanned_front job object front left all good = ap (before_bad job.limits (length object.at) 0) all
+    ∙ (looks_behind job.limits (length object.at) 0 front left good).1
 
-pub front_records : (job : Job) (object : PairtreeObject) (front left : List Entry) → entries object.inside ≡ front ++ left → first_bad job.limits (length object.at) 0 front ≡ None
+pub front_records : (job : Job) (object : PairtreeObject) (front left : List Entry) → entries object.inside ≡ front ++ left
+    → first_bad job.limits (length object.at) 0 front ≡ None
     → records_of job (files front) ≤ records_of job (files (scanned job.limits object))
 front_records job object front left all good =
     let more = before_bad job.limits (length object.at) (0 + length (files front)) left in
-    let same : files (scanned job.limits object) ≡ files front ++ files more = ap files (scanned_front job object front left all good) ∙ (counts front more).0 in
+    let same : files (scanned job.limits object) ≡ files front ++ files more = ap files (scanned_front job object front left all good)
+    ∙ (counts front more).0 in
     let fewer = fewer_records job (files front) (files more) in
     rw same fewer
 
 dirs_in_turn : (first later : List Entry) → dirs (first ++ later) ≡ dirs first ++ dirs later
 dirs_in_turn [] _ = refl
-dirs_in_turn (entry ∷ first) later = ap (λ (l : List Path). path_of_dir entry.0 entry.1 ++ l) (dirs_in_turn first later) ∙ sym (append_assoc (path_of_dir entry.0 entry.1) (dirs first) (dirs later))
+dirs_in_turn (entry ∷ first) later = ap (λ (l : List Path). path_of_dir entry.0 entry.1 ++ l) (dirs_in_turn first later)
+    ∙ sym (append_assoc (path_of_dir entry.0 entry.1) (dirs first) (dirs later))
 
 -- a directory that was scanned is one of those
-pub one_directory : (job : Job) (object : PairtreeObject) (front left : List Entry) {path : Path} (inside : Forest) → entries object.inside ≡ (front ++ (path, Dir inside) ∷ []) ++ left → first_bad job.limits (length object.at) 0 (front ++ (path, Dir inside) ∷ []) ≡ None
+pub one_directory : (job : Job) (object : PairtreeObject) (front left : List Entry) {path : Path} (inside : Forest)
+    → entries object.inside ≡ (front ++ (path, Dir inside) ∷ []) ++ left → first_bad job.limits (length object.at) 0 (front ++ (path, Dir inside) ∷ []) ≡ None
     → IsOne path ([] ∷ dirs (scanned job.limits object))
 one_directory job object front left {path} inside all good =
     let more = before_bad job.limits (length object.at) (0 + length (files (front ++ (path, Dir inside) ∷ []))) left in
     let same : dirs (scanned job.limits object) ≡ (dirs front ++ path ∷ []) ++ dirs more =
-    ap dirs (scanned_front job object (front ++ (path, Dir inside) ∷ []) left all good) ∙ dirs_in_turn (front ++ (path, Dir inside) ∷ []) more ∙ ap (λ (l : List Path). l ++ dirs more) (dirs_in_turn front ((path, Dir inside) ∷ [])) in
+    ap dirs (scanned_front job object (front ++ (path, Dir inside) ∷ []) left all good) ∙ dirs_in_turn (front ++ (path, Dir inside) ∷ []) more
+    ∙ ap (λ (l : List Path). l ++ dirs more) (dirs_in_turn front ((path, Dir inside) ∷ [])) in
     rw same
     (one_behind ([] ∷ [])
     (one_in_front (dirs more) (one_behind (dirs front) (record { index = 0; is = refl }))))

@@ -52,7 +52,8 @@ no_fewer contents digest path = by (is_noted contents digest)
     by false = let more = length-append contents (content_of digest path ∷ []) in omega (arith, more)
 
 -- the row of a file that was read to its end
-few_with_file : {job : Job} {past : History} {prefix : List ℕ} {held : Held} {object : Object} {bytes : ℕ} {s : Reading} (new : Option Reading) → HeldAt job past (phase.Carrying object (stage.Read bytes)) held → SourcePart job past (phase.Carrying object (stage.Read bytes)) prefix held s
+few_with_file : {job : Job} {past : History} {prefix : List ℕ} {held : Held} {object : Object} {bytes : ℕ} {s : Reading} (new : Option Reading)
+    → HeldAt job past (phase.Carrying object (stage.Read bytes)) held → SourcePart job past (phase.Carrying object (stage.Read bytes)) prefix held s
     → Answers (Reads []) (Some s) new → AreFew job s.tree held (with_file job object held bytes).rows
 unfolding Answers
 few_with_file {job} {past} {prefix} {held} {object} {bytes} {s} new at known answers =
@@ -72,8 +73,10 @@ few_with_file {job} {past} {prefix} {held} {object} {bytes} {s} new at known ans
 
 -- ---- a turn that halts
 
-follows_few : {job : Job} {past : History} {counts : Counts} {here : Phase} {prefix : List ℕ} {held : Held} {read : List ℕ} {new : Held} {calls : Calls} {answer : Answer} {s : Reading} (now : Option Reading) → Next job counts here prefix held read new calls answer
-    → HeldAt job past here held → SourcePart job past here prefix held s → Answers calls.asked (Some s) now → IsWithinBound job s.tree held → AreFew job s.tree held new.rows
+follows_few : {job : Job} {past : History} {counts : Counts} {here : Phase} {prefix : List ℕ} {held : Held} {read : List ℕ} {new : Held} {calls : Calls}
+    {answer : Answer} {s : Reading} (now : Option Reading) → Next job counts here prefix held read new calls answer
+    → HeldAt job past here held → SourcePart job past here prefix held s → Answers calls.asked (Some s) now → IsWithinBound job s.tree held
+    → AreFew job s.tree held new.rows
 follows_few {s} _ (Walk (OpensRoot _ _)) _ _ _ few = few
 follows_few {job} {s} _ (Scan (IsTooDeep was _ _ _)) _ _ _ few = few_none job s.tree was few
 follows_few {job} {s} _ (Scan (MeetsDeep was _ _ _ _ _)) _ _ _ few = few_none job s.tree was few
@@ -85,7 +88,8 @@ follows_few _ (Make (MakesStaging _ _)) _ _ _ few = few
 follows_few {job} {s} _ (Place (TellsDone was _)) _ _ _ few = few_none job s.tree was few
 follows_few _ _ _ _ _ few = few
 
-halted_few : (job : Job) (source : Forest) {rows : List Row} {before after : Kept} → IsHalted rows before after → AreFew job source before.held rows → IsWithinBound job source after.held
+halted_few : (job : Job) (source : Forest) {rows : List Row} {before after : Kept} → IsHalted rows before after → AreFew job source before.held rows
+    → IsWithinBound job source after.held
 halted_few job source halted few =
     let trail = ap entries_held halted.trail in
     let same = ap length halted.rows_are in

@@ -1,5 +1,29 @@
 -- How much is held as the trail moves.
-use Rattle.std.proofs.Common.{◌≡◌, ◌<◌, ◌≤◌, ◌+◌, ℕ, zero, suc, true, false, List, [], ◌∷◌, ◌++◌, refl, ap, sym, ◌∙◌, subst, append_assoc, arith, drop, length, map}
+use Rattle.std.proofs.Common.{
+  ◌≡◌,
+  ◌<◌,
+  ◌≤◌,
+  ◌+◌,
+  ℕ,
+  zero,
+  suc,
+  true,
+  false,
+  List,
+  [],
+  ◌∷◌,
+  ◌++◌,
+  refl,
+  ap,
+  sym,
+  ◌∙◌,
+  subst,
+  append_assoc,
+  arith,
+  drop,
+  length,
+  map,
+}
 use Rattle.std.specs.Prelude.{Some, nat_lt}
 use Rattle.std.specs.Option.{option_map}
 use Rattle.std.proofs.lemmas.List.{length-map}
@@ -57,7 +81,8 @@ lists top (frame ∷ frames) _ is_one fits = holds_listed top frame frames is_on
 
 -- ---- at a site
 
-pub room_at_site : (job : Job) (source : Forest) (t : List Frame) (count : ℕ) → is_trail t ≡ true → IsToJudge job source t count → entries_held t ≤ bound job source
+pub room_at_site : (job : Job) (source : Forest) (t : List Frame) (count : ℕ) → is_trail t ≡ true → IsToJudge job source t count
+    → entries_held t ≤ bound job source
 room_at_site job source t count is_one it =
     let same = lists (pairtree_of source) t it.way.entered is_one it.way.fits in
     let within = site_within job source count it.here.site in
@@ -65,8 +90,10 @@ room_at_site job source t count is_one it =
 
 -- ---- in an object
 
-pub room_at : (job : Job) (source : Forest) (prefix : List ℕ) (object : Object) (held : Held) (count : ℕ) (directory : Path) → HasStarted source prefix → IsScanning job source prefix object held count → is_trail held.trail ≡ true
-    → trail_path held.trail ≡ (object_at source object (to_site object held.trail)).at ++ directory → IsOne directory ([] ∷ dirs (scanned job.limits (object_at source object (to_site object held.trail))))
+pub room_at : (job : Job) (source : Forest) (prefix : List ℕ) (object : Object) (held : Held) (count : ℕ) (directory : Path) → HasStarted source prefix
+    → IsScanning job source prefix object held count → is_trail held.trail ≡ true
+    → trail_path held.trail ≡ (object_at source object (to_site object held.trail)).at ++ directory
+    → IsOne directory ([] ∷ dirs (scanned job.limits (object_at source object (to_site object held.trail))))
     → HasRoom job source object held
 room_at job source prefix object held count directory started it is_one path one =
     let site = to_site object held.trail in
@@ -74,20 +101,26 @@ room_at job source prefix object held count directory started it is_one path one
     let some = it.stands.some in
     let long = it.stands.within in
     let same = lists (pairtree_of source) held.trail (omega (arith, some, long)) is_one it.stands.fits ∙ ap (listed (pairtree_of source)) path in
-    let named = ap (λ (p : List ℕ). verdict_of job p (trail_path site) (Listed (inside_at (pairtree_of source) (trail_path site)))) (sym started.read) ∙ it.stands.site.named in
+    let named = ap (λ (p : List ℕ). verdict_of job p (trail_path site) (Listed (inside_at (pairtree_of source) (trail_path site)))) (sym started.read)
+    ∙ it.stands.site.named in
     let within = object_within job source count it.stands.site.here.site named it.scanned.shallow one in
     omega (arith, same, within)
 
 -- with the trail moved so that it lists no more, in the same object
-pub room_moved : (job : Job) (source : Forest) (object : Object) (held new : Held) → object_at source object (to_site object held.trail) ≡ object_at source object (to_site object new.trail) → entries_held new.trail ≤ entries_held held.trail
+pub room_moved : (job : Job) (source : Forest) (object : Object) (held new : Held)
+    → object_at source object (to_site object held.trail) ≡ object_at source object (to_site object new.trail)
+    → entries_held new.trail ≤ entries_held held.trail
     → HasRoom job source object held → HasRoom job source object new
 room_moved job source object held new same less room =
     subst (λ (o : PairtreeObject). entries_held new.trail + records_of job (files (scanned job.limits o)) ≤ bound job source) same (omega (arith, less, room))
 
 -- the directory that is entered is one that was scanned
-pub directory_scanned : (job : Job) (source : Forest) (object : Object) (rows : List Row) (empty : ℕ) (t : List Frame) (name : List ℕ) (items : List Item) → is_proper (pairtree_of source) ≡ true → is_trail t ≡ true
-    → current_entry t ≡ Some (name, kind.Dir) → is_passed object t (name, kind.Dir) ≡ false → nat_lt job.limits.depth (length t) ≡ false → listing_at (pairtree_of source) (names_to t) ≡ Some items
-    → Fits (pairtree_of source) t → object.site ≤ length t → 0 < own_listings object t → HasScanned job (object_at source object (to_site object t)) rows empty (left_of source object t)
+pub directory_scanned : (job : Job) (source : Forest) (object : Object) (rows : List Row) (empty : ℕ) (t : List Frame) (name : List ℕ) (items : List Item)
+    → is_proper (pairtree_of source) ≡ true → is_trail t ≡ true
+    → current_entry t ≡ Some (name, kind.Dir) → is_passed object t (name, kind.Dir) ≡ false → nat_lt job.limits.depth (length t) ≡ false
+    → listing_at (pairtree_of source) (names_to t) ≡ Some items
+    → Fits (pairtree_of source) t → object.site ≤ length t → 0 < own_listings object t
+    → HasScanned job (object_at source object (to_site object t)) rows empty (left_of source object t)
     → IsOne (logical_path object t) ([] ∷ dirs (scanned job.limits (object_at source object (to_site object t))))
 directory_scanned job source object rows empty [] name items proper is_one e apart shallow listing fits within own it = absurd (cc)
 directory_scanned job source object rows empty (frame ∷ frames) name items proper is_one e apart shallow listing fits within own it =
@@ -100,15 +133,18 @@ directory_scanned job source object rows empty (frame ∷ frames) name items pro
     let items_are : listing_of in_it ≡ items = some_same _ items (sym (ap (option_map listing_of) there) ∙ ap (listing_at top) (sym here) ∙ listing) in
     let what = object_at source object (to_site object t) in
     let left = left_directory source object frame frames name items in_it proper fits within own e apart refl items_are in
-    let none = no_cause_dir job what.at (logical_path object t) (names_to t) rows t in_it (path_in_object object t) (path_length frame frames _ is_one e) shallow in
-    let many : 0 + length (files it.front) ≡ length rows = (let long : length rows ≡ length (files it.front) = ap length it.rows_are ∙ length-map (files it.front) (row_of_file job.algorithm) in omega (arith, long)) in
+    let none = no_cause_dir job what.at (logical_path object t) (names_to t) rows t in_it (path_in_object object t) (path_length frame frames _ is_one e)
+    shallow in
+    let many : 0 + length (files it.front) ≡ length rows = (let long : length rows ≡ length (files it.front) = ap length it.rows_are
+    ∙ length-map (files it.front) (row_of_file job.algorithm) in omega (arith, long)) in
     let entry : Entry = (logical_path object t, Dir in_it) in
     one_directory job what it.front (left_of source object (entered items t)) in_it
     (it.all ∙ ap (λ (l : List Entry). it.front ++ l) left ∙ sym (append_assoc it.front (entry ∷ []) (left_of source object (entered items t))))
     (grow job.limits (length what.at) 0 it.front entry it.good (ap (λ (n : ℕ). entry_cause job.limits (length what.at) n entry) many ∙ none))
 
 -- what is held of an object is no more than the records of its files
-pub records_held : (job : Job) (object : PairtreeObject) (held : Held) (empty : ℕ) (left : List Entry) → held.contents ≡ map content_of_row (distinct held.rows) → HasScanned job object held.rows empty left
+pub records_held : (job : Job) (object : PairtreeObject) (held : Held) (empty : ℕ) (left : List Entry) → held.contents ≡ map content_of_row (distinct held.rows)
+    → HasScanned job object held.rows empty left
     → length held.rows + length held.contents ≤ records_of job (files (scanned job.limits object))
 records_held job object held empty left contents it =
     let one : length held.rows ≡ length (files it.front) = ap length it.rows_are ∙ length-map (files it.front) (row_of_file job.algorithm) in

@@ -26,20 +26,24 @@ answered (Reads _) s answers = (after_next s, answers.1, refl)
 answered (OpensAndReads path _) s answers = (after_next (after_open path s), answers.1, refl)
 
 -- a source that told tells after a turn that goes on, and the same tree
-tells_on : {old new : DeviceStates} (run : Run) {after : Kept} {job : Job} {next : Phase} {s : Reading} → Turn job run.phase (turning run.kept) after old new (Ok next) → old.source ≡ Some s → (v : Reading) × (new.source ≡ Some v) × (v.tree ≡ s.tree)
+tells_on : {old new : DeviceStates} (run : Run) {after : Kept} {job : Job} {next : Phase} {s : Reading}
+    → Turn job run.phase (turning run.kept) after old new (Ok next) → old.source ≡ Some s → (v : Reading) × (new.source ≡ Some v) × (v.tree ≡ s.tree)
 unfolding Did
 tells_on {new} _ {s} (GoesOn calls _ _ did _) told = answered calls.asked s (rw told at did.0.source)
 
-goes_within : {job : Job} (start : Start) {old new : DeviceStates} (run : Run) {after : Kept} {next : Phase} {s : Reading} → RunInvariant job start old run → is_ended run.phase ≡ false → Turn job run.phase (turning run.kept) after old new (Ok next) → old.source ≡ Some s
+goes_within : {job : Job} (start : Start) {old new : DeviceStates} (run : Run) {after : Kept} {next : Phase} {s : Reading} → RunInvariant job start old run
+    → is_ended run.phase ≡ false → Turn job run.phase (turning run.kept) after old new (Ok next) → old.source ≡ Some s
     → (last : Bool) → is_ended next ≡ last → IsWithinBound job s.tree after.held
 goes_within {job} start {old} {new} run {after} {next} begun _ turn told false more =
     let v = tells_on run turn told in
     rw v.2 at
-    (invariant_is_within_bound job start new (record { phase = next; kept = after }) v.0 (turn_keeps_invariant job start old new run after next begun turn) more v.1)
+    (invariant_is_within_bound job start new (record { phase = next; kept = after }) v.0 (turn_keeps_invariant job start old new run after next begun turn) more
+    v.1)
 goes_within {job} start {old} run {s} begun going (GoesOn _ _ turn _ _) told true ended =
     rw (last_turn turn ended).held_is
     (invariant_is_within_bound job start old run s begun going told)
 
 pub turn_is_within_bound : TurnIsWithinBound
 turn_is_within_bound _ start _ _ run _ (Ok _) _ begun going turn told = goes_within start run begun going turn told _ refl
-turn_is_within_bound job start old new run after (Err why) s begun going turn told = halted_is_within_bound job start old new run after why s begun going turn told
+turn_is_within_bound job start old new run after (Err why) s begun going turn told = halted_is_within_bound job start old new run after why s begun going turn
+    told

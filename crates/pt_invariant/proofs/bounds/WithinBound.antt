@@ -18,12 +18,15 @@ use Rattle.pt_invariant.specs.History.{History}
 use Rattle.pt_invariant.proofs.bounds.Rooms.{records_held}
 
 -- with room for all the object's files there is room for those held
-in_object : {job : Job} {source : Forest} {prefix : List ℕ} (past : History) {object : Object} {held : Held} {count : ℕ} → AreRows job past.bytes held → IsScanning job source prefix object held count → HasRoom job source object held → IsWithinBound job source held
+in_object : {job : Job} {source : Forest} {prefix : List ℕ} (past : History) {object : Object} {held : Held} {count : ℕ} → AreRows job past.bytes held
+    → IsScanning job source prefix object held count → HasRoom job source object held → IsWithinBound job source held
 in_object {job} {source} past {object} {held} rows it room =
-    let few = records_held job (object_at source object (to_site object held.trail)) held object.empty (left_of source object held.trail) rows.contents it.scanned in
+    let few = records_held job (object_at source object (to_site object held.trail)) held object.empty (left_of source object held.trail) rows.contents
+    it.scanned in
     omega (arith, few, room)
 
-pub within : (job : Job) (past : History) (here : Phase) (prefix : List ℕ) (held : Held) (s : Reading) → HeldAt job past here held → SourcePart job past here prefix held s → is_ended here ≡ false → IsWithinBound job s.tree held
+pub within : (job : Job) (past : History) (here : Phase) (prefix : List ℕ) (held : Held) (s : Reading) → HeldAt job past here held
+    → SourcePart job past here prefix held s → is_ended here ≡ false → IsWithinBound job s.tree held
 within _ past (phase.Carrying _ stage.Scan) _ _ _ has it _ = in_object past has.rows it.at.1 it.few
 within _ past (phase.Carrying _ (stage.Read _)) _ _ _ has it _ = in_object past has.rows it.at.1 it.few
 within _ _ phase.Ended _ _ _ _ _ not = absurd (true≢false not)

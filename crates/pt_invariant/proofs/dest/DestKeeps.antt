@@ -52,15 +52,23 @@ no_folders job start placed place =
 -- ---- from phase to phase
 
 -- the object is given up
-given_up : {job : Job} {start : Tree} {placed : List Carried} {object : Object} {now : Writing} → IsMakingObject job start placed object [] 0 now → IsBetweenObjects job start placed now
-given_up {job} {start} {placed} {object} it = record { root = it.root; came = it.came; tree = it.tree ∙ ap (with_root start) (no_folders job start placed object.place) }
+given_up : {job : Job} {start : Tree} {placed : List Carried} {object : Object} {now : Writing} → IsMakingObject job start placed object [] 0 now
+    → IsBetweenObjects job start placed now
+given_up {job} {start} {placed} {object} it = record {
+  root = it.root;
+  came = it.came;
+  tree = it.tree
+      ∙ ap (with_root start) (no_folders job start placed object.place);
+}
 
 pub no_kind : (here : Option Entry) → option_map kind_of_entry here ≡ None → here ≡ None
 no_kind None is = refl
 no_kind (Some entry) is = absurd (cc)
 
 -- nothing stands at the place of a new object
-new_making : (job : Job) (start : Tree) (placed : List Carried) (object : Object) {now : Writing} → option_map kind_of_entry (now.tree (in_root object.place)) ≡ None → IsBetweenObjects job start placed now → IsMakingObject job start placed object [] 0 now
+new_making : (job : Job) (start : Tree) (placed : List Carried) (object : Object) {now : Writing}
+    → option_map kind_of_entry (now.tree (in_root object.place)) ≡ None → IsBetweenObjects job start placed now
+    → IsMakingObject job start placed object [] 0 now
 new_making job start placed object is it = record {
   root = it.root;
   came = it.came;
@@ -69,18 +77,21 @@ new_making job start placed object is it = record {
 }
 
 -- with one more directory counted
-counted : {job : Job} {start : Tree} {placed : List Carried} {object : Object} (empty : ℕ) {now : Writing} → IsMakingObject job start placed object [] 0 now → IsMakingObject job start placed (record object { empty = empty }) [] 0 now
+counted : {job : Job} {start : Tree} {placed : List Carried} {object : Object} (empty : ℕ) {now : Writing} → IsMakingObject job start placed object [] 0 now
+    → IsMakingObject job start placed (record object { empty = empty }) [] 0 now
 counted empty it = record { root = it.root; came = it.came; free = it.free; tree = it.tree }
 
 -- ---- no turn of the walk or the scan changes the destination
 
-walks_same : {job : Job} {prefix : List ℕ} {old new : Writing} {here next : Phase} {held after : Held} {calls : Calls} → WalkStep job prefix here held after calls (Ok next) → Changes calls.change (Some old) (Some new) → Some new ≡ Some old
+walks_same : {job : Job} {prefix : List ℕ} {old new : Writing} {here next : Phase} {held after : Held} {calls : Calls}
+    → WalkStep job prefix here held after calls (Ok next) → Changes calls.change (Some old) (Some new) → Some new ≡ Some old
 unfolding Changes
 walks_same (IsPresent was index id kind is) change = change.1
 walks_same (IsNew was index id is) change = change.1
 walks_same turn change = change
 
-scans_same : {job : Job} {old new : Writing} {here next : Phase} {held after : Held} {calls : Calls} → ScanStep job here held after calls (Ok next) → Changes calls.change (Some old) (Some new) → Some new ≡ Some old
+scans_same : {job : Job} {old new : Writing} {here next : Phase} {held after : Held} {calls : Calls} → ScanStep job here held after calls (Ok next)
+    → Changes calls.change (Some old) (Some new) → Some new ≡ Some old
 unfolding Changes
 scans_same (StartsInSite was object gathered) change = change
 scans_same turn change = change
@@ -91,13 +102,15 @@ scans_same turn change = change
 abbrev pub DestAfter : Job → History → Phase → Phase → Held → Held → Tree → Writing → Type 0
 DestAfter job past here next held after start now = DestPart job (history_after here next held past) next after start now
 
-walks_keep : {job : Job} (start : Tree) (past : History) (old new : Writing) {prefix : List ℕ} {here next : Phase} {held after : Held} {calls : Calls} → WalkStep job prefix here held after calls (Ok next)
+walks_keep : {job : Job} (start : Tree) (past : History) (old new : Writing) {prefix : List ℕ} {here next : Phase} {held after : Held} {calls : Calls}
+    → WalkStep job prefix here held after calls (Ok next)
     → Changes calls.change (Some old) (Some new) → DestAt job start past here held old → DestAt job start (history_after here next held past) next after old
 unfolding Changes IsKindAt
 walks_keep {job} start past old new (IsNew was index id is) change at = new_making job start past.placed _ (change.0 old refl) at
 walks_keep start past old new turn change at = at
 
-scans_keep : {job : Job} (start : Tree) (past : History) (old : Writing) {here next : Phase} {held after : Held} {calls : Calls} → ScanStep job here held after calls (Ok next)
+scans_keep : {job : Job} (start : Tree) (past : History) (old : Writing) {here next : Phase} {held after : Held} {calls : Calls}
+    → ScanStep job here held after calls (Ok next)
     → DestAt job start past here held old → DestAt job start (history_after here next held past) next after old
 scans_keep start past old (EntersObject was object items apart shallow) at = counted _ at
 scans_keep start past old (IsTooDeep was object apart deep) at = given_up at
@@ -109,7 +122,8 @@ scans_keep start past old (IsTooLong was object bytes byte block long) at = give
 scans_keep start past old turn at = at
 
 -- with the destination as it was
-pub unchanged : {job : Job} {past : History} {here : Phase} {held : Held} {start : Tree} {old new : Writing} → Some new ≡ Some old → DestPart job past here held start old → DestPart job past here held start new
+pub unchanged : {job : Job} {past : History} {here : Phase} {held : Held} {start : Tree} {old new : Writing} → Some new ≡ Some old
+    → DestPart job past here held start old → DestPart job past here held start new
 unchanged {job} {past} {here} {held} {start} {old} {new} same part = subst (DestPart job past here held start) (sym (some_same new old same)) part
 
 pub walks_dest : WalkingKeepsDest

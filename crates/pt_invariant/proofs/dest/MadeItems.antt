@@ -12,7 +12,8 @@ made_in_turn [] later t = refl
 made_in_turn (item ∷ first) later t = made_in_turn first later (done item t)
 
 -- one item more
-pub made_more : (script : List Item) (n : ℕ) (item : Item) (t : Tree) → slice_get script n ≡ Some item → made (take (suc n) script) t ≡ done item (made (take n script) t)
+pub made_more : (script : List Item) (n : ℕ) (item : Item) (t : Tree) → slice_get script n ≡ Some item
+    → made (take (suc n) script) t ≡ done item (made (take n script) t)
 made_more script n item t is = ap (λ (l : List Item). made l t) (take_one n script item is) ∙ made_in_turn (take n script) (item ∷ []) t
 
 -- what a destination holds where an item was made

@@ -14,7 +14,18 @@ use Rattle.pt_plan.specs.declared.phase.Part.{Part}
 use Rattle.pt_plan.specs.declared.phase.Part.TheVariants as part
 use Rattle.pt_plan.specs.declared.phase.Position.{Position}
 use Rattle.pt_invariant.specs.PartsMade.{contents_before, contents_of, made_before, script_of_object}
-use Rattle.pt_invariant.proofs.dest.ScriptParts.{IsFront, IsNext, all_contents, contents_front, front_in, front_next, front_within, next_in, next_within, taken_front}
+use Rattle.pt_invariant.proofs.dest.ScriptParts.{
+  IsFront,
+  IsNext,
+  all_contents,
+  contents_front,
+  front_in,
+  front_next,
+  front_within,
+  next_in,
+  next_within,
+  taken_front,
+}
 
 -- ---- the items around the contents
 
@@ -80,7 +91,8 @@ module _ (job : Job) (object : Object) (rows : List Row) (bytes : Path → List 
   before_second =
       let long = longer upto_contents version_inventory in
       let all = many in
-      ap (map (item_in staging)) (front_is _ with_first (version_sidecar ∷ own_inventory ∷ own_sidecar ∷ []) (shift upto_contents version_inventory (version_sidecar ∷ own_inventory ∷ own_sidecar ∷ [])) (omega (arith, long, all)))
+      ap (map (item_in staging)) (front_is _ with_first (version_sidecar ∷ own_inventory ∷ own_sidecar ∷ [])
+      (shift upto_contents version_inventory (version_sidecar ∷ own_inventory ∷ own_sidecar ∷ [])) (omega (arith, long, all)))
 
   abbrev with_second : List Item
   with_second = with_first ++ version_sidecar ∷ []
@@ -92,7 +104,8 @@ module _ (job : Job) (object : Object) (rows : List Row) (bytes : Path → List 
       let all = many in
       ap (map (item_in staging))
       (front_is _ with_second _
-      (shift upto_contents version_inventory (version_sidecar ∷ own_inventory ∷ own_sidecar ∷ []) ∙ shift with_first version_sidecar (own_inventory ∷ own_sidecar ∷ [])) (omega (arith, one, two, all)))
+      (shift upto_contents version_inventory (version_sidecar ∷ own_inventory ∷ own_sidecar ∷ [])
+      ∙ shift with_first version_sidecar (own_inventory ∷ own_sidecar ∷ [])) (omega (arith, one, two, all)))
 
   abbrev with_third : List Item
   with_third = with_second ++ own_inventory ∷ []
@@ -105,7 +118,9 @@ module _ (job : Job) (object : Object) (rows : List Row) (bytes : Path → List 
       let all = many in
       ap (map (item_in staging))
       (front_is _ with_third (own_sidecar ∷ [])
-      (shift upto_contents version_inventory (version_sidecar ∷ own_inventory ∷ own_sidecar ∷ []) ∙ shift with_first version_sidecar (own_inventory ∷ own_sidecar ∷ []) ∙ shift with_second own_inventory (own_sidecar ∷ [])) (omega (arith, one, two, three, all)))
+      (shift upto_contents version_inventory (version_sidecar ∷ own_inventory ∷ own_sidecar ∷ [])
+      ∙ shift with_first version_sidecar (own_inventory ∷ own_sidecar ∷ []) ∙ shift with_second own_inventory (own_sidecar ∷ []))
+      (omega (arith, one, two, three, all)))
 
   -- ---- the next item at each part
 
@@ -115,20 +130,23 @@ module _ (job : Job) (object : Object) (rows : List Row) (bytes : Path → List 
   pub next_staging : IsNext script (made_before job object rows bytes part.Staging) (MakeFolder staging)
   next_staging = next_in staging all_items [] _ (record { rest = drop 1 all_items; is = refl })
 
-  pub next_declaration : IsNext script (made_before job object rows bytes part.Declaration) (MakeFile (staging ++ object_declaration_name ∷ []) object_declaration_bytes)
+  pub next_declaration : IsNext script (made_before job object rows bytes part.Declaration)
+      (MakeFile (staging ++ object_declaration_name ∷ []) object_declaration_bytes)
   next_declaration = next_in staging all_items (take 1 all_items) _ (record { rest = drop 2 all_items; is = refl })
 
   pub next_version : IsNext script (made_before job object rows bytes part.Version) (MakeFolder (in_version []))
   next_version = next_in staging all_items (take 2 all_items) _ (record { rest = drop 3 all_items; is = refl })
 
-  pub next_content : (position : Position) (item : Item) → IsNext contents (contents_before (contents_of rows bytes) position) item → IsNext script (made_before job object rows bytes (part.Content position)) (item_in staging (item_in version_folder item))
+  pub next_content : (position : Position) (item : Item) → IsNext contents (contents_before (contents_of rows bytes) position) item
+      → IsNext script (made_before job object rows bytes (part.Content position)) (item_in staging (item_in version_folder item))
   next_content position item next =
       next_in staging all_items _ _
       (next_within first_three _ last_four _
       (next_in version_folder contents _ item next))
 
   -- of the last four
-  last_next : (here : Part) (front : List Item) (item : Item) (rest : List Item) → made_before job object rows bytes here ≡ map (item_in staging) front → upto_contents ++ last_four ≡ front ++ item ∷ rest → IsNext script (made_before job object rows bytes here) (item_in staging item)
+  last_next : (here : Part) (front : List Item) (item : Item) (rest : List Item) → made_before job object rows bytes here ≡ map (item_in staging) front
+      → upto_contents ++ last_four ≡ front ++ item ∷ rest → IsNext script (made_before job object rows bytes here) (item_in staging item)
   last_next here front item rest before same =
       rw before (next_in staging all_items front item (record { rest = rest; is = split_items ∙ same }))
 
@@ -136,47 +154,58 @@ module _ (job : Job) (object : Object) (rows : List Row) (bytes : Path → List 
   next_first = last_next part.VersionInventory upto_contents version_inventory (version_sidecar ∷ own_inventory ∷ own_sidecar ∷ []) before_first refl
 
   pub next_second : IsNext script (made_before job object rows bytes part.VersionSidecar) (sidecar_file job object rows (in_version []))
-  next_second = last_next part.VersionSidecar with_first version_sidecar (own_inventory ∷ own_sidecar ∷ []) before_second (shift upto_contents version_inventory (version_sidecar ∷ own_inventory ∷ own_sidecar ∷ []))
+  next_second = last_next part.VersionSidecar with_first version_sidecar (own_inventory ∷ own_sidecar ∷ []) before_second
+      (shift upto_contents version_inventory (version_sidecar ∷ own_inventory ∷ own_sidecar ∷ []))
 
   pub next_third : IsNext script (made_before job object rows bytes part.Inventory) (inventory_file job object rows staging)
   next_third =
       last_next part.Inventory with_second own_inventory (own_sidecar ∷ []) before_third
-      (shift upto_contents version_inventory (version_sidecar ∷ own_inventory ∷ own_sidecar ∷ []) ∙ shift with_first version_sidecar (own_inventory ∷ own_sidecar ∷ []))
+      (shift upto_contents version_inventory (version_sidecar ∷ own_inventory ∷ own_sidecar ∷ [])
+      ∙ shift with_first version_sidecar (own_inventory ∷ own_sidecar ∷ []))
 
   pub next_fourth : IsNext script (made_before job object rows bytes part.Sidecar) (sidecar_file job object rows staging)
   next_fourth =
       last_next part.Sidecar with_third own_sidecar [] before_fourth
-      (shift upto_contents version_inventory (version_sidecar ∷ own_inventory ∷ own_sidecar ∷ []) ∙ shift with_first version_sidecar (own_inventory ∷ own_sidecar ∷ []) ∙ shift with_second own_inventory (own_sidecar ∷ []))
+      (shift upto_contents version_inventory (version_sidecar ∷ own_inventory ∷ own_sidecar ∷ [])
+      ∙ shift with_first version_sidecar (own_inventory ∷ own_sidecar ∷ []) ∙ shift with_second own_inventory (own_sidecar ∷ []))
 
   -- ---- what is made then
 
   grown : (front : List Item) (item : Item) → map (item_in staging) (front ++ item ∷ []) ≡ map (item_in staging) front ++ item_in staging item ∷ []
   grown front item = map-append (item_in staging) front (item ∷ [])
 
-  pub after_first : made_before job object rows bytes part.VersionSidecar ≡ made_before job object rows bytes part.VersionInventory ++ inventory_file job object rows (in_version []) ∷ []
+  pub after_first : made_before job object rows bytes part.VersionSidecar ≡ made_before job object rows bytes part.VersionInventory
+      ++ inventory_file job object rows (in_version []) ∷ []
   after_first = before_second ∙ grown upto_contents version_inventory ∙ ap (λ l. l ++ inventory_file job object rows (in_version []) ∷ []) (sym before_first)
 
-  pub after_second : made_before job object rows bytes part.Inventory ≡ made_before job object rows bytes part.VersionSidecar ++ sidecar_file job object rows (in_version []) ∷ []
+  pub after_second : made_before job object rows bytes part.Inventory ≡ made_before job object rows bytes part.VersionSidecar
+      ++ sidecar_file job object rows (in_version []) ∷ []
   after_second = before_third ∙ grown with_first version_sidecar ∙ ap (λ l. l ++ sidecar_file job object rows (in_version []) ∷ []) (sym before_second)
 
-  pub after_third : made_before job object rows bytes part.Sidecar ≡ made_before job object rows bytes part.Inventory ++ inventory_file job object rows staging ∷ []
+  pub after_third : made_before job object rows bytes part.Sidecar ≡ made_before job object rows bytes part.Inventory ++ inventory_file job object rows staging
+      ∷ []
   after_third = before_fourth ∙ grown with_second own_inventory ∙ ap (λ l. l ++ inventory_file job object rows staging ∷ []) (sym before_third)
 
   pub after_fourth : script ≡ made_before job object rows bytes part.Sidecar ++ sidecar_file job object rows staging ∷ []
   after_fourth =
-      ap (map (item_in staging)) (split_items ∙ shift upto_contents version_inventory (version_sidecar ∷ own_inventory ∷ own_sidecar ∷ []) ∙ shift with_first version_sidecar (own_inventory ∷ own_sidecar ∷ []) ∙ shift with_second own_inventory (own_sidecar ∷ []))
+      ap (map (item_in staging)) (split_items ∙ shift upto_contents version_inventory (version_sidecar ∷ own_inventory ∷ own_sidecar ∷ [])
+      ∙ shift with_first version_sidecar (own_inventory ∷ own_sidecar ∷ []) ∙ shift with_second own_inventory (own_sidecar ∷ []))
       ∙ grown with_third own_sidecar
       ∙ ap (λ l. l ++ sidecar_file job object rows staging ∷ []) (sym before_fourth)
 
-  pub after_content : (position next : Position) (item : Item) → contents_before (contents_of rows bytes) next ≡ contents_before (contents_of rows bytes) position ++ item ∷ []
-      → made_before job object rows bytes (part.Content next) ≡ made_before job object rows bytes (part.Content position) ++ item_in staging (item_in version_folder item) ∷ []
+  pub after_content : (position next : Position) (item : Item) → contents_before (contents_of rows bytes) next
+      ≡ contents_before (contents_of rows bytes) position ++ item ∷ []
+      → made_before job object rows bytes (part.Content next) ≡ made_before job object rows bytes (part.Content position)
+      ++ item_in staging (item_in version_folder item) ∷ []
   after_content position next item more =
       ap (λ l. map (item_in staging) (first_three ++ map (item_in version_folder) l)) more
       ∙ ap (λ l. map (item_in staging) (first_three ++ l)) (map-append (item_in version_folder) (contents_before (contents_of rows bytes) position) (item ∷ []))
-      ∙ map-append (item_in staging) (first_three ++ map (item_in version_folder) (contents_before (contents_of rows bytes) position)) (item_in version_folder item ∷ [])
+      ∙ map-append (item_in staging) (first_three ++ map (item_in version_folder) (contents_before (contents_of rows bytes) position))
+      (item_in version_folder item ∷ [])
 
   -- once all contents are made the version's inventory is next
-  pub at_inventory : (position : Position) → position.stored ≡ length (contents_of rows bytes) → made_before job object rows bytes part.VersionInventory ≡ made_before job object rows bytes (part.Content position)
+  pub at_inventory : (position : Position) → position.stored ≡ length (contents_of rows bytes)
+      → made_before job object rows bytes part.VersionInventory ≡ made_before job object rows bytes (part.Content position)
   at_inventory position all = before_first ∙ ap (λ l. map (item_in staging) (first_three ++ map (item_in version_folder) l)) (sym (all_contents _ position all))
 
   -- what is made before any part is a front of the script

@@ -16,7 +16,8 @@ parts_on [] q more h = absurd (false≢true h)
 parts_on (a ∷ p) [] more h = absurd (false≢true h)
 parts_on (a ∷ p) (b ∷ q) more h = by (bytes_eq a b) (λ g. parts_on p q more g) h
   where
-    by : (t : Bool) → (parts_before p q ≡ true → parts_before p (q ++ more) ≡ true) → cond t (parts_before p q) (is_before a b) ≡ true → cond t (parts_before p (q ++ more)) (is_before a b) ≡ true
+    by : (t : Bool) → (parts_before p q ≡ true → parts_before p (q ++ more) ≡ true) → cond t (parts_before p q) (is_before a b) ≡ true
+        → cond t (parts_before p (q ++ more)) (is_before a b) ≡ true
     by true later h = later h
     by false later h = h
 
@@ -36,7 +37,8 @@ parts_differ p q false same h = refl
 parts_differ p q true same h = absurd (true≢false (sym h ∙ ap (λ (r : Path). parts_before p r) (sym (is_same p q same)) ∙ parts_itself p))
 
 -- a path that comes behind all others comes last
-pub order_push : (paths : List Path) (path : Path) → part_in_order paths ≡ true → list_all (λ earlier. parts_before earlier path) paths ≡ true → part_in_order (paths ++ path ∷ []) ≡ true
+pub order_push : (paths : List Path) (path : Path) → part_in_order paths ≡ true → list_all (λ earlier. parts_before earlier path) paths ≡ true
+    → part_in_order (paths ++ path ∷ []) ≡ true
 order_push [] path order behind = refl
 order_push (p ∷ paths) path order behind =
     let parts = and_parts _ _ order in
@@ -54,12 +56,14 @@ order_front (p ∷ paths) others order =
     and_from _ _ all.0 (order_front paths others parts.1)
 
 -- and the path between parts from those behind it
-pub order_behind : (paths : List Path) (path : Path) (others : List Path) → part_in_order (paths ++ path ∷ others) ≡ true → list_all (parts_before path) others ≡ true
+pub order_behind : (paths : List Path) (path : Path) (others : List Path) → part_in_order (paths ++ path ∷ others) ≡ true
+    → list_all (parts_before path) others ≡ true
 order_behind [] path others order = (and_parts _ _ order).0
 order_behind (p ∷ paths) path others order = order_behind paths path others (and_parts _ _ order).1
 
 -- those before a path part from it
-pub order_before : (paths : List Path) (path : Path) (others : List Path) → part_in_order (paths ++ path ∷ others) ≡ true → list_all (λ earlier. parts_before earlier path) paths ≡ true
+pub order_before : (paths : List Path) (path : Path) (others : List Path) → part_in_order (paths ++ path ∷ others) ≡ true
+    → list_all (λ earlier. parts_before earlier path) paths ≡ true
 order_before [] path others order = refl
 order_before (p ∷ paths) path others order =
     let parts = and_parts _ _ order in

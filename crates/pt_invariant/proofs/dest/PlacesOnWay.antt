@@ -1,5 +1,30 @@
 -- The way to a place in the root, and a destination's root beside what is made in `staging`.
-use Rattle.std.proofs.Common.{◌≡◌, ◌<◌, ◌+◌, ◌&&◌, ℕ, zero, suc, Bool, true, false, List, [], ◌∷◌, ◌++◌, refl, ap, sym, ◌∙◌, arith, cond, drop, length, map, take}
+use Rattle.std.proofs.Common.{
+  ◌≡◌,
+  ◌<◌,
+  ◌+◌,
+  ◌&&◌,
+  ℕ,
+  zero,
+  suc,
+  Bool,
+  true,
+  false,
+  List,
+  [],
+  ◌∷◌,
+  ◌++◌,
+  refl,
+  ap,
+  sym,
+  ◌∙◌,
+  arith,
+  cond,
+  drop,
+  length,
+  map,
+  take,
+}
 use Rattle.std.specs.Prelude.{◌||◌, Option, None, Some, codes, is_some, not}
 use Rattle.std.specs.Option.{option_map, option_or}
 use Rattle.std.specs.Str.{bytes_eq}
@@ -33,7 +58,8 @@ long_tuples size zero digits = refl
 long_tuples size (suc count) digits = ap (λ n. suc n) (long_tuples size count (drop size digits))
 
 pub long_place : (tuples : Tuples) (id : List ℕ) → length (place_of tuples id) ≡ tuples.count + 1
-long_place tuples id = length-append (tuples_from tuples.size tuples.count (digest_text id)) (last_name_of id ∷ []) ∙ ap (λ n. n + 1) (long_tuples tuples.size tuples.count (digest_text id))
+long_place tuples id = length-append (tuples_from tuples.size tuples.count (digest_text id)) (last_name_of id ∷ [])
+    ∙ ap (λ n. n + 1) (long_tuples tuples.size tuples.count (digest_text id))
 
 -- a name of it
 pub name_of_place : (place : Path) (n : ℕ) → n < length place → (name : List ℕ) × (take (suc n) place ≡ take n place ++ name ∷ [])
@@ -46,18 +72,23 @@ name_of_place (x ∷ place) (suc n) less = let later = name_of_place place n (om
 not_both : (x : List ℕ) → bytes_eq x (codes "ocfl") ≡ true → bytes_eq (codes "staging") x ≡ true → ⊥
 not_both x a b = false≢true (ap (λ (y : List ℕ). bytes_eq y (codes "ocfl")) (same_name (codes "staging") x b) ∙ a)
 
-put_beside_at : (t inside : Tree) (p : Path) (e : Entry) (q : Path) → put (in_place t staging inside) (storage_root ++ p) e q ≡ in_place (put t (storage_root ++ p) e) staging inside q
+put_beside_at : (t inside : Tree) (p : Path) (e : Entry) (q : Path) → put (in_place t staging inside) (storage_root ++ p) e q
+    ≡ in_place (put t (storage_root ++ p) e) staging inside q
 put_beside_at t inside p e [] = refl
 put_beside_at t inside p e (x ∷ q) = by (bytes_eq x (codes "ocfl")) (bytes_eq (codes "staging") x) refl refl
   where
-    by : (a b : Bool) → bytes_eq x (codes "ocfl") ≡ a → bytes_eq (codes "staging") x ≡ b → cond (a && same_path q p) (Some e) (placed_at inside (cond b (Some q) None) (t (x ∷ q))) ≡ placed_at inside (cond b (Some q) None) (cond (a && same_path q p) (Some e) (t (x ∷ q)))
+    by : (a b : Bool) → bytes_eq x (codes "ocfl") ≡ a → bytes_eq (codes "staging") x ≡ b
+        → cond (a && same_path q p) (Some e) (placed_at inside (cond b (Some q) None) (t (x ∷ q)))
+        ≡ placed_at inside (cond b (Some q) None) (cond (a && same_path q p) (Some e) (t (x ∷ q)))
     by true true one two = absurd (not_both x one two)
     by true false one two = refl
     by false b one two = refl
 
 -- what is made in the root is made there whatever is in `staging`
-pub put_beside : (t inside root : Tree) (p : Path) (e : Entry) → put (in_place (with_root t root) staging inside) (storage_root ++ p) e ≡ in_place (with_root t (put root p e)) staging inside
-put_beside t inside root p e = (λ i q. put_beside_at (with_root t root) inside p e q i) ∙ ap (λ (u : Tree). in_place u staging inside) (root_is_made_in_place t root p e)
+pub put_beside : (t inside root : Tree) (p : Path) (e : Entry) → put (in_place (with_root t root) staging inside) (storage_root ++ p) e
+    ≡ in_place (with_root t (put root p e)) staging inside
+put_beside t inside root p e = (λ i q. put_beside_at (with_root t root) inside p e q i)
+    ∙ ap (λ (u : Tree). in_place u staging inside) (root_is_made_in_place t root p e)
 
 -- ---- one folder more on the way
 
@@ -72,7 +103,8 @@ or_none None b h = refl
 or_none (Some entry) b h = absurd (cc)
 
 -- it is made where nothing stands
-pub way_made : (job : Job) (start : Tree) (placed : List Carried) (place : Path) (n : ℕ) (name : List ℕ) → take (suc n) place ≡ take n place ++ name ∷ [] → root_on_way job start placed place n (take (suc n) place) ≡ None
+pub way_made : (job : Job) (start : Tree) (placed : List Carried) (place : Path) (n : ℕ) (name : List ℕ) → take (suc n) place ≡ take n place ++ name ∷ []
+    → root_on_way job start placed place n (take (suc n) place) ≡ None
     → put (root_on_way job start placed place n) (take (suc n) place) Folder ≡ root_on_way job start placed place (suc n)
 way_made job start placed place n name more none =
     λ i q. at q i
@@ -86,7 +118,8 @@ way_made job start placed place n name more none =
     grown : (q : Path) → leads q p ≡ (leads q (take n place) || same_path q p)
     grown q = ap (leads q) more ∙ leads-push q (take n place) name ∙ ap (λ (r : Path). leads q (take n place) || same_path q r) (sym more)
 
-    at : (q : Path) → cond (same_path q p) (Some Folder) (option_or (root q) (folder_where (leads q (take n place)))) ≡ option_or (root q) (folder_where (leads q p))
+    at : (q : Path) → cond (same_path q p) (Some Folder) (option_or (root q) (folder_where (leads q (take n place))))
+        ≡ option_or (root q) (folder_where (leads q p))
     at q = by (same_path q p) refl ∙ ap (λ b. option_or (root q) (folder_where b)) (sym (grown q))
       where
         or_true : (b : Bool) → (b || true) ≡ true
@@ -97,14 +130,17 @@ way_made job start placed place n name more none =
         or_false true = refl
         or_false false = refl
 
-        by : (s : Bool) → same_path q p ≡ s → cond s (Some Folder) (option_or (root q) (folder_where (leads q (take n place)))) ≡ option_or (root q) (folder_where (leads q (take n place) || s))
+        by : (s : Bool) → same_path q p ≡ s → cond s (Some Folder) (option_or (root q) (folder_where (leads q (take n place))))
+            ≡ option_or (root q) (folder_where (leads q (take n place) || s))
         by true same =
             let here : root q ≡ None = ap root (is_same q p same) ∙ or_none _ _ none in
-            sym (ap (λ (o : Option Entry). option_or o (folder_where (leads q (take n place) || true))) here ∙ ap folder_where (or_true (leads q (take n place))))
+            sym (ap (λ (o : Option Entry). option_or o (folder_where (leads q (take n place) || true))) here
+            ∙ ap folder_where (or_true (leads q (take n place))))
         by false other = ap (λ b. option_or (root q) (folder_where b)) (sym (or_false (leads q (take n place))))
 
 -- it is there where a folder stands
-pub way_found : (job : Job) (start : Tree) (placed : List Carried) (place : Path) (n : ℕ) (name : List ℕ) → take (suc n) place ≡ take n place ++ name ∷ [] → root_on_way job start placed place n (take (suc n) place) ≡ Some Folder
+pub way_found : (job : Job) (start : Tree) (placed : List Carried) (place : Path) (n : ℕ) (name : List ℕ) → take (suc n) place ≡ take n place ++ name ∷ []
+    → root_on_way job start placed place n (take (suc n) place) ≡ Some Folder
     → root_on_way job start placed place n ≡ root_on_way job start placed place (suc n)
 way_found job start placed place n name more found = λ i q. at q i
   where
@@ -124,13 +160,16 @@ way_found job start placed place n name more found = λ i q. at q i
         or_false true = refl
         or_false false = refl
 
-        folder_either : (here : Option Entry) (b : Bool) → option_or here (folder_where b) ≡ Some Folder → option_or here (folder_where b) ≡ option_or here (folder_where (b || true))
+        folder_either : (here : Option Entry) (b : Bool) → option_or here (folder_where b) ≡ Some Folder
+            → option_or here (folder_where b) ≡ option_or here (folder_where (b || true))
         folder_either here true h = refl
         folder_either None false h = absurd (cc)
         folder_either (Some entry) false h = refl
 
-        by : (s : Bool) → same_path q p ≡ s → option_or (root q) (folder_where (leads q (take n place))) ≡ option_or (root q) (folder_where (leads q (take n place) || s))
-        by true same = folder_either (root q) (leads q (take n place)) (ap (λ (r : Path). option_or (root r) (folder_where (leads r (take n place)))) (is_same q p same) ∙ found)
+        by : (s : Bool) → same_path q p ≡ s → option_or (root q) (folder_where (leads q (take n place)))
+            ≡ option_or (root q) (folder_where (leads q (take n place) || s))
+        by true same = folder_either (root q) (leads q (take n place))
+            (ap (λ (r : Path). option_or (root r) (folder_where (leads r (take n place)))) (is_same q p same) ∙ found)
         by false other = ap (λ b. option_or (root q) (folder_where b)) (sym (or_false (leads q (take n place))))
 
 -- ---- the whole way
@@ -155,17 +194,20 @@ proper_prefix b x q = by (leads q b) refl
         last false other = refl
 
 -- with all tuple directories the root has the folders above the place
-pub whole_way : (job : Job) (start : Tree) (placed : List Carried) (b : Path) (x : List ℕ) (n : ℕ) → take n (b ++ x ∷ []) ≡ b → is_some (root_now job start placed []) ≡ true
+pub whole_way : (job : Job) (start : Tree) (placed : List Carried) (b : Path) (x : List ℕ) (n : ℕ) → take n (b ++ x ∷ []) ≡ b
+    → is_some (root_now job start placed []) ≡ true
     → root_on_way job start placed (b ++ x ∷ []) n ≡ with_folders (folders_above (b ++ x ∷ [])) (root_now job start placed)
 whole_way job start placed b x n front top = λ i q. at q i
   where
     root : Tree
     root = root_now job start placed
 
-    at : (q : Path) → option_or (root q) (folder_where (leads q (take n (b ++ x ∷ [])))) ≡ option_or (root q) (folder_where (is_one q (folders_above (b ++ x ∷ []))))
+    at : (q : Path) → option_or (root q) (folder_where (leads q (take n (b ++ x ∷ []))))
+        ≡ option_or (root q) (folder_where (is_one q (folders_above (b ++ x ∷ []))))
     at [] = some_top (root []) top
       where
-        some_top : (o : Option Entry) → is_some o ≡ true → option_or o (folder_where (leads [] (take n (b ++ x ∷ [])))) ≡ option_or o (folder_where (is_one [] (folders_above (b ++ x ∷ []))))
+        some_top : (o : Option Entry) → is_some o ≡ true → option_or o (folder_where (leads [] (take n (b ++ x ∷ []))))
+            ≡ option_or o (folder_where (is_one [] (folders_above (b ++ x ∷ []))))
         some_top None h = absurd (false≢true h)
         some_top (Some entry) h = refl
     at (m ∷ q) = ap (λ t. option_or (root (m ∷ q)) (folder_where t)) (ap (leads (m ∷ q)) front ∙ proper_prefix b x (m ∷ q) ∙ sym (above m q (b ++ x ∷ [])))
@@ -199,7 +241,8 @@ first_folders (x ∷ y ∷ p) (suc n) m q less =
     by true (k ∷ r) later = later k r
 
 -- so with the first so many folders
-pub part_way : (job : Job) (start : Tree) (placed : List Carried) (place : Path) (n : ℕ) → n < length place → is_some (root_now job start placed []) ≡ true → root_on_way job start placed place n ≡ with_folders (take n (folders_above place)) (root_now job start placed)
+pub part_way : (job : Job) (start : Tree) (placed : List Carried) (place : Path) (n : ℕ) → n < length place → is_some (root_now job start placed []) ≡ true
+    → root_on_way job start placed place n ≡ with_folders (take n (folders_above place)) (root_now job start placed)
 part_way job start placed place n less top = λ i q. at q i
   where
     root : Tree
@@ -208,7 +251,8 @@ part_way job start placed place n less top = λ i q. at q i
     at : (q : Path) → option_or (root q) (folder_where (leads q (take n place))) ≡ option_or (root q) (folder_where (is_one q (take n (folders_above place))))
     at [] = some_top (root []) top
       where
-        some_top : (o : Option Entry) → is_some o ≡ true → option_or o (folder_where (leads [] (take n place))) ≡ option_or o (folder_where (is_one [] (take n (folders_above place))))
+        some_top : (o : Option Entry) → is_some o ≡ true → option_or o (folder_where (leads [] (take n place)))
+            ≡ option_or o (folder_where (is_one [] (take n (folders_above place))))
         some_top None h = absurd (false≢true h)
         some_top (Some entry) h = refl
     at (m ∷ q) = ap (λ t. option_or (root (m ∷ q)) (folder_where t)) (sym (first_folders place n m q less))
@@ -220,8 +264,10 @@ nothing_held [] p rest off = (refl, refl)
 nothing_held (file ∷ files) p rest off =
     let parts = or_parts _ _ off in
     let later = nothing_held files p rest parts.1 in
-    let apart : leads (p ++ rest) file.0 ≡ false = false_from_ne_true _ (λ h. true≢false (sym (leads_through p (p ++ rest) file.0 (leads-on p p rest (leads-itself p)) h) ∙ parts.0)) in
-    let other : same_path (p ++ rest) file.0 ≡ false = false_from_ne_true _ (λ h. true≢false (sym (ap (leads (p ++ rest)) (sym (is_same (p ++ rest) file.0 h)) ∙ leads-itself (p ++ rest)) ∙ apart)) in (
+    let apart : leads (p ++ rest) file.0 ≡ false = false_from_ne_true _
+    (λ h. true≢false (sym (leads_through p (p ++ rest) file.0 (leads-on p p rest (leads-itself p)) h) ∙ parts.0)) in
+    let other : same_path (p ++ rest) file.0 ≡ false = false_from_ne_true _
+    (λ h. true≢false (sym (ap (leads (p ++ rest)) (sym (is_same (p ++ rest) file.0 h)) ∙ leads-itself (p ++ rest)) ∙ apart)) in (
       ap (λ t. cond t (Some file.1) (held_at files (p ++ rest))) other ∙ later.0,
       ap (λ t. t || leads_to files (p ++ rest)) apart ∙ later.1,
     )
@@ -232,11 +278,14 @@ nothing_there files p rest none = by (held_at files p) (leads_to files p) refl r
     by : (o : Option (List ℕ)) (t : Bool) → held_at files p ≡ o → leads_to files p ≡ t → file_or_folder o t ≡ None → holding files (p ++ rest) ≡ None
     by (Some bytes) t one two h = absurd (cc)
     by None true one two h = absurd (cc)
-    by None false one two h = let nothing = nothing_held files p rest two in ap (λ (o : Option (List ℕ)). file_or_folder o (leads_to files (p ++ rest))) nothing.0 ∙ ap (file_or_folder None) nothing.1
+    by None false one two h = let nothing = nothing_held files p rest two in ap (λ (o : Option (List ℕ)). file_or_folder o (leads_to files (p ++ rest)))
+        nothing.0 ∙ ap (file_or_folder None) nothing.1
 
-pub base_gaps : (job : Job) (start : Tree) (path rest : Path) → IsTree start → base job.tuples (root_in start) path ≡ None → base job.tuples (root_in start) (path ++ rest) ≡ None
+pub base_gaps : (job : Job) (start : Tree) (path rest : Path) → IsTree start → base job.tuples (root_in start) path ≡ None
+    → base job.tuples (root_in start) (path ++ rest) ≡ None
 base_gaps job start path rest tree none = by (root_in start []) refl none
   where
-    by : (o : Option Entry) → root_in start [] ≡ o → base_where job.tuples (root_in start) o path ≡ None → base_where job.tuples (root_in start) o (path ++ rest) ≡ None
+    by : (o : Option Entry) → root_in start [] ≡ o → base_where job.tuples (root_in start) o path ≡ None
+        → base_where job.tuples (root_in start) o (path ++ rest) ≡ None
     by None is none = nothing_there (root_files_of job.tuples) path rest none
     by (Some entry) is none = (roots_have_no_gaps start tree).0 path none rest

@@ -62,15 +62,18 @@ no_objects job t i path = or_nothing (t path) i
 fresh_start : {start : Tree} → IsTree start → IsFree start staging → IsFresh start
 fresh_start tree free = record { top = tree.top; free = free }
 
-pub root_item_made : (job : Job) (start : Tree) (number : ℕ) (item : Item) (now : Writing) → IsTree start → slice_get (root_script job.tuples) number ≡ Some item → IsMakingRoot start (take number (root_script job.tuples)) now → CanMake now.tree (item_path item)
+pub root_item_made : (job : Job) (start : Tree) (number : ℕ) (item : Item) (now : Writing) → IsTree start
+    → slice_get (root_script job.tuples) number ≡ Some item → IsMakingRoot start (take number (root_script job.tuples)) now → CanMake now.tree (item_path item)
 root_item_made job start number item now tree is it =
     rw it.tree (root_script_can_be_made job.tuples start (fresh_start tree it.free) number item is)
 
-whole_root : (job : Job) {start : Tree} {now : Writing} → IsTree start → IsMakingRoot start (root_script job.tuples) now → now.tree ≡ in_place start staging (root_of job.tuples)
+whole_root : (job : Job) {start : Tree} {now : Writing} → IsTree start → IsMakingRoot start (root_script job.tuples) now
+    → now.tree ≡ in_place start staging (root_of job.tuples)
 whole_root job {start} tree it = it.tree ∙ root_script_makes_the_root job.tuples start (fresh_start tree it.free)
 
 -- it may be moved
-pub root_may_move : (job : Job) (start : Tree) (now : Writing) → IsTree start → IsMakingRoot start (root_script job.tuples) now → CanMove now.tree staging storage_root
+pub root_may_move : (job : Job) (start : Tree) (now : Writing) → IsTree start → IsMakingRoot start (root_script job.tuples) now
+    → CanMove now.tree staging storage_root
 root_may_move job start now tree it =
     rw (whole_root job tree it)
     (record { stands = refl; target = record { absent = it.root []; in_folder = tree.top }; apart = refl })
@@ -78,7 +81,8 @@ root_may_move job start now tree it =
 new_base : (job : Job) (start : Tree) → IsFree start storage_root → base job.tuples (root_in start) ≡ root_of job.tuples
 new_base job start free = ap (base_where job.tuples (root_in start)) (free [])
 
-moved_root : (job : Job) (start : Tree) {now : Writing} → IsTree start → IsMakingRoot start (root_script job.tuples) now → moved now.tree staging storage_root ≡ with_root start (root_now job start [])
+moved_root : (job : Job) (start : Tree) {now : Writing} → IsTree start → IsMakingRoot start (root_script job.tuples) now
+    → moved now.tree staging storage_root ≡ with_root start (root_now job start [])
 moved_root job start tree it =
     ap (λ (t : Tree). moved t staging storage_root) (whole_root job tree it)
     ∙ root_is_moved_in start (root_of job.tuples) it.free
@@ -86,7 +90,8 @@ moved_root job start tree it =
 
 -- ---- a root that stands
 
-one_more_file : (job : Job) (root : Tree) (number : ℕ) (path : Path) (bytes : List ℕ) → slice_get (root_files_of job.tuples) number ≡ Some (path, bytes) → root path ≡ Some (Bytes bytes) → HasRootFiles job root number → HasRootFiles job root (number + 1)
+one_more_file : (job : Job) (root : Tree) (number : ℕ) (path : Path) (bytes : List ℕ) → slice_get (root_files_of job.tuples) number ≡ Some (path, bytes)
+    → root path ≡ Some (Bytes bytes) → HasRootFiles job root number → HasRootFiles job root (number + 1)
 one_more_file job root number path bytes is same files =
     let next : number + 1 ≡ suc number = omega arith in
     subst (λ (n : ℕ). HasRootFiles job root n) (sym next)
@@ -99,12 +104,16 @@ root_stands job start tree files = tree.above storage_root (codes "0=ocfl_1.1") 
 
 own_root : (job : Job) (start : Tree) → IsTree start → HasRootFiles job (root_in start) 3 → start ≡ with_root start (root_now job start [])
 own_root job start tree files =
-    sym (root_is_its_own start) ∙ ap (with_root start) (sym (no_objects job (base job.tuples (root_in start)) ∙ base_stays job _ (ap is_some (root_stands job start tree files))))
+    sym (root_is_its_own start) ∙ ap (with_root start) (sym (no_objects job (base job.tuples (root_in start))
+    ∙ base_stays job _ (ap is_some (root_stands job start tree files))))
 
 -- ---- each turn
 
-made_next : (job : Job) (past : History) (start : Tree) (held : Held) (old new : Writing) (number : ℕ) (item : Item) → Some new ≡ Some (after_make item old) → slice_get (root_script job.tuples) number ≡ Some item
-    → DestPart job past (phase.Opening (opening.RootMake number)) held start old → DestAfter job past (phase.Opening (opening.RootMake number)) (cond (number == 5) (phase.Opening opening.RootRename) (phase.Opening (opening.RootMake (number + 1)))) held held start new
+made_next : (job : Job) (past : History) (start : Tree) (held : Held) (old new : Writing) (number : ℕ) (item : Item) → Some new ≡ Some (after_make item old)
+    → slice_get (root_script job.tuples) number ≡ Some item
+    → DestPart job past (phase.Opening (opening.RootMake number)) held start old
+    → DestAfter job past (phase.Opening (opening.RootMake number))
+    (cond (number == 5) (phase.Opening opening.RootRename) (phase.Opening (opening.RootMake (number + 1)))) held held start new
 made_next job past start held old new number item change item_is part =
     let can = root_item_made job start number item old part.started item_is part.at in
     let tree_is : new.tree ≡ done item old.tree = ap (λ (w : Writing). w.tree) (some_same new (after_make item old) change) ∙ tree_made item old in
@@ -116,13 +125,30 @@ made_next job past start held old new number item change item_is part =
     (λ last. record {
       started = part.started;
       tree = tree;
-      at = record { free = part.at.free; root = part.at.root; tree = now ∙ ap (λ n. made (take (suc n) (root_script job.tuples)) start) (eqb-true number 5 last) };
+      at = record {
+        free = part.at.free;
+        root = part.at.root;
+        tree = now
+            ∙ ap (λ n. made (take (suc n) (root_script job.tuples)) start) (eqb-true number 5 last);
+      };
     })
-    (λ more. record { started = part.started; tree = tree; at = record { free = part.at.free; root = part.at.root; tree = now ∙ ap (λ n. made (take n (root_script job.tuples)) start) next } })
+    (λ more. record {
+      started = part.started;
+      tree = tree;
+      at = record {
+        free = part.at.free;
+        root = part.at.root;
+        tree = now
+            ∙ ap (λ n. made (take n (root_script job.tuples)) start) next;
+      };
+    })
 
-checked_next : (job : Job) (past : History) (start : Tree) (held : Held) {old : Writing} (number : ℕ) (path : Path) (bytes : List ℕ) → IsLayout job.tuples → slice_get (root_files_of job.tuples) number ≡ Some (path, bytes)
-    → option_map (take 8192) (bytes_of (old.tree (storage_root ++ path))) ≡ Some bytes → DestPart job past (phase.Opening (opening.RootCheck number)) held start old
-    → DestAfter job past (phase.Opening (opening.RootCheck number)) (cond (number == 2) (phase.Opening opening.OpenRoot) (phase.Opening (opening.RootCheck (number + 1)))) held held start old
+checked_next : (job : Job) (past : History) (start : Tree) (held : Held) {old : Writing} (number : ℕ) (path : Path) (bytes : List ℕ) → IsLayout job.tuples
+    → slice_get (root_files_of job.tuples) number ≡ Some (path, bytes)
+    → option_map (take 8192) (bytes_of (old.tree (storage_root ++ path))) ≡ Some bytes
+    → DestPart job past (phase.Opening (opening.RootCheck number)) held start old
+    → DestAfter job past (phase.Opening (opening.RootCheck number)) (cond (number == 2) (phase.Opening opening.OpenRoot)
+    (phase.Opening (opening.RootCheck (number + 1)))) held held start old
 checked_next job past start held {old} number path bytes layout file read part =
     let stands = peeked_whole _ read (file_short job.tuples number path bytes layout file) in
     let here : root_in start path ≡ Some (Bytes bytes) = sym (ap (λ (t : Tree). t (storage_root ++ path)) part.at.tree) ∙ stands in
@@ -130,7 +156,16 @@ checked_next job past start held {old} number path bytes layout file read part =
     after_root_file (λ p. DestAfter job past (phase.Opening (opening.RootCheck number)) p held held start old) number
     (λ last.
     let all : HasRootFiles job (root_in start) 3 = rw (eqb-true number 2 last) at files in
-    record { started = part.started; tree = part.tree; at = record { root = record { free = part.at.free; root = inr all }; came = refl; tree = part.at.tree ∙ own_root job start part.started all } })
+    record {
+      started = part.started;
+      tree = part.tree;
+      at = record {
+        root = record { free = part.at.free; root = inr all };
+        came = refl;
+        tree = part.at.tree
+            ∙ own_root job start part.started all;
+      };
+    })
     (λ more. record { started = part.started; tree = part.tree; at = record { free = part.at.free; top = part.at.top; files = files; tree = part.at.tree } })
 
 pub starts_dest : StartingKeepsDest
@@ -140,11 +175,22 @@ starts_dest job past start old new prefix read here next held calls layout (HasN
     unchanged change.1 (record { started = part.started; tree = part.tree; at = (part.at, free_below start (codes "staging") part.started none) })
 starts_dest job past start old new prefix read here next held calls layout (HasNoRoot was) change at part =
     let none = sym (ap (λ (t : Tree). t storage_root) part.at.0.tree) ∙ no_kind _ (change.0 old refl) in
-    unchanged change.1 (record { started = part.started; tree = part.tree; at = record { free = part.at.1; root = free_below start (codes "ocfl") part.started none; tree = part.at.0.tree } })
+    unchanged change.1 (record {
+      started = part.started;
+      tree = part.tree;
+      at = record
+          { free = part.at.1; root = free_below start (codes "ocfl") part.started none; tree = part.at.0.tree };
+    })
 starts_dest job past start old new prefix read here next held calls layout (HasRoot was) change at part =
     let folder = sym (ap (λ (t : Tree). t storage_root) part.at.0.tree) ∙ folder_kind _ (change.0 old refl) in
-    unchanged change.1 (record { started = part.started; tree = part.tree; at = record { free = part.at.1; top = folder; files = λ k d h. absurd (omega (arith, h)); tree = part.at.0.tree } })
-starts_dest job past start old new prefix read here next held calls layout (MakesRoot was number item is) change at part = made_next job past start held old new number item change is part
+    unchanged change.1 (record {
+      started = part.started;
+      tree = part.tree;
+      at = record
+          { free = part.at.1; top = folder; files = λ k d h. absurd (omega (arith, h)); tree = part.at.0.tree };
+    })
+starts_dest job past start old new prefix read here next held calls layout (MakesRoot was number item is) change at part = made_next job past start held old new
+    number item change is part
 starts_dest job past start old new prefix read here next held calls layout (RenamesRoot was) change at part =
     let is = some_same new (after_rename staging storage_root old) change in
     rw is
@@ -153,5 +199,7 @@ starts_dest job past start old new prefix read here next held calls layout (Rena
       tree = tree_moved _ _ part.tree (root_may_move job start old part.started part.at);
       at = record { root = record { free = part.at.free; root = inl part.at.root }; came = refl; tree = moved_root job start part.started part.at };
     })
-starts_dest job past start old new prefix read here next held calls layout (IsSame was number path bytes is) change at part = unchanged change.2 (checked_next job past start held number path bytes layout is (change.1 old refl) part)
-starts_dest job past start old new prefix read here next held calls layout turn change at part = unchanged change (record { started = part.started; tree = part.tree; at = part.at })
+starts_dest job past start old new prefix read here next held calls layout (IsSame was number path bytes is) change at part = unchanged change.2
+    (checked_next job past start held number path bytes layout is (change.1 old refl) part)
+starts_dest job past start old new prefix read here next held calls layout turn change at part = unchanged change
+    (record { started = part.started; tree = part.tree; at = part.at })

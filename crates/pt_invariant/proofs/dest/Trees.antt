@@ -94,7 +94,8 @@ tree_moved t {from} to tree can = record {
     stays : (q : Path) → rest_below to q ≡ None → rest_below from q ≡ None → t q ≡ Some Folder → moved t from to q ≡ Some Folder
     stays q off away folder = ap (λ o. moved_at t from o (rest_below from q) q) off ∙ ap (λ o. moved_at t from None o q) away ∙ folder
 
-    by : (q : Path) (n : List ℕ) (o : Option Path) → rest_below to (q ++ n ∷ []) ≡ o → IsSome (moved_at t from o (rest_below from (q ++ n ∷ [])) (q ++ n ∷ [])) → moved t from to q ≡ Some Folder
+    by : (q : Path) (n : List ℕ) (o : Option Path) → rest_below to (q ++ n ∷ []) ≡ o → IsSome (moved_at t from o (rest_below from (q ++ n ∷ [])) (q ++ n ∷ []))
+        → moved t from to q ≡ Some Folder
     by q n None off some = away (rest_below from (q ++ n ∷ [])) refl some
       where
         away : (o : Option Path) → rest_below from (q ++ n ∷ []) ≡ o → IsSome (moved_at t from None o (q ++ n ∷ [])) → moved t from to q ≡ Some Folder
@@ -105,9 +106,11 @@ tree_moved t {from} to tree can = record {
         under : (o : Option Path) → rest_below to q ≡ o → moved t from to q ≡ Some Folder
         under (Some more) here =
             let whole : q ≡ to ++ more = whole_of to q more here in
-            let rest_is : Some rest ≡ Some (more ++ n ∷ []) = sym on ∙ ap (rest_below to) (ap (λ (p : Path). p ++ n ∷ []) whole ∙ append_assoc to more (n ∷ [])) ∙ rest_of to _ in
+            let rest_is : Some rest ≡ Some (more ++ n ∷ []) = sym on ∙ ap (rest_below to) (ap (λ (p : Path). p ++ n ∷ []) whole ∙ append_assoc to more (n ∷ []))
+            ∙ rest_of to _ in
             let there : IsSome (t ((from ++ more) ++ n ∷ [])) =
-            ap is_some (ap t (append_assoc from more (n ∷ []))) ∙ ap (λ o. is_some (moved_at t from o (rest_below from (q ++ n ∷ [])) (q ++ n ∷ []))) (sym rest_is) ∙ some in
+            ap is_some (ap t (append_assoc from more (n ∷ []))) ∙ ap (λ o. is_some (moved_at t from o (rest_below from (q ++ n ∷ [])) (q ++ n ∷ [])))
+            (sym rest_is) ∙ some in
             ap (λ o. moved_at t from o (rest_below from q) q) here ∙ tree.above (from ++ more) n there
         under None off =
             let same : to ≡ q ++ n ∷ [] = is_same to (q ++ n ∷ []) (only (leads to q) _ (ap is_some off) (sym (leads-push to q n) ∙ ap is_some on)) in

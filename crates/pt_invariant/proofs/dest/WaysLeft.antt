@@ -33,7 +33,8 @@ stands_above t tree q (name ∷ rest) less some = by (t (q ++ name ∷ [])) refl
         append_assoc' (x ∷ q) = ap (λ p. x ∷ p) (append_assoc' q)
 
 -- so it is in a root
-in_root : (now : Tree) → IsTree now → (q p : Path) → is_some (rest_below q p) ≡ true → length q < length p → is_some (root_in now p) ≡ true → root_in now q ≡ Some Folder
+in_root : (now : Tree) → IsTree now → (q p : Path) → is_some (rest_below q p) ≡ true → length q < length p → is_some (root_in now p) ≡ true
+    → root_in now q ≡ Some Folder
 in_root now tree q p on short some = by (rest_below q p) refl
   where
     by : (o : Option Path) → rest_below q p ≡ o → root_in now q ≡ Some Folder
@@ -78,4 +79,6 @@ ways_left job b now objects (object ∷ others) tree is within =
     stands = ap (λ (t : Tree). is_some (t place)) is ∙ way_stands job objects b place own
 
     free : is_way_free job (with_objects job objects b) object ≡ true
-    free = all_true (λ folder. is_folder_or_free (with_objects job objects b folder)) _ (λ q one. let above = is_above q place one in ap is_folder_or_free (sym (ap (λ (t : Tree). t q) is) ∙ in_root now tree q place above.on above.short stands))
+    free = all_true (λ folder. is_folder_or_free (with_objects job objects b folder)) _
+        (λ q one. let above = is_above q place one in ap is_folder_or_free (sym (ap (λ (t : Tree). t q) is)
+        ∙ in_root now tree q place above.on above.short stands))

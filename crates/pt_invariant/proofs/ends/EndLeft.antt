@@ -15,7 +15,8 @@ use Rattle.pt_invariant.specs.FaultState.{FaultStateAndLog}
 use Rattle.pt_invariant.proofs.faults.LeftNow.{between_left}
 use Rattle.pt_invariant.proofs.faults.LogsLeft.{end_in_part, some_items}
 
-pub end_left : {job : Job} {source : Forest} {start now : Tree} {first : List ℕ} {last told : List ℕ} → last ≡ first ++ told → IsEnd job source start now told → FaultStateAndLog job source start now first last
+pub end_left : {job : Job} {source : Forest} {start now : Tree} {first : List ℕ} {last told : List ℕ} → last ≡ first ++ told → IsEnd job source start now told
+    → FaultStateAndLog job source start now first last
 end_left {job} {source} {start} {told} log is =
     let root = root_in start in
     let some = some_items job source is.begins.store in
@@ -27,11 +28,13 @@ end_left {job} {source} {start} {told} log is =
       told = told;
       log = log;
       left = between_left {job = job} {source = source} {start = start} {k = n} {log = told} is.free (omega (arith, long))
-          (end_in_part job source root {k = some.0} {count = n} whole [] long all (sym (append-nil whole)) (is.log ∙ (all_items_are_all job source root n all).3))
+          (end_in_part job source root {k = some.0} {count = n} whole [] long all (sym (append-nil whole)) (is.log
+          ∙ (all_items_are_all job source root n all).3))
           (is.tree ∙ ap (with_root start) (sym (all_items_are_all job source root n all).1));
     }
 
 -- of a run that hasn't ended nothing is said
-pub left_unless : (here : Phase) {job : Job} {source : Forest} {start now : Tree} {first last : List ℕ} → (here ≡ phase.Ended → FaultStateAndLog job source start now first last) → FaultStateAt here job source start now first last
+pub left_unless : (here : Phase) {job : Job} {source : Forest} {start now : Tree} {first last : List ℕ}
+    → (here ≡ phase.Ended → FaultStateAndLog job source start now first last) → FaultStateAt here job source start now first last
 left_unless phase.Ended at_end = at_end refl
 left_unless _ _ = tt

@@ -15,7 +15,8 @@ use Rattle.pt_invariant.proofs.ends.Ending.{ends_well}
 use Rattle.pt_invariant.proofs.items.Telling.{both_tell}
 
 -- what told at the start was a tree, and the names in the source rise
-well_told : (job : Job) (start : Start) (states : DeviceStates) (run : Run) {s : Reading} {t : Tree} → RunInvariant job start states run → states.source ≡ Some s → start.dest ≡ Some t → (is_proper s.tree ≡ true) × IsTree t
+well_told : (job : Job) (start : Start) (states : DeviceStates) (run : Run) {s : Reading} {t : Tree} → RunInvariant job start states run
+    → states.source ≡ Some s → start.dest ≡ Some t → (is_proper s.tree ≡ true) × IsTree t
 unfolding RunInvariant
 well_told job start states run {s} (past, is) source_is start_is =
     ((is.source s source_is).proper, (both_tell (DestPart job past run.phase run.kept.held) start.dest states.dest start_is is.dest).2.started)

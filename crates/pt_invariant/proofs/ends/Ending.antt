@@ -1,5 +1,32 @@
 -- What a run leaves that ends well.
-use Rattle.std.proofs.Common.{inl, inr, ◌≡◌, ◌≤◌, ◌==◌, ◌+◌, ℕ, zero, suc, Bool, true, false, List, [], ◌∷◌, ◌++◌, refl, ap, sym, ◌∙◌, subst, append_assoc, arith, cond, drop, length}
+use Rattle.std.proofs.Common.{
+  inl,
+  inr,
+  ◌≡◌,
+  ◌≤◌,
+  ◌==◌,
+  ◌+◌,
+  ℕ,
+  zero,
+  suc,
+  Bool,
+  true,
+  false,
+  List,
+  [],
+  ◌∷◌,
+  ◌++◌,
+  refl,
+  ap,
+  sym,
+  ◌∙◌,
+  subst,
+  append_assoc,
+  arith,
+  cond,
+  drop,
+  length,
+}
 use Rattle.std.specs.List.{list_all}
 use Rattle.std.specs.Prelude.{◌&&◌, ◌⊎◌, Option, Some, Ok, nat_lt}
 use Rattle.std.proofs.lemmas.Bool.{true≢false}
@@ -53,14 +80,20 @@ pub record IsLastTurn (counts : Counts) (here : Phase) (held after : Held) (call
   pub calls_are : calls ≡ tells (last_line counts)
   pub held_is : after ≡ held
 
-pub last_turn : {job : Job} {counts : Counts} {here : Phase} {prefix : List ℕ} {held : Held} {read : List ℕ} {after : Held} {calls : Calls} {next : Phase} → Next job counts here prefix held read after calls (Ok next) → is_ended next ≡ true → IsLastTurn counts here held after calls
-last_turn (a_start (MakesRoot _ number _ _)) ended = absurd (true≢false (sym ended ∙ either_not (number == 5) (phase.Opening opening.RootRename) (phase.Opening (opening.RootMake (number + 1))) refl refl))
-last_turn (a_start (IsSame _ number _ _ _)) ended = absurd (true≢false (sym ended ∙ either_not (number == 2) (phase.Opening opening.OpenRoot) (phase.Opening (opening.RootCheck (number + 1))) refl refl))
+pub last_turn : {job : Job} {counts : Counts} {here : Phase} {prefix : List ℕ} {held : Held} {read : List ℕ} {after : Held} {calls : Calls} {next : Phase}
+    → Next job counts here prefix held read after calls (Ok next) → is_ended next ≡ true → IsLastTurn counts here held after calls
+last_turn (a_start (MakesRoot _ number _ _)) ended = absurd (true≢false (sym ended
+    ∙ either_not (number == 5) (phase.Opening opening.RootRename) (phase.Opening (opening.RootMake (number + 1))) refl refl))
+last_turn (a_start (IsSame _ number _ _ _)) ended = absurd (true≢false (sym ended
+    ∙ either_not (number == 2) (phase.Opening opening.OpenRoot) (phase.Opening (opening.RootCheck (number + 1))) refl refl))
 last_turn (Walk (OpensRoot _ _)) ended = absurd (cc)
 last_turn (Scan (StartsInSite _ _ _)) ended = absurd (cc)
-last_turn {job} (Make (MakesSidecar _ object)) ended = absurd (true≢false (sym ended ∙ either_not (job.tuples.count == 0) (phase.Carrying object stage.Rename) (phase.Carrying object (stage.Tuples 0)) refl refl))
-last_turn {job} (Place (MakesTuple _ object number)) ended = absurd (true≢false (sym ended ∙ either_not (nat_lt (number + 1) job.tuples.count) (phase.Carrying object (stage.Tuples (number + 1))) (phase.Carrying object stage.Rename) refl refl))
-last_turn {job} (Place (FindsTuple _ object number)) ended = absurd (true≢false (sym ended ∙ either_not (nat_lt (number + 1) job.tuples.count) (phase.Carrying object (stage.Tuples (number + 1))) (phase.Carrying object stage.Rename) refl refl))
+last_turn {job} (Make (MakesSidecar _ object)) ended = absurd (true≢false (sym ended
+    ∙ either_not (job.tuples.count == 0) (phase.Carrying object stage.Rename) (phase.Carrying object (stage.Tuples 0)) refl refl))
+last_turn {job} (Place (MakesTuple _ object number)) ended = absurd (true≢false (sym ended
+    ∙ either_not (nat_lt (number + 1) job.tuples.count) (phase.Carrying object (stage.Tuples (number + 1))) (phase.Carrying object stage.Rename) refl refl))
+last_turn {job} (Place (FindsTuple _ object number)) ended = absurd (true≢false (sym ended
+    ∙ either_not (nat_lt (number + 1) job.tuples.count) (phase.Carrying object (stage.Tuples (number + 1))) (phase.Carrying object stage.Rename) refl refl))
 last_turn (Place (TellsEnd _)) _ = record { phase_is = refl; calls_are = refl; held_is = refl }
 last_turn _ ended = absurd (cc)
 
@@ -80,15 +113,20 @@ all_done job source {count} none =
 -- ---- what the parts say then
 
 -- the ways to objects are as free in a root as in what objects are put on there
-ways_in_base : (job : Job) {root : Tree} (objects : List Carried) → IsRooted root → list_all (is_way_free job (base job.tuples root)) objects ≡ list_all (is_way_free job root) objects
+ways_in_base : (job : Job) {root : Tree} (objects : List Carried) → IsRooted root
+    → list_all (is_way_free job (base job.tuples root)) objects ≡ list_all (is_way_free job root) objects
 ways_in_base _ [] _ = refl
 ways_in_base job {root} (object ∷ objects) rooted =
     ap (λ b. b && list_all (is_way_free job (base job.tuples root)) objects) (way_in_base job root object rooted)
     ∙ ap (λ b. is_way_free job root object && b) (ways_in_base job objects rooted)
 
-module _ (job : Job) (past : History) (held : Held) (prefix : List ℕ) (counts : Counts) (s : Reading) (t : Tree) (now : Writing) (source : SourcePart job past phase.End prefix held s) (dest : DestPart job past phase.End held t now) (items_are : ItemsPart job past phase.End counts s.tree (root_in t)) where
-  all_are : (carried_among job s.tree (root_in t) past.count ≡ all_carried job s.tree (root_in t)) × (after job s.tree (root_in t) past.count ≡ after_all job s.tree (root_in t))
-      × (lines job s.tree (root_in t) past.count ≡ all_lines job s.tree (root_in t)) × (log_of job s.tree (root_in t) ≡ text job s.tree (root_in t) past.count ++ line_text (end_line (lines job s.tree (root_in t) past.count)))
+module _ (job : Job) (past : History) (held : Held) (prefix : List ℕ) (counts : Counts) (s : Reading) (t : Tree) (now : Writing)
+    (source : SourcePart job past phase.End prefix held s) (dest : DestPart job past phase.End held t now)
+    (items_are : ItemsPart job past phase.End counts s.tree (root_in t)) where
+  all_are : (carried_among job s.tree (root_in t) past.count ≡ all_carried job s.tree (root_in t))
+      × (after job s.tree (root_in t) past.count ≡ after_all job s.tree (root_in t))
+      × (lines job s.tree (root_in t) past.count ≡ all_lines job s.tree (root_in t))
+      × (log_of job s.tree (root_in t) ≡ text job s.tree (root_in t) past.count ++ line_text (end_line (lines job s.tree (root_in t) past.count)))
   all_are = all_items_are_all job s.tree (root_in t) past.count (all_done job s.tree source.at.2)
 
   placed_all : past.placed ≡ all_carried job s.tree (root_in t)
@@ -106,7 +144,8 @@ module _ (job : Job) (past : History) (held : Held) (prefix : List ℕ) (counts 
   ways : list_all (is_way_free job (root_in t)) (all_carried job s.tree (root_in t)) ≡ true
   ways =
       sym (ways_in_base job (all_carried job s.tree (root_in t)) rooted)
-      ∙ ways_left job (base job.tuples (root_in t)) now.tree (all_carried job s.tree (root_in t)) (all_carried job s.tree (root_in t)) dest.tree (ap root_in tree_all) (λ p on. on)
+      ∙ ways_left job (base job.tuples (root_in t)) now.tree (all_carried job s.tree (root_in t)) (all_carried job s.tree (root_in t)) dest.tree
+      (ap root_in tree_all) (λ p on. on)
 
   target : IsFree t storage_root ⊎ HasRootFiles job (root_in t) 3 → IsFree (root_in t) [] ⊎ IsUsable job s.tree (root_in t)
   target (inl free) = inl free
@@ -115,7 +154,8 @@ module _ (job : Job) (past : History) (held : Held) (prefix : List ℕ) (counts 
   pub is_start : IsStart job s.tree (root_in t)
   is_start = record { store = source.at.1.store; prefix = source.at.1.good; target = target dest.at.root.root }
 
-  pub log_all : (first : List ℕ) {last : List ℕ} → last ≡ (first ++ text job s.tree (root_in t) past.count) ++ line_text (last_line counts) → (told : List ℕ) × (last ≡ first ++ told) × (told ≡ log_of job s.tree (root_in t))
+  pub log_all : (first : List ℕ) {last : List ℕ} → last ≡ (first ++ text job s.tree (root_in t) past.count) ++ line_text (last_line counts)
+      → (told : List ℕ) × (last ≡ first ++ told) × (told ≡ log_of job s.tree (root_in t))
   log_all first is = (
     text job s.tree (root_in t) past.count ++ line_text (last_line counts),
     is ∙ append_assoc first (text job s.tree (root_in t) past.count) (line_text (last_line counts)),
@@ -139,14 +179,26 @@ dest_same : {old new : Option Writing} → Changes ChangesNothing old new → ne
 unfolding Changes
 dest_same change = change
 
-module _ (job : Job) (past : History) (start : Start) (old new : DeviceStates) (run : Run) (after : Kept) (s : Reading) (t : Tree) (now : Writing) (first last : List ℕ) (calls : Calls) where
-  pub ended : IsHistory job start old run past → Next job (turning run.kept).counts run.phase run.kept.prefix run.kept.held after.prefix after.held calls (Ok phase.Ended) → Happens calls old new
+module _ (job : Job) (past : History) (start : Start) (old new : DeviceStates) (run : Run) (after : Kept) (s : Reading) (t : Tree) (now : Writing)
+    (first last : List ℕ) (calls : Calls) where
+  pub ended : IsHistory job start old run past → Next job (turning run.kept).counts run.phase run.kept.prefix run.kept.held after.prefix after.held calls
+      (Ok phase.Ended) → Happens calls old new
       → after.counts ≡ counted calls.line (turning run.kept).counts
       → old.source ≡ Some s → start.dest ≡ Some t → new.dest ≡ Some now → start.log ≡ Some first → new.log ≡ Some last
       → ((told : List ℕ) × (last ≡ first ++ told) × IsEnd job s.tree t now.tree told) × (last_line after.counts ≡ end_line (all_lines job s.tree (root_in t)))
   ended is turn did counted_is source_is start_is dest_is first_is last_is = (
-    ((told).0, (told).1, record { begins = is_start job past held run.kept.prefix counts s t now source dest items_are; free = dest.at.root.free; tree = tree_all job past held run.kept.prefix counts s t now source dest items_are; log = (told).2 }),
-    ap last_line (counted_is ∙ ap (λ (c : Calls). counted c.line (turning run.kept).counts) at.calls_are) ∙ counts_all job past held run.kept.prefix counts s t now source dest items_are,
+    (
+      (told).0,
+      (told).1,
+      record {
+        begins = is_start job past held run.kept.prefix counts s t now source dest items_are;
+        free = dest.at.root.free;
+        tree = tree_all job past held run.kept.prefix counts s t now source dest items_are;
+        log = (told).2;
+      },
+    ),
+    ap last_line (counted_is ∙ ap (λ (c : Calls). counted c.line (turning run.kept).counts) at.calls_are)
+        ∙ counts_all job past held run.kept.prefix counts s t now source dest items_are,
   )
     where
       held : Held
@@ -180,10 +232,12 @@ module _ (job : Job) (past : History) (start : Start) (old new : DeviceStates) (
       has_told = subst (λ here. HasTold job s.tree (root_in t) past here first (logged).0) at.phase_is (logged).2
 
       put : last ≡ (logged).0 ++ line_text (last_line counts)
-      put = put_behind (last_line counts) (logged).0 (subst (λ (c : Calls). Puts c.line (Some (logged).0) (Some last)) at.calls_are (subst (λ o. Puts calls.line o (Some last)) (logged).1 (subst (Puts calls.line old.log) last_is did.log)))
+      put = put_behind (last_line counts) (logged).0 (subst (λ (c : Calls). Puts c.line (Some (logged).0) (Some last)) at.calls_are
+          (subst (λ o. Puts calls.line o (Some last)) (logged).1 (subst (Puts calls.line old.log) last_is did.log)))
 
       told : (told : List ℕ) × (last ≡ first ++ told) × (told ≡ log_of job s.tree (root_in t))
-      told = log_all job past held run.kept.prefix counts s t now source dest items_are first (put ∙ ap (λ (front : List ℕ). front ++ line_text (last_line counts)) has_told)
+      told = log_all job past held run.kept.prefix counts s t now source dest items_are first (put
+          ∙ ap (λ (front : List ℕ). front ++ line_text (last_line counts)) has_told)
 
 pub ends_well : EndsWell
 unfolding RunInvariant Did

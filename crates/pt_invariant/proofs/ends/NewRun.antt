@@ -38,11 +38,13 @@ source_new job proper = record {
   few = omega arith;
 }
 
-dest_new : (job : Job) (dest : Option Writing) → ForSome dest (λ now. IsTree now.tree) → TellsAsBefore (dest_tree dest) dest (DestPart job no_history (phase.Opening opening.Begin) nothing_held)
+dest_new : (job : Job) (dest : Option Writing) → ForSome dest (λ now. IsTree now.tree)
+    → TellsAsBefore (dest_tree dest) dest (DestPart job no_history (phase.Opening opening.Begin) nothing_held)
 dest_new _ None _ = tt
 dest_new _ (Some now) tree = record { started = tree now refl; tree = tree now refl; at = record { tree = refl } }
 
-log_new : (job : Job) (source : Forest) (root : Tree) (log : Option (List ℕ)) → TellsStill log log (HasTold job source root no_history (phase.Opening opening.Begin))
+log_new : (job : Job) (source : Forest) (root : Tree) (log : Option (List ℕ))
+    → TellsStill log log (HasTold job source root no_history (phase.Opening opening.Begin))
 log_new _ _ _ None = tt
 log_new _ _ _ (Some bytes) = sym (append-nil bytes)
 

@@ -52,12 +52,14 @@ use Rattle.pt_invariant.proofs.dest.StartsDest.{root_item_made, root_may_move}
 -- ---- the source
 
 -- the directory at the innermost place is there
-enterable : (source : Forest) (t : List Frame) {name : List ℕ} → is_store source ≡ true → is_proper (pairtree_of source) ≡ true → Fits (pairtree_of source) t → current_entry t ≡ Some (name, kind.Dir) → IsSome (dir_at source (pairtree_root ∷ names_to t))
+enterable : (source : Forest) (t : List Frame) {name : List ℕ} → is_store source ≡ true → is_proper (pairtree_of source) ≡ true → Fits (pairtree_of source) t
+    → current_entry t ≡ Some (name, kind.Dir) → IsSome (dir_at source (pairtree_root ∷ names_to t))
 enterable source [] store proper fits e = absurd (cc)
 enterable source (frame ∷ frames) {name} store proper fits e =
     let top = pairtree_of source in
     let here : names_to (frame ∷ frames) ≡ names_to frames ++ name ∷ [] = path_grows frame frames (name, kind.Dir) e in
-    ap (λ (o : Option Node). is_some (option_and_then as_dir o)) (reads_below source top (pairtree_root ∷ []) (names_to (frame ∷ frames)) (pairtree_there source store)).0
+    ap (λ (o : Option Node). is_some (option_and_then as_dir o)) (reads_below source top (pairtree_root ∷ []) (names_to (frame ∷ frames))
+    (pairtree_there source store)).0
     ∙ ap (λ (p : Path). is_some (dir_at top p)) here
     ∙ ap is_some (directory_there top frame frames name proper fits e)
 
@@ -89,7 +91,8 @@ prefix_there : (o : Option Node) → option_map kind_of o ≡ Some kind.File →
 prefix_there (Some (File bytes)) _ = refl
 prefix_there _ is = absurd (cc)
 
-may_open_prefix : {reading : Option Reading} {here : Option Kind} → ForSome reading (λ s. here ≡ option_map kind_of (find s.tree prefix_file)) → MayOpenPrefix reading here
+may_open_prefix : {reading : Option Reading} {here : Option Kind} → ForSome reading (λ s. here ≡ option_map kind_of (find s.tree prefix_file))
+    → MayOpenPrefix reading here
 unfolding MayOpenPrefix CanOpen
 may_open_prefix knows file s is = prefix_there (find s.tree prefix_file) (sym (knows s is) ∙ file)
 
@@ -115,7 +118,8 @@ may_write : {writing : Option Writing} → ForSome writing (λ now. IsSome now.w
 unfolding CanWrite
 may_write knows now is = knows now is
 
-may_make_root : (job : Job) {writing : Option Writing} (number : ℕ) → ((item : Item) → slice_get (root_script job.tuples) number ≡ Some item → ForSome writing (λ now. CanMake now.tree (item_path item))) → MayMakeRootItem writing job.tuples number
+may_make_root : (job : Job) {writing : Option Writing} (number : ℕ) → ((item : Item) → slice_get (root_script job.tuples) number ≡ Some item
+    → ForSome writing (λ now. CanMake now.tree (item_path item))) → MayMakeRootItem writing job.tuples number
 unfolding MayMakeRootItem
 may_make_root _ {writing} _ knows item is = may_make (knows item is)
 
@@ -126,20 +130,26 @@ has_parent _ knows now is = knows now is
 -- ---- an object that is made
 
 -- the next item of its script
-next_item : {job : Job} {past : History} {object : Object} {here : Part} {held : Held} {item : Item} {writing : Option Writing} → HeldAt job past (phase.Carrying object (stage.Make here)) held → KnowsDest job past (phase.Carrying object (stage.Make here)) held writing
+next_item : {job : Job} {past : History} {object : Object} {here : Part} {held : Held} {item : Item} {writing : Option Writing}
+    → HeldAt job past (phase.Carrying object (stage.Make here)) held → KnowsDest job past (phase.Carrying object (stage.Make here)) held writing
     → IsNext (script_of_object job object held.rows past.bytes) (made_before job object held.rows past.bytes here) item → MayMake writing (item_path item)
 next_item {job} {past} {object} {here} {held} {item} at dest next =
     may_make
     (λ now is. let known = dest now is in item_may job known.0 past.placed object held.rows past.bytes _ item now known.1.started at.rows.order next known.1.at)
 
-pub may_open_row : {job : Job} {past : History} {object : Object} {here : Part} {prefix : List ℕ} {held : Held} (n : ℕ) {row : Row} {reading : Option Reading} → KnowsSource job past (phase.Carrying object (stage.Make here)) prefix held reading → slice_get held.rows n ≡ Some row → MayOpenRow reading object held.trail row.path
+pub may_open_row : {job : Job} {past : History} {object : Object} {here : Part} {prefix : List ℕ} {held : Held} (n : ℕ) {row : Row} {reading : Option Reading}
+    → KnowsSource job past (phase.Carrying object (stage.Make here)) prefix held reading → slice_get held.rows n ≡ Some row
+    → MayOpenRow reading object held.trail row.path
 unfolding MayOpenRow CanOpen
 may_open_row {job} {past} {object} {prefix} {held} n {row} source is s same =
     let known = source s same in
-    ap is_some (file_in_pairtree s.tree (path_of_source object held.trail ++ row.path) known.at.0.store ∙ (file_of_row job s prefix object held past.count n row known.proper is known.at).stands)
+    ap is_some (file_in_pairtree s.tree (path_of_source object held.trail ++ row.path) known.at.0.store
+    ∙ (file_of_row job s prefix object held past.count n row known.proper is known.at).stands)
 
-may_make_content : {job : Job} {past : History} {object : Object} {position : Position} {prefix : List ℕ} {held : Held} {reading : Option Reading} {writing : Option Writing} → HeldAt job past (phase.Carrying object (stage.Make (a_part.Content position))) held
-    → KnowsSource job past (phase.Carrying object (stage.Make (a_part.Content position))) prefix held reading → KnowsDest job past (phase.Carrying object (stage.Make (a_part.Content position))) held writing → MayMakeContent reading writing object held position
+may_make_content : {job : Job} {past : History} {object : Object} {position : Position} {prefix : List ℕ} {held : Held} {reading : Option Reading}
+    {writing : Option Writing} → HeldAt job past (phase.Carrying object (stage.Make (a_part.Content position))) held
+    → KnowsSource job past (phase.Carrying object (stage.Make (a_part.Content position))) prefix held reading
+    → KnowsDest job past (phase.Carrying object (stage.Make (a_part.Content position))) held writing → MayMakeContent reading writing object held position
 unfolding MayMakeContent
 may_make_content {job} {past} {object} {position} {held} at source dest row is stored =
     let here = is_here job past object position held row at is stored in (
@@ -152,8 +162,10 @@ may_make_content {job} {past} {object} {position} {held} at source dest row is s
       ),
     )
 
-may_make_part : {job : Job} {past : History} {object : Object} (here : Part) {prefix : List ℕ} {held : Held} {reading : Option Reading} {writing : Option Writing} → HeldAt job past (phase.Carrying object (stage.Make here)) held
-    → KnowsSource job past (phase.Carrying object (stage.Make here)) prefix held reading → KnowsDest job past (phase.Carrying object (stage.Make here)) held writing → MayMakePart job object here held reading writing
+may_make_part : {job : Job} {past : History} {object : Object} (here : Part) {prefix : List ℕ} {held : Held} {reading : Option Reading}
+    {writing : Option Writing} → HeldAt job past (phase.Carrying object (stage.Make here)) held
+    → KnowsSource job past (phase.Carrying object (stage.Make here)) prefix held reading
+    → KnowsDest job past (phase.Carrying object (stage.Make here)) held writing → MayMakePart job object here held reading writing
 may_make_part {job} {past} {object} a_part.Staging {held} at _ dest = next_item at dest (next_staging job object held.rows past.bytes)
 may_make_part {job} {past} {object} a_part.Declaration {held} at _ dest =
     next_item at dest (next_declaration job object held.rows past.bytes)
@@ -168,22 +180,32 @@ may_make_part {job} {past} {object} a_part.Sidecar {held} at _ dest = next_item 
 
 -- ---- by the phase
 
-permits : {job : Job} {past : History} (here : Phase) {prefix : List ℕ} {held : Held} {reading : Option Reading} {writing : Option Writing} → HeldAt job past here held → KnowsSource job past here prefix held reading → KnowsDest job past here held writing → Enabled job here held reading writing
+permits : {job : Job} {past : History} (here : Phase) {prefix : List ℕ} {held : Held} {reading : Option Reading} {writing : Option Writing}
+    → HeldAt job past here held → KnowsSource job past here prefix held reading → KnowsDest job past here held writing → Enabled job here held reading writing
 permits (phase.Opening opening.Begin) {reading} _ _ _ = top_listed reading
 permits (phase.Opening (opening.Prefix _)) _ source _ = may_open_prefix (λ s is. (source s is).at.3)
-permits {job} (phase.Opening (opening.RootMake number)) _ _ dest = may_make_root job number (λ item is now same. let known = dest now same in root_item_made job known.0 number item now known.1.started is known.1.at)
-permits {job} (phase.Opening opening.RootRename) _ _ dest = may_move (λ now is. let known = dest now is in root_may_move job known.0 now known.1.started known.1.at)
+permits {job} (phase.Opening (opening.RootMake number)) _ _ dest = may_make_root job number
+    (λ item is now same. let known = dest now same in root_item_made job known.0 number item now known.1.started is known.1.at)
+permits {job} (phase.Opening opening.RootRename) _ _ dest = may_move (λ now is. let known = dest now is in root_may_move job known.0 now known.1.started
+    known.1.at)
 permits (phase.Opening opening.OpenRoot) _ source _ = enters_root (λ s is. (source s is).at.2.store)
-permits (phase.Carrying _ stage.Open) {held} _ source _ = λ apart. may_enter held.trail (λ s is. let known = source s is in (known.at.1.store, known.proper, known.at.2.fits))
+permits (phase.Carrying _ stage.Open) {held} _ source _ = λ apart. may_enter held.trail
+    (λ s is. let known = source s is in (known.at.1.store, known.proper, known.at.2.fits))
 permits (phase.Carrying _ stage.Scan) {held} _ source _ = (
   may_enter held.trail (λ s is. let known = source s is in (known.at.0.store, known.proper, known.at.1.stands.fits)),
   may_open held.trail (λ s is. let known = source s is in (known.at.0.store, known.proper, known.at.1.stands.fits)),
 )
 permits (phase.Carrying _ (stage.Read _)) _ source _ = may_read (λ s is. (_, (source s is).at.2.read.left))
 permits (phase.Carrying _ (stage.Make here)) at source dest = may_make_part here at source dest
-permits (phase.Carrying _ (stage.Copy _ _)) _ source dest = (may_read (λ s is. (_, (source s is).at.2.read.left)), may_write (λ now is. ap is_some (dest now is).1.at.writes.writing))
-permits {job} {past} (phase.Carrying object (stage.Tuples number)) {held} at _ dest = has_parent (tuple_folder object number) (λ now is. let known = dest now is in tuple_parent job past known.0 object held number now at.numbers at known.1)
-permits {job} {past} (phase.Carrying object stage.Rename) {held} at _ dest = may_move (λ now is. let known = dest now is in object_may_move job past known.0 object held now at known.1)
+permits (phase.Carrying _ (stage.Copy _ _)) _ source dest = (
+  may_read (λ s is. (_, (source s is).at.2.read.left)),
+  may_write
+      (λ now is. ap is_some (dest now is).1.at.writes.writing),
+)
+permits {job} {past} (phase.Carrying object (stage.Tuples number)) {held} at _ dest = has_parent (tuple_folder object number)
+    (λ now is. let known = dest now is in tuple_parent job past known.0 object held number now at.numbers at known.1)
+permits {job} {past} (phase.Carrying object stage.Rename) {held} at _ dest = may_move
+    (λ now is. let known = dest now is in object_may_move job past known.0 object held now at known.1)
 permits phase.Walk {held} _ source _ = may_enter held.trail (λ s is. let known = source s is in (known.at.1.store, known.proper, known.at.2.fits))
 permits _ _ _ _ = tt
 

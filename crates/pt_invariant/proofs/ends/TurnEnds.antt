@@ -14,7 +14,25 @@ use Rattle.pt_plan.specs.Turn.{Did, FailsAtFirst, FailsLater, Next, IsRefused, F
 use Rattle.pt_plan.specs.TurnMake.{ReadsMore, ReadsOther}
 use Rattle.pt_plan.specs.TurnPlace.{IsInTheWay}
 use Rattle.pt_plan.specs.TurnStart.{HasStaging, IsNoRoot, IsNoFile, Differs}
-use Rattle.pt_plan.specs.DeviceStates.{Answers, Asked, AsksNothing, Calls, Change, Changes, LeavesFront, LeavesPart, Lists, NewFile, OfFile, OfPiece, Opens, OpensAndReads, Reads, Untouched, DeviceStates}
+use Rattle.pt_plan.specs.DeviceStates.{
+  Answers,
+  Asked,
+  AsksNothing,
+  Calls,
+  Change,
+  Changes,
+  LeavesFront,
+  LeavesPart,
+  Lists,
+  NewFile,
+  OfFile,
+  OfPiece,
+  Opens,
+  OpensAndReads,
+  Reads,
+  Untouched,
+  DeviceStates,
+}
 use Rattle.pt_plan.specs.declared.fault.Fault.{Fault}
 use Rattle.pt_plan.specs.declared.phase.Phase.{Phase}
 use Rattle.pt_plan.specs.declared.phase.Phase.TheVariants as phase
@@ -34,7 +52,8 @@ use Rattle.pt_invariant.proofs.ends.TurnKeeps.{told_log}
 
 -- ---- what the answers that halt a run change
 
-pub refused_same : {job : Job} {counts : Counts} {here : Phase} {prefix : List ℕ} {held : Held} {read : List ℕ} {after : Held} {calls : Calls} {why : Fault} {old new : Option Writing} → Next job counts here prefix held read after calls (Err why) → Changes calls.change old new → new ≡ old
+pub refused_same : {job : Job} {counts : Counts} {here : Phase} {prefix : List ℕ} {held : Held} {read : List ℕ} {after : Held} {calls : Calls} {why : Fault}
+    {old new : Option Writing} → Next job counts here prefix held read after calls (Err why) → Changes calls.change old new → new ≡ old
 unfolding Changes
 refused_same (a_start (HasStaging _ _)) change = change.1
 refused_same (a_start (IsNoRoot _ _ _)) change = change.1
@@ -61,7 +80,8 @@ answers_tree (OpensAndReads _ _) None _ answers = ap tree_in answers.1
 answers_tree (OpensAndReads _ _) (Some _) _ answers = ap tree_in answers.1
 
 -- the source that told tells the same tree
-pub same_tree : (old : Option Reading) {new : Option Reading} {v : Reading} → tree_in new ≡ tree_in old → new ≡ Some v → (s : Reading) × (old ≡ Some s) × (v.tree ≡ s.tree)
+pub same_tree : (old : Option Reading) {new : Option Reading} {v : Reading} → tree_in new ≡ tree_in old → new ≡ Some v
+    → (s : Reading) × (old ≡ Some s) × (v.tree ≡ s.tree)
 same_tree None {v} same is = absurd (let no : Some v.tree ≡ None = sym (ap tree_in is) ∙ same in cc)
 same_tree (Some s) {v} same is = (s, refl, some_same v.tree s.tree (sym (ap tree_in is) ∙ same))
 
@@ -100,10 +120,12 @@ module _ (job : Job) (past : History) (start : Start) (old new : DeviceStates) (
 
   -- where all three tell, this is left
   abbrev pub Leaves : Type 0
-  Leaves = (s : Reading) (t : Tree) (now : Writing) (first last : List ℕ) → old.source ≡ Some s → start.dest ≡ Some t → new.dest ≡ Some now → start.log ≡ Some first → new.log ≡ Some last → FaultStateAndLog job s.tree t now.tree first last
+  Leaves = (s : Reading) (t : Tree) (now : Writing) (first last : List ℕ) → old.source ≡ Some s → start.dest ≡ Some t → new.dest ≡ Some now
+      → start.log ≡ Some first → new.log ≡ Some last → FaultStateAndLog job s.tree t now.tree first last
 
   -- whatever of the destination is left
-  dest_ends : a_past job start old run past → ((w : Writing) (t : Tree) → start.dest ≡ Some t → old.dest ≡ Some w → DestHere t w → (v : Writing) × (new.dest ≡ Some v) × IsLeftTree job t v) → (old.dest ≡ None → new.dest ≡ None) → Ended
+  dest_ends : a_past job start old run past → ((w : Writing) (t : Tree) → start.dest ≡ Some t → old.dest ≡ Some w → DestHere t w
+      → (v : Writing) × (new.dest ≡ Some v) × IsLeftTree job t v) → (old.dest ≡ None → new.dest ≡ None) → Ended
   dest_ends is some none = by start.dest old.dest refl refl is.dest
     where
       by : (o : Option Tree) (w : Option Writing) → start.dest ≡ o → old.dest ≡ w → TellsAsBefore start.dest old.dest DestHere → Ended
@@ -116,11 +138,19 @@ module _ (job : Job) (past : History) (start : Start) (old new : DeviceStates) (
           rw a
           (rw it.1 (record { started = known.started; tree = it.2.tree; at = it.2.left }))
 
-  ends : a_past job start old run past → after.held.trail ≡ run.kept.held.trail → after.counts ≡ (turning run.kept).counts → tree_in new.source ≡ tree_in old.source → Ended → ((l : List ℕ) → old.log ≡ Some l → (now : List ℕ) × (new.log ≡ Some now)) → Leaves
+  ends : a_past job start old run past → after.held.trail ≡ run.kept.held.trail → after.counts ≡ (turning run.kept).counts
+      → tree_in new.source ≡ tree_in old.source → Ended → ((l : List ℕ) → old.log ≡ Some l → (now : List ℕ) × (new.log ≡ Some now)) → Leaves
       → a_past job start new (record { phase = phase.Ended; kept = after }) past
   ends is trail counts source dest log leaves = record {
     layout = is.layout;
-    held = record { trail = record { is_one = ap is_trail trail ∙ is.held.trail.is_one; none = tt; entry = tt }; ends = tt; rows = tt; behind = tt; numbers = tt; fed = tt };
+    held = record {
+      trail = record { is_one = ap is_trail trail ∙ is.held.trail.is_one; none = tt; entry = tt };
+      ends = tt;
+      rows = tt;
+      behind = tt;
+      numbers = tt;
+      fed = tt;
+    };
     source = λ v same.
         let s = same_tree old.source source same in
         record { proper = ap is_proper s.2 ∙ (is.source s.0 s.1).proper; at = tt; bytes = tt; few = tt };
@@ -130,7 +160,11 @@ module _ (job : Job) (past : History) (start : Start) (old new : DeviceStates) (
         let it = is.items s.0 s.1 t some in
         rw s.2
         (rw counts
-        (record { places = record { placed = tt; next = tt }; lines_are = record { done = it.lines_are.done; present = it.lines_are.present; skipped = it.lines_are.skipped } }));
+        (record {
+          places = record { placed = tt; next = tt };
+          lines_are = record
+              { done = it.lines_are.done; present = it.lines_are.present; skipped = it.lines_are.skipped };
+        }));
     log = λ v same t some. log_at v same t some start.log refl;
     quiet = quiet_at start.log refl;
     left = λ v same t some now told first is_first last is_last.
@@ -145,7 +179,8 @@ module _ (job : Job) (past : History) (start : Start) (old new : DeviceStates) (
           let now = log had.0 had.1 in
           rw now.1 tt
 
-      log_at : (v : Reading) → new.source ≡ Some v → (t : Tree) → start.dest ≡ Some t → (o : Option (List ℕ)) → start.log ≡ o → TellsStill o new.log (HasTold job v.tree (root_in t) past phase.Ended)
+      log_at : (v : Reading) → new.source ≡ Some v → (t : Tree) → start.dest ≡ Some t → (o : Option (List ℕ)) → start.log ≡ o
+          → TellsStill o new.log (HasTold job v.tree (root_in t) past phase.Ended)
       log_at v same t some None none = tt
       log_at v same t some (Some first) is_first =
           let s = same_tree old.source source same in
@@ -164,7 +199,8 @@ module _ (job : Job) (past : History) (start : Start) (old new : DeviceStates) (
 
 module _ (job : Job) (past : History) (start : Start) (old new : DeviceStates) (run : Run) (s : Reading) (t : Tree) (now : Writing) (first last : List ℕ) where
   -- nothing was changed
-  left_same : a_past job start old run past → old.source ≡ Some s → start.dest ≡ Some t → Some now ≡ old.dest → start.log ≡ Some first → Some last ≡ old.log → {here : Phase} → run.phase ≡ here → FaultStateAndLog job s.tree t now.tree first last
+  left_same : a_past job start old run past → old.source ≡ Some s → start.dest ≡ Some t → Some now ≡ old.dest → start.log ≡ Some first → Some last ≡ old.log
+      → {here : Phase} → run.phase ≡ here → FaultStateAndLog job s.tree t now.tree first last
   left_same is source_is start_is dest_is first_is last_is {here} at = by (is_ended here) refl
     where
       at_end : (p : Phase) → is_ended p ≡ true → FaultStateAt p job s.tree t now.tree first last → FaultStateAndLog job s.tree t now.tree first last
@@ -172,26 +208,32 @@ module _ (job : Job) (past : History) (start : Start) (old new : DeviceStates) (
       at_end _ over left = absurd (cc)
 
       by : (b : Bool) → is_ended here ≡ b → FaultStateAndLog job s.tree t now.tree first last
-      by false runs = same_leaves job past start old run s t first (tells_all job past start old run s t first is (ap is_ended at ∙ runs) source_is start_is first_is) dest_is last_is
+      by false runs = same_leaves job past start old run s t first (tells_all job past start old run s t first is (ap is_ended at ∙ runs) source_is start_is
+          first_is) dest_is last_is
       by true over = at_end here over (rw (at) at (is.left s source_is t start_is now (sym dest_is) first first_is last (sym last_is)))
 
-  pub halted_left : {after : Kept} {why : Fault} → a_past job start old run past → Turn job run.phase (turning run.kept) after old new (Err why) → old.source ≡ Some s → start.dest ≡ Some t → new.dest ≡ Some now → start.log ≡ Some first → new.log ≡ Some last → FaultStateAndLog job s.tree t now.tree first last
+  pub halted_left : {after : Kept} {why : Fault} → a_past job start old run past → Turn job run.phase (turning run.kept) after old new (Err why)
+      → old.source ≡ Some s → start.dest ≡ Some t → new.dest ≡ Some now → start.log ≡ Some first → new.log ≡ Some last
+      → FaultStateAndLog job s.tree t now.tree first last
   unfolding Did FailsUnchanged FailsPartway
   halted_left is (IsRefused _ _ calls _ turn did _) source_is start_is dest_is first_is last_is =
       left_same is source_is start_is (sym dest_is ∙ refused_same turn did.0.dest) first_is
       (sym last_is ∙ none_put calls.line (refused_quiet turn) did.0.log) refl
-  halted_left is (FailsAtFirst _ stays _) source_is start_is dest_is first_is last_is = left_same is source_is start_is (sym dest_is ∙ stays.1) first_is (sym last_is ∙ stays.2) refl
+  halted_left is (FailsAtFirst _ stays _) source_is start_is dest_is first_is last_is = left_same is source_is start_is (sym dest_is ∙ stays.1) first_is
+      (sym last_is ∙ stays.2) refl
   halted_left is (FailsLater _ _ _ _ _ _ turn leaves _ _) source_is start_is dest_is first_is last_is =
       broken_leaves job past start old run s t first
       (tells_all job past start old run s t first is (follows_runs turn) source_is start_is first_is) turn leaves.0 source_is dest_is last_is
 
 pub stops_leave : StopsLeave
 unfolding RunInvariant
-stops_leave job start states run s t now first last (past, is) source_is start_is dest_is first_is last_is = left_same job past start states states run s t now first last is source_is start_is (sym dest_is) first_is (sym last_is) refl
+stops_leave job start states run s t now first last (past, is) source_is start_is dest_is first_is last_is = left_same job past start states states run s t now
+    first last is source_is start_is (sym dest_is) first_is (sym last_is) refl
 
 pub halts_leave : HaltsLeave
 unfolding RunInvariant
-halts_leave job start old new run _ _ s t now first last (past, is) turn source_is start_is dest_is first_is last_is = halted_left job past start old new run s t now first last is turn source_is start_is dest_is first_is last_is
+halts_leave job start old new run _ _ s t now first last (past, is) turn source_is start_is dest_is first_is last_is = halted_left job past start old new run s
+    t now first last is turn source_is start_is dest_is first_is last_is
 
 -- ---- the law
 
@@ -202,10 +244,15 @@ turn_ends_invariant job start old new run after _ (past, is) (IsRefused prefix h
   ends job past start old new run after is halted.trail halted.counts (answers_tree calls.asked old.source new.source did.0.source)
       (same_ends job past start old new run after is (refused_same turn did.0.dest))
       (λ l some. told_log calls.line l new.log (rw some at did.0.log))
-      (λ s t now first last source_is start_is dest_is first_is last_is. halted_left job past start old new run s t now first last is (IsRefused prefix held calls reason turn did halted) source_is start_is dest_is first_is last_is),
+      (λ s t now first last source_is start_is dest_is first_is last_is. halted_left job past start old new run s t now first last is
+      (IsRefused prefix held calls reason turn did halted) source_is start_is dest_is first_is last_is),
 )
-turn_ends_invariant job start old new run after _ (past, is) (FailsAtFirst reason stays halted) =
-    (past, ends job past start old new run after is halted.trail halted.counts stays.0 (same_ends job past start old new run after is stays.1) (λ l some. (l, stays.2 ∙ some)) (λ s t now first last source_is start_is dest_is first_is last_is. halted_left job past start old new run s t now first last is (FailsAtFirst reason stays halted) source_is start_is dest_is first_is last_is))
+turn_ends_invariant job start old new run after _ (past, is) (FailsAtFirst reason stays halted) = (
+  past,
+  ends job past start old new run after is halted.trail halted.counts stays.0 (same_ends job past start old new run after is stays.1)
+      (λ l some. (l, stays.2 ∙ some)) (λ s t now first last source_is start_is dest_is first_is last_is. halted_left job past start old new run s t now first
+      last is (FailsAtFirst reason stays halted) source_is start_is dest_is first_is last_is),
+)
 turn_ends_invariant job start old new run after _ (past, is) (FailsLater prefix held calls answer rows reason turn leaves which halted) = (
   past,
   ends job past start old new run after is halted.trail halted.counts leaves.0.source
@@ -216,5 +263,6 @@ turn_ends_invariant job start old new run after _ (past, is) (FailsLater prefix 
       (v.0, v.1, follows_left turn is.held known (rw v.1 at left)))
       (λ none. part_untold new.dest (rw none at leaves.0.dest)))
       (λ l some. front_told calls.line l new.log (rw some at leaves.0.log))
-      (λ s t now first last source_is start_is dest_is first_is last_is. halted_left job past start old new run s t now first last is (FailsLater prefix held calls answer rows reason turn leaves which halted) source_is start_is dest_is first_is last_is),
+      (λ s t now first last source_is start_is dest_is first_is last_is. halted_left job past start old new run s t now first last is
+      (FailsLater prefix held calls answer rows reason turn leaves which halted) source_is start_is dest_is first_is last_is),
 )

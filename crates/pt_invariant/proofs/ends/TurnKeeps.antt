@@ -12,7 +12,30 @@ use Rattle.pt_plan.specs.Lines.{Line}
 use Rattle.pt_plan.specs.Roots.{root_in}
 use Rattle.pt_plan.specs.Run.{Counts, Held, Kept, Run, turning}
 use Rattle.pt_plan.specs.Turn.{Did, Next, Happens, Start as a_start, Walk, Scan, Make, Place, GoesOn, counted}
-use Rattle.pt_plan.specs.DeviceStates.{Adds, Answers, Asked, AsksNothing, Calls, Change, Changes, ChangesNothing, Creates, Finds, FindsNoneAndMakes, Finishes, Lists, Makes, Opens, OpensAndReads, Peeks, Puts, Reads, Renames, DeviceStates, after_make}
+use Rattle.pt_plan.specs.DeviceStates.{
+  Adds,
+  Answers,
+  Asked,
+  AsksNothing,
+  Calls,
+  Change,
+  Changes,
+  ChangesNothing,
+  Creates,
+  Finds,
+  FindsNoneAndMakes,
+  Finishes,
+  Lists,
+  Makes,
+  Opens,
+  OpensAndReads,
+  Peeks,
+  Puts,
+  Reads,
+  Renames,
+  DeviceStates,
+  after_make,
+}
 use Rattle.pt_plan.specs.declared.phase.Phase.{Phase}
 use Rattle.pt_invariant.specs.RunInvariant.{RunInvariant, HasTold, IsHistory, IsQuiet, ItemsPart, FaultStateAt, Start, TellsAsBefore, TellsStill}
 use Rattle.pt_invariant.specs.DestInvariant.{DestPart}
@@ -86,43 +109,74 @@ told_log (Some _) _ (Some now) _ = (now, refl)
 -- ---- the laws of the groups, together
 
 module _ (job : Job) (past : History) where
-  follows_held : {counts : Counts} {here : Phase} {prefix : List ℕ} {held : Held} {read : List ℕ} {after : Held} {calls : Calls} {next : Phase} (old new : Option Reading) → Next job counts here prefix held read after calls (Ok next)
+  follows_held : {counts : Counts} {here : Phase} {prefix : List ℕ} {held : Held} {read : List ℕ} {after : Held} {calls : Calls} {next : Phase}
+      (old new : Option Reading) → Next job counts here prefix held read after calls (Ok next)
       → Answers calls.asked old new → HeldAt job past here held → HeldAt job (history_after here next held past) next after
   follows_held {here} {prefix} {held} {read} {calls} {next} _ _ (a_start turn) _ at = starts_hold job past prefix read here next held calls turn at
-  follows_held {here} {prefix} {held} {after} {calls} {next} old new (Walk turn) answers at = walks_hold job past old new prefix here next held after calls turn answers at
+  follows_held {here} {prefix} {held} {after} {calls} {next} old new (Walk turn) answers at = walks_hold job past old new prefix here next held after calls turn
+      answers at
   follows_held {here} {held} {after} {calls} {next} old new (Scan turn) answers at = scans_hold job past old new here next held after calls turn answers at
   follows_held {here} {held} {after} {calls} {next} _ _ (Make turn) _ at = makes_hold job past here held after calls next turn at
   follows_held {counts} {here} {held} {after} {calls} {next} _ _ (Place turn) _ at = places_hold job counts past here next held after calls turn at
 
-  follows_source : {counts : Counts} {here : Phase} {prefix : List ℕ} {held : Held} {read : List ℕ} {after : Held} {calls : Calls} {next : Phase} {s : Reading} {new : Reading} → Next job counts here prefix held read after calls (Ok next)
-      → Answers calls.asked (Some s) (Some new) → HeldAt job past here held → SourcePart job past here prefix held s → SourcePart job (history_after here next held past) next read after new
-  follows_source {here} {prefix} {held} {read} {calls} {next} {s} {new} (a_start turn) answers at known = starts_source job past s new prefix read here next held calls turn answers at known
-  follows_source {here} {prefix} {held} {after} {calls} {next} {s} {new} (Walk turn) answers at known = walks_source job past s new prefix here next held after calls turn answers at known
-  follows_source {here} {prefix} {held} {after} {calls} {next} {s} {new} (Scan turn) answers at known = scans_source job past s new prefix here next held after calls turn answers at known
-  follows_source {here} {prefix} {held} {after} {calls} {next} {s} {new} (Make turn) answers at known = makes_source job past s new prefix here held after calls next turn answers at known
-  follows_source {counts} {here} {prefix} {held} {after} {calls} {next} {s} {new} (Place turn) answers at known = places_source job counts past s new prefix here next held after calls turn answers at known
+  follows_source : {counts : Counts} {here : Phase} {prefix : List ℕ} {held : Held} {read : List ℕ} {after : Held} {calls : Calls} {next : Phase} {s : Reading}
+      {new : Reading} → Next job counts here prefix held read after calls (Ok next)
+      → Answers calls.asked (Some s) (Some new) → HeldAt job past here held → SourcePart job past here prefix held s
+      → SourcePart job (history_after here next held past) next read after new
+  follows_source {here} {prefix} {held} {read} {calls} {next} {s} {new} (a_start turn) answers at known = starts_source job past s new prefix read here next
+      held calls turn answers at known
+  follows_source {here} {prefix} {held} {after} {calls} {next} {s} {new} (Walk turn) answers at known = walks_source job past s new prefix here next held after
+      calls turn answers at known
+  follows_source {here} {prefix} {held} {after} {calls} {next} {s} {new} (Scan turn) answers at known = scans_source job past s new prefix here next held after
+      calls turn answers at known
+  follows_source {here} {prefix} {held} {after} {calls} {next} {s} {new} (Make turn) answers at known = makes_source job past s new prefix here held after calls
+      next turn answers at known
+  follows_source {counts} {here} {prefix} {held} {after} {calls} {next} {s} {new} (Place turn) answers at known = places_source job counts past s new prefix
+      here next held after calls turn answers at known
 
-  follows_dest : {counts : Counts} {here : Phase} {prefix : List ℕ} {held : Held} {read : List ℕ} {after : Held} {calls : Calls} {next : Phase} {start : Tree} {w v : Writing} → IsLayout job.tuples → Next job counts here prefix held read after calls (Ok next)
-      → Changes calls.change (Some w) (Some v) → HeldAt job past here held → DestPart job past here held start w → DestPart job (history_after here next held past) next after start v
-  follows_dest {here} {prefix} {held} {read} {calls} {next} {start} {w} {v} layout (a_start turn) change at known = starts_dest job past start w v prefix read here next held calls layout turn change at known
-  follows_dest {here} {prefix} {held} {after} {calls} {next} {start} {w} {v} _ (Walk turn) change at known = walks_dest job past start w v prefix here next held after calls turn change at known
-  follows_dest {here} {held} {after} {calls} {next} {start} {w} {v} _ (Scan turn) change at known = scans_dest job past start w v here next held after calls turn change at known
-  follows_dest {here} {held} {after} {calls} {next} {start} {w} {v} _ (Make turn) change at known = makes_dest job past start w v here held after calls next turn change at known
-  follows_dest {counts} {here} {held} {after} {calls} {next} {start} {w} {v} _ (Place turn) change at known = places_dest job counts past start w v here next held after calls turn change at known
+  follows_dest : {counts : Counts} {here : Phase} {prefix : List ℕ} {held : Held} {read : List ℕ} {after : Held} {calls : Calls} {next : Phase} {start : Tree}
+      {w v : Writing} → IsLayout job.tuples → Next job counts here prefix held read after calls (Ok next)
+      → Changes calls.change (Some w) (Some v) → HeldAt job past here held → DestPart job past here held start w
+      → DestPart job (history_after here next held past) next after start v
+  follows_dest {here} {prefix} {held} {read} {calls} {next} {start} {w} {v} layout (a_start turn) change at known = starts_dest job past start w v prefix read
+      here next held calls layout turn change at known
+  follows_dest {here} {prefix} {held} {after} {calls} {next} {start} {w} {v} _ (Walk turn) change at known = walks_dest job past start w v prefix here next held
+      after calls turn change at known
+  follows_dest {here} {held} {after} {calls} {next} {start} {w} {v} _ (Scan turn) change at known = scans_dest job past start w v here next held after calls
+      turn change at known
+  follows_dest {here} {held} {after} {calls} {next} {start} {w} {v} _ (Make turn) change at known = makes_dest job past start w v here held after calls next
+      turn change at known
+  follows_dest {counts} {here} {held} {after} {calls} {next} {start} {w} {v} _ (Place turn) change at known = places_dest job counts past start w v here next
+      held after calls turn change at known
 
-  follows_items : {counts : Counts} {here : Phase} {prefix : List ℕ} {held : Held} {read : List ℕ} {after : Held} {calls : Calls} {next : Phase} {start : Tree} {s : Reading} (new : Reading) {w : Writing} (v : Writing) → Next job counts here prefix held read after calls (Ok next)
-      → Answers calls.asked (Some s) (Some new) → Changes calls.change (Some w) (Some v) → KnowsItems job past here prefix held counts s start w → KeepsItems job past here held counts s start calls next × KeepsLog job past here held s start calls next
-  follows_items {counts} {here} {prefix} {held} {read} {calls} {next} {start} {s} _ {w} _ (a_start turn) _ _ known = starts_items job past s prefix read start w here next held counts calls turn known
-  follows_items {counts} {here} {prefix} {held} {after} {calls} {next} {start} {s} _ {w} v (Walk turn) _ change known = walks_items job past s prefix start w v here next held after counts calls turn change known
-  follows_items {counts} {here} {prefix} {held} {after} {calls} {next} {start} {s} new {w} _ (Scan turn) answers _ known = scans_items job past s new prefix start w here next held after counts calls turn answers known
-  follows_items {counts} {here} {prefix} {held} {after} {calls} {next} {start} {s} _ {w} _ (Make turn) _ _ known = makes_items job past s prefix start w here held after counts calls next turn known
-  follows_items {counts} {here} {prefix} {held} {after} {calls} {next} {start} {s} _ {w} _ (Place turn) _ _ known = places_items job past s prefix start w here next held after counts calls turn known
+  follows_items : {counts : Counts} {here : Phase} {prefix : List ℕ} {held : Held} {read : List ℕ} {after : Held} {calls : Calls} {next : Phase} {start : Tree}
+      {s : Reading} (new : Reading) {w : Writing} (v : Writing) → Next job counts here prefix held read after calls (Ok next)
+      → Answers calls.asked (Some s) (Some new) → Changes calls.change (Some w) (Some v) → KnowsItems job past here prefix held counts s start w
+      → KeepsItems job past here held counts s start calls next × KeepsLog job past here held s start calls next
+  follows_items {counts} {here} {prefix} {held} {read} {calls} {next} {start} {s} _ {w} _ (a_start turn) _ _ known = starts_items job past s prefix read start w
+      here next held counts calls turn known
+  follows_items {counts} {here} {prefix} {held} {after} {calls} {next} {start} {s} _ {w} v (Walk turn) _ change known = walks_items job past s prefix start w v
+      here next held after counts calls turn change known
+  follows_items {counts} {here} {prefix} {held} {after} {calls} {next} {start} {s} new {w} _ (Scan turn) answers _ known = scans_items job past s new prefix
+      start w here next held after counts calls turn answers known
+  follows_items {counts} {here} {prefix} {held} {after} {calls} {next} {start} {s} _ {w} _ (Make turn) _ _ known = makes_items job past s prefix start w here
+      held after counts calls next turn known
+  follows_items {counts} {here} {prefix} {held} {after} {calls} {next} {start} {s} _ {w} _ (Place turn) _ _ known = places_items job past s prefix start w here
+      next held after counts calls turn known
 
 -- ---- all parts
 
 -- the turn is counted, which no part speaks of
-pub still_counts : {job : Job} {past : History} {here : Phase} (kept : Kept) {source : Forest} {root : Tree} → ItemsPart job past here kept.counts source root → ItemsPart job past here (turning kept).counts source root
-still_counts _ it = record { places = it.places; lines_are = record { done = it.lines_are.done; present = it.lines_are.present; skipped = it.lines_are.skipped } }
+pub still_counts : {job : Job} {past : History} {here : Phase} (kept : Kept) {source : Forest} {root : Tree} → ItemsPart job past here kept.counts source root
+    → ItemsPart job past here (turning kept).counts source root
+still_counts _ it = record {
+  places = it.places;
+  lines_are = record {
+    done = it.lines_are.done;
+    present = it.lines_are.present;
+    skipped = it.lines_are.skipped;
+  };
+}
 
 module _ (job : Job) (past : History) (start : Start) (old new : DeviceStates) (run : Run) (after : Kept) (next : Phase) (calls : Calls) where
   abbrev before : Kept
@@ -163,7 +217,8 @@ module _ (job : Job) (past : History) (start : Start) (old new : DeviceStates) (
           (follows_dest job past is.layout turn change is.held known)
 
   keeps_items : Turned → Happens calls old new → IsHistory job start old run past → {v : Reading} → new.source ≡ Some v → {t : Tree} → start.dest ≡ Some t
-      → (s : Reading) × (v.tree ≡ s.tree) × (old.source ≡ Some s) × KeepsItems job past run.phase run.kept.held before.counts s t calls next × KeepsLog job past run.phase run.kept.held s t calls next
+      → (s : Reading) × (v.tree ≡ s.tree) × (old.source ≡ Some s) × KeepsItems job past run.phase run.kept.held before.counts s t calls next
+      × KeepsLog job past run.phase run.kept.held s t calls next
   keeps_items turn did is {v} same {t} some =
       let told = answered did same in
       let s = told.0 in
@@ -184,7 +239,8 @@ module _ (job : Job) (past : History) (start : Start) (old new : DeviceStates) (
       told_again w is_some (Both x v a b) = (v, b)
 
   -- the turn that ends it leaves what is left then
-  keeps_left : Turned → Happens calls old new → after.counts ≡ counted calls.line before.counts → IsHistory job start old run past → (v : Reading) → new.source ≡ Some v → (t : Tree) → start.dest ≡ Some t → (now : Writing) → new.dest ≡ Some now → (first : List ℕ) → start.log ≡ Some first
+  keeps_left : Turned → Happens calls old new → after.counts ≡ counted calls.line before.counts → IsHistory job start old run past → (v : Reading)
+      → new.source ≡ Some v → (t : Tree) → start.dest ≡ Some t → (now : Writing) → new.dest ≡ Some now → (first : List ℕ) → start.log ≡ Some first
       → (last : List ℕ) → new.log ≡ Some last → FaultStateAt next job v.tree t now.tree first last
   keeps_left turn did counts is v same t some now dest first is_first last is_last =
       left_unless next
@@ -196,7 +252,8 @@ module _ (job : Job) (past : History) (start : Start) (old new : DeviceStates) (
       let all = ended job past start old new run after s t now first last calls is turn_is did counts told.1 some dest is_first is_last in
       subst (λ (f : Forest). FaultStateAndLog job f t now.tree first last) (sym kept) (end_left all.0.1 all.0.2))
 
-  pub turned : Turned → Happens calls old new → after.counts ≡ counted calls.line before.counts → IsHistory job start old run past → IsHistory job start new (record { phase = next; kept = after }) later
+  pub turned : Turned → Happens calls old new → after.counts ≡ counted calls.line before.counts → IsHistory job start old run past
+      → IsHistory job start new (record { phase = next; kept = after }) later
   turned turn did counts is = record {
     layout = is.layout;
     held = follows_held job past old.source new.source turn did.source is.held;
@@ -204,7 +261,8 @@ module _ (job : Job) (past : History) (start : Start) (old new : DeviceStates) (
     dest = keeps_dest turn did is;
     items = λ v same t some.
         let kept = keeps_items turn did is same some in
-        subst (λ c. ItemsPart job later next c v.tree (root_in t)) (sym counts) (subst (λ (f : Forest). ItemsPart job later next (counted calls.line before.counts) f (root_in t)) (sym kept.1) kept.3);
+        subst (λ c. ItemsPart job later next c v.tree (root_in t)) (sym counts)
+        (subst (λ (f : Forest). ItemsPart job later next (counted calls.line before.counts) f (root_in t)) (sym kept.1) kept.3);
     log = λ v same t some. log_at v same t some start.log refl;
     quiet = quiet_at start.log refl;
     left = keeps_left turn did counts is;
@@ -222,7 +280,8 @@ module _ (job : Job) (past : History) (start : Start) (old new : DeviceStates) (
           let quietly = follows_quietly turn starts in
           some_same now.0 had.0 (sym now.1 ∙ none_put calls.line quietly.line puts) ∙ quiet_is run.phase quietly.start had.2))
 
-      log_at : (v : Reading) → new.source ≡ Some v → (t : Tree) → start.dest ≡ Some t → (o : Option (List ℕ)) → start.log ≡ o → TellsStill o new.log (HasTold job v.tree (root_in t) later next)
+      log_at : (v : Reading) → new.source ≡ Some v → (t : Tree) → start.dest ≡ Some t → (o : Option (List ℕ)) → start.log ≡ o
+          → TellsStill o new.log (HasTold job v.tree (root_in t) later next)
       log_at v same t some None none = tt
       log_at v same t some (Some first) is_first =
           let kept = keeps_items turn did is same some in
@@ -231,7 +290,8 @@ module _ (job : Job) (past : History) (start : Start) (old new : DeviceStates) (
           let puts = subst (λ o. Puts calls.line o new.log) had.1 did.log in
           let now = told_log calls.line had.0 new.log puts in
           subst (λ o. TellsStill (Some first) o (HasTold job v.tree (root_in t) later next)) (sym now.1)
-          (subst (λ (f : Forest). HasTold job f (root_in t) later next first now.0) (sym kept.1) (kept.4 first had.0 now.0 had.2 (subst (Puts calls.line (Some had.0)) now.1 puts)))
+          (subst (λ (f : Forest). HasTold job f (root_in t) later next first now.0) (sym kept.1)
+          (kept.4 first had.0 now.0 had.2 (subst (Puts calls.line (Some had.0)) now.1 puts)))
 
 pub turn_keeps_invariant : TurnKeepsInvariant
 unfolding RunInvariant Did

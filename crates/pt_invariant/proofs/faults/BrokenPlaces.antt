@@ -49,20 +49,24 @@ module _ (job : Job) (past : History) (s : Reading) (start : Tree) (prefix : Lis
       let many = some_items job s.tree known.source.at.1.store in
       let all = all_done job s.tree {count = past.count} known.source.at.2 in
       let lines_are = known.items.lines_are in
-      let line_is : last_line counts ≡ end_line (lines job s.tree root past.count) = (λ i. End (lines_are.done i) (lines_are.present i) (lines_are.skipped i)) in
+      let line_is : last_line counts ≡ end_line (lines job s.tree root past.count) = (λ i. End (lines_are.done i) (lines_are.present i) (lines_are.skipped i))
+      in
       let at_end : length (items job s.tree) ≤ suc many.0 = (let is = many.1 in omega (arith, is)) in
       let roots : after job s.tree root past.count ≡ after job s.tree root (suc many.0) =
       (all_items_are_all job s.tree root past.count all).1 ∙ sym (all_items_are_all job s.tree root (suc many.0) at_end).1 in
       record {
         told = so_far ++ front;
         log = put ∙ ap (λ l. l ++ front) before.log_is ∙ append_assoc first so_far front;
-        left = between_left {job = job} {source = s.tree} {start = start} {k = suc many.0} {log = so_far ++ front} known.dest.at.root.free (let is = many.1 in omega (arith, is))
-            (end_in_part job s.tree root {k = many.0} {count = past.count} front (drop n whole) many.1 all (ap line_text (sym line_is) ∙ sym (take-append-drop n whole)) refl)
+        left = between_left {job = job} {source = s.tree} {start = start} {k = suc many.0} {log = so_far ++ front} known.dest.at.root.free
+            (let is = many.1 in omega (arith, is))
+            (end_in_part job s.tree root {k = many.0} {count = past.count} front (drop n whole) many.1 all (ap line_text (sym line_is)
+            ∙ sym (take-append-drop n whole)) refl)
             (same ∙ tree_between s.tree past.count known.items.places.placed known.dest.at ∙ ap (with_root start) roots);
       }
 
   -- of an object's line
-  done_told : {object : Object} {held : Held} → Before held (phase.Carrying object stage.Line) → new.tree ≡ old.tree → LeavesFront (Some (done_line object held)) (Some log) (Some last) → Left
+  done_told : {object : Object} {held : Held} → Before held (phase.Carrying object stage.Line) → new.tree ≡ old.tree
+      → LeavesFront (Some (done_line object held)) (Some log) (Some last) → Left
   done_told {object} {held} before same put =
       let known = before.known in
       let tells = places_tell {counts = counts} (TellsDone held object) known.held_at known.source known.items.places.next in
@@ -70,12 +74,14 @@ module _ (job : Job) (past : History) (s : Reading) (start : Tree) (prefix : Lis
       (ends_item tells.1 refl refl)
       known.dest.at.root.free (same ∙ tree_between s.tree (suc past.count) known.items.places.placed known.dest.at) put
 
-  places_broken : {here : Phase} {held later : Held} {calls : Calls} {answer : Answer} → PlaceStep job counts here held later calls answer → Before held here → LeavesPart (Some old) (Some new) calls.change → LeavesFront calls.line (Some log) (Some last) → Left
+  places_broken : {here : Phase} {held later : Held} {calls : Calls} {answer : Answer} → PlaceStep job counts here held later calls answer → Before held here
+      → LeavesPart (Some old) (Some new) calls.change → LeavesFront calls.line (Some log) (Some last) → Left
   places_broken (TellsDone _ _) before left put = done_told before (plain_same refl left) put
   places_broken (TellsEnd _) before left put = end_told before (plain_same refl left) put
   places_broken {here} {held} _ before left put = left_quiet new before (plain_same refl left) put
 
-  pub follows_broken : {here : Phase} {held : Held} {read : List ℕ} {later : Held} {calls : Calls} {answer : Answer} → Next job counts here prefix held read later calls answer → Before held here → WereAnswered calls s old
+  pub follows_broken : {here : Phase} {held : Held} {read : List ℕ} {later : Held} {calls : Calls} {answer : Answer}
+      → Next job counts here prefix held read later calls answer → Before held here → WereAnswered calls s old
       → LeavesPart (Some old) (Some new) calls.change → LeavesFront calls.line (Some log) (Some last) → Left
   follows_broken {held} (a_start turn) before _ left put = starts_broken job past s start prefix counts old new first log last turn before left put
   follows_broken (Walk turn) before answered left put = walks_broken job past s start prefix counts old new first log last turn before answered left put

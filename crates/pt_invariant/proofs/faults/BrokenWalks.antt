@@ -40,8 +40,10 @@ module _ (job : Job) (past : History) (s : Reading) (start : Tree) (prefix : Lis
   -- ---- the walk
 
   -- it tells the line of an item of which nothing is carried
-  walk_told : {held later : Held} {here : Phase} {calls : Calls} {line : Line} → WalkStep job prefix here held later calls (Ok phase.Walk) → Before held here → calls.line ≡ Some line → past.placed ≡ carried_among job s.tree (root_in start) (items_through here past.count)
-      → Changes calls.change (Some old) (Some old) → IsFree start staging → old.tree ≡ with_root start (after job s.tree (root_in start) past.count) → new.tree ≡ old.tree → LeavesFront (Some line) (Some log) (Some last) → Left
+  walk_told : {held later : Held} {here : Phase} {calls : Calls} {line : Line} → WalkStep job prefix here held later calls (Ok phase.Walk) → Before held here
+      → calls.line ≡ Some line → past.placed ≡ carried_among job s.tree (root_in start) (items_through here past.count)
+      → Changes calls.change (Some old) (Some old) → IsFree start staging → old.tree ≡ with_root start (after job s.tree (root_in start) past.count)
+      → new.tree ≡ old.tree → LeavesFront (Some line) (Some log) (Some last) → Left
   walk_told {held} {here} turn before is placed found free tree same put =
       let known = before.known in
       left_skipped new before refl
@@ -49,37 +51,47 @@ module _ (job : Job) (past : History) (s : Reading) (start : Tree) (prefix : Lis
       is free tree same put
 
   -- or none
-  walk_passed : (told : Bool) {held later : Held} {here : Phase} {calls : Calls} (line : Line) → WalkStep job prefix here held later calls (Ok phase.Walk) → Before held here → calls.line ≡ cond told (Some line) None → past.placed ≡ carried_among job s.tree (root_in start) (items_through here past.count)
-      → Changes calls.change (Some old) (Some old) → IsFree start staging → old.tree ≡ with_root start (after job s.tree (root_in start) past.count) → new.tree ≡ old.tree → LeavesFront calls.line (Some log) (Some last) → (LeavesFront None (Some log) (Some last) → Left) → Left
+  walk_passed : (told : Bool) {held later : Held} {here : Phase} {calls : Calls} (line : Line) → WalkStep job prefix here held later calls (Ok phase.Walk)
+      → Before held here → calls.line ≡ cond told (Some line) None → past.placed ≡ carried_among job s.tree (root_in start) (items_through here past.count)
+      → Changes calls.change (Some old) (Some old) → IsFree start staging → old.tree ≡ with_root start (after job s.tree (root_in start) past.count)
+      → new.tree ≡ old.tree → LeavesFront calls.line (Some log) (Some last) → (LeavesFront None (Some log) (Some last) → Left) → Left
   walk_passed true _ turn before is placed found free tree same put _ =
       walk_told turn before is placed found free tree same (rw is at put)
   walk_passed false _ _ _ is _ _ _ _ _ put quiet = quiet (rw is at put)
 
-  pub walks_broken : {here : Phase} {held later : Held} {calls : Calls} {answer : Answer} → WalkStep job prefix here held later calls answer → Before held here → WereAnswered calls s old → LeavesPart (Some old) (Some new) calls.change → LeavesFront calls.line (Some log) (Some last) → Left
+  pub walks_broken : {here : Phase} {held later : Held} {calls : Calls} {answer : Answer} → WalkStep job prefix here held later calls answer → Before held here
+      → WereAnswered calls s old → LeavesPart (Some old) (Some new) calls.change → LeavesFront calls.line (Some log) (Some last) → Left
   unfolding Changes
   walks_broken (IsSkipped was why is) before _ left put =
-      walk_told (IsSkipped was why is) before refl before.known.items.places.placed refl before.known.dest.at.root.free (tree_between s.tree past.count before.known.items.places.placed before.known.dest.at) (plain_same refl left) put
+      walk_told (IsSkipped was why is) before refl before.known.items.places.placed refl before.known.dest.at.root.free
+      (tree_between s.tree past.count before.known.items.places.placed before.known.dest.at) (plain_same refl left) put
   walks_broken (IsPresent was index id kind is) before answered left put =
-      walk_told (IsPresent was index id kind is) before refl before.known.items.places.placed (answered.found, refl) before.known.dest.at.root.free (tree_between s.tree past.count before.known.items.places.placed before.known.dest.at) (plain_same refl left) put
+      walk_told (IsPresent was index id kind is) before refl before.known.items.places.placed (answered.found, refl) before.known.dest.at.root.free
+      (tree_between s.tree past.count before.known.items.places.placed before.known.dest.at) (plain_same refl left) put
   walks_broken {here} {held} (IsPast was name e short outermost) before _ left put =
-      walk_passed (is_first job.share) _ (IsPast was name e short outermost) before refl before.known.items.places.placed refl before.known.dest.at.root.free (tree_between s.tree past.count before.known.items.places.placed before.known.dest.at) (plain_same refl left) put
+      walk_passed (is_first job.share) _ (IsPast was name e short outermost) before refl before.known.items.places.placed refl before.known.dest.at.root.free
+      (tree_between s.tree past.count before.known.items.places.placed before.known.dest.at) (plain_same refl left) put
       (left_quiet new before (plain_same refl left))
   walks_broken {here} {held} (IsDeep was name e short inner deep) before _ left put =
-      walk_passed (is_first job.share) _ (IsDeep was name e short inner deep) before refl before.known.items.places.placed refl before.known.dest.at.root.free (tree_between s.tree past.count before.known.items.places.placed before.known.dest.at) (plain_same refl left) put
+      walk_passed (is_first job.share) _ (IsDeep was name e short inner deep) before refl before.known.items.places.placed refl before.known.dest.at.root.free
+      (tree_between s.tree past.count before.known.items.places.placed before.known.dest.at) (plain_same refl left) put
       (left_quiet new before (plain_same refl left))
   walks_broken {here} {held} _ before _ left put = left_quiet new before (plain_same refl left) put
 
   -- ---- the scan of an object
 
-  scan_told : {held later : Held} {here : Phase} {object : Object} {calls : Calls} {line : Line} (read : Reading) → ScanStep job here held later calls (Ok phase.Walk) → Before held here → calls.line ≡ Some line → Answers calls.asked (Some s) (Some read)
-      → past.placed ≡ carried_among job s.tree (root_in start) past.count → IsMakingObject job start past.placed object [] 0 old → new.tree ≡ old.tree → LeavesFront (Some line) (Some log) (Some last) → Left
+  scan_told : {held later : Held} {here : Phase} {object : Object} {calls : Calls} {line : Line} (read : Reading)
+      → ScanStep job here held later calls (Ok phase.Walk) → Before held here → calls.line ≡ Some line → Answers calls.asked (Some s) (Some read)
+      → past.placed ≡ carried_among job s.tree (root_in start) past.count → IsMakingObject job start past.placed object [] 0 old → new.tree ≡ old.tree
+      → LeavesFront (Some line) (Some log) (Some last) → Left
   scan_told {held} {here} read turn before is answers placed making same put =
       let known = before.known in
       left_skipped new before refl
       (scans_tell turn known.held_at.trail.is_one known.source known.items.places.next read answers)
       is making.root.free (tree_entered s.tree past.count placed making) same put
 
-  pub scans_broken : {here : Phase} {held later : Held} {calls : Calls} {answer : Answer} → ScanStep job here held later calls answer → Before held here → WereAnswered calls s old → LeavesPart (Some old) (Some new) calls.change → LeavesFront calls.line (Some log) (Some last) → Left
+  pub scans_broken : {here : Phase} {held later : Held} {calls : Calls} {answer : Answer} → ScanStep job here held later calls answer → Before held here
+      → WereAnswered calls s old → LeavesPart (Some old) (Some new) calls.change → LeavesFront calls.line (Some log) (Some last) → Left
   unfolding Answers
   scans_broken (IsTooDeep was object apart deep) before _ left put =
       scan_told s (IsTooDeep was object apart deep) before refl refl before.known.items.places.placed before.known.dest.at (plain_same refl left) put
@@ -90,5 +102,6 @@ module _ (job : Job) (past : History) (s : Reading) (start : Tree) (prefix : Lis
   scans_broken (MeetsOther was object name e) before _ left put =
       scan_told s (MeetsOther was object name e) before refl refl before.known.items.places.placed before.known.dest.at (plain_same refl left) put
   scans_broken (IsTooLong was object bytes byte block long) before answered left put =
-      scan_told (after_next s) (IsTooLong was object bytes byte block long) before refl (answered.read, refl) before.known.items.places.placed before.known.dest.at (plain_same refl left) put
+      scan_told (after_next s) (IsTooLong was object bytes byte block long) before refl (answered.read, refl) before.known.items.places.placed
+      before.known.dest.at (plain_same refl left) put
   scans_broken {here} {held} _ before _ left put = left_quiet new before (plain_same refl left) put

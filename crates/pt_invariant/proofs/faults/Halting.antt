@@ -25,7 +25,8 @@ use Rattle.pt_invariant.proofs.items.Telling.{both_tell, log_tells}
 use Rattle.pt_invariant.proofs.ends.TurnKeeps.{still_counts}
 
 -- a run that hasn't ended has told the lines of the items done
-pub told_now : (job : Job) (s : Reading) (t : Tree) (past : History) (here : Phase) (first : List ℕ) {now : List ℕ} → is_ended here ≡ false → HasTold job s.tree (root_in t) past here first now → now ≡ first ++ text job s.tree (root_in t) past.count
+pub told_now : (job : Job) (s : Reading) (t : Tree) (past : History) (here : Phase) (first : List ℕ) {now : List ℕ} → is_ended here ≡ false
+    → HasTold job s.tree (root_in t) past here first now → now ≡ first ++ text job s.tree (root_in t) past.count
 told_now job s t past phase.Ended first runs had = absurd (cc)
 told_now _ _ _ _ _ _ _ had = had
 
@@ -55,13 +56,15 @@ module _ (job : Job) (past : History) (start : Start) (old : DeviceStates) (run 
       }
 
   -- what is left where nothing was changed
-  pub same_leaves : {now : Writing} {last : List ℕ} → (had : TellsAll) → Some now ≡ old.dest → Some last ≡ old.log → FaultStateAndLog job s.tree t now.tree first last
+  pub same_leaves : {now : Writing} {last : List ℕ} → (had : TellsAll) → Some now ≡ old.dest → Some last ≡ old.log
+      → FaultStateAndLog job s.tree t now.tree first last
   same_leaves {now} {last} had dest log =
       left_quiet now had.before
       (ap (λ (w : Writing). w.tree) (some_same now had.now (dest ∙ had.dest_is))) (log ∙ had.log_told)
 
   -- and where a turn broke off
-  pub broken_leaves : {new : DeviceStates} {prefix : List ℕ} {held : Held} {calls : Calls} {answer : Answer} {now : Writing} {last : List ℕ} → TellsAll → Next job (turning run.kept).counts run.phase run.kept.prefix run.kept.held prefix held calls answer
+  pub broken_leaves : {new : DeviceStates} {prefix : List ℕ} {held : Held} {calls : Calls} {answer : Answer} {now : Writing} {last : List ℕ} → TellsAll
+      → Next job (turning run.kept).counts run.phase run.kept.prefix run.kept.held prefix held calls answer
       → IsPartway calls old new → old.source ≡ Some s → new.dest ≡ Some now → new.log ≡ Some last → FaultStateAndLog job s.tree t now.tree first last
   broken_leaves {calls} {now} {last} had turn broken source_is dest_is log_is =
       follows_broken job past s t run.kept.prefix (turning run.kept).counts had.now now first had.log last turn had.before

@@ -27,7 +27,16 @@ use Rattle.pt_plan.specs.declared.phase.Opening.TheVariants as opening
 use Rattle.pt_plan.specs.declared.phase.Phase.TheVariants as phase
 use Rattle.pt_plan.specs.declared.phase.Stage.TheVariants as stage
 use Rattle.pt_plan.specs.declared.phase.Position.{Position}
-use Rattle.pt_invariant.specs.DestInvariant.{CameToFreePlaces, DestPart, DestFaultStateOfRun, IsMakingObject, IsMakingRoot, IsRootOfStart, root_now, root_on_way}
+use Rattle.pt_invariant.specs.DestInvariant.{
+  CameToFreePlaces,
+  DestPart,
+  DestFaultStateOfRun,
+  IsMakingObject,
+  IsMakingRoot,
+  IsRootOfStart,
+  root_now,
+  root_on_way,
+}
 use Rattle.pt_invariant.specs.HeldInvariant.{AreRows, HeldAt, IsObject}
 use Rattle.pt_invariant.specs.PartsMade.{made_before, script_of_object}
 use Rattle.pt_invariant.specs.History.{History, object_held}
@@ -65,7 +74,8 @@ take_next : (front : List Item) (item : Item) (rest : List Item) → take (suc (
 take_next [] _ _ = refl
 take_next (x ∷ front) item rest = ap (λ l. x ∷ l) (take_next front item rest)
 
-pub stands_cut : {script front : List Item} {path : Path} {bytes : List ℕ} (count : ℕ) {start : Tree} {now : Tree} → IsNext script front (MakeFile path bytes) → now ≡ done (MakeFile path (take count bytes)) (made front start) → StandsAtPrefix script start now
+pub stands_cut : {script front : List Item} {path : Path} {bytes : List ℕ} (count : ℕ) {start : Tree} {now : Tree} → IsNext script front (MakeFile path bytes)
+    → now ≡ done (MakeFile path (take count bytes)) (made front start) → StandsAtPrefix script start now
 stands_cut {front} {path} {bytes} count {start} next is = record {
   items = suc (length front);
   bytes = count;
@@ -85,7 +95,8 @@ module _ (job : Job) (past : History) (start : Tree) (object : Object) (held : H
   script = script_of_object job object held.rows past.bytes
 
   -- it comes to a free place
-  comes : (place : IsObject job object) → AreRows job past.bytes held → CameToFreePlaces job start past.placed → root_now job start past.placed object.place ≡ None → come_to_free_places job (base job.tuples (root_in start)) (past.placed ++ carried ∷ []) ≡ true
+  comes : (place : IsObject job object) → AreRows job past.bytes held → CameToFreePlaces job start past.placed
+      → root_now job start past.placed object.place ≡ None → come_to_free_places job (base job.tuples (root_in start)) (past.placed ++ carried ∷ []) ≡ true
   comes place rows came free =
       one_comes job past.placed carried (base job.tuples (root_in start)) came
       (ap are_apart (paths_held held.rows past.bytes) ∙ in_order_apart (row_paths held.rows) rows.order)
@@ -97,7 +108,8 @@ module _ (job : Job) (past : History) (start : Tree) (object : Object) (held : H
 
   -- the root with some folders on the way
   pub on_way : {n : ℕ} → IsTree start → IsRootOfStart job start → IsObject job object → n ≤ job.tuples.count
-      → with_root start (root_on_way job start past.placed object.place n) ≡ with_root start (with_folders (take n (tuple_folders job carried)) (with_objects job past.placed (base job.tuples (root_in start))))
+      → with_root start (root_on_way job start past.placed object.place n)
+      ≡ with_root start (with_folders (take n (tuple_folders job carried)) (with_objects job past.placed (base job.tuples (root_in start))))
   on_way {n} tree root it few =
       let long = place_long job object it in
       ap (with_root start)
@@ -105,7 +117,8 @@ module _ (job : Job) (past : History) (start : Tree) (object : Object) (held : H
       ∙ ap (λ (p : Path). with_folders (take n (folders_above p)) (root_now job start past.placed)) it.place)
 
   -- so what is made of it is kept
-  pub made_kept : {n : ℕ} {items : List Item} {now : Tree} → IsTree start → IsObject job object → AreRows job past.bytes held → n ≤ job.tuples.count → {w : Writing} → IsMakingObject job start past.placed object items n w
+  pub made_kept : {n : ℕ} {items : List Item} {now : Tree} → IsTree start → IsObject job object → AreRows job past.bytes held → n ≤ job.tuples.count
+      → {w : Writing} → IsMakingObject job start past.placed object items n w
       → StandsAtPrefix script (with_root start (root_on_way job start past.placed object.place n)) now → DestFaultState job start now
   made_kept {n} {now} tree it rows few making at =
       Making past.placed carried n now (comes it rows making.came making.free)
@@ -113,8 +126,11 @@ module _ (job : Job) (past : History) (start : Tree) (object : Object) (held : H
       (rw (own_script rows) at at)))
 
   -- and with a content that holds other bytes
-  pub copy_kept : {front : List Item} {path : Path} {bytes : List ℕ} (read : List ℕ) {now : Tree} → IsTree start → IsObject job object → AreRows job past.bytes held → {w : Writing} → IsMakingObject job start past.placed object (front ++ MakeFile (staged_content path) read ∷ []) 0 w
-      → IsNext script front (MakeFile (staged_content path) bytes) → {other : List ℕ} → now ≡ done (MakeFile (staged_content path) other) (made front (with_root start (root_on_way job start past.placed object.place 0))) → DestFaultState job start now
+  pub copy_kept : {front : List Item} {path : Path} {bytes : List ℕ} (read : List ℕ) {now : Tree} → IsTree start → IsObject job object
+      → AreRows job past.bytes held → {w : Writing} → IsMakingObject job start past.placed object (front ++ MakeFile (staged_content path) read ∷ []) 0 w
+      → IsNext script front (MakeFile (staged_content path) bytes) → {other : List ℕ}
+      → now ≡ done (MakeFile (staged_content path) other) (made front (with_root start (root_on_way job start past.placed object.place 0)))
+      → DestFaultState job start now
   copy_kept {front} {path} {bytes} read {now} tree it rows making next {other} is =
       let root = with_root start (root_on_way job start past.placed object.place 0) in
       let at : StandsAtContent script root now = record {
@@ -124,7 +140,8 @@ module _ (job : Job) (past : History) (start : Tree) (object : Object) (held : H
         held = other;
         next = ap (λ (l : List Item). slice_get l (length front)) next.is ∙ get_behind front (MakeFile (staged_content path) bytes ∷ next.rest);
         content = refl;
-        stands = is ∙ ap (λ (l : List Item). done (MakeFile (staged_content path) other) (made l root)) (sym (ap (take (length front)) next.is ∙ taken_front front (MakeFile (staged_content path) bytes ∷ next.rest)));
+        stands = is ∙ ap (λ (l : List Item). done (MakeFile (staged_content path) other) (made l root))
+            (sym (ap (take (length front)) next.is ∙ taken_front front (MakeFile (staged_content path) bytes ∷ next.rest)));
       } in
       Making past.placed carried 0 now (comes it rows making.came making.free)
       (inr (rw (on_way {n = 0} tree making.root it (omega arith)) at
@@ -132,7 +149,8 @@ module _ (job : Job) (past : History) (start : Tree) (object : Object) (held : H
 
   -- before its script it is not there
   pub not_begun : {w : Writing} → IsMakingObject job start past.placed object [] 0 w → DestFaultState job start w.tree
-  not_begun making = subst (DestFaultState job start) (sym (making.tree ∙ ap (with_root start) (no_folders job start past.placed object.place))) (Holding past.placed making.came)
+  not_begun making = subst (DestFaultState job start) (sym (making.tree ∙ ap (with_root start) (no_folders job start past.placed object.place)))
+      (Holding past.placed making.came)
 
 -- a front of the script
 pub front_stands : {script front : List Item} {start : Tree} {now : Tree} → IsFront script front → now ≡ made front start → StandsAtPrefix script start now
@@ -144,39 +162,48 @@ front_stands {script} {front} {start} it is =
 pub root_free : (start : Tree) → IsFree start storage_root → IsFree (root_in start) []
 root_free _ free path = free path
 
-pub root_kept : {job : Job} {start now : Tree} {items : List Item} {w : Writing} → IsMakingRoot start items w → StandsAtPrefix (root_script job.tuples) start now → DestFaultState job start now
+pub root_kept : {job : Job} {start now : Tree} {items : List Item} {w : Writing} → IsMakingRoot start items w
+    → StandsAtPrefix (root_script job.tuples) start now → DestFaultState job start now
 root_kept {start} {now} making at = kept.MakingRoot now (root_free start making.root) at
 
 -- ---- by the phase
 
 -- a part of an object is made
-part_kept : {job : Job} {past : History} {start : Tree} {object : Object} {here : Part} {held : Held} {now : Writing} → HeldAt job past (phase.Carrying object (stage.Make here)) held → DestPart job past (phase.Carrying object (stage.Make here)) held start now → DestFaultState job start now.tree
+part_kept : {job : Job} {past : History} {start : Tree} {object : Object} {here : Part} {held : Held} {now : Writing}
+    → HeldAt job past (phase.Carrying object (stage.Make here)) held → DestPart job past (phase.Carrying object (stage.Make here)) held start now
+    → DestFaultState job start now.tree
 part_kept {job} {past} {start} {object} {here} {held} {now} at dest =
     made_kept job past start object held dest.started at.ends.0 at.rows (omega arith) dest.at
     (front_stands (front_made job object held.rows past.bytes here) dest.at.tree)
 
 -- or is whole
-whole_kept : {job : Job} (past : History) {start : Tree} {object : Object} {held : Held} {n : ℕ} {now : Writing} → IsTree start → IsObject job object → AreRows job past.bytes held → n ≤ job.tuples.count
+whole_kept : {job : Job} (past : History) {start : Tree} {object : Object} {held : Held} {n : ℕ} {now : Writing} → IsTree start → IsObject job object
+    → AreRows job past.bytes held → n ≤ job.tuples.count
     → IsMakingObject job start past.placed object (script_of_object job object held.rows past.bytes) n now → DestFaultState job start now.tree
 whole_kept {job} past {start} {object} {held} {n} {now} tree it rows few making =
     made_kept job past start object held tree it rows few making
-    (front_stands {front = script_of_object job object held.rows past.bytes} {start = with_root start (root_on_way job start past.placed object.place n)} (record { rest = []; is = sym (append-nil (script_of_object job object held.rows past.bytes)) }) making.tree)
+    (front_stands {front = script_of_object job object held.rows past.bytes} {start = with_root start (root_on_way job start past.placed object.place n)}
+    (record { rest = []; is = sym (append-nil (script_of_object job object held.rows past.bytes)) }) making.tree)
 
 -- a file is copied
-copying_kept : {job : Job} {past : History} {start : Tree} {object : Object} {position : Position} {left : ℕ} {held : Held} {now : Writing} → HeldAt job past (phase.Carrying object (stage.Copy position left)) held → DestPart job past (phase.Carrying object (stage.Copy position left)) held start now → DestFaultState job start now.tree
+copying_kept : {job : Job} {past : History} {start : Tree} {object : Object} {position : Position} {left : ℕ} {held : Held} {now : Writing}
+    → HeldAt job past (phase.Carrying object (stage.Copy position left)) held
+    → DestPart job past (phase.Carrying object (stage.Copy position left)) held start now → DestFaultState job start now.tree
 copying_kept {job} {past} {start} {object} {position} {left} {held} {now} at dest =
     let row = dest.at.writes.row in
     let is = dest.at.writes.is_row in
     let front = made_before job object held.rows past.bytes (a_part.Content position) in
     let root = with_root start (root_on_way job start past.placed object.place 0) in
     copy_kept job past start object held held.fed dest.started at.ends.0 at.rows dest.at.making
-    (file_next job object held.rows held.contents past.bytes position row (copy_here job past object position left held row at is) (copy_stands held position row is at.numbers))
+    (file_next job object held.rows held.contents past.bytes position row (copy_here job past object position left held row at is)
+    (copy_stands held position row is at.numbers))
     (dest.at.making.tree ∙ made_in_turn front (MakeFile (staged_content row.path) held.fed ∷ []) root)
 
 as_it_was : (job : Job) {start : Tree} (now : Writing) → now.tree ≡ start → DestFaultState job start now.tree
 as_it_was job {start} _ same = subst (DestFaultState job start) (sym same) kept.AsItWas
 
-pub kept_now : (job : Job) (past : History) (start : Tree) (here : Phase) (held : Held) (now : Writing) → HeldAt job past here held → DestPart job past here held start now → DestFaultStateOfRun job start now
+pub kept_now : (job : Job) (past : History) (start : Tree) (here : Phase) (held : Held) (now : Writing) → HeldAt job past here held
+    → DestPart job past here held start now → DestFaultStateOfRun job start now
 kept_now job _ _ (phase.Opening opening.Begin) _ now _ dest = record { kept = as_it_was job now dest.at.tree; stood = inr dest.at.tree }
 kept_now job _ _ (phase.Opening (opening.Prefix _)) _ now _ dest = record { kept = as_it_was job now dest.at.tree; stood = inr dest.at.tree }
 kept_now job _ _ (phase.Opening opening.Staging) _ now _ dest = record { kept = as_it_was job now dest.at.tree; stood = inr dest.at.tree }
@@ -185,16 +212,24 @@ kept_now _ _ _ (phase.Opening (opening.RootMake number)) _ _ _ dest = record {
   kept = root_kept dest.at (stands_whole number dest.at.tree);
   stood = inl (record { free = dest.at.free; root = inl dest.at.root });
 }
-kept_now _ _ _ (phase.Opening opening.RootRename) _ _ _ dest = record { kept = root_kept dest.at (stands_whole 6 dest.at.tree); stood = inl (record { free = dest.at.free; root = inl dest.at.root }) }
+kept_now _ _ _ (phase.Opening opening.RootRename) _ _ _ dest = record {
+  kept = root_kept dest.at (stands_whole 6 dest.at.tree);
+  stood = inl
+      (record { free = dest.at.free; root = inl dest.at.root });
+}
 kept_now job _ _ (phase.Opening (opening.RootCheck _)) _ now _ dest = record { kept = as_it_was job now dest.at.tree; stood = inr dest.at.tree }
-kept_now job past start (phase.Carrying object stage.Open) held _ _ dest = record { kept = not_begun job past start object held dest.at; stood = inl dest.at.root }
-kept_now job past start (phase.Carrying object stage.Scan) held _ _ dest = record { kept = not_begun job past start object held dest.at; stood = inl dest.at.root }
-kept_now job past start (phase.Carrying object (stage.Read _)) held _ _ dest = record { kept = not_begun job past start object held dest.at; stood = inl dest.at.root }
+kept_now job past start (phase.Carrying object stage.Open) held _ _ dest = record
+    { kept = not_begun job past start object held dest.at; stood = inl dest.at.root }
+kept_now job past start (phase.Carrying object stage.Scan) held _ _ dest = record
+    { kept = not_begun job past start object held dest.at; stood = inl dest.at.root }
+kept_now job past start (phase.Carrying object (stage.Read _)) held _ _ dest = record
+    { kept = not_begun job past start object held dest.at; stood = inl dest.at.root }
 kept_now _ _ _ (phase.Carrying _ (stage.Make _)) _ _ at dest = record { kept = part_kept at dest; stood = inl dest.at.root }
 kept_now _ _ _ (phase.Carrying _ (stage.Copy _ _)) _ _ at dest = record { kept = copying_kept at dest; stood = inl dest.at.making.root }
 kept_now job past start (phase.Carrying object (stage.Tuples number)) held now at dest =
     let few = at.numbers in
     record { kept = whole_kept past dest.started at.ends.0 at.rows (omega (arith, few)) dest.at.0; stood = inl dest.at.0.root }
-kept_now job past start (phase.Carrying object stage.Rename) held now at dest = record { kept = whole_kept past dest.started at.ends.0 at.rows (omega arith) dest.at.0; stood = inl dest.at.0.root }
+kept_now job past start (phase.Carrying object stage.Rename) held now at dest = record
+    { kept = whole_kept past dest.started at.ends.0 at.rows (omega arith) dest.at.0; stood = inl dest.at.0.root }
 kept_now _ _ _ phase.Ended _ _ _ dest = dest.at
 kept_now job past start _ _ now _ dest = record { kept = held_so job start past.placed now dest.at; stood = inl dest.at.root }

@@ -13,12 +13,38 @@ use Rattle.pt_plan.specs.Fixity.{DestFaultState}
 use Rattle.pt_plan.specs.Job.{Job}
 use Rattle.pt_plan.specs.Run.{Counts, Held, with_fed}
 use Rattle.pt_plan.specs.Turn.{Next, Start as a_start, Walk, Scan, Make, Place}
-use Rattle.pt_plan.specs.TurnMake.{MakesDeclaration, OpensCopy, CopiesOn, MakesVersionInventory, MakesVersionSidecar, MakesInventory, MakesSidecar, staged_content}
+use Rattle.pt_plan.specs.TurnMake.{
+  MakesDeclaration,
+  OpensCopy,
+  CopiesOn,
+  MakesVersionInventory,
+  MakesVersionSidecar,
+  MakesInventory,
+  MakesSidecar,
+  staged_content,
+}
 use Rattle.pt_plan.specs.TurnPlace.{MakesTuple}
 use Rattle.pt_plan.specs.TurnScan.{StartsInSite}
 use Rattle.pt_plan.specs.TurnStart.{MakesRoot}
 use Rattle.pt_plan.specs.TurnWalk.{OpensRoot}
-use Rattle.pt_plan.specs.DeviceStates.{Adds, Calls, Change, ChangesNothing, Creates, Finds, FindsNoneAndMakes, Finishes, LeavesPart, Makes, NewFile, OfFile, OfPiece, Peeks, Renames, Untouched}
+use Rattle.pt_plan.specs.DeviceStates.{
+  Adds,
+  Calls,
+  Change,
+  ChangesNothing,
+  Creates,
+  Finds,
+  FindsNoneAndMakes,
+  Finishes,
+  LeavesPart,
+  Makes,
+  NewFile,
+  OfFile,
+  OfPiece,
+  Peeks,
+  Renames,
+  Untouched,
+}
 use Rattle.pt_plan.specs.declared.object.Object.{Object}
 use Rattle.pt_plan.specs.declared.phase.Part.{Part}
 use Rattle.pt_plan.specs.declared.phase.Part.TheVariants as a_part
@@ -49,10 +75,18 @@ pub record IsLeftTree (job : Job) (start : Tree) (now : Writing) : Type 0 where
 
 -- ---- nothing is left of the change
 
-pub same_left : (job : Job) (past : History) (start : Tree) (here : Phase) (held : Held) (old new : Writing) → HeldAt job past here held → DestPart job past here held start old → new.tree ≡ old.tree → IsLeftTree job start new
+pub same_left : (job : Job) (past : History) (start : Tree) (here : Phase) (held : Held) (old new : Writing) → HeldAt job past here held
+    → DestPart job past here held start old → new.tree ≡ old.tree → IsLeftTree job start new
 same_left job past start here held old new at dest same =
     let left = kept_now job past start here held old at dest in
-    record { tree = subst IsTree (sym same) dest.tree; left = record { kept = subst (DestFaultState job start) (sym same) left.kept; stood = either left.stood } }
+    record {
+      tree = subst IsTree (sym same) dest.tree;
+      left = record {
+        kept = subst (DestFaultState job start) (sym same) left.kept;
+        stood = either
+            left.stood;
+      };
+    }
   where
     either : IsRootOfStart job start ⊎ (old.tree ≡ start) → IsRootOfStart job start ⊎ (new.tree ≡ start)
     either (inl root) = inl root
@@ -77,15 +111,21 @@ plain_same plain _ = absurd (cc)
 
 -- ---- a new root
 
-root_left : {job : Job} {past : History} {start : Tree} {number : ℕ} (item : Item) {held : Held} {old new : Writing} → HeldAt job past (phase.Opening (opening.RootMake number)) held → DestPart job past (phase.Opening (opening.RootMake number)) held start old → slice_get (root_script job.tuples) number ≡ Some item
+root_left : {job : Job} {past : History} {start : Tree} {number : ℕ} (item : Item) {held : Held} {old new : Writing}
+    → HeldAt job past (phase.Opening (opening.RootMake number)) held → DestPart job past (phase.Opening (opening.RootMake number)) held start old
+    → slice_get (root_script job.tuples) number ≡ Some item
     → LeavesPart (Some old) (Some new) (Makes item) → IsLeftTree job start new
-root_left {job} {past} {start} {number} (MakeFolder _) {held} {old} {new} at dest _ left = same_left job past start (phase.Opening (opening.RootMake number)) held old new at dest (plain_same refl left)
-root_left {job} {past} {start} {number} (MakeFile _ _) {held} {old} {new} at dest _ (Untouched _ same) = same_left job past start (phase.Opening (opening.RootMake number)) held old new at dest (some_same new.tree old.tree same)
+root_left {job} {past} {start} {number} (MakeFolder _) {held} {old} {new} at dest _ left = same_left job past start (phase.Opening (opening.RootMake number))
+    held old new at dest (plain_same refl left)
+root_left {job} {past} {start} {number} (MakeFile _ _) {held} {old} {new} at dest _ (Untouched _ same) = same_left job past start
+    (phase.Opening (opening.RootMake number)) held old new at dest (some_same new.tree old.tree same)
 root_left {job} {start} {number} (MakeFile path bytes) {old} {new} _ dest is (OfFile _ _ count same) =
     let tree_is = some_same new.tree _ same in
-    let next : IsNext (root_script job.tuples) (take number (root_script job.tuples)) (MakeFile path bytes) = record { rest = drop (suc number) (root_script job.tuples); is = split_at number (root_script job.tuples) _ is } in
+    let next : IsNext (root_script job.tuples) (take number (root_script job.tuples)) (MakeFile path bytes) = record
+    { rest = drop (suc number) (root_script job.tuples); is = split_at number (root_script job.tuples) _ is } in
     record {
-      tree = subst IsTree (sym tree_is) (tree_put old.tree path (Bytes (take count bytes)) dest.tree (root_item_made job start number _ old dest.started is dest.at));
+      tree = subst IsTree (sym tree_is) (tree_put old.tree path (Bytes (take count bytes)) dest.tree
+          (root_item_made job start number _ old dest.started is dest.at));
       left = record {
         kept = root_kept dest.at
             (stands_cut count next (tree_is ∙ ap (done (MakeFile path (take count bytes))) dest.at.tree));
@@ -95,9 +135,12 @@ root_left {job} {start} {number} (MakeFile path bytes) {old} {new} _ dest is (Of
 
 -- ---- a part of an object
 
-part_left : {job : Job} {past : History} {start : Tree} {object : Object} {here : Part} {path : Path} {bytes : List ℕ} {held : Held} {old new : Writing} → HeldAt job past (phase.Carrying object (stage.Make here)) held → DestPart job past (phase.Carrying object (stage.Make here)) held start old
-    → IsNext (script_of_object job object held.rows past.bytes) (made_before job object held.rows past.bytes here) (MakeFile path bytes) → LeavesPart (Some old) (Some new) (Makes (MakeFile path bytes)) → IsLeftTree job start new
-part_left {job} {past} {start} {object} {here} {held} {old} {new} at dest _ (Untouched _ same) = same_left job past start (phase.Carrying object (stage.Make here)) held old new at dest (some_same new.tree old.tree same)
+part_left : {job : Job} {past : History} {start : Tree} {object : Object} {here : Part} {path : Path} {bytes : List ℕ} {held : Held} {old new : Writing}
+    → HeldAt job past (phase.Carrying object (stage.Make here)) held → DestPart job past (phase.Carrying object (stage.Make here)) held start old
+    → IsNext (script_of_object job object held.rows past.bytes) (made_before job object held.rows past.bytes here) (MakeFile path bytes)
+    → LeavesPart (Some old) (Some new) (Makes (MakeFile path bytes)) → IsLeftTree job start new
+part_left {job} {past} {start} {object} {here} {held} {old} {new} at dest _ (Untouched _ same) = same_left job past start
+    (phase.Carrying object (stage.Make here)) held old new at dest (some_same new.tree old.tree same)
 part_left {job} {past} {start} {object} {here} {path} {bytes} {held} {old} {new} at dest next (OfFile p b count same) =
     let front = made_before job object held.rows past.bytes here in
     let tree_is = some_same new.tree _ same in
@@ -111,9 +154,14 @@ part_left {job} {past} {start} {object} {here} {path} {bytes} {held} {old} {new}
       };
     }
 
-opened_left : {job : Job} {past : History} {start : Tree} {object : Object} {position : Position} {held : Held} (row : Row) {old new : Writing} → HeldAt job past (phase.Carrying object (stage.Make (a_part.Content position))) held → DestPart job past (phase.Carrying object (stage.Make (a_part.Content position))) held start old
-    → IsNext (script_of_object job object held.rows past.bytes) (made_before job object held.rows past.bytes (a_part.Content position)) (MakeFile (staged_content row.path) (past.bytes row.path)) → LeavesPart (Some old) (Some new) (Creates (staged_content row.path)) → IsLeftTree job start new
-opened_left {job} {past} {start} {object} {position} {held} _ {old} {new} at dest _ (Untouched _ same) = same_left job past start (phase.Carrying object (stage.Make (a_part.Content position))) held old new at dest (some_same new.tree old.tree same)
+opened_left : {job : Job} {past : History} {start : Tree} {object : Object} {position : Position} {held : Held} (row : Row) {old new : Writing}
+    → HeldAt job past (phase.Carrying object (stage.Make (a_part.Content position))) held
+    → DestPart job past (phase.Carrying object (stage.Make (a_part.Content position))) held start old
+    → IsNext (script_of_object job object held.rows past.bytes) (made_before job object held.rows past.bytes (a_part.Content position))
+    (MakeFile (staged_content row.path) (past.bytes row.path)) → LeavesPart (Some old) (Some new) (Creates (staged_content row.path))
+    → IsLeftTree job start new
+opened_left {job} {past} {start} {object} {position} {held} _ {old} {new} at dest _ (Untouched _ same) = same_left job past start
+    (phase.Carrying object (stage.Make (a_part.Content position))) held old new at dest (some_same new.tree old.tree same)
 opened_left {job} {past} {start} {object} {position} {held} row {old} {new} at dest next (NewFile _ same) =
     let front = made_before job object held.rows past.bytes (a_part.Content position) in
     let item = MakeFile (staged_content row.path) [] in
@@ -122,12 +170,15 @@ opened_left {job} {past} {start} {object} {position} {held} row {old} {new} at d
     record {
       tree = subst IsTree (sym tree_is) (tree_put old.tree _ (Bytes []) dest.tree may);
       left = record {
-        kept = copy_kept job past start object held [] dest.started at.ends.0 at.rows (with_item job start past.placed object front item old new tree_is dest.at) next (tree_is ∙ ap (done item) dest.at.tree);
+        kept = copy_kept job past start object held [] dest.started at.ends.0 at.rows
+            (with_item job start past.placed object front item old new tree_is dest.at) next (tree_is ∙ ap (done item) dest.at.tree);
         stood = inl dest.at.root;
       };
     }
 
-fed_held : {job : Job} {past : History} {object : Object} {position : Position} {left : ℕ} {held : Held} (fed : List ℕ) → HeldAt job past (phase.Carrying object (stage.Copy position left)) held → HeldAt job past (phase.Carrying object (stage.Copy position left)) (with_fed held fed)
+fed_held : {job : Job} {past : History} {object : Object} {position : Position} {left : ℕ} {held : Held} (fed : List ℕ)
+    → HeldAt job past (phase.Carrying object (stage.Copy position left)) held
+    → HeldAt job past (phase.Carrying object (stage.Copy position left)) (with_fed held fed)
 fed_held {job} {past} {held} fed at = record {
   trail = record { is_one = at.trail.is_one; none = tt; entry = tt };
   ends = at.ends;
@@ -137,9 +188,12 @@ fed_held {job} {past} {held} fed at = record {
   fed = tt;
 }
 
-copied_left : {job : Job} {past : History} {start : Tree} {object : Object} {position : Position} {left : ℕ} {piece : List ℕ} {held : Held} {old new : Writing} → HeldAt job past (phase.Carrying object (stage.Copy position left)) held → DestPart job past (phase.Carrying object (stage.Copy position left)) held start old
+copied_left : {job : Job} {past : History} {start : Tree} {object : Object} {position : Position} {left : ℕ} {piece : List ℕ} {held : Held} {old new : Writing}
+    → HeldAt job past (phase.Carrying object (stage.Copy position left)) held
+    → DestPart job past (phase.Carrying object (stage.Copy position left)) held start old
     → LeavesPart (Some old) (Some new) (Adds piece) → IsLeftTree job start new
-copied_left {job} {past} {start} {object} {position} {left} {held} {old} {new} at dest (Untouched _ same) = same_left job past start (phase.Carrying object (stage.Copy position left)) held old new at dest (some_same new.tree old.tree same)
+copied_left {job} {past} {start} {object} {position} {left} {held} {old} {new} at dest (Untouched _ same) = same_left job past start
+    (phase.Carrying object (stage.Copy position left)) held old new at dest (some_same new.tree old.tree same)
 copied_left {job} {past} {start} {object} {position} {left} {piece} {held} {old} {new} at dest (OfPiece _ count same) =
     let part = take count piece in
     let it = copied job past start object position left left held old new None part (some_same new _ same) dest in
@@ -147,17 +201,28 @@ copied_left {job} {past} {start} {object} {position} {left} {piece} {held} {old}
 
 -- ---- each turn
 
-pub follows_left : {job : Job} {past : History} {start : Tree} {counts : Counts} {here : Phase} {prefix : List ℕ} {held : Held} {read : List ℕ} {after : Held} {calls : Calls} {answer : Answer} {old new : Writing} → Next job counts here prefix held read after calls answer
+pub follows_left : {job : Job} {past : History} {start : Tree} {counts : Counts} {here : Phase} {prefix : List ℕ} {held : Held} {read : List ℕ} {after : Held}
+    {calls : Calls} {answer : Answer} {old new : Writing} → Next job counts here prefix held read after calls answer
     → HeldAt job past here held → DestPart job past here held start old → LeavesPart (Some old) (Some new) calls.change → IsLeftTree job start new
 follows_left (a_start (MakesRoot _ _ item is)) at dest left = root_left item at dest is left
-follows_left {job} {past} {start} {old} {new} (Make (MakesDeclaration was object)) at dest left = part_left at dest (next_declaration job object was.rows past.bytes) left
-follows_left {job} {past} (Make (OpensCopy was object position row is stored all)) at dest broken = opened_left row at dest (file_next job object was.rows was.contents past.bytes position row (is_here job past object position was row at is stored) (ltb-false position.directories (length row.path) all)) broken
+follows_left {job} {past} {start} {old} {new} (Make (MakesDeclaration was object)) at dest left = part_left at dest
+    (next_declaration job object was.rows past.bytes) left
+follows_left {job} {past} (Make (OpensCopy was object position row is stored all)) at dest broken = opened_left row at dest
+    (file_next job object was.rows was.contents past.bytes position row (is_here job past object position was row at is stored)
+    (ltb-false position.directories (length row.path) all)) broken
 follows_left (Make (CopiesOn _ _ _ _ _ _ _)) at dest broken = copied_left at dest broken
-follows_left {job} {past} {start} {old} {new} (Make (MakesVersionInventory was object)) at dest left = part_left at dest (next_first job object was.rows past.bytes) left
-follows_left {job} {past} {start} {old} {new} (Make (MakesVersionSidecar was object)) at dest left = part_left at dest (next_second job object was.rows past.bytes) left
-follows_left {job} {past} {start} {old} {new} (Make (MakesInventory was object)) at dest left = part_left at dest (next_third job object was.rows past.bytes) left
-follows_left {job} {past} {start} {old} {new} (Make (MakesSidecar was object)) at dest left = part_left at dest (next_fourth job object was.rows past.bytes) left
-follows_left {job} {past} {start} {here} {held} {old} {new} (Walk (OpensRoot _ _)) at dest left = same_left job past start here held old new at dest (plain_same refl left)
-follows_left {job} {past} {start} {here} {held} {old} {new} (Scan (StartsInSite _ _ _)) at dest left = same_left job past start here held old new at dest (plain_same refl left)
-follows_left {job} {past} {start} {here} {held} {old} {new} (Place (MakesTuple _ _ _)) at dest left = same_left job past start here held old new at dest (plain_same refl left)
+follows_left {job} {past} {start} {old} {new} (Make (MakesVersionInventory was object)) at dest left = part_left at dest
+    (next_first job object was.rows past.bytes) left
+follows_left {job} {past} {start} {old} {new} (Make (MakesVersionSidecar was object)) at dest left = part_left at dest
+    (next_second job object was.rows past.bytes) left
+follows_left {job} {past} {start} {old} {new} (Make (MakesInventory was object)) at dest left = part_left at dest (next_third job object was.rows past.bytes)
+    left
+follows_left {job} {past} {start} {old} {new} (Make (MakesSidecar was object)) at dest left = part_left at dest (next_fourth job object was.rows past.bytes)
+    left
+follows_left {job} {past} {start} {here} {held} {old} {new} (Walk (OpensRoot _ _)) at dest left = same_left job past start here held old new at dest
+    (plain_same refl left)
+follows_left {job} {past} {start} {here} {held} {old} {new} (Scan (StartsInSite _ _ _)) at dest left = same_left job past start here held old new at dest
+    (plain_same refl left)
+follows_left {job} {past} {start} {here} {held} {old} {new} (Place (MakesTuple _ _ _)) at dest left = same_left job past start here held old new at dest
+    (plain_same refl left)
 follows_left {job} {past} {start} {here} {held} {old} {new} _ at dest left = same_left job past start here held old new at dest (plain_same refl left)

@@ -42,21 +42,29 @@ use Rattle.pt_invariant.proofs.dest.ObjectParts.{front_made}
 -- ---- what is left, by what the parts say
 
 -- all as it was, before the first item
-pub as_it_was : (job : Job) (source : Forest) {start now : Tree} {count : ℕ} → count ≡ 0 → now ≡ start → FaultState job source start now (text job source (root_in start) count)
+pub as_it_was : (job : Job) (source : Forest) {start now : Tree} {count : ℕ} → count ≡ 0 → now ≡ start
+    → FaultState job source start now (text job source (root_in start) count)
 as_it_was job source {start} first same = inl (same, ap (text job source (root_in start)) first)
 
 -- a part of a new root
-pub root_left : {job : Job} (source : Forest) {start now : Tree} {count : ℕ} {items : List Item} {w : Writing} → count ≡ 0 → IsMakingRoot start items w → StandsAtPrefix (root_script job.tuples) start now → FaultState job source start now (text job source (root_in start) count)
+pub root_left : {job : Job} (source : Forest) {start now : Tree} {count : ℕ} {items : List Item} {w : Writing} → count ≡ 0 → IsMakingRoot start items w
+    → StandsAtPrefix (root_script job.tuples) start now → FaultState job source start now (text job source (root_in start) count)
 root_left {job} source {start} {now} first making at =
-    inr (making.free, subst (FaultStateOfFree job source start now) (sym (ap (text job source (root_in start)) first)) (MakingRoot now (root_free start making.root) at))
+    inr (
+      making.free,
+      subst (FaultStateOfFree job source start now) (sym (ap (text job source (root_in start)) first))
+          (MakingRoot now (root_free start making.root) at),
+    )
 
 -- the root after some items, with this in the log
-pub between_left : {job : Job} {source : Forest} {start : Tree} {now : Tree} {k : ℕ} {log : List ℕ} → IsFree start staging → k ≤ length (items job source) → IsLogAfter job source (root_in start) k log → now ≡ with_root start (after job source (root_in start) k) → FaultState job source start now log
+pub between_left : {job : Job} {source : Forest} {start : Tree} {now : Tree} {k : ℕ} {log : List ℕ} → IsFree start staging → k ≤ length (items job source)
+    → IsLogAfter job source (root_in start) k log → now ≡ with_root start (after job source (root_in start) k) → FaultState job source start now log
 between_left {job} {source} {start} {k} {log} free within told is =
     inr (free, rw is (Between k log within told))
 
 -- the root after so many items, or after all if there are no more
-pub counted_left : {job : Job} {source : Forest} {start : Tree} {now : Tree} (count : ℕ) → IsFree start staging → now ≡ with_root start (after job source (root_in start) count) → FaultState job source start now (text job source (root_in start) count)
+pub counted_left : {job : Job} {source : Forest} {start : Tree} {now : Tree} (count : ℕ) → IsFree start staging
+    → now ≡ with_root start (after job source (root_in start) count) → FaultState job source start now (text job source (root_in start) count)
 counted_left {job} {source} {start} count free is =
     let it = as_after job source (root_in start) count in
     between_left free it.within
@@ -64,15 +72,20 @@ counted_left {job} {source} {start} count free is =
     (is ∙ ap (with_root start) (sym it.root_is))
 
 -- the root with the objects placed, where those are the ones that are carried
-root_after : (job : Job) (source : Forest) (start : Tree) {placed : List Carried} (k : ℕ) → placed ≡ carried_among job source (root_in start) k → root_now job start placed ≡ after job source (root_in start) k
+root_after : (job : Job) (source : Forest) (start : Tree) {placed : List Carried} (k : ℕ) → placed ≡ carried_among job source (root_in start) k
+    → root_now job start placed ≡ after job source (root_in start) k
 root_after job _ start _ is = ap (root_now job start) is
 
-pub tree_between : {job : Job} (source : Forest) {start : Tree} {placed : List Carried} (k : ℕ) {w : Writing} → placed ≡ carried_among job source (root_in start) k → IsBetweenObjects job start placed w → w.tree ≡ with_root start (after job source (root_in start) k)
+pub tree_between : {job : Job} (source : Forest) {start : Tree} {placed : List Carried} (k : ℕ) {w : Writing}
+    → placed ≡ carried_among job source (root_in start) k → IsBetweenObjects job start placed w → w.tree ≡ with_root start (after job source (root_in start) k)
 tree_between {job} source {start} k is between = between.tree ∙ ap (with_root start) (root_after job source start k is)
 
 -- of an object that was entered nothing is made yet
-pub tree_entered : {job : Job} (source : Forest) {start : Tree} {placed : List Carried} (k : ℕ) {object : Object} {w : Writing} → placed ≡ carried_among job source (root_in start) k → IsMakingObject job start placed object [] 0 w → w.tree ≡ with_root start (after job source (root_in start) k)
-tree_entered {job} source {start} {placed} k {object} is making = making.tree ∙ ap (with_root start) (no_folders job start placed object.place ∙ root_after job source start k is)
+pub tree_entered : {job : Job} (source : Forest) {start : Tree} {placed : List Carried} (k : ℕ) {object : Object} {w : Writing}
+    → placed ≡ carried_among job source (root_in start) k → IsMakingObject job start placed object [] 0 w
+    → w.tree ≡ with_root start (after job source (root_in start) k)
+tree_entered {job} source {start} {placed} k {object} is making = making.tree
+    ∙ ap (with_root start) (no_folders job start placed object.place ∙ root_after job source start k is)
 
 -- ---- by the phase
 
@@ -108,27 +121,31 @@ module _ (job : Job) (past : History) (s : Reading) (start : Tree) (prefix : Lis
       carrying_left job past s start object held {n = 0} known.dest.started known.dest.at.making.root at.ends.0 at.rows (omega arith) known.items.places.placed
       (carried_next past s (root_in start) source.proper source.at.0 source.at.1 source.bytes known.items.places.next)
       (content_stands
-      (file_next job object held.rows held.contents past.bytes position row (copy_here job past object position left held row at is) (copy_stands held position row is at.numbers)) begins
+      (file_next job object held.rows held.contents past.bytes position row (copy_here job past object position left held row at is)
+      (copy_stands held position row is at.numbers)) begins
       (known.dest.at.making.tree ∙ made_in_turn front (MakeFile (staged_content row.path) held.fed ∷ []) root))
 
   -- all of the object is made, and some folders on the way to its place
   script_stands : {object : Object} {n : ℕ} → IsMakingObject job start past.placed object (script_of_object job object held.rows past.bytes) n now
       → StandsAtPrefix (script_of_object job object held.rows past.bytes) (with_root start (root_on_way job start past.placed object.place n)) now.tree
   script_stands {object} making =
-      front_stands {front = script_of_object job object held.rows past.bytes} (record { rest = []; is = sym (append-nil (script_of_object job object held.rows past.bytes)) }) making.tree
+      front_stands {front = script_of_object job object held.rows past.bytes}
+      (record { rest = []; is = sym (append-nil (script_of_object job object held.rows past.bytes)) }) making.tree
 
   tuples_left : {object : Object} {number : ℕ} → Known (phase.Carrying object (stage.Tuples number)) → Left
   tuples_left {object} known =
       let source = known.source in
       let few = known.held_at.numbers in
-      carrying_left job past s start object held known.dest.started known.dest.at.0.root known.held_at.ends.0 known.held_at.rows (omega (arith, few)) known.items.places.placed
+      carrying_left job past s start object held known.dest.started known.dest.at.0.root known.held_at.ends.0 known.held_at.rows (omega (arith, few))
+      known.items.places.placed
       (carried_next past s (root_in start) source.proper source.at.0 source.at.1 source.bytes known.items.places.next)
       (script_stands known.dest.at.0)
 
   rename_left : {object : Object} → Known (phase.Carrying object stage.Rename) → Left
   rename_left {object} known =
       let source = known.source in
-      carrying_left job past s start object held known.dest.started known.dest.at.0.root known.held_at.ends.0 known.held_at.rows (omega arith) known.items.places.placed
+      carrying_left job past s start object held known.dest.started known.dest.at.0.root known.held_at.ends.0 known.held_at.rows (omega arith)
+      known.items.places.placed
       (carried_next past s (root_in start) source.proper source.at.0 source.at.1 source.bytes known.items.places.next)
       (script_stands known.dest.at.0)
 
@@ -150,9 +167,12 @@ module _ (job : Job) (past : History) (s : Reading) (start : Tree) (prefix : Lis
       root_left s.tree known.source.at.1 known.dest.at (stands_whole number known.dest.at.tree)
   left_now (phase.Opening opening.RootRename) _ known = root_left s.tree known.source.at.1 known.dest.at (stands_whole 6 known.dest.at.tree)
   left_now (phase.Opening (opening.RootCheck _)) _ known = as_it_was job s.tree known.source.at.1 known.dest.at.tree
-  left_now (phase.Carrying _ stage.Open) _ known = counted_left past.count known.dest.at.root.free (tree_entered s.tree past.count known.items.places.placed known.dest.at)
-  left_now (phase.Carrying _ stage.Scan) _ known = counted_left past.count known.dest.at.root.free (tree_entered s.tree past.count known.items.places.placed known.dest.at)
-  left_now (phase.Carrying _ (stage.Read _)) _ known = counted_left past.count known.dest.at.root.free (tree_entered s.tree past.count known.items.places.placed known.dest.at)
+  left_now (phase.Carrying _ stage.Open) _ known = counted_left past.count known.dest.at.root.free
+      (tree_entered s.tree past.count known.items.places.placed known.dest.at)
+  left_now (phase.Carrying _ stage.Scan) _ known = counted_left past.count known.dest.at.root.free
+      (tree_entered s.tree past.count known.items.places.placed known.dest.at)
+  left_now (phase.Carrying _ (stage.Read _)) _ known = counted_left past.count known.dest.at.root.free
+      (tree_entered s.tree past.count known.items.places.placed known.dest.at)
   left_now (phase.Carrying _ (stage.Make _)) _ known = part_left known
   left_now (phase.Carrying _ (stage.Copy _ _)) _ known = copy_left known
   left_now (phase.Carrying _ (stage.Tuples _)) _ known = tuples_left known

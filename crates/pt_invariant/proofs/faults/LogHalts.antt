@@ -33,10 +33,12 @@ use Rattle.pt_invariant.proofs.ends.TurnEnds.{refused_same}
 between : {job : Job} {t : Tree} {placed : List Carried} {now : Writing} → IsBetweenObjects job t placed now → IsFree now.tree staging
 between at = λ q. ap (λ (x : Tree). x (staging ++ q)) at.tree ∙ at.root.free q
 
-before_making : {job : Job} {t : Tree} {placed : List Carried} {object : Object} {now : Writing} → IsMakingObject job t placed object [] 0 now → IsFree now.tree staging
+before_making : {job : Job} {t : Tree} {placed : List Carried} {object : Object} {now : Writing} → IsMakingObject job t placed object [] 0 now
+    → IsFree now.tree staging
 before_making at = λ q. ap (λ (x : Tree). x (staging ++ q)) at.tree ∙ at.root.free q
 
-free_there : {job : Job} {past : History} (here : Phase) {held : Held} {t : Tree} {now : Writing} → may_tell here ≡ true → DestPart job past here held t now → IsFree now.tree staging
+free_there : {job : Job} {past : History} (here : Phase) {held : Held} {t : Tree} {now : Writing} → may_tell here ≡ true → DestPart job past here held t now
+    → IsFree now.tree staging
 free_there (phase.Opening opening.OpenRoot) _ dest = between dest.at
 free_there phase.Judge _ dest = between dest.at
 free_there (phase.Carrying _ stage.Open) _ dest = before_making dest.at
@@ -59,7 +61,8 @@ quiet_leaves : {old new : Option Writing} {change : Change} → LeavesPart old n
 quiet_leaves (Untouched _ same) _ = same
 quiet_leaves _ quiet = absurd (cc)
 
-follows_quiet : {job : Job} {counts : Counts} {here : Phase} {prefix : List ℕ} {held : Held} {read : List ℕ} {after : Held} {calls : Calls} {answer : Answer} → Next job counts here prefix held read after calls answer → may_tell here ≡ true → is_quiet calls.change ≡ true
+follows_quiet : {job : Job} {counts : Counts} {here : Phase} {prefix : List ℕ} {held : Held} {read : List ℕ} {after : Held} {calls : Calls} {answer : Answer}
+    → Next job counts here prefix held read after calls answer → may_tell here ≡ true → is_quiet calls.change ≡ true
 follows_quiet (a_start (start.IsStore _ _ _)) tells = absurd (cc)
 follows_quiet (a_start _) tells = absurd (cc)
 follows_quiet (Walk (walk.OpensRoot _ _)) _ = refl

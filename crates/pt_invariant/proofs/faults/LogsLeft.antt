@@ -1,5 +1,30 @@
 -- What a log may hold after some items: their lines, and some of what comes next.
-use Rattle.std.proofs.Common.{inl, inr, ◌≡◌, ◌≤◌, ◌==◌, ℕ, zero, suc, Bool, true, false, List, [], ◌∷◌, ◌++◌, refl, ap, sym, ◌∙◌, append-nil, append_assoc, arith, cond, length}
+use Rattle.std.proofs.Common.{
+  inl,
+  inr,
+  ◌≡◌,
+  ◌≤◌,
+  ◌==◌,
+  ℕ,
+  zero,
+  suc,
+  Bool,
+  true,
+  false,
+  List,
+  [],
+  ◌∷◌,
+  ◌++◌,
+  refl,
+  ap,
+  sym,
+  ◌∙◌,
+  append-nil,
+  append_assoc,
+  arith,
+  cond,
+  length,
+}
 use Rattle.std.specs.Prelude.{Option, None, Some, flat_map, is_some, slice_get, take}
 use Rattle.std.specs.Option.{option_map}
 use Rattle.std.proofs.lemmas.Bool.{and_parts, cases_lt, eq-eqb, eqb-true}
@@ -33,12 +58,15 @@ some_before f None is = absurd (cc)
 some_before _ (Some x) _ = (x, refl)
 
 -- an item that is marked is one of the items
-pub marked_within : (job : Job) (source : Forest) (root : Tree) {k : ℕ} {m : Marked} → slice_get (marked job source root) k ≡ Some m → suc k ≤ length (items job source)
+pub marked_within : (job : Job) (source : Forest) (root : Tree) {k : ℕ} {m : Marked} → slice_get (marked job source root) k ≡ Some m
+    → suc k ≤ length (items job source)
 marked_within job source root {k} is =
-    let it = some_before (λ (item : Item). (item, is_taken job root (take k (items job source)) item.verdict)) (slice_get (items job source) k) (sym (taken_against_earlier job source root k) ∙ is) in
+    let it = some_before (λ (item : Item). (item, is_taken job root (take k (items job source)) item.verdict)) (slice_get (items job source) k)
+    (sym (taken_against_earlier job source root k) ∙ is) in
     get_within (items job source) k it.1
 
-pub marked_at : (job : Job) (source : Forest) (root : Tree) {k : ℕ} → suc k ≤ length (items job source) → (m : Marked) × (slice_get (marked job source root) k ≡ Some m)
+pub marked_at : (job : Job) (source : Forest) (root : Tree) {k : ℕ} → suc k ≤ length (items job source)
+    → (m : Marked) × (slice_get (marked job source root) k ≡ Some m)
 marked_at job source root {k} within =
     let it = there_is (items job source) k within in
     ((it.0, is_taken job root (take k (items job source)) it.0.verdict), mark_of job source root k it.1)
@@ -60,17 +88,21 @@ all_told job source root {k} is = ap (λ b. cond b (log_of job source root) (tex
 -- ---- after one item more
 
 -- its line may be there in part
-pub told_in_part : (job : Job) (source : Forest) (root : Tree) (k : ℕ) {m : Marked} (front rest : List ℕ) {log : List ℕ} → slice_get (marked job source root) k ≡ Some m → flat_map line_text (line_of job m) ≡ front ++ rest → log ≡ text job source root k ++ front
+pub told_in_part : (job : Job) (source : Forest) (root : Tree) (k : ℕ) {m : Marked} (front rest : List ℕ) {log : List ℕ}
+    → slice_get (marked job source root) k ≡ Some m → flat_map line_text (line_of job m) ≡ front ++ rest → log ≡ text job source root k ++ front
     → IsLogAfter job source root (suc k) log
 told_in_part job source root k {m} front rest {log} is line told =
     let begins = most_begins job source root (suc k) in
     let grown : text job source root (suc k) ≡ log ++ rest =
-    (text_grows job source root k m is).1 ∙ ap (λ l. text job source root k ++ l) line ∙ sym (append_assoc (text job source root k) front rest) ∙ ap (λ l. l ++ rest) (sym told) in
+    (text_grows job source root k m is).1 ∙ ap (λ l. text job source root k ++ l) line ∙ sym (append_assoc (text job source root k) front rest)
+    ∙ ap (λ l. l ++ rest) (sym told) in
     ((front, told), (rest ++ begins.0, begins.1 ∙ ap (λ l. l ++ begins.0) grown ∙ append_assoc log rest begins.0))
 
 -- before it is told
-pub not_told : (job : Job) (source : Forest) (root : Tree) (k : ℕ) {m : Marked} {log : List ℕ} → slice_get (marked job source root) k ≡ Some m → log ≡ text job source root k → IsLogAfter job source root (suc k) log
-not_told job source root k {m} is told = told_in_part job source root k [] (flat_map line_text (line_of job m)) is refl (told ∙ sym (append-nil (text job source root k)))
+pub not_told : (job : Job) (source : Forest) (root : Tree) (k : ℕ) {m : Marked} {log : List ℕ} → slice_get (marked job source root) k ≡ Some m
+    → log ≡ text job source root k → IsLogAfter job source root (suc k) log
+not_told job source root k {m} is told = told_in_part job source root k [] (flat_map line_text (line_of job m)) is refl (told
+    ∙ sym (append-nil (text job source root k)))
 
 -- ---- between two items
 
@@ -78,7 +110,8 @@ pub told_so_far : (job : Job) (source : Forest) (root : Tree) (k : ℕ) → k �
 told_so_far _ _ _ zero _ = refl
 told_so_far job source root (suc k) within =
     let m = marked_at job source root within in
-    told_in_part job source root k (flat_map line_text (line_of job m.0)) [] m.1 (sym (append-nil (flat_map line_text (line_of job m.0)))) (text_grows job source root k m.0 m.1).1
+    told_in_part job source root k (flat_map line_text (line_of job m.0)) [] m.1 (sym (append-nil (flat_map line_text (line_of job m.0))))
+    (text_grows job source root k m.0 m.1).1
 
 -- so many items, or all if there are no more: the root after them and their lines are the same
 pub record IsAsAfter (job : Job) (source : Forest) (root : Tree) (count : ℕ) : Type 0 where
@@ -88,7 +121,8 @@ pub record IsAsAfter (job : Job) (source : Forest) (root : Tree) (count : ℕ) :
   pub text_is : text job source root k ≡ text job source root count
 
 -- beyond the last item nothing is added
-pub texts_alike : (job : Job) (source : Forest) (root : Tree) {a b : ℕ} → length (items job source) ≤ a → length (items job source) ≤ b → text job source root a ≡ text job source root b
+pub texts_alike : (job : Job) (source : Forest) (root : Tree) {a b : ℕ} → length (items job source) ≤ a → length (items job source) ≤ b
+    → text job source root a ≡ text job source root b
 texts_alike job source root {a} {b} above over =
     ap (flat_map line_text) ((all_items_are_all job source root a above).2 ∙ sym (all_items_are_all job source root b over).2)
 
@@ -98,7 +132,8 @@ as_after job source root count = elim (cases_lt (length (items job source)) coun
       record {
         k = length (items job source);
         within = omega arith;
-        root_is = (all_items_are_all job source root (length (items job source)) (omega arith)).1 ∙ sym (all_items_are_all job source root count (omega (arith, over))).1;
+        root_is = (all_items_are_all job source root (length (items job source)) (omega arith)).1
+            ∙ sym (all_items_are_all job source root count (omega (arith, over))).1;
         text_is = texts_alike job source root (omega arith) (omega (arith, over));
       })
   | inr within ↦ record { k = count; within = within; root_is = refl; text_is = refl }
@@ -119,12 +154,14 @@ some_items job source is =
 -- ---- at the end
 
 -- where there is an item at all, the end line may be there in part
-pub end_in_part : (job : Job) (source : Forest) (root : Tree) {k count : ℕ} (front rest : List ℕ) {log : List ℕ} → length (items job source) ≡ suc k → length (items job source) ≤ count
+pub end_in_part : (job : Job) (source : Forest) (root : Tree) {k count : ℕ} (front rest : List ℕ) {log : List ℕ} → length (items job source) ≡ suc k
+    → length (items job source) ≤ count
     → line_text (end_line (lines job source root count)) ≡ front ++ rest → log ≡ text job source root count ++ front → IsLogAfter job source root (suc k) log
 end_in_part job source root {k} {count} front rest many all line told =
     let m = marked_at job source root {k = k} (omega (arith, many)) in
     let last = flat_map line_text (line_of job m.0) in
-    let texts : text job source root count ≡ text job source root k ++ last = texts_alike job source root {a = count} {b = suc k} all (omega (arith, many)) ∙ (text_grows job source root k m.0 m.1).1 in (
+    let texts : text job source root count ≡ text job source root k ++ last = texts_alike job source root {a = count} {b = suc k} all (omega (arith, many))
+    ∙ (text_grows job source root k m.0 m.1).1 in (
       (last ++ front, told ∙ ap (λ l. l ++ front) texts ∙ append_assoc (text job source root k) last front),
       (
         rest,

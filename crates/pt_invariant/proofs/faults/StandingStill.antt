@@ -37,19 +37,27 @@ all_still _ = record { stays = λ path entry is. is; new = λ path none some. ab
 -- ---- in the root
 
 -- with another root in which all of its own stands
-rooted_still : {start root : Tree} → ((path : Path) (entry : Entry) → root_in start path ≡ Some entry → root path ≡ Some entry) → StandsStill start (with_root start root)
-rooted_still {start} {root} grown = record { stays = λ path entry is. stays path entry is (rest_below storage_root path) refl; new = λ path none some. new path none (rest_below storage_root path) refl some }
+rooted_still : {start root : Tree} → ((path : Path) (entry : Entry) → root_in start path ≡ Some entry → root path ≡ Some entry)
+    → StandsStill start (with_root start root)
+rooted_still {start} {root} grown = record {
+  stays = λ path entry is. stays path entry is (rest_below storage_root path) refl;
+  new = λ path none some. new path
+      none (rest_below storage_root path) refl some;
+}
   where
-    stays : (path : Path) (entry : Entry) → start path ≡ Some entry → (o : Option Path) → rest_below storage_root path ≡ o → placed_at root o (start path) ≡ Some entry
+    stays : (path : Path) (entry : Entry) → start path ≡ Some entry → (o : Option Path) → rest_below storage_root path ≡ o
+        → placed_at root o (start path) ≡ Some entry
     stays path entry is None below = is
     stays path entry is (Some rest) below = grown rest entry (sym (ap start (whole_of storage_root path rest below)) ∙ is)
 
-    new : (path : Path) → start path ≡ None → (o : Option Path) → rest_below storage_root path ≡ o → is_some (placed_at root o (start path)) ≡ true → IsForNew start path
+    new : (path : Path) → start path ≡ None → (o : Option Path) → rest_below storage_root path ≡ o → is_some (placed_at root o (start path)) ≡ true
+        → IsForNew start path
     new path none None below some = absurd (true≢false (sym some ∙ ap is_some none))
     new path none (Some rest) below some = inl (ap is_some below)
 
 -- what stands in the root stands in what objects are put on
-based : (job : Job) {start : Tree} {path : Path} {entry : Entry} → IsTree start → root_in start path ≡ Some entry → base job.tuples (root_in start) path ≡ Some entry
+based : (job : Job) {start : Tree} {path : Path} {entry : Entry} → IsTree start → root_in start path ≡ Some entry
+    → base job.tuples (root_in start) path ≡ Some entry
 based job {start} {path} {entry} tree is = by (root_in start []) refl
   where
     by : (o : Option Entry) → root_in start [] ≡ o → base_where job.tuples (root_in start) o path ≡ Some entry
@@ -57,30 +65,41 @@ based job {start} {path} {entry} tree is = by (root_in start []) refl
     by (Some top) some = is
 
 -- and with objects, and folders
-grown_objects : (job : Job) {start : Tree} (objects : List Carried) {path : Path} {entry : Entry} → IsTree start → root_in start path ≡ Some entry → with_objects job objects (base job.tuples (root_in start)) path ≡ Some entry
-grown_objects job objects {path} tree is = ap (λ (here : Option Entry). option_or here (option_or (entry_of_objects job objects path) (folder_where (is_on_the_way job objects path)))) (based job tree is)
+grown_objects : (job : Job) {start : Tree} (objects : List Carried) {path : Path} {entry : Entry} → IsTree start → root_in start path ≡ Some entry
+    → with_objects job objects (base job.tuples (root_in start)) path ≡ Some entry
+grown_objects job objects {path} tree is = ap (λ (here : Option Entry). option_or here
+    (option_or (entry_of_objects job objects path) (folder_where (is_on_the_way job objects path)))) (based job tree is)
 
-objects_still : (job : Job) {start : Tree} (objects : List Carried) → IsTree start → StandsStill start (with_root start (with_objects job objects (base job.tuples (root_in start))))
+objects_still : (job : Job) {start : Tree} (objects : List Carried) → IsTree start
+    → StandsStill start (with_root start (with_objects job objects (base job.tuples (root_in start))))
 objects_still job {start} objects tree = rooted_still (λ path entry is. grown_objects job objects tree is)
 
-folders_still : (job : Job) {start : Tree} (objects : List Carried) (folders : List Path) → IsTree start → StandsStill start (with_root start (with_folders folders (with_objects job objects (base job.tuples (root_in start)))))
+folders_still : (job : Job) {start : Tree} (objects : List Carried) (folders : List Path) → IsTree start
+    → StandsStill start (with_root start (with_folders folders (with_objects job objects (base job.tuples (root_in start)))))
 folders_still job {start} objects folders tree =
     rooted_still
     (λ path entry is. ap (λ (here : Option Entry). option_or here (folder_where (list_any (same_path path) folders))) (grown_objects job objects tree is))
 
 -- ---- in `staging`
 
-content_beside : (items : List Item) {start now : Tree} → StandsAtContent (map (item_in staging) items) start now → (path : Path) → rest_below staging path ≡ None → now path ≡ start path
+content_beside : (items : List Item) {start now : Tree} → StandsAtContent (map (item_in staging) items) start now → (path : Path)
+    → rest_below staging path ≡ None → now path ≡ start path
 content_beside items {start} at path out =
     let script = map (item_in staging) items in
     let inside = first_passes in_staging at.items script _ at.next (all_drop in_staging at.items script (items_in items)) in
     ap (λ (t : Tree). t path) at.stands
-    ∙ made_beside (MakeFile at.path at.held ∷ []) (made (take at.items script) start) (and_from (in_staging (MakeFile at.path at.held)) true inside refl) path out
+    ∙ made_beside (MakeFile at.path at.held ∷ []) (made (take at.items script) start) (and_from (in_staging (MakeFile at.path at.held)) true inside refl) path
+    out
     ∙ made_beside (take at.items script) start (all_take in_staging at.items script (items_in items)) path out
 
 -- with something made there, where nothing stood
-made_still : {start mid : Tree} {now : Tree} → IsFree start staging → StandsStill start mid → ((path : Path) → rest_below staging path ≡ None → now path ≡ mid path) → StandsStill start now
-made_still {start} {now} free still beside = record { stays = λ path entry is. stays path entry is (rest_below staging path) refl; new = λ path none some. new path none some (rest_below staging path) refl }
+made_still : {start mid : Tree} {now : Tree} → IsFree start staging → StandsStill start mid
+    → ((path : Path) → rest_below staging path ≡ None → now path ≡ mid path) → StandsStill start now
+made_still {start} {now} free still beside = record {
+  stays = λ path entry is. stays path entry is (rest_below staging path) refl;
+  new = λ path none some. new
+      path none some (rest_below staging path) refl;
+}
   where
     stays : (path : Path) (entry : Entry) → start path ≡ Some entry → (o : Option Path) → rest_below staging path ≡ o → now path ≡ Some entry
     stays path entry is None below = beside path below ∙ still.stays path entry is

@@ -53,26 +53,32 @@ others_differ digest earlier (row ∷ rows) has =
     by false later new = differs (bytes_eq row.digest digest) refl new
 
 -- the next content has the row's digest exactly where that isn't known
-told_where_new : (rows : List Row) (contents : List Content) (n stored : ℕ) (row : Row) → contents ≡ map content_of_row (distinct rows) → stored ≡ length (distinct (take n rows)) → slice_get rows n ≡ Some row
+told_where_new : (rows : List Row) (contents : List Content) (n stored : ℕ) (row : Row) → contents ≡ map content_of_row (distinct rows)
+    → stored ≡ length (distinct (take n rows)) → slice_get rows n ≡ Some row
     → (known : Bool) → is_known (take n rows) row ≡ known → at_number row.digest contents stored ≡ cond known false true
 told_where_new rows contents n stored row contents_are stored_is is known is_it =
-    ap (λ (l : List Content). at_number row.digest l stored) contents_are ∙ ap (λ (k : ℕ). at_number row.digest (map content_of_row (distinct rows)) k) stored_is
-    ∙ ap (λ (l : List Row). at_number row.digest (map content_of_row l) (length (distinct (take n rows)))) (distinct_around rows n row is ∙ ap (λ t. distinct (take n rows) ++ (unless_known t row ++ later)) is_it)
+    ap (λ (l : List Content). at_number row.digest l stored) contents_are
+    ∙ ap (λ (k : ℕ). at_number row.digest (map content_of_row (distinct rows)) k) stored_is
+    ∙ ap (λ (l : List Row). at_number row.digest (map content_of_row l) (length (distinct (take n rows)))) (distinct_around rows n row is
+    ∙ ap (λ t. distinct (take n rows) ++ (unless_known t row ++ later)) is_it)
     ∙ by known
   where
     later : List Row
     later = distinct_after (take n rows ++ row ∷ []) (drop (suc n) rows)
 
-    at_end : (front others : List Row) → at_number row.digest (map content_of_row (front ++ others)) (length front) ≡ at_number row.digest (map content_of_row others) 0
+    at_end : (front others : List Row) → at_number row.digest (map content_of_row (front ++ others)) (length front)
+        ≡ at_number row.digest (map content_of_row others) 0
     at_end [] others = refl
     at_end (r ∷ front) others = at_end front others
 
-    by : (t : Bool) → at_number row.digest (map content_of_row (distinct (take n rows) ++ (unless_known t row ++ later))) (length (distinct (take n rows))) ≡ cond t false true
+    by : (t : Bool) → at_number row.digest (map content_of_row (distinct (take n rows) ++ (unless_known t row ++ later))) (length (distinct (take n rows)))
+        ≡ cond t false true
     by true = at_end (distinct (take n rows)) later ∙ others_differ row.digest (take n rows ++ row ∷ []) (drop (suc n) rows) (has_last (take n rows) row)
     by false = at_end (distinct (take n rows)) (row ∷ later) ∙ name_itself row.digest
 
 -- so it tells what the path does
-pub digest_tells : (rows : List Row) (contents : List Content) (n stored : ℕ) (row : Row) → contents ≡ map content_of_row (distinct rows) → stored ≡ length (distinct (take n rows)) → part_in_order (row_paths rows) ≡ true → slice_get rows n ≡ Some row
+pub digest_tells : (rows : List Row) (contents : List Content) (n stored : ℕ) (row : Row) → contents ≡ map content_of_row (distinct rows)
+    → stored ≡ length (distinct (take n rows)) → part_in_order (row_paths rows) ≡ true → slice_get rows n ≡ Some row
     → option_map_or (has_digest row.digest) (slice_get contents stored) false ≡ is_stored contents stored row.path
 digest_tells rows contents n stored row contents_are stored_is order is =
     told_where_new rows contents n stored row contents_are stored_is is (is_known (take n rows) row) refl

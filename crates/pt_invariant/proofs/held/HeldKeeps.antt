@@ -28,7 +28,8 @@ pub record RestAt (job : Job) (bytes : Path → List ℕ) (here : Phase) (held :
   pub numbers : NumbersAt job here held
 
 -- with the trail and the hasher
-pub with_rest : {job : Job} {past : History} {here : Phase} {held : Held} → RestAt job past.bytes here held → TrailAt here held → FedAt job here held → HeldAt job past here held
+pub with_rest : {job : Job} {past : History} {here : Phase} {held : Held} → RestAt job past.bytes here held → TrailAt here held → FedAt job here held
+    → HeldAt job past here held
 with_rest rest trail fed = record { trail = trail; ends = rest.ends; rows = rest.rows; behind = rest.behind; numbers = rest.numbers; fed = fed }
 
 -- ---- the start
@@ -36,7 +37,8 @@ with_rest rest trail fed = record { trail = trail; ends = rest.ends; rows = rest
 one_more : (number most : ℕ) → (number == most) ≡ false → number < most + 1 → number + 1 < most + 1
 one_more number most other within = let apart = eqb-false number most other in omega (arith, apart)
 
-starts_rest : {job : Job} {past : History} {prefix read : List ℕ} {here next : Phase} {held : Held} {calls : Calls} → StartStep job here prefix read calls (Ok next) → HeldAt job past here held → RestAt job (bytes_after here next held past.bytes) next held
+starts_rest : {job : Job} {past : History} {prefix read : List ℕ} {here next : Phase} {held : Held} {calls : Calls}
+    → StartStep job here prefix read calls (Ok next) → HeldAt job past here held → RestAt job (bytes_after here next held past.bytes) next held
 starts_rest (HasNoRoot was) at = record { ends = tt; rows = at.rows; behind = tt; numbers = omega arith }
 starts_rest (HasRoot was) at = record { ends = tt; rows = at.rows; behind = tt; numbers = omega arith }
 starts_rest {job} {past} {held} (MakesRoot was number item is) at =
@@ -60,7 +62,8 @@ some_listing job [] None is = absurd (cc)
 some_listing job [] (Some index) is = absurd (cc)
 some_listing job (frame ∷ frames) index is = omega arith
 
-walks_rest : {job : Job} {past : History} {prefix : List ℕ} {here next : Phase} {held after : Held} {calls : Calls} → WalkStep job prefix here held after calls (Ok next) → HeldAt job past here held
+walks_rest : {job : Job} {past : History} {prefix : List ℕ} {here next : Phase} {held after : Held} {calls : Calls}
+    → WalkStep job prefix here held after calls (Ok next) → HeldAt job past here held
     → RestAt job (bytes_after here next held past.bytes) next after
 walks_rest {job} {prefix} (IsNew was index id is) at = record {
   ends = (record { some = some_listing job was.trail index (named_found job prefix was.trail index id is); place = refl }, long_at index was.trail);
@@ -71,17 +74,20 @@ walks_rest {job} {prefix} (IsNew was index id is) at = record {
 walks_rest turn at = record { ends = tt; rows = record { rows = at.rows.rows; contents = at.rows.contents }; behind = tt; numbers = tt }
 
 pub walks_hold : WalkingKeepsHeld
-walks_hold job past old new prefix here next held after calls turn answers at = with_rest (walks_rest turn at) (trail.walks_keep old new turn answers at.trail) (walks_feed turn)
+walks_hold job past old new prefix here next held after calls turn answers at = with_rest (walks_rest turn at) (trail.walks_keep old new turn answers at.trail)
+    (walks_feed turn)
 
 -- ---- an object at its place
 
-after_a_tuple : (job : Job) {bytes : Path → List ℕ} {held : Held} {object : Object} (number : ℕ) → IsObject job object × (length held.trail ≡ object.site) → AreRows job bytes held → RestAt job bytes (after_tuple job object number) held
+after_a_tuple : (job : Job) {bytes : Path → List ℕ} {held : Held} {object : Object} (number : ℕ) → IsObject job object × (length held.trail ≡ object.site)
+    → AreRows job bytes held → RestAt job bytes (after_tuple job object number) held
 after_a_tuple job {bytes} {held} {object} number ends rows =
     after_tuple_folder (λ p. RestAt job bytes p held) job object number
     (λ more. record { ends = ends; rows = rows; behind = tt; numbers = ltb-true (number + 1) job.tuples.count more })
     (λ last. record { ends = ends; rows = rows; behind = tt; numbers = tt })
 
-places_rest : {job : Job} {counts : Counts} {past : History} {here next : Phase} {held after : Held} {calls : Calls} → PlaceStep job counts here held after calls (Ok next) → HeldAt job past here held
+places_rest : {job : Job} {counts : Counts} {past : History} {here next : Phase} {held after : Held} {calls : Calls}
+    → PlaceStep job counts here held after calls (Ok next) → HeldAt job past here held
     → RestAt job (bytes_after here next held past.bytes) next after
 places_rest {job} (MakesTuple was object number) at = after_a_tuple job number at.ends at.rows
 places_rest {job} (FindsTuple was object number) at = after_a_tuple job number at.ends at.rows

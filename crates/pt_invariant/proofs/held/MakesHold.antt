@@ -8,7 +8,22 @@ use Rattle.pt_object.specs.declared.rows.Row.{Row}
 use Rattle.pt_tree.specs.Path.{Path}
 use Rattle.pt_plan.specs.Job.{Job}
 use Rattle.pt_plan.specs.Run.{Held, with_fed}
-use Rattle.pt_plan.specs.TurnMake.{MakeStep, MakesVersion, PassesRow, MakesFolder, OpensCopy, CopiesOn, EndsCopy, MakesVersionInventory, MakesVersionSidecar, MakesInventory, MakesSidecar, behind, is_as_read, is_stored}
+use Rattle.pt_plan.specs.TurnMake.{
+  MakeStep,
+  MakesVersion,
+  PassesRow,
+  MakesFolder,
+  OpensCopy,
+  CopiesOn,
+  EndsCopy,
+  MakesVersionInventory,
+  MakesVersionSidecar,
+  MakesInventory,
+  MakesSidecar,
+  behind,
+  is_as_read,
+  is_stored,
+}
 use Rattle.pt_plan.specs.DeviceStates.{Calls}
 use Rattle.pt_plan.specs.declared.object.Object.{Object}
 use Rattle.pt_plan.specs.declared.phase.Phase.{Phase}
@@ -31,15 +46,22 @@ use Rattle.pt_invariant.proofs.held.WithBytes.{rows_again}
 
 -- ---- a file is copied
 
-rows_copied : (job : Job) (bytes : Path → List ℕ) (held : Held) (n left : ℕ) (row : Row) → slice_get held.rows n ≡ Some row → is_as_read job row left held.fed ≡ true → AreRows job bytes held
+rows_copied : (job : Job) (bytes : Path → List ℕ) (held : Held) (n left : ℕ) (row : Row) → slice_get held.rows n ≡ Some row
+    → is_as_read job row left held.fed ≡ true → AreRows job bytes held
     → AreRows job (with_bytes_of (slice_get held.rows n) held.fed bytes) (with_fed held [])
 rows_copied job bytes held n left row is same rows =
     let digest = same_name _ _ (and_parts _ _ same).1 in
-    record { order = rows.order; digests = rows_again (λ b r. digest_of job.algorithm b ≡ r.digest) bytes held.fed held.rows n _ is rows.order digest rows.digests; contents = rows.contents }
+    record {
+      order = rows.order;
+      digests = rows_again (λ b r. digest_of job.algorithm b ≡ r.digest) bytes held.fed held.rows n _ is rows.order digest
+          rows.digests;
+      contents = rows.contents;
+    }
 
 -- ---- from part to part
 
-numbers_at : (job : Job) (object : Object) (held : Held) (position : Position) (more : Bool) → (more ≡ true → IsAtRow held.rows position) → NumbersAt job (phase.Carrying object (stage.Make (cond more (part.Content position) part.VersionInventory))) held
+numbers_at : (job : Job) (object : Object) (held : Held) (position : Position) (more : Bool) → (more ≡ true → IsAtRow held.rows position)
+    → NumbersAt job (phase.Carrying object (stage.Make (cond more (part.Content position) part.VersionInventory))) held
 numbers_at job object held position true at = at refl
 numbers_at job object held position false at = tt
 
@@ -47,12 +69,14 @@ above_none : (n : ℕ) → (n == 0) ≡ false → 0 < n
 above_none n some = let apart = eqb-false n 0 some in omega (arith, apart)
 
 -- the row that is copied is the next content
-pub its_next : {held : Held} {position : Position} (row : Row) → slice_get held.rows position.row ≡ Some row → IsAtStoredRow held position → is_stored held.contents position.stored row.path ≡ true
+pub its_next : {held : Held} {position : Position} (row : Row) → slice_get held.rows position.row ≡ Some row → IsAtStoredRow held position
+    → is_stored held.contents position.stored row.path ≡ true
 its_next {held} {position} row is at =
     let same : at.row ≡ row = some_same at.row row (sym at.is_row ∙ is) in
     ap (λ (r : Row). is_stored held.contents position.stored r.path) (sym same) ∙ at.next
 
-makes_rest : {job : Job} {past : History} {here : Phase} {held after : Held} {calls : Calls} {next : Phase} → MakeStep job here held after calls (Ok next) → HeldAt job past here held
+makes_rest : {job : Job} {past : History} {here : Phase} {held after : Held} {calls : Calls} {next : Phase} → MakeStep job here held after calls (Ok next)
+    → HeldAt job past here held
     → RestAt job (bytes_after here next held past.bytes) next after
 makes_rest {job} (MakesVersion was object) at = record {
   ends = at.ends;
@@ -64,9 +88,11 @@ makes_rest {job} (PassesRow was object position row is other) at = record {
   ends = at.ends;
   rows = at.rows;
   behind = tt;
-  numbers = numbers_at job object was (behind position) _ (λ more. at_passed was.rows was.contents position row at.rows.contents at.rows.order is other more at.numbers);
+  numbers = numbers_at job object was (behind position) _ (λ more. at_passed was.rows was.contents position row at.rows.contents at.rows.order is other more
+      at.numbers);
 }
-makes_rest (MakesFolder was object position row is stored more) at = record { ends = at.ends; rows = at.rows; behind = tt; numbers = at_folder position at.numbers }
+makes_rest (MakesFolder was object position row is stored more) at = record
+    { ends = at.ends; rows = at.rows; behind = tt; numbers = at_folder position at.numbers }
 makes_rest {job} {past} (OpensCopy was object position row is stored all) at = record {
   ends = at.ends;
   rows = fed_rows job past.bytes was [] at.rows;
@@ -83,9 +109,11 @@ makes_rest {job} {past} (EndsCopy was object position row left is same) at = rec
   ends = at.ends;
   rows = rows_copied job past.bytes was position.row left row is same at.rows;
   behind = tt;
-  numbers = numbers_at job object (with_fed was []) _ _ (λ more. at_stored was.rows was.contents position row at.rows.contents at.rows.order is (its_next row is at.numbers) more at.numbers.at);
+  numbers = numbers_at job object (with_fed was []) _ _ (λ more. at_stored was.rows was.contents position row at.rows.contents at.rows.order is
+      (its_next row is at.numbers) more at.numbers.at);
 }
-makes_rest {job} {past} (MakesVersionInventory was object) at = record { ends = at.ends; rows = fed_rows job past.bytes was _ at.rows; behind = tt; numbers = tt }
+makes_rest {job} {past} (MakesVersionInventory was object) at = record
+    { ends = at.ends; rows = fed_rows job past.bytes was _ at.rows; behind = tt; numbers = tt }
 makes_rest {job} {past} (MakesVersionSidecar was object) at = record { ends = at.ends; rows = fed_rows job past.bytes was _ at.rows; behind = tt; numbers = tt }
 makes_rest {job} {past} (MakesInventory was object) at = record { ends = at.ends; rows = fed_rows job past.bytes was _ at.rows; behind = tt; numbers = tt }
 makes_rest {job} {past} {after} (MakesSidecar was object) at =

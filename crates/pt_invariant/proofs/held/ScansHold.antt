@@ -20,7 +20,31 @@ use Rattle.pt_walk.specs.Trail.{advanced, are_outer, current_entry, entered, is_
 use Rattle.pt_walk.specs.declared.frame.Frame.{Frame}
 use Rattle.pt_plan.specs.Job.{Job}
 use Rattle.pt_plan.specs.Run.{Held, with_fed, with_trail}
-use Rattle.pt_plan.specs.TurnScan.{ScanStep, back_at_site, StartsInSite, EntersObject, IsTooDeep, PassesShorty, EntersDirectory, MeetsDeep, OpensFile, MeetsLimit, MeetsOther, EndsSite, EndsObject, LeavesDirectory, ReadsOn, IsTooLong, EndsFile, is_in_site, is_own_directory, logical_path, own_listings, with_directory, with_file}
+use Rattle.pt_plan.specs.TurnScan.{
+  ScanStep,
+  back_at_site,
+  StartsInSite,
+  EntersObject,
+  IsTooDeep,
+  PassesShorty,
+  EntersDirectory,
+  MeetsDeep,
+  OpensFile,
+  MeetsLimit,
+  MeetsOther,
+  EndsSite,
+  EndsObject,
+  LeavesDirectory,
+  ReadsOn,
+  IsTooLong,
+  EndsFile,
+  is_in_site,
+  is_own_directory,
+  logical_path,
+  own_listings,
+  with_directory,
+  with_file,
+}
 use Rattle.pt_plan.specs.DeviceStates.{Calls}
 use Rattle.pt_plan.specs.declared.phase.Phase.{Phase}
 use Rattle.pt_plan.specs.declared.phase.Phase.TheVariants as phase
@@ -47,7 +71,8 @@ no_rows job {bytes} none = record {
 }
 
 none_behind : (object : Object) (held : Held) → held.rows ≡ [] → IsBehindRows object held
-none_behind object held none = ap (λ (l : List Row). all_behind (row_paths l) (take (own_listings object held.trail) held.trail)) none ∙ behind_none (take (own_listings object held.trail) held.trail)
+none_behind object held none = ap (λ (l : List Row). all_behind (row_paths l) (take (own_listings object held.trail) held.trail)) none
+    ∙ behind_none (take (own_listings object held.trail) held.trail)
 
 -- ---- the trail moves
 
@@ -71,9 +96,11 @@ ends_advanced {object} t it = record {
   own = own_advanced object t it.own;
 }
 
-all_advanced : (earlier : List Path) (object : Object) (t : List Frame) → all_behind earlier (take (own_listings object t) t) ≡ true → all_behind earlier (take (own_listings object (advanced t)) (advanced t)) ≡ true
+all_advanced : (earlier : List Path) (object : Object) (t : List Frame) → all_behind earlier (take (own_listings object t) t) ≡ true
+    → all_behind earlier (take (own_listings object (advanced t)) (advanced t)) ≡ true
 all_advanced earlier object t it =
-    ap (all_behind earlier) (ap (λ n. take n (advanced t)) (own_same object t) ∙ take_advanced _ t) ∙ behind_advanced earlier (take (own_listings object t) t) it
+    ap (all_behind earlier) (ap (λ n. take n (advanced t)) (own_same object t) ∙ take_advanced _ t)
+    ∙ behind_advanced earlier (take (own_listings object t) t) it
 
 one_less : (n : ℕ) → 0 < n → n ≡ suc (n - 1)
 one_less n some = omega (arith, some)
@@ -83,7 +110,8 @@ own_front : (object : Object) {frame : Frame} (frames : List Frame) → 0 < own_
     → take (own_listings object (frame ∷ frames)) (frame ∷ frames) ≡ frame ∷ take (own_listings object (frame ∷ frames) - 1) frames
 own_front object {frame} frames some = ap (λ n. take n (frame ∷ frames)) (one_less _ some)
 
-all_entered : (earlier : List Path) {object : Object} (t : List Frame) {item : Item} (items : List Item) → current_entry t ≡ Some item → EndsInObject object t → all_behind earlier (take (own_listings object t) t) ≡ true
+all_entered : (earlier : List Path) {object : Object} (t : List Frame) {item : Item} (items : List Item) → current_entry t ≡ Some item → EndsInObject object t
+    → all_behind earlier (take (own_listings object t) t) ≡ true
     → all_behind earlier (take (own_listings object (entered items t)) (entered items t)) ≡ true
 all_entered earlier [] items e ends it = absurd (cc)
 all_entered earlier {object} (frame ∷ frames) items e ends it =
@@ -111,7 +139,8 @@ shorter : (t : List Frame) (site : ℕ) → site < length t → site ≤ length 
 shorter [] site below = absurd (omega (arith, below))
 shorter (frame ∷ frames) site below = omega (arith, below)
 
-ends_left : (object : Object) (t : List Frame) → is_in_site object t ≡ false → is_own_directory object t ≡ false → EndsInObject object t → EndsInObject object (advanced (parent t))
+ends_left : (object : Object) (t : List Frame) → is_in_site object t ≡ false → is_own_directory object t ≡ false → EndsInObject object t
+    → EndsInObject object (advanced (parent t))
 ends_left object t apart outside ends =
     let below = below_site_of object t apart ends.within in
     ends_advanced (parent t) (record { within = shorter t object.site below; own = some_around object t outside below })
@@ -122,14 +151,16 @@ at_site_again object t own = eqb-true (length (parent t)) object.site (and_parts
 
 -- ---- a file is noted
 
-contents_push : (rows : List Row) {contents : List Content} (row : Row) → contents ≡ map content_of_row (distinct rows) → noted contents row.digest row.path ≡ map content_of_row (distinct (rows ++ row ∷ []))
+contents_push : (rows : List Row) {contents : List Content} (row : Row) → contents ≡ map content_of_row (distinct rows)
+    → noted contents row.digest row.path ≡ map content_of_row (distinct (rows ++ row ∷ []))
 contents_push rows row is =
     ap (λ (l : List Content). noted l row.digest row.path) (is ∙ sym (noting_gives_distinct rows))
     ∙ sym (fold_push (λ (l : List Content) (r : Row). noted l r.digest r.path) [] rows row)
     ∙ noting_gives_distinct (rows ++ row ∷ [])
 
 -- the file at the place comes behind all rows
-pub here_behind : (earlier : List Path) {object : Object} (t : List Frame) {item : Item} → current_entry t ≡ Some item → EndsInObject object t → all_behind earlier (take (own_listings object t) t) ≡ true
+pub here_behind : (earlier : List Path) {object : Object} (t : List Frame) {item : Item} → current_entry t ≡ Some item → EndsInObject object t
+    → all_behind earlier (take (own_listings object t) t) ≡ true
     → list_all (λ path. parts_before path (logical_path object t)) earlier ≡ true
 here_behind earlier [] e ends it = absurd (cc)
 here_behind earlier {object} (frame ∷ frames) e ends it =
@@ -154,7 +185,8 @@ first_ones (suc n) (frame ∷ frames) is_one =
         and_from _ _ first.0
         (and_from _ _ second.0 (outer_ones n frames second.1))
 
-all_noted : (earlier : List Path) {object : Object} (t : List Frame) {item : Item} → is_trail t ≡ true → current_entry t ≡ Some item → EndsInObject object t → all_behind earlier (take (own_listings object t) t) ≡ true
+all_noted : (earlier : List Path) {object : Object} (t : List Frame) {item : Item} → is_trail t ≡ true → current_entry t ≡ Some item → EndsInObject object t
+    → all_behind earlier (take (own_listings object t) t) ≡ true
     → all_behind (earlier ++ logical_path object t ∷ []) (take (own_listings object (advanced t)) (advanced t)) ≡ true
 all_noted earlier [] is_one e ends it = absurd (cc)
 all_noted earlier {object} (frame ∷ frames) {item} is_one e ends it =
@@ -162,10 +194,12 @@ all_noted earlier {object} (frame ∷ frames) {item} is_one e ends it =
     let front = own_front object frames ends.own in
     ap (all_behind (earlier ++ logical_path object (frame ∷ frames) ∷ [])) (take_advanced own (frame ∷ frames))
     ∙ ap (λ (l : List Frame). all_behind (earlier ++ names_to l ∷ []) (advanced l)) front
-    ∙ behind_noted earlier frame (take (own - 1) frames) item (ap is_trail (sym front) ∙ first_ones own (frame ∷ frames) is_one) e (sym (ap (all_behind earlier) front) ∙ it)
+    ∙ behind_noted earlier frame (take (own - 1) frames) item (ap is_trail (sym front) ∙ first_ones own (frame ∷ frames) is_one) e
+    (sym (ap (all_behind earlier) front) ∙ it)
 
 -- the rows with the file that was read
-rows_noted : (job : Job) (bytes : Path → List ℕ) (object : Object) (held : Held) {item : Item} (read : ℕ) → current_entry held.trail ≡ Some item → EndsInObject object held.trail → IsBehindRows object held → AreRows job bytes held
+rows_noted : (job : Job) (bytes : Path → List ℕ) (object : Object) (held : Held) {item : Item} (read : ℕ) → current_entry held.trail ≡ Some item
+    → EndsInObject object held.trail → IsBehindRows object held → AreRows job bytes held
     → AreRows job (with_bytes (logical_path object held.trail) held.fed bytes) (with_file job object held read)
 rows_noted job bytes object held read e ends behind rows =
     let path = logical_path object held.trail in
@@ -177,10 +211,12 @@ rows_noted job bytes object held read e ends behind rows =
       contents = contents_push held.rows row rows.contents;
     }
 
-behind_file : (job : Job) (object : Object) (held : Held) {item : Item} (read : ℕ) → is_trail held.trail ≡ true → current_entry held.trail ≡ Some item → EndsInObject object held.trail → IsBehindRows object held → IsBehindRows object (with_file job object held read)
+behind_file : (job : Job) (object : Object) (held : Held) {item : Item} (read : ℕ) → is_trail held.trail ≡ true → current_entry held.trail ≡ Some item
+    → EndsInObject object held.trail → IsBehindRows object held → IsBehindRows object (with_file job object held read)
 behind_file job object held read is_one e ends behind =
     let row = row_of (logical_path object held.trail) (digest_of job.algorithm held.fed) read in
-    ap (λ (l : List Path). all_behind l (take (own_listings object (advanced held.trail)) (advanced held.trail))) (map-append (λ (r : Row). r.path) held.rows (row ∷ []))
+    ap (λ (l : List Path). all_behind l (take (own_listings object (advanced held.trail)) (advanced held.trail)))
+    (map-append (λ (r : Row). r.path) held.rows (row ∷ []))
     ∙ all_noted _ held.trail is_one e ends behind
 
 -- ---- each turn
@@ -213,7 +249,8 @@ moved_rows t it = record { order = it.order; digests = it.digests; contents = it
 no_object_rest : {job : Job} {bytes : Path → List ℕ} (object : Object) (held : Held) → RestAt job bytes phase.Walk (back_at_site object held)
 no_object_rest object held = record { ends = tt; rows = record { rows = refl; contents = refl }; behind = tt; numbers = tt }
 
-scans_rest : {job : Job} {past : History} {here next : Phase} {held after : Held} {calls : Calls} → ScanStep job here held after calls (Ok next) → HeldAt job past here held → RestAt job (bytes_after here next held past.bytes) next after
+scans_rest : {job : Job} {past : History} {here next : Phase} {held after : Held} {calls : Calls} → ScanStep job here held after calls (Ok next)
+    → HeldAt job past here held → RestAt job (bytes_after here next held past.bytes) next after
 scans_rest {job} {after} (StartsInSite was object gathered) at = record {
   ends = (at.ends.0, first_in_site object was.trail gathered at.ends.1);
   rows = moved_rows after.trail (no_rows job at.rows);
@@ -240,10 +277,20 @@ scans_rest {after} (EntersDirectory was object name items e apart shallow) at = 
   numbers = tt;
 }
 scans_rest (MeetsDeep was object name e apart deep) at = no_object_rest object was
-scans_rest {job} {past} (OpensFile was object name e room) at = record { ends = at.ends; rows = fed_rows job past.bytes was [] at.rows; behind = at.behind; numbers = tt }
+scans_rest {job} {past} (OpensFile was object name e room) at = record {
+  ends = at.ends;
+  rows = fed_rows job past.bytes was [] at.rows;
+  behind = at.behind;
+  numbers = tt;
+}
 scans_rest (MeetsLimit was object name e room) at = no_object_rest object was
 scans_rest (MeetsOther was object name e) at = no_object_rest object was
-scans_rest (EndsSite was object e there) at = record { ends = (at.ends.0, eqb-true (length was.trail) object.site there); rows = at.rows; behind = tt; numbers = tt }
+scans_rest (EndsSite was object e there) at = record {
+  ends = (at.ends.0, eqb-true (length was.trail) object.site there);
+  rows = at.rows;
+  behind = tt;
+  numbers = tt;
+}
 scans_rest (EndsObject was object e apart own) at =
     record { ends = (at.ends.0, at_site_again object was.trail own); rows = moved_rows (parent was.trail) at.rows; behind = tt; numbers = tt }
 scans_rest {after} (LeavesDirectory was object e apart outside) at = record {
@@ -252,7 +299,8 @@ scans_rest {after} (LeavesDirectory was object e apart outside) at = record {
   behind = all_left _ object was.trail (below_site_of object was.trail apart at.ends.1.within) at.behind;
   numbers = tt;
 }
-scans_rest {job} {past} {after} (ReadsOn was object bytes byte block short) at = record { ends = at.ends; rows = fed_rows job past.bytes was after.fed at.rows; behind = at.behind; numbers = tt }
+scans_rest {job} {past} {after} (ReadsOn was object bytes byte block short) at = record
+    { ends = at.ends; rows = fed_rows job past.bytes was after.fed at.rows; behind = at.behind; numbers = tt }
 scans_rest (IsTooLong was object bytes byte block long) at = no_object_rest object was
 scans_rest {job} {past} (EndsFile was object bytes) at = record {
   ends = (at.ends.0, ends_advanced was.trail at.ends.1);
@@ -262,4 +310,5 @@ scans_rest {job} {past} (EndsFile was object bytes) at = record {
 }
 
 pub scans_hold : ScanningKeepsHeld
-scans_hold job past old new here next held after calls turn answers at = with_rest (scans_rest turn at) (trail.scans_keep old new turn answers at.trail) (scans_feed turn)
+scans_hold job past old new here next held after calls turn answers at = with_rest (scans_rest turn at) (trail.scans_keep old new turn answers at.trail)
+    (scans_feed turn)

@@ -17,7 +17,25 @@ use Rattle.pt_plan.specs.Job.{Job, form_of}
 use Rattle.pt_plan.specs.Run.{Counts, Held}
 use Rattle.pt_plan.specs.TurnMake.{MakeStep, MakesSidecar}
 use Rattle.pt_plan.specs.TurnPlace.{PlaceStep, after_tuple, MakesTuple, FindsTuple, TellsDone}
-use Rattle.pt_plan.specs.TurnScan.{ScanStep, StartsInSite, EntersObject, IsTooDeep, PassesShorty, EntersDirectory, MeetsDeep, OpensFile, MeetsLimit, MeetsOther, EndsSite, EndsObject, LeavesDirectory, ReadsOn, IsTooLong, EndsFile, to_site}
+use Rattle.pt_plan.specs.TurnScan.{
+  ScanStep,
+  StartsInSite,
+  EntersObject,
+  IsTooDeep,
+  PassesShorty,
+  EntersDirectory,
+  MeetsDeep,
+  OpensFile,
+  MeetsLimit,
+  MeetsOther,
+  EndsSite,
+  EndsObject,
+  LeavesDirectory,
+  ReadsOn,
+  IsTooLong,
+  EndsFile,
+  to_site,
+}
 use Rattle.pt_plan.specs.TurnStart.{StartStep, MakesRoot, IsSame}
 use Rattle.pt_plan.specs.TurnWalk.{WalkStep, OpensRoot, IsNew, IsPast, IsDeep, EntersSite, PassesEntry, LeavesSite, at_object, found_at, has_object}
 use Rattle.pt_plan.specs.DeviceStates.{Answers, Calls}
@@ -59,7 +77,8 @@ trail_advanced (frame ∷ frames) item is_one e =
     (and_from _ _ rise (le-leb (frame.place + 1) (length frame.listing) (omega (arith, within)))) parts.1
 
 -- or to any other
-trail_sought : (place : ℕ) (trail : List Frame) → is_trail trail ≡ true → ((frame : Frame) (frames : List Frame) → trail ≡ frame ∷ frames → place ≤ length frame.listing) → is_trail (sought place trail) ≡ true
+trail_sought : (place : ℕ) (trail : List Frame) → is_trail trail ≡ true
+    → ((frame : Frame) (frames : List Frame) → trail ≡ frame ∷ frames → place ≤ length frame.listing) → is_trail (sought place trail) ≡ true
 trail_sought place [] is_one within = refl
 trail_sought place (frame ∷ frames) is_one within =
     let parts = and_parts _ _ is_one in
@@ -99,7 +118,8 @@ back object trail is_one = trail_first (to_site object trail) (trail_dropped (le
 
 -- ---- the start
 
-pub starts_keep : {job : Job} {prefix read : List ℕ} {here next : Phase} {held : Held} {calls : Calls} → StartStep job here prefix read calls (Ok next) → TrailAt here held → TrailAt next held
+pub starts_keep : {job : Job} {prefix read : List ℕ} {here next : Phase} {held : Held} {calls : Calls} → StartStep job here prefix read calls (Ok next)
+    → TrailAt here held → TrailAt next held
 starts_keep {held} (MakesRoot was number item is) at =
     after_root_item (λ p. TrailAt p held) number
     (λ last. record { is_one = at.is_one; none = at.none; entry = tt }) (λ more. record { is_one = at.is_one; none = at.none; entry = tt })
@@ -111,17 +131,20 @@ starts_keep turn at = record { is_one = at.is_one; none = at.none; entry = tt }
 -- ---- the walk
 
 -- the entry that encapsulates an object is a directory
-candidate_there : (job : Job) (trail : List Frame) (i : ℕ) → found_at (form_of job) trail ≡ has_object (Some i) → is_dir_entry (current_entry (sought i trail)) ≡ true
+candidate_there : (job : Job) (trail : List Frame) (i : ℕ) → found_at (form_of job) trail ≡ has_object (Some i)
+    → is_dir_entry (current_entry (sought i trail)) ≡ true
 candidate_there job [] i is = absurd (cc)
 candidate_there job (frame ∷ frames) i is = ap is_dir_entry (candidate frame.listing (at_of (names_to frames)) (form_of job) i is).1
 
-candidate_place : (job : Job) (frame : Frame) (frames : List Frame) (i : ℕ) → found_at (form_of job) (frame ∷ frames) ≡ has_object (Some i) → i ≤ length frame.listing
+candidate_place : (job : Job) (frame : Frame) (frames : List Frame) (i : ℕ) → found_at (form_of job) (frame ∷ frames) ≡ has_object (Some i)
+    → i ≤ length frame.listing
 candidate_place job frame frames i is =
     let entry = candidate frame.listing (at_of (names_to frames)) (form_of job) i is in
     let within = slice_get_within frame.listing i (entry.0, kind.Dir) entry.1 in
     omega (arith, within)
 
-at_candidate : (job : Job) (trail : List Frame) (i : ℕ) → is_trail trail ≡ true → found_at (form_of job) trail ≡ has_object (Some i) → is_trail (sought i trail) ≡ true
+at_candidate : (job : Job) (trail : List Frame) (i : ℕ) → is_trail trail ≡ true → found_at (form_of job) trail ≡ has_object (Some i)
+    → is_trail (sought i trail) ≡ true
 at_candidate job [] i is_one is = refl
 at_candidate job (frame ∷ frames) i is_one is =
     trail_sought i (frame ∷ frames) is_one (λ f fs e. subst (λ (t : List Frame). i ≤ length (top_of t)) e (candidate_place job frame frames i is))
@@ -130,12 +153,24 @@ at_candidate job (frame ∷ frames) i is_one is =
     top_of [] = []
     top_of (f ∷ fs) = f.listing
 
-new_object : (job : Job) (held : Held) (object : Object) (index : Option ℕ) → object.gathered ≡ is_none index → is_trail held.trail ≡ true → found_at (form_of job) held.trail ≡ has_object index
+new_object : (job : Job) (held : Held) (object : Object) (index : Option ℕ) → object.gathered ≡ is_none index → is_trail held.trail ≡ true
+    → found_at (form_of job) held.trail ≡ has_object index
     → TrailAt (phase.Carrying object stage.Open) (record held { trail = at_object index held.trail })
-new_object job held object None gathered is_one is = record { is_one = is_one; none = tt; entry = λ apart. absurd (let no : true ≡ false = sym gathered ∙ apart in cc) }
-new_object job held object (Some i) gathered is_one is = record { is_one = at_candidate job held.trail i is_one is; none = tt; entry = λ apart. candidate_there job held.trail i is }
+new_object job held object None gathered is_one is = record {
+  is_one = is_one;
+  none = tt;
+  entry = λ apart. absurd (let no : true ≡ false = sym gathered
+      ∙ apart in cc);
+}
+new_object job held object (Some i) gathered is_one is = record {
+  is_one = at_candidate job held.trail i is_one is;
+  none = tt;
+  entry = λ apart. candidate_there
+      job held.trail i is;
+}
 
-pub walks_keep : {job : Job} (old new : Option Reading) {prefix : List ℕ} {here next : Phase} {held after : Held} {calls : Calls} → WalkStep job prefix here held after calls (Ok next)
+pub walks_keep : {job : Job} (old new : Option Reading) {prefix : List ℕ} {here next : Phase} {held after : Held} {calls : Calls}
+    → WalkStep job prefix here held after calls (Ok next)
     → Answers calls.asked old new → TrailAt here held → TrailAt next after
 unfolding Answers
 walks_keep old new (OpensRoot was items) answers at =
@@ -174,7 +209,8 @@ scans_keep old new (EndsFile was object bytes) answers at = record { is_one = tr
 
 -- ---- making and placing
 
-pub makes_keep : {job : Job} {here : Phase} {held after : Held} {calls : Calls} {next : Phase} → MakeStep job here held after calls (Ok next) → TrailAt here held → TrailAt next after
+pub makes_keep : {job : Job} {here : Phase} {held after : Held} {calls : Calls} {next : Phase} → MakeStep job here held after calls (Ok next)
+    → TrailAt here held → TrailAt next after
 makes_keep {job} {after} (MakesSidecar was object) at =
     after_sidecar (λ p. TrailAt p after) job object
     (λ flat. record { is_one = at.is_one; none = tt; entry = tt }) (λ some. record { is_one = at.is_one; none = tt; entry = tt })
@@ -185,7 +221,8 @@ after_a_tuple job {held} object number is_one =
     after_tuple_folder (λ p. TrailAt p held) job object number
     (λ more. record { is_one = is_one; none = tt; entry = tt }) (λ last. record { is_one = is_one; none = tt; entry = tt })
 
-pub places_keep : {job : Job} {counts : Counts} {here next : Phase} {held after : Held} {calls : Calls} → PlaceStep job counts here held after calls (Ok next) → TrailAt here held → TrailAt next after
+pub places_keep : {job : Job} {counts : Counts} {here next : Phase} {held after : Held} {calls : Calls} → PlaceStep job counts here held after calls (Ok next)
+    → TrailAt here held → TrailAt next after
 places_keep {job} (MakesTuple was object number) at = after_a_tuple job object number at.is_one
 places_keep {job} (FindsTuple was object number) at = after_a_tuple job object number at.is_one
 places_keep (TellsDone was object) at = record { is_one = trail_first was.trail at.is_one; none = tt; entry = tt }

@@ -38,8 +38,10 @@ use Rattle.pt_invariant.proofs.dest.ScriptParts.{IsNext}
 
 -- ---- it is carried so
 
-pub carried_next : {job : Job} (past : History) (s : Reading) (root : Tree) {prefix : List ℕ} {object : Object} {held : Held} {count : ℕ} → is_proper s.tree ≡ true → HasStarted s.tree prefix → IsScanned job s.tree prefix object held count
-    → AreHeldThere s.tree object (to_site object held.trail) past.bytes held.rows → IsNextFree job s.tree root count → IsCarriedAs job s.tree root count (object_held object held.rows past.bytes)
+pub carried_next : {job : Job} (past : History) (s : Reading) (root : Tree) {prefix : List ℕ} {object : Object} {held : Held} {count : ℕ}
+    → is_proper s.tree ≡ true → HasStarted s.tree prefix → IsScanned job s.tree prefix object held count
+    → AreHeldThere s.tree object (to_site object held.trail) past.bytes held.rows → IsNextFree job s.tree root count
+    → IsCarriedAs job s.tree root count (object_held object held.rows past.bytes)
 carried_next past s root {object} {held} proper started it there free =
     let ends = ends_with {root = root} started it free in
     let same = files_are s.tree object (to_site object held.trail) past.bytes (pairtree_proper s.tree started.store proper) it.scanned there in
@@ -55,20 +57,25 @@ module _ (job : Job) (past : History) (s : Reading) (start : Tree) (object : Obj
   abbrev root_here : ℕ → Tree
   root_here n = with_root start (root_on_way job start past.placed object.place n)
 
-  way_is : {n : ℕ} → IsTree start → IsRootOfStart job start → IsObject job object → n ≤ job.tuples.count → past.placed ≡ carried_among job s.tree (root_in start) past.count
+  way_is : {n : ℕ} → IsTree start → IsRootOfStart job start → IsObject job object → n ≤ job.tuples.count
+      → past.placed ≡ carried_among job s.tree (root_in start) past.count
       → root_here n ≡ with_root start (on_the_way_to job s.tree (root_in start) past.count next n)
   way_is {n} tree root it few placed =
       on_way job past start object held tree root it few
-      ∙ ap (λ (l : List Carried). with_root start (with_folders (take n (tuple_folders job next)) (with_objects job l (base job.tuples (root_in start))))) placed
+      ∙ ap (λ (l : List Carried). with_root start (with_folders (take n (tuple_folders job next)) (with_objects job l (base job.tuples (root_in start)))))
+      placed
 
   -- a front of its script, whose last file may be there in part
-  pub carrying_left : {n : ℕ} {now : Tree} → IsTree start → IsRootOfStart job start → IsObject job object → AreRows job past.bytes held → n ≤ job.tuples.count → past.placed ≡ carried_among job s.tree (root_in start) past.count
-      → IsCarriedAs job s.tree (root_in start) past.count next → StandsAtPrefix (script_of_object job object held.rows past.bytes) (root_here n) now → FaultState job s.tree start now (text job s.tree (root_in start) past.count)
+  pub carrying_left : {n : ℕ} {now : Tree} → IsTree start → IsRootOfStart job start → IsObject job object → AreRows job past.bytes held → n ≤ job.tuples.count
+      → past.placed ≡ carried_among job s.tree (root_in start) past.count
+      → IsCarriedAs job s.tree (root_in start) past.count next → StandsAtPrefix (script_of_object job object held.rows past.bytes) (root_here n) now
+      → FaultState job s.tree start now (text job s.tree (root_in start) past.count)
   carrying_left {n} {now} tree root it rows few placed is at =
       let within = marked_within job s.tree (root_in start) is.1 in
       inr (
         root.free,
-        Carrying past.count n next now (text job s.tree (root_in start) past.count) is (told_so_far job s.tree (root_in start) past.count (omega (arith, within)))
+        Carrying past.count n next now (text job s.tree (root_in start) past.count) is
+            (told_so_far job s.tree (root_in start) past.count (omega (arith, within)))
             (rw (way_is tree root it few placed) at
             (rw (own_script job past start object held rows) at at)),
       )
@@ -76,7 +83,8 @@ module _ (job : Job) (past : History) (s : Reading) (start : Tree) (object : Obj
 -- ---- a content in part
 
 -- a file that holds the first of its bytes
-pub content_stands : {script front : List Item} {path : Path} {bytes fed : List ℕ} {start : Tree} {now : Tree} → IsNext script front (MakeFile path bytes) → BeginsWith fed bytes → now ≡ done (MakeFile path fed) (made front start) → StandsAtPrefix script start now
+pub content_stands : {script front : List Item} {path : Path} {bytes fed : List ℕ} {start : Tree} {now : Tree} → IsNext script front (MakeFile path bytes)
+    → BeginsWith fed bytes → now ≡ done (MakeFile path fed) (made front start) → StandsAtPrefix script start now
 content_stands {front} {path} {fed} {start} next begins is =
     stands_cut (length fed) next
     (is ∙ ap (λ (b : List ℕ). done (MakeFile path b) (made front start)) (sym (ap (take (length fed)) begins.1 ∙ take-append_seam fed begins.0)))
@@ -96,7 +104,8 @@ begins_cut n fed piece begins = (
 )
 
 -- the bytes of a row are those of its file
-pub row_bytes : (source : Forest) (object : Object) (trail : List Frame) (bytes : Path → List ℕ) (rows : List Row) (n : ℕ) {row : Row} → length trail ≡ object.site → AreHeldThere source object (to_site object trail) bytes rows → slice_get rows n ≡ Some row
+pub row_bytes : (source : Forest) (object : Object) (trail : List Frame) (bytes : Path → List ℕ) (rows : List Row) (n : ℕ) {row : Row}
+    → length trail ≡ object.site → AreHeldThere source object (to_site object trail) bytes rows → slice_get rows n ≡ Some row
     → bytes row.path ≡ bytes_at (pairtree_of source) (path_of_source object trail ++ row.path)
 row_bytes source object trail bytes rows n {row} same there is =
     all_at (λ (r : Row). bytes r.path ≡ bytes_at (pairtree_of source) (path_of_source object (to_site object trail) ++ r.path)) rows n there is

@@ -12,7 +12,22 @@ use Rattle.pt_plan.proofs.TakenPlaces.{next_place_stands_where_taken}
 use Rattle.pt_plan.specs.Carried.{Carried, Marked, after, carried_among, carried_by, carried_by_outcome, is_taken, marked}
 use Rattle.pt_plan.specs.Items.{Interior, Item, Named, Outcome, PairtreeObject, Skip, items, outcome}
 use Rattle.pt_plan.specs.Job.{Job}
-use Rattle.pt_plan.specs.Lines.{Done, End, Line, Present, Skipped, is_done, is_present, is_skipped, line_by_outcome, line_by_verdict, line_of, line_text, lines, text}
+use Rattle.pt_plan.specs.Lines.{
+  Done,
+  End,
+  Line,
+  Present,
+  Skipped,
+  is_done,
+  is_present,
+  is_skipped,
+  line_by_outcome,
+  line_by_verdict,
+  line_of,
+  line_text,
+  lines,
+  text,
+}
 use Rattle.pt_plan.specs.PlaceLaws.{IsRooted}
 use Rattle.pt_plan.specs.Run.{Counts}
 use Rattle.pt_plan.specs.Turn.{counted}
@@ -36,53 +51,68 @@ pub record EndsItem (job : Job) (source : Forest) (root : Tree) (count : ℕ) (l
 -- its line is told
 pub data Tells (job : Job) (source : Forest) (root : Tree) (count : ℕ) : Phase → Option Line → ℕ → List Carried → Type 0 where
   Nothing : {next : Phase} → Tells job source root count next None count []
-  OneItem : {next : Phase} {line : Option Line} {more : List Carried} → EndsItem job source root count line more → Tells job source root count next line (suc count) more
+  OneItem : {next : Phase} {line : Option Line} {more : List Carried} → EndsItem job source root count line more
+      → Tells job source root count next line (suc count) more
   Last : (done present skipped : ℕ) → Tells job source root count phase.Ended (Some (End done present skipped)) count []
 
 -- ---- the counts
 
-number_after : (test : Line → Bool) {line : Option Line} {job : Job} {source : Forest} {root : Tree} {count : ℕ} {more : List Carried} → EndsItem job source root count line more
+number_after : (test : Line → Bool) {line : Option Line} {job : Job} {source : Forest} {root : Tree} {count : ℕ} {more : List Carried}
+    → EndsItem job source root count line more
     → count_by test (lines job source root (suc count)) ≡ count_by test (lines job source root count) + count_by test (option_to_list line)
 number_after test {job} {source} {root} {count} it =
     counts_grow job source root count it.m test it.is ∙ ap (λ (l : List Line). count_by test (lines job source root count) + count_by test l) it.told
 
-counts_after : {line : Option Line} {job : Job} {source : Forest} {root : Tree} {count : ℕ} {counts : Counts} {more : List Carried} → EndsItem job source root count line more → CountsLines job source root count counts
+counts_after : {line : Option Line} {job : Job} {source : Forest} {root : Tree} {count : ℕ} {counts : Counts} {more : List Carried}
+    → EndsItem job source root count line more → CountsLines job source root count counts
     → CountsLines job source root (suc count) (counted line counts)
 counts_after {line} {job} {source} {root} {count} {counts} it are = by line (number_after is_done it) (number_after is_present it) (number_after is_skipped it)
   where
-    by : (l : Option Line) → count_by is_done (lines job source root (suc count)) ≡ count_by is_done (lines job source root count) + count_by is_done (option_to_list l)
+    by : (l : Option Line) → count_by is_done (lines job source root (suc count)) ≡ count_by is_done (lines job source root count)
+        + count_by is_done (option_to_list l)
         → count_by is_present (lines job source root (suc count)) ≡ count_by is_present (lines job source root count) + count_by is_present (option_to_list l)
         → count_by is_skipped (lines job source root (suc count)) ≡ count_by is_skipped (lines job source root count) + count_by is_skipped (option_to_list l)
         → CountsLines job source root (suc count) (counted l counts)
-    by None a b c = let x = are.done in let y = are.present in let z = are.skipped in record { done = omega (arith, a, x); present = omega (arith, b, y); skipped = omega (arith, c, z) }
-    by (Some (Done at bytes empty files id to)) a b c = let x = are.done in let y = are.present in let z = are.skipped in record { done = omega (arith, a, x); present = omega (arith, b, y); skipped = omega (arith, c, z) }
-    by (Some (Present at id to)) a b c = let x = are.done in let y = are.present in let z = are.skipped in record { done = omega (arith, a, x); present = omega (arith, b, y); skipped = omega (arith, c, z) }
-    by (Some (Skipped at why)) a b c = let x = are.done in let y = are.present in let z = are.skipped in record { done = omega (arith, a, x); present = omega (arith, b, y); skipped = omega (arith, c, z) }
-    by (Some (End done present skipped)) a b c = let x = are.done in let y = are.present in let z = are.skipped in record { done = omega (arith, a, x); present = omega (arith, b, y); skipped = omega (arith, c, z) }
+    by None a b c = let x = are.done in let y = are.present in let z = are.skipped in record
+        { done = omega (arith, a, x); present = omega (arith, b, y); skipped = omega (arith, c, z) }
+    by (Some (Done at bytes empty files id to)) a b c = let x = are.done in let y = are.present in let z = are.skipped in record
+        { done = omega (arith, a, x); present = omega (arith, b, y); skipped = omega (arith, c, z) }
+    by (Some (Present at id to)) a b c = let x = are.done in let y = are.present in let z = are.skipped in record
+        { done = omega (arith, a, x); present = omega (arith, b, y); skipped = omega (arith, c, z) }
+    by (Some (Skipped at why)) a b c = let x = are.done in let y = are.present in let z = are.skipped in record
+        { done = omega (arith, a, x); present = omega (arith, b, y); skipped = omega (arith, c, z) }
+    by (Some (End done present skipped)) a b c = let x = are.done in let y = are.present in let z = are.skipped in record
+        { done = omega (arith, a, x); present = omega (arith, b, y); skipped = omega (arith, c, z) }
 
-pub counts_kept : {job : Job} {source : Forest} {root : Tree} {count new : ℕ} {next : Phase} {line : Option Line} {counts : Counts} {gained : List Carried} → Tells job source root count next line new gained → CountsLines job source root count counts → CountsLines job source root new (counted line counts)
+pub counts_kept : {job : Job} {source : Forest} {root : Tree} {count new : ℕ} {next : Phase} {line : Option Line} {counts : Counts} {gained : List Carried}
+    → Tells job source root count next line new gained → CountsLines job source root count counts → CountsLines job source root new (counted line counts)
 counts_kept (OneItem it) are = counts_after it are
 counts_kept _ are = are
 
 -- ---- the log
 
 -- of a run that hasn't ended the log has got the lines of the items done
-pub told_at : (job : Job) (source : Forest) (root : Tree) (past : History) (next : Phase) (old : List ℕ) {now : List ℕ} → now ≡ old ++ text job source root past.count → HasTold job source root past next old now
+pub told_at : (job : Job) (source : Forest) (root : Tree) (past : History) (next : Phase) (old : List ℕ) {now : List ℕ}
+    → now ≡ old ++ text job source root past.count → HasTold job source root past next old now
 told_at _ _ _ _ phase.Ended _ _ = tt
 told_at _ _ _ _ _ _ told = told
 
 -- with one item more it gets its line
 text_after : {job : Job} {source : Forest} {root : Tree} {count : ℕ} {line : Option Line} {more : List Carried} → EndsItem job source root count line more
     → text job source root (suc count) ≡ text job source root count ++ flat_map line_text (option_to_list line)
-text_after {job} {source} {root} {count} it = (text_grows job source root count it.m it.is).1 ∙ ap (λ (l : List Line). text job source root count ++ flat_map line_text l) it.told
+text_after {job} {source} {root} {count} it = (text_grows job source root count it.m it.is).1
+    ∙ ap (λ (l : List Line). text job source root count ++ flat_map line_text l) it.told
 
-line_put : (line : Option Line) (old : List ℕ) {now : List ℕ} {new : List ℕ} (before : List ℕ) {after : List ℕ} → after ≡ before ++ flat_map line_text (option_to_list line) → now ≡ old ++ before → Puts line (Some now) (Some new) → new ≡ old ++ after
+line_put : (line : Option Line) (old : List ℕ) {now : List ℕ} {new : List ℕ} (before : List ℕ) {after : List ℕ}
+    → after ≡ before ++ flat_map line_text (option_to_list line) → now ≡ old ++ before → Puts line (Some now) (Some new) → new ≡ old ++ after
 unfolding Puts
 line_put None old {now} {new} before grown told puts = some_same new now puts ∙ told ∙ ap (λ l. old ++ l) (sym (append-nil before) ∙ sym grown)
 line_put (Some line) old before grown told puts =
-    puts ∙ ap (λ l. l ++ line_text line) told ∙ append_assoc old before (line_text line) ∙ ap (λ l. old ++ l) (ap (λ l. before ++ l) (sym (append-nil (line_text line))) ∙ sym grown)
+    puts ∙ ap (λ l. l ++ line_text line) told ∙ append_assoc old before (line_text line)
+    ∙ ap (λ l. old ++ l) (ap (λ l. before ++ l) (sym (append-nil (line_text line))) ∙ sym grown)
 
-pub log_kept : {job : Job} {source : Forest} {root : Tree} (past later : History) {next : Phase} {line : Option Line} {n : ℕ} (old : List ℕ) {now : List ℕ} (new : List ℕ) {gained : List Carried} → later.count ≡ n → Tells job source root past.count next line n gained
+pub log_kept : {job : Job} {source : Forest} {root : Tree} (past later : History) {next : Phase} {line : Option Line} {n : ℕ} (old : List ℕ) {now : List ℕ}
+    (new : List ℕ) {gained : List Carried} → later.count ≡ n → Tells job source root past.count next line n gained
     → now ≡ old ++ text job source root past.count → Puts line (Some now) (Some new) → HasTold job source root later next old new
 unfolding Puts
 log_kept {job} {source} {root} _ later {next} old {now} new is Nothing told puts =
@@ -95,10 +125,12 @@ log_kept _ _ _ _ _ (Last _ _ _) _ _ = tt
 -- ---- the objects placed
 
 -- nothing more is carried of an item that ends so
-pub placed_kept : {job : Job} {source : Forest} {root : Tree} {count new : ℕ} {next : Phase} {line : Option Line} {gained placed : List Carried} → gained ≡ [] → Tells job source root count next line new gained → placed ≡ carried_among job source root count
+pub placed_kept : {job : Job} {source : Forest} {root : Tree} {count new : ℕ} {next : Phase} {line : Option Line} {gained placed : List Carried} → gained ≡ []
+    → Tells job source root count next line new gained → placed ≡ carried_among job source root count
     → placed ≡ carried_among job source root new
 placed_kept {job} {source} {root} {count} none (OneItem it) are =
-    are ∙ sym (carried_grows job source root count it.m it.is ∙ ap (λ (l : List Carried). carried_among job source root count ++ l) (it.gained ∙ none) ∙ append-nil (carried_among job source root count))
+    are ∙ sym (carried_grows job source root count it.m it.is ∙ ap (λ (l : List Carried). carried_among job source root count ++ l) (it.gained ∙ none)
+    ∙ append-nil (carried_among job source root count))
 placed_kept _ _ are = are
 
 -- ---- each kind of item
@@ -110,7 +142,8 @@ mark_of job source root count is =
     taken_against_earlier job source root count ∙ ap (option_map (λ (i : Item). (i, is_taken job root (take count (items job source)) i.verdict))) is
 
 -- it only leads on
-pub interior_item : {job : Job} {source : Forest} (root : Tree) {count : ℕ} {item : Item} → slice_get (items job source) count ≡ Some item → item.verdict ≡ Interior → EndsItem job source root count None []
+pub interior_item : {job : Job} {source : Forest} (root : Tree) {count : ℕ} {item : Item} → slice_get (items job source) count ≡ Some item
+    → item.verdict ≡ Interior → EndsItem job source root count None []
 interior_item {job} {source} root {count} {item} is what = record {
   m = (item, is_taken job root (take count (items job source)) item.verdict);
   is = mark_of job source root count is;
@@ -119,7 +152,8 @@ interior_item {job} {source} root {count} {item} is what = record {
 }
 
 -- it is passed over
-pub skipped_item : {job : Job} {source : Forest} (root : Tree) {count : ℕ} {item : Item} {why : Cause} → slice_get (items job source) count ≡ Some item → item.verdict ≡ Skip why → EndsItem job source root count (Some (Skipped item.path why)) []
+pub skipped_item : {job : Job} {source : Forest} (root : Tree) {count : ℕ} {item : Item} {why : Cause} → slice_get (items job source) count ≡ Some item
+    → item.verdict ≡ Skip why → EndsItem job source root count (Some (Skipped item.path why)) []
 skipped_item {job} {source} root {count} {item} is what = record {
   m = (item, is_taken job root (take count (items job source)) item.verdict);
   is = mark_of job source root count is;
@@ -128,20 +162,25 @@ skipped_item {job} {source} root {count} {item} is what = record {
 }
 
 -- it is passed over and told, or only leads on
-pub passed_item : (told : Bool) {job : Job} {source : Forest} (root : Tree) {count : ℕ} {item : Item} (why : Cause) → slice_get (items job source) count ≡ Some item → item.verdict ≡ cond told (Skip why) Interior
+pub passed_item : (told : Bool) {job : Job} {source : Forest} (root : Tree) {count : ℕ} {item : Item} (why : Cause)
+    → slice_get (items job source) count ≡ Some item → item.verdict ≡ cond told (Skip why) Interior
     → EndsItem job source root count (cond told (Some (Skipped item.path why)) None) []
 passed_item true {job} {source} root {count} _ is what = skipped_item root is what
 passed_item false {job} {source} root {count} _ is what = interior_item root is what
 
 -- whether its place is taken is whether something stands there
-pub mark_where_stands : (job : Job) (source : Forest) {root : Tree} (count : ℕ) {item : Item} {id : List ℕ} {object : PairtreeObject} → IsRooted root → slice_get (items job source) count ≡ Some item → item.verdict ≡ Named id object
+pub mark_where_stands : (job : Job) (source : Forest) {root : Tree} (count : ℕ) {item : Item} {id : List ℕ} {object : PairtreeObject} → IsRooted root
+    → slice_get (items job source) count ≡ Some item → item.verdict ≡ Named id object
     → is_taken job root (take count (items job source)) item.verdict ≡ is_some (after job source root count (place_of job.tuples id))
 mark_where_stands job source {root} count {item} {id} {object} rooted is what =
-    sym (next_place_stands_where_taken job source root count (item, is_taken job root (take count (items job source)) item.verdict) id object rooted (mark_of job source root count is) what)
+    sym (next_place_stands_where_taken job source root count (item, is_taken job root (take count (items job source)) item.verdict) id object rooted
+    (mark_of job source root count is) what)
 
 -- its place is taken
-pub present_item : {job : Job} {source : Forest} {root : Tree} {count : ℕ} {item : Item} {id : List ℕ} {object : PairtreeObject} → slice_get (items job source) count ≡ Some item → item.verdict ≡ Named id object
-    → is_taken job root (take count (items job source)) item.verdict ≡ true → EndsItem job source root count (Some (Present object.at id (place_of job.tuples id))) []
+pub present_item : {job : Job} {source : Forest} {root : Tree} {count : ℕ} {item : Item} {id : List ℕ} {object : PairtreeObject}
+    → slice_get (items job source) count ≡ Some item → item.verdict ≡ Named id object
+    → is_taken job root (take count (items job source)) item.verdict ≡ true
+    → EndsItem job source root count (Some (Present object.at id (place_of job.tuples id))) []
 present_item {job} {source} {root} {count} {item} is what taken = record {
   m = (item, is_taken job root (take count (items job source)) item.verdict);
   is = mark_of job source root count is;
@@ -150,7 +189,8 @@ present_item {job} {source} {root} {count} {item} is what taken = record {
 }
 
 -- it isn't, and the object comes to this
-pub free_item : {job : Job} {source : Forest} {root : Tree} {count : ℕ} {item : Item} {id : List ℕ} {object : PairtreeObject} {comes : Outcome} → slice_get (marked job source root) count ≡ Some (item, false) → item.verdict ≡ Named id object → outcome job.limits object ≡ comes
+pub free_item : {job : Job} {source : Forest} {root : Tree} {count : ℕ} {item : Item} {id : List ℕ} {object : PairtreeObject} {comes : Outcome}
+    → slice_get (marked job source root) count ≡ Some (item, false) → item.verdict ≡ Named id object → outcome job.limits object ≡ comes
     → EndsItem job source root count (Some (line_by_outcome item.path id object (place_of job.tuples id) comes)) (carried_by_outcome id comes)
 free_item {job} {item} {id} {object} is what outcome_is = record {
   m = (item, false);

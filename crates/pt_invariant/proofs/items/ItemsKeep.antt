@@ -38,8 +38,10 @@ abbrev ToldBefore : Job → Forest → Tree → History → Phase → Type 0
 ToldBefore job source root past here = (log old : List ℕ) → HasTold job source root past here log old → old ≡ log ++ text job source root past.count
 
 -- what a turn tells keeps the counts and the log
-kept : {job : Job} {past : History} (s : Reading) (start : Tree) {here next : Phase} (held : Held) {counts : Counts} (calls : Calls) {gained : List Carried} → Tells job s.tree (root_in start) past.count next calls.line (done_after here held.trail next past.count) gained
-    → ToldBefore job s.tree (root_in start) past here → ItemsPart job past here counts s.tree (root_in start) → PlacesItems job s.tree (root_in start) (history_after here next held past) next
+kept : {job : Job} {past : History} (s : Reading) (start : Tree) {here next : Phase} (held : Held) {counts : Counts} (calls : Calls) {gained : List Carried}
+    → Tells job s.tree (root_in start) past.count next calls.line (done_after here held.trail next past.count) gained
+    → ToldBefore job s.tree (root_in start) past here → ItemsPart job past here counts s.tree (root_in start)
+    → PlacesItems job s.tree (root_in start) (history_after here next held past) next
     → KeepsItems job past here held counts s start calls next × KeepsLog job past here held s start calls next
 kept {past} _ _ {here} {next} held _ tells told items places = (
   record { places = places; lines_are = counts_kept tells items.lines_are },
@@ -48,8 +50,12 @@ kept {past} _ _ {here} {next} held _ tells told items places = (
 
 -- ---- the start
 
-makes_root : {job : Job} {past : History} (s : Reading) (start : Tree) (held : Held) {counts : Counts} {number : ℕ} (change : Change) (last : Bool) → ItemsPart job past (phase.Opening (opening.RootMake number)) counts s.tree (root_in start)
-    → KeepsItems job past (phase.Opening (opening.RootMake number)) held counts s start (does change) (cond last (phase.Opening opening.RootRename) (phase.Opening (opening.RootMake (number + 1)))) × KeepsLog job past (phase.Opening (opening.RootMake number)) held s start (does change) (cond last (phase.Opening opening.RootRename) (phase.Opening (opening.RootMake (number + 1))))
+makes_root : {job : Job} {past : History} (s : Reading) (start : Tree) (held : Held) {counts : Counts} {number : ℕ} (change : Change) (last : Bool)
+    → ItemsPart job past (phase.Opening (opening.RootMake number)) counts s.tree (root_in start)
+    → KeepsItems job past (phase.Opening (opening.RootMake number)) held counts s start (does change)
+    (cond last (phase.Opening opening.RootRename) (phase.Opening (opening.RootMake (number + 1))))
+    × KeepsLog job past (phase.Opening (opening.RootMake number)) held s start (does change)
+    (cond last (phase.Opening opening.RootRename) (phase.Opening (opening.RootMake (number + 1))))
 makes_root {job} {past} s start held {counts} {number} change true items =
     kept s start held (does change) Nothing (λ log old had. had) items (record { placed = items.places.placed; next = tt })
 makes_root {job} {past} s start held {counts} {number} change false items =
@@ -59,8 +65,12 @@ makes_root {job} {past} s start held {counts} {number} change false items =
 none_placed : (job : Job) (source : Forest) (root : Tree) {count : ℕ} → count ≡ 0 → [] ≡ carried_among job source root count
 none_placed job source root first = sym (ap (carried_among job source root) first)
 
-checks_root : {job : Job} {past : History} (s : Reading) (start : Tree) (held : Held) {counts : Counts} {number : ℕ} (change : Change) (last : Bool) → past.count ≡ 0 → ItemsPart job past (phase.Opening (opening.RootCheck number)) counts s.tree (root_in start)
-    → KeepsItems job past (phase.Opening (opening.RootCheck number)) held counts s start (does change) (cond last (phase.Opening opening.OpenRoot) (phase.Opening (opening.RootCheck (number + 1)))) × KeepsLog job past (phase.Opening (opening.RootCheck number)) held s start (does change) (cond last (phase.Opening opening.OpenRoot) (phase.Opening (opening.RootCheck (number + 1))))
+checks_root : {job : Job} {past : History} (s : Reading) (start : Tree) (held : Held) {counts : Counts} {number : ℕ} (change : Change) (last : Bool)
+    → past.count ≡ 0 → ItemsPart job past (phase.Opening (opening.RootCheck number)) counts s.tree (root_in start)
+    → KeepsItems job past (phase.Opening (opening.RootCheck number)) held counts s start (does change)
+    (cond last (phase.Opening opening.OpenRoot) (phase.Opening (opening.RootCheck (number + 1))))
+    × KeepsLog job past (phase.Opening (opening.RootCheck number)) held s start (does change)
+    (cond last (phase.Opening opening.OpenRoot) (phase.Opening (opening.RootCheck (number + 1))))
 checks_root {job} {past} s start held {counts} {number} change true first items =
     kept s start held (does change) Nothing (λ log old had. had) items (record { placed = none_placed job s.tree (root_in start) first; next = tt })
 checks_root {job} {past} s start held {counts} {number} change false _ items =
@@ -81,18 +91,25 @@ starts_items _ _ s _ _ start _ _ next held _ calls _ known =
 pub walks_items : WalkingKeepsItems
 unfolding Changes IsKindAt
 walks_items _ _ s _ start now new _ next held _ _ calls (IsNew was index id is) change known =
-    let tells = walks_tell start now new (IsNew was index id is) known.held_at.trail.is_one known.source (roots_have_no_gaps start known.dest.started).1 known.items.places.placed known.dest.at change in
+    let tells = walks_tell start now new (IsNew was index id is) known.held_at.trail.is_one known.source (roots_have_no_gaps start known.dest.started).1
+    known.items.places.placed known.dest.at change in
     kept s start held calls tells (λ log old had. had) known.items
-    (record { placed = placed_kept refl tells known.items.places.placed; next = new_is_free known.source is (roots_have_no_gaps start known.dest.started).1 known.items.places.placed known.dest.at (change.0 now refl) })
+    (record {
+      placed = placed_kept refl tells known.items.places.placed;
+      next = new_is_free known.source is (roots_have_no_gaps start known.dest.started).1
+          known.items.places.placed known.dest.at (change.0 now refl);
+    })
 walks_items _ _ s _ start now new _ next held _ _ calls turn change known =
-    let tells = walks_tell start now new turn known.held_at.trail.is_one known.source (roots_have_no_gaps start known.dest.started).1 known.items.places.placed known.dest.at change in
+    let tells = walks_tell start now new turn known.held_at.trail.is_one known.source (roots_have_no_gaps start known.dest.started).1 known.items.places.placed
+    known.dest.at change in
     kept s start held calls tells (λ log old had. had) known.items
     (record { placed = placed_kept refl tells known.items.places.placed; next = tt })
 
 -- ---- the scan
 
 -- the place is free while the object is scanned, and nothing is said of it where it is given up
-scans_free : {job : Job} (source : Forest) (root : Tree) (count : ℕ) {here next : Phase} {held after : Held} {calls : Calls} → ScanStep job here held after calls (Ok next) → IsFreeAt here job source root count → IsFreeAt next job source root count
+scans_free : {job : Job} (source : Forest) (root : Tree) (count : ℕ) {here next : Phase} {held after : Held} {calls : Calls}
+    → ScanStep job here held after calls (Ok next) → IsFreeAt here job source root count → IsFreeAt next job source root count
 scans_free _ _ _ (IsTooDeep _ _ _ _) _ = tt
 scans_free _ _ _ (MeetsDeep _ _ _ _ _ _) _ = tt
 scans_free _ _ _ (MeetsLimit _ _ _ _ _) _ = tt
@@ -103,7 +120,8 @@ scans_free _ _ _ _ free = free
 pub scans_items : ScanningKeepsItems
 scans_items _ _ s new _ start _ _ _ held _ _ calls (StartsInSite was object gathered) answers known =
     let tells = scans_tell (StartsInSite was object gathered) known.held_at.trail.is_one known.source known.items.places.next new answers in
-    kept s start held calls tells (λ log old had. had) known.items (record { placed = placed_kept refl tells known.items.places.placed; next = known.items.places.next })
+    kept s start held calls tells (λ log old had. had) known.items (record
+    { placed = placed_kept refl tells known.items.places.placed; next = known.items.places.next })
 scans_items job past s new _ start _ _ _ held _ _ calls turn answers known =
     let tells = scans_tell turn known.held_at.trail.is_one known.source known.items.places.next new answers in
     kept s start held calls tells (λ log old had. had) known.items
@@ -111,8 +129,12 @@ scans_items job past s new _ start _ _ _ held _ _ calls turn answers known =
 
 -- ---- an object is made
 
-after_sidecar : {job : Job} {past : History} (s : Reading) (start : Tree) {object : Object} (held : Held) {counts : Counts} (change : Change) (flat : Bool) → ItemsPart job past (phase.Carrying object (stage.Make part.Sidecar)) counts s.tree (root_in start)
-    → KeepsItems job past (phase.Carrying object (stage.Make part.Sidecar)) held counts s start (does change) (cond flat (phase.Carrying object stage.Rename) (phase.Carrying object (stage.Tuples 0))) × KeepsLog job past (phase.Carrying object (stage.Make part.Sidecar)) held s start (does change) (cond flat (phase.Carrying object stage.Rename) (phase.Carrying object (stage.Tuples 0)))
+after_sidecar : {job : Job} {past : History} (s : Reading) (start : Tree) {object : Object} (held : Held) {counts : Counts} (change : Change) (flat : Bool)
+    → ItemsPart job past (phase.Carrying object (stage.Make part.Sidecar)) counts s.tree (root_in start)
+    → KeepsItems job past (phase.Carrying object (stage.Make part.Sidecar)) held counts s start (does change)
+    (cond flat (phase.Carrying object stage.Rename) (phase.Carrying object (stage.Tuples 0)))
+    × KeepsLog job past (phase.Carrying object (stage.Make part.Sidecar)) held s start (does change)
+    (cond flat (phase.Carrying object stage.Rename) (phase.Carrying object (stage.Tuples 0)))
 after_sidecar s start held change true items =
     kept s start held (does change) Nothing (λ log old had. had) items (record { placed = items.places.placed; next = items.places.next })
 after_sidecar s start held change false items =
@@ -126,16 +148,22 @@ makes_items _ _ s _ start _ _ held _ _ calls next _ known =
 
 -- ---- an object at its place
 
-after_a_tuple : {job : Job} {past : History} (s : Reading) (start : Tree) {object : Object} (held : Held) {counts : Counts} {number : ℕ} (change : Change) (more : Bool) → ItemsPart job past (phase.Carrying object (stage.Tuples number)) counts s.tree (root_in start)
-    → KeepsItems job past (phase.Carrying object (stage.Tuples number)) held counts s start (does change) (cond more (phase.Carrying object (stage.Tuples (number + 1))) (phase.Carrying object stage.Rename)) × KeepsLog job past (phase.Carrying object (stage.Tuples number)) held s start (does change) (cond more (phase.Carrying object (stage.Tuples (number + 1))) (phase.Carrying object stage.Rename))
+after_a_tuple : {job : Job} {past : History} (s : Reading) (start : Tree) {object : Object} (held : Held) {counts : Counts} {number : ℕ} (change : Change)
+    (more : Bool) → ItemsPart job past (phase.Carrying object (stage.Tuples number)) counts s.tree (root_in start)
+    → KeepsItems job past (phase.Carrying object (stage.Tuples number)) held counts s start (does change)
+    (cond more (phase.Carrying object (stage.Tuples (number + 1))) (phase.Carrying object stage.Rename))
+    × KeepsLog job past (phase.Carrying object (stage.Tuples number)) held s start (does change)
+    (cond more (phase.Carrying object (stage.Tuples (number + 1))) (phase.Carrying object stage.Rename))
 after_a_tuple s start held change true items =
     kept s start held (does change) Nothing (λ log old had. had) items (record { placed = items.places.placed; next = items.places.next })
 after_a_tuple s start held change false items =
     kept s start held (does change) Nothing (λ log old had. had) items (record { placed = items.places.placed; next = items.places.next })
 
 pub places_items : PlacingKeepsItems
-places_items job _ s _ start _ _ _ _ _ _ _ (MakesTuple was object number) known = after_a_tuple s start was (FindsNoneAndMakes (tuple_folder object number)) (nat_lt (number + 1) job.tuples.count) known.items
-places_items job _ s _ start _ _ _ _ _ _ _ (FindsTuple was object number) known = after_a_tuple s start was (Finds (tuple_folder object number) (Some kind.Dir)) (nat_lt (number + 1) job.tuples.count) known.items
+places_items job _ s _ start _ _ _ _ _ _ _ (MakesTuple was object number) known = after_a_tuple s start was (FindsNoneAndMakes (tuple_folder object number))
+    (nat_lt (number + 1) job.tuples.count) known.items
+places_items job _ s _ start _ _ _ _ _ _ _ (FindsTuple was object number) known = after_a_tuple s start was (Finds (tuple_folder object number) (Some kind.Dir))
+    (nat_lt (number + 1) job.tuples.count) known.items
 places_items _ past s _ start _ _ next held _ _ calls (RenamesObject was object) known =
     kept s start held calls Nothing (λ log old had. had) known.items
     (record {

@@ -51,12 +51,14 @@ all_at P [] k all is = absurd (cc)
 all_at P (y ∷ xs) zero {x} all is = subst P (let same : y ≡ x = cc in same) (all 0 y (omega arith))
 all_at P (y ∷ xs) (suc k) all is = all_at P xs k (λ j d h. all (suc j) d (omega (arith, h))) is
 
-same_files : (job : Job) (bytes : Path → List ℕ) (some : List File) → ((k : ℕ) (f : File) → slice_get some k ≡ Some f → bytes f.0 ≡ f.1) → files_held (rows_of job.algorithm some) bytes ≡ some
+same_files : (job : Job) (bytes : Path → List ℕ) (some : List File) → ((k : ℕ) (f : File) → slice_get some k ≡ Some f → bytes f.0 ≡ f.1)
+    → files_held (rows_of job.algorithm some) bytes ≡ some
 same_files _ _ [] _ = refl
 same_files job bytes ((path, held) ∷ some) each = λ i. (path, each 0 (path, held) refl i) ∷ same_files job bytes some (λ k f is. each (suc k) f is) i
 
 -- what is held of the files is what they are
-pub files_are : {job : Job} (source : Forest) (object : Object) (site : List Frame) {rows : List Row} {empty : ℕ} (bytes : Path → List ℕ) → is_proper (pairtree_of source) ≡ true → HasScanned job (object_at source object site) rows empty []
+pub files_are : {job : Job} (source : Forest) (object : Object) (site : List Frame) {rows : List Row} {empty : ℕ} (bytes : Path → List ℕ)
+    → is_proper (pairtree_of source) ≡ true → HasScanned job (object_at source object site) rows empty []
     → AreHeldThere source object site bytes rows → files_held rows bytes ≡ files (entries (object_at source object site).inside)
 files_are {job} source object site {rows} bytes proper it there =
     let top = pairtree_of source in
@@ -66,20 +68,26 @@ files_are {job} source object site {rows} bytes proper it there =
     ap (λ (l : List Row). files_held l bytes) it.rows_are
     ∙ same_files job bytes some
     (λ k f is.
-    all_at (λ row. bytes row.path ≡ bytes_at top (at ++ row.path)) rows k there (ap (λ (l : List Row). slice_get l k) it.rows_are ∙ get_map (row_of_file job.algorithm) some k f is)
+    all_at (λ row. bytes row.path ≡ bytes_at top (at ++ row.path)) rows k there (ap (λ (l : List Row). slice_get l k) it.rows_are
+    ∙ get_map (row_of_file job.algorithm) some k f is)
     ∙ ap (λ o. unwrap_or o []) (file_in top at _ refl it.front [] k f.0 f.1 stood is))
     ∙ ap files (sym (it.all ∙ append-nil it.front))
 
 -- ---- the object
 
-pub comes_whole : {job : Job} {object : PairtreeObject} {rows : List Row} {empty : ℕ} → HasScanned job object rows empty [] → outcome job.limits object ≡ Holds (files (entries object.inside))
+pub comes_whole : {job : Job} {object : PairtreeObject} {rows : List Row} {empty : ℕ} → HasScanned job object rows empty []
+    → outcome job.limits object ≡ Holds (files (entries object.inside))
 comes_whole {job} {object} it =
     let none : bad_entry job.limits object ≡ None = ap (first_bad job.limits (length object.at) 0) (it.all ∙ append-nil it.front) ∙ it.good in
-    ap (outcome_by (files (entries object.inside))) (ap (λ b. cond b (Some cause.Limit) (option_map (λ (bad : Entry × Cause). bad.1) (bad_entry job.limits object))) it.shallow ∙ ap (option_map (λ (bad : Entry × Cause). bad.1)) none)
+    ap (outcome_by (files (entries object.inside))) (ap (λ b. cond b (Some cause.Limit)
+    (option_map (λ (bad : Entry × Cause). bad.1) (bad_entry job.limits object))) it.shallow ∙ ap (option_map (λ (bad : Entry × Cause). bad.1)) none)
 
 -- its item, with the line and the object
-pub ends_with : {job : Job} {source : Forest} {root : Tree} {prefix : List ℕ} {object : Object} {held : Held} {count : ℕ} → HasStarted source prefix → IsScanned job source prefix object held count → IsNextFree job source root count
-    → EndsItem job source root count (Some (line_by_outcome (trail_path (to_site object held.trail)) object.id (object_at source object (to_site object held.trail)) (place_of job.tuples object.id) (Holds (files (entries (object_at source object (to_site object held.trail)).inside)))))
+pub ends_with : {job : Job} {source : Forest} {root : Tree} {prefix : List ℕ} {object : Object} {held : Held} {count : ℕ} → HasStarted source prefix
+    → IsScanned job source prefix object held count → IsNextFree job source root count
+    → EndsItem job source root count (Some (line_by_outcome (trail_path (to_site object held.trail)) object.id
+    (object_at source object (to_site object held.trail)) (place_of job.tuples object.id)
+    (Holds (files (entries (object_at source object (to_site object held.trail)).inside)))))
     (record { id = object.id; files = files (entries (object_at source object (to_site object held.trail)).inside) } ∷ [])
 ends_with {job} {source} {root} {object} {held} {count} started it free =
     let site = to_site object held.trail in
@@ -88,43 +96,63 @@ ends_with {job} {source} {root} {object} {held} {count} started it free =
     (comes_whole it.scanned)
 
 -- the object that is held is the one that is carried
-pub held_is_carried : {job : Job} (past : History) (s : Reading) (root : Tree) {prefix : List ℕ} {object : Object} {held : Held} {count : ℕ} → is_proper s.tree ≡ true → HasStarted s.tree prefix → IsScanned job s.tree prefix object held count
-    → AreHeldThere s.tree object (to_site object held.trail) past.bytes held.rows → IsNextFree job s.tree root count → carried_among job s.tree root (suc count) ≡ carried_among job s.tree root count ++ object_held object held.rows past.bytes ∷ []
+pub held_is_carried : {job : Job} (past : History) (s : Reading) (root : Tree) {prefix : List ℕ} {object : Object} {held : Held} {count : ℕ}
+    → is_proper s.tree ≡ true → HasStarted s.tree prefix → IsScanned job s.tree prefix object held count
+    → AreHeldThere s.tree object (to_site object held.trail) past.bytes held.rows → IsNextFree job s.tree root count
+    → carried_among job s.tree root (suc count) ≡ carried_among job s.tree root count ++ object_held object held.rows past.bytes ∷ []
 held_is_carried {job} past s root {object} {held} {count} proper started it there free =
     let ends = ends_with {root = root} started it free in
     let same = files_are s.tree object (to_site object held.trail) past.bytes (pairtree_proper s.tree started.store proper) it.scanned there in
-    carried_grows job s.tree root count ends.m ends.is ∙ ap (λ (l : List Carried). carried_among job s.tree root count ++ l) (ends.gained ∙ sym (ap (λ (l : List File). record { id = object.id; files = l } ∷ []) same))
+    carried_grows job s.tree root count ends.m ends.is ∙ ap (λ (l : List Carried). carried_among job s.tree root count ++ l) (ends.gained
+    ∙ sym (ap (λ (l : List File). record { id = object.id; files = l } ∷ []) same))
 
 -- ---- its line
 
-long_from : (job : Job) (start : ℕ) (some : List File) → fold (λ (a : ℕ) (row : Row). a + row.length) start (rows_of job.algorithm some) ≡ fold (λ (a : ℕ) (file : File). a + length file.1) start some
+long_from : (job : Job) (start : ℕ) (some : List File) → fold (λ (a : ℕ) (row : Row). a + row.length) start (rows_of job.algorithm some)
+    ≡ fold (λ (a : ℕ) (file : File). a + length file.1) start some
 long_from _ _ [] = refl
 long_from job start (file ∷ some) = long_from job (start + length file.1) some
 
 -- it tells the numbers of the rows
-pub done_told : {job : Job} {past : History} (source : Forest) {object : Object} {held : Held} → HeldAt job past (phase.Carrying object stage.Line) held → HasScanned job (object_at source object (to_site object held.trail)) held.rows object.empty []
-    → line_by_outcome (trail_path (to_site object held.trail)) object.id (object_at source object (to_site object held.trail)) (place_of job.tuples object.id) (Holds (files (entries (object_at source object (to_site object held.trail)).inside))) ≡ done_line object held
+pub done_told : {job : Job} {past : History} (source : Forest) {object : Object} {held : Held} → HeldAt job past (phase.Carrying object stage.Line) held
+    → HasScanned job (object_at source object (to_site object held.trail)) held.rows object.empty []
+    → line_by_outcome (trail_path (to_site object held.trail)) object.id (object_at source object (to_site object held.trail)) (place_of job.tuples object.id)
+    (Holds (files (entries (object_at source object (to_site object held.trail)).inside))) ≡ done_line object held
 done_told {job} source {object} {held} at it =
     let what = object_at source object (to_site object held.trail) in
     let all : entries what.inside ≡ it.front = it.all ∙ append-nil it.front in
     let path : what.at ≡ path_of_source object held.trail = ap (path_of_source object) (site_itself object held.trail at.ends.1) in
-    let bytes : bytes_in_all (files (entries what.inside)) ≡ bytes_in_rows held.rows = ap (λ (l : List Entry). bytes_in_all (files l)) all ∙ sym (ap bytes_in_rows it.rows_are ∙ long_from job 0 (files it.front)) in
+    let bytes : bytes_in_all (files (entries what.inside)) ≡ bytes_in_rows held.rows = ap (λ (l : List Entry). bytes_in_all (files l)) all
+    ∙ sym (ap bytes_in_rows it.rows_are ∙ long_from job 0 (files it.front)) in
     let empty : empties_of what.inside ≡ object.empty = ap (λ (l : List Entry). emptiness what.inside + empties l) all ∙ sym it.empty_is in
-    let many : length (files (entries what.inside)) ≡ length held.rows = ap (λ (l : List Entry). length (files l)) all ∙ sym (ap length it.rows_are ∙ length-map (files it.front) (row_of_file job.algorithm)) in
+    let many : length (files (entries what.inside)) ≡ length held.rows = ap (λ (l : List Entry). length (files l)) all
+    ∙ sym (ap length it.rows_are ∙ length-map (files it.front) (row_of_file job.algorithm)) in
     let place : place_of job.tuples object.id ≡ object.place = sym at.ends.0.place in
     λ i. Done (path i) (bytes i) (empty i) (many i) object.id (place i)
 
 -- ---- each turn
 
 after_a_tuple : (job : Job) (source : Forest) (root : Tree) (count number : ℕ) (object : Object) (more : Bool)
-    → Tells job source root count (cond more (phase.Carrying object (stage.Tuples (number + 1))) (phase.Carrying object stage.Rename)) None (done_after (phase.Carrying object (stage.Tuples number)) [] (cond more (phase.Carrying object (stage.Tuples (number + 1))) (phase.Carrying object stage.Rename)) count) []
+    → Tells job source root count (cond more (phase.Carrying object (stage.Tuples (number + 1))) (phase.Carrying object stage.Rename)) None
+    (done_after (phase.Carrying object (stage.Tuples number)) [] (cond more (phase.Carrying object (stage.Tuples (number + 1)))
+    (phase.Carrying object stage.Rename)) count) []
 after_a_tuple _ _ _ _ _ _ true = Nothing
 after_a_tuple _ _ _ _ _ _ false = Nothing
 
-pub places_tell : {job : Job} {counts : Counts} {past : History} {s : Reading} {prefix : List ℕ} {root : Tree} {here next : Phase} {held after : Held} {calls : Calls} → PlaceStep job counts here held after calls (Ok next) → HeldAt job past here held → SourcePart job past here prefix held s
-    → IsFreeAt here job s.tree root past.count → (gained : List Carried) × Tells job s.tree root past.count next calls.line (done_after here held.trail next past.count) gained
-places_tell {job} {past} {s} {root} (MakesTuple _ object number) _ _ _ = ([], after_a_tuple job s.tree root past.count number object (nat_lt (number + 1) job.tuples.count))
-places_tell {job} {past} {s} {root} (FindsTuple _ object number) _ _ _ = ([], after_a_tuple job s.tree root past.count number object (nat_lt (number + 1) job.tuples.count))
+pub places_tell : {job : Job} {counts : Counts} {past : History} {s : Reading} {prefix : List ℕ} {root : Tree} {here next : Phase} {held after : Held}
+    {calls : Calls} → PlaceStep job counts here held after calls (Ok next) → HeldAt job past here held → SourcePart job past here prefix held s
+    → IsFreeAt here job s.tree root past.count → (gained : List Carried)
+    × Tells job s.tree root past.count next calls.line (done_after here held.trail next past.count) gained
+places_tell {job} {past} {s} {root} (MakesTuple _ object number) _ _ _ = (
+  [],
+  after_a_tuple job s.tree root past.count number object
+      (nat_lt (number + 1) job.tuples.count),
+)
+places_tell {job} {past} {s} {root} (FindsTuple _ object number) _ _ _ = (
+  [],
+  after_a_tuple job s.tree root past.count number object
+      (nat_lt (number + 1) job.tuples.count),
+)
 places_tell (RenamesObject _ _) _ _ _ = ([], Nothing)
 places_tell {job} {past} {s} {root} (TellsDone was object) at part free =
     let site = to_site object was.trail in

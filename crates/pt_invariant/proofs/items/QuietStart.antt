@@ -41,12 +41,18 @@ either_later : (this : Bool) (p q : Phase) → is_start p ≡ false → is_start
 either_later true _ _ one _ = one
 either_later false _ _ _ two = two
 
-pub follows_quietly : {job : Job} {counts : Counts} {here : Phase} {prefix : List ℕ} {held : Held} {read : List ℕ} {after : Held} {calls : Calls} {next : Phase} → Next job counts here prefix held read after calls (Ok next) → is_start next ≡ true → StartsQuietly here calls
+pub follows_quietly : {job : Job} {counts : Counts} {here : Phase} {prefix : List ℕ} {held : Held} {read : List ℕ} {after : Held} {calls : Calls} {next : Phase}
+    → Next job counts here prefix held read after calls (Ok next) → is_start next ≡ true → StartsQuietly here calls
 follows_quietly (a_start (IsStore _ _ _)) _ = record { start = refl; line = refl }
 follows_quietly (a_start _) _ = record { start = refl; line = refl }
 follows_quietly (Walk (OpensRoot _ _)) start = absurd (cc)
 follows_quietly (Scan (StartsInSite _ _ _)) start = absurd (cc)
-follows_quietly {job} (Make (MakesSidecar _ object)) start = absurd (true≢false (sym start ∙ either_later (job.tuples.count == 0) (phase.Carrying object stage.Rename) (phase.Carrying object (stage.Tuples 0)) refl refl))
-follows_quietly {job} (Place (MakesTuple _ object number)) start = absurd (true≢false (sym start ∙ either_later (nat_lt (number + 1) job.tuples.count) (phase.Carrying object (stage.Tuples (number + 1))) (phase.Carrying object stage.Rename) refl refl))
-follows_quietly {job} (Place (FindsTuple _ object number)) start = absurd (true≢false (sym start ∙ either_later (nat_lt (number + 1) job.tuples.count) (phase.Carrying object (stage.Tuples (number + 1))) (phase.Carrying object stage.Rename) refl refl))
+follows_quietly {job} (Make (MakesSidecar _ object)) start = absurd (true≢false (sym start
+    ∙ either_later (job.tuples.count == 0) (phase.Carrying object stage.Rename) (phase.Carrying object (stage.Tuples 0)) refl refl))
+follows_quietly {job} (Place (MakesTuple _ object number)) start = absurd
+    (true≢false (sym start ∙ either_later (nat_lt (number + 1) job.tuples.count) (phase.Carrying object (stage.Tuples (number + 1)))
+    (phase.Carrying object stage.Rename) refl refl))
+follows_quietly {job} (Place (FindsTuple _ object number)) start = absurd
+    (true≢false (sym start ∙ either_later (nat_lt (number + 1) job.tuples.count) (phase.Carrying object (stage.Tuples (number + 1)))
+    (phase.Carrying object stage.Rename) refl refl))
 follows_quietly _ start = absurd (cc)

@@ -16,7 +16,8 @@ use Rattle.pt_invariant.specs.EndLaws.{is_ended}
 
 -- ---- where a turn begins
 
-none_follows : {job : Job} {counts : Counts} {prefix : List ℕ} {held : Held} {read : List ℕ} {after : Held} {calls : Calls} {answer : Answer} → Next job counts phase.Ended prefix held read after calls answer → ⊥
+none_follows : {job : Job} {counts : Counts} {prefix : List ℕ} {held : Held} {read : List ℕ} {after : Held} {calls : Calls} {answer : Answer}
+    → Next job counts phase.Ended prefix held read after calls answer → ⊥
 none_follows (a_start turn) = elim turn [ ]
 none_follows (Walk turn) = elim turn [ ]
 none_follows (Scan turn) = elim turn [ ]
@@ -28,12 +29,15 @@ pub unless_ended : (P : Phase → Type 0) (here : Phase) → (P phase.Ended → 
 unless_ended P phase.Ended none it = absurd (none it)
 unless_ended P _ _ _ = refl
 
-pub follows_runs : {job : Job} {counts : Counts} {here : Phase} {prefix : List ℕ} {held : Held} {read : List ℕ} {after : Held} {calls : Calls} {answer : Answer} → Next job counts here prefix held read after calls answer → is_ended here ≡ false
-follows_runs {job} {counts} {here} {prefix} {held} {read} {after} {calls} {answer} turn = unless_ended (λ h. Next job counts h prefix held read after calls answer) here (none_follows) turn
+pub follows_runs : {job : Job} {counts : Counts} {here : Phase} {prefix : List ℕ} {held : Held} {read : List ℕ} {after : Held} {calls : Calls} {answer : Answer}
+    → Next job counts here prefix held read after calls answer → is_ended here ≡ false
+follows_runs {job} {counts} {here} {prefix} {held} {read} {after} {calls} {answer} turn = unless_ended
+    (λ h. Next job counts h prefix held read after calls answer) here (none_follows) turn
 
 -- ---- what it tells
 
-pub refused_quiet : {job : Job} {counts : Counts} {here : Phase} {prefix : List ℕ} {held : Held} {read : List ℕ} {after : Held} {calls : Calls} {why : Fault} → Next job counts here prefix held read after calls (Err why) → calls.line ≡ None
+pub refused_quiet : {job : Job} {counts : Counts} {here : Phase} {prefix : List ℕ} {held : Held} {read : List ℕ} {after : Held} {calls : Calls} {why : Fault}
+    → Next job counts here prefix held read after calls (Err why) → calls.line ≡ None
 refused_quiet (a_start (IsNoStore _ _ _)) = refl
 refused_quiet (a_start _) = refl
 refused_quiet (Walk turn) = elim turn [ ]

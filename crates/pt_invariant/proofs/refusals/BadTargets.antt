@@ -16,7 +16,8 @@ use Rattle.pt_invariant.proofs.dest.StartsDest.{root_stands}
 use Rattle.pt_invariant.proofs.Tests.{all_true}
 
 -- what passes for all passes for the one that comes of an element
-one_passes : {X Y : Type 0} → (f : X → List Y) (test : Y → Bool) (xs : List X) (k : ℕ) {x : X} {y : Y} → list_all test (flat_map f xs) ≡ true → slice_get xs k ≡ Some x → f x ≡ y ∷ [] → test y ≡ true
+one_passes : {X Y : Type 0} → (f : X → List Y) (test : Y → Bool) (xs : List X) (k : ℕ) {x : X} {y : Y} → list_all test (flat_map f xs) ≡ true
+    → slice_get xs k ≡ Some x → f x ≡ y ∷ [] → test y ≡ true
 one_passes f test [] k all is comes = absurd (cc)
 one_passes f test (z ∷ xs) zero {x} {y} all is comes =
     let same : z ≡ x = cc in
@@ -30,8 +31,11 @@ pub bad_target_is_none : BadTargetIsNone
 bad_target_is_none _ _ _ _ (IsNoFolder bad) (inl free) = true≢false (ap is_folder_or_free (sym (free [])) ∙ bad)
 bad_target_is_none job _ t tree (IsNoFolder bad) (inr usable) = true≢false (ap is_folder_or_free (sym (root_stands job t tree usable.files)) ∙ bad)
 bad_target_is_none job source t tree (HasOtherFile number file top is other) (inl free) = absurd (let no = sym (free []) ∙ top in cc)
-bad_target_is_none job _ t _ (HasOtherFile number _ _ is other) (inr usable) = other (all_at (λ (f : File). root_in t f.0 ≡ Some (Bytes f.1)) (root_files_of job.tuples) number usable.files is)
+bad_target_is_none job _ t _ (HasOtherFile number _ _ is other) (inr usable) = other
+    (all_at (λ (f : File). root_in t f.0 ≡ Some (Bytes f.1)) (root_files_of job.tuples) number usable.files is)
 bad_target_is_none job _ t _ (IsBarred object _ bad) (inl free) =
-    true≢false (sym (all_true (λ (folder : Path). is_folder_or_free (root_in t folder)) (λ folder. ap is_folder_or_free (free folder)) (tuple_folders job object)) ∙ bad)
+    true≢false (sym (all_true (λ (folder : Path). is_folder_or_free (root_in t folder)) (λ folder. ap is_folder_or_free (free folder))
+    (tuple_folders job object)) ∙ bad)
 bad_target_is_none job source t _ (IsBarred _ (k, (_, is, comes)) bad) (inr usable) =
-    true≢false (sym (one_passes (λ (n : Marked). carried_by job n.1 n.0.verdict) (is_way_free job (root_in t)) (marked job source (root_in t)) k usable.ways is comes) ∙ bad)
+    true≢false (sym (one_passes (λ (n : Marked). carried_by job n.1 n.0.verdict) (is_way_free job (root_in t)) (marked job source (root_in t)) k usable.ways is
+    comes) ∙ bad)

@@ -6,7 +6,21 @@ use Rattle.pt_tree.specs.Dest.{Writing}
 use Rattle.pt_tree.specs.Tree.{Tree}
 use Rattle.pt_plan.specs.Job.{Job}
 use Rattle.pt_plan.specs.Run.{Counts, Held, turning}
-use Rattle.pt_plan.specs.Turn.{Did, FailsAtFirst, FailsLater, Next, HasFailed, IsRefused, FailsPartway, Start as a_start, FailsUnchanged, Walk, Scan, Make, Place}
+use Rattle.pt_plan.specs.Turn.{
+  Did,
+  FailsAtFirst,
+  FailsLater,
+  Next,
+  HasFailed,
+  IsRefused,
+  FailsPartway,
+  Start as a_start,
+  FailsUnchanged,
+  Walk,
+  Scan,
+  Make,
+  Place,
+}
 use Rattle.pt_plan.specs.TurnMake.{ReadsMore, ReadsOther}
 use Rattle.pt_plan.specs.TurnPlace.{IsInTheWay}
 use Rattle.pt_plan.specs.TurnStart.{IsNoRoot, IsNoFile, Differs}
@@ -35,7 +49,8 @@ is_first (phase.Opening (opening.Prefix here)) = true
 is_first (phase.Opening opening.Staging) = true
 is_first _ = false
 
-follows_first : {job : Job} {counts : Counts} {here : Phase} {prefix : List ℕ} {held : Held} {read : List ℕ} {after : Held} {calls : Calls} {why : Fault} → Next job counts here prefix held read after calls (Err why) → is_early why ≡ true → is_first here ≡ true
+follows_first : {job : Job} {counts : Counts} {here : Phase} {prefix : List ℕ} {held : Held} {read : List ℕ} {after : Held} {calls : Calls} {why : Fault}
+    → Next job counts here prefix held read after calls (Err why) → is_early why ≡ true → is_first here ≡ true
 follows_first (a_start (IsNoRoot _ _ _)) early = absurd (cc)
 follows_first (a_start (IsNoFile _ _ _ _ _ _ _)) early = absurd (cc)
 follows_first (a_start (Differs _ _ _ _ _ _ _)) early = absurd (cc)
@@ -56,7 +71,8 @@ failed_late _ _ _ it = absurd (it)
 
 -- ---- what holds there
 
-first_tree : {job : Job} {past : History} (here : Phase) {held : Held} {t : Tree} {now : Writing} → is_first here ≡ true → DestPart job past here held t now → now.tree ≡ t
+first_tree : {job : Job} {past : History} (here : Phase) {held : Held} {t : Tree} {now : Writing} → is_first here ≡ true → DestPart job past here held t now
+    → now.tree ≡ t
 first_tree (phase.Opening opening.Begin) _ dest = dest.at.tree
 first_tree (phase.Opening (opening.Prefix _)) _ dest = dest.at.tree
 first_tree (phase.Opening opening.Staging) _ dest = dest.at.tree
@@ -77,8 +93,10 @@ early_leaves_dest job start old _ run _ _ _ now (past, is) (IsRefused _ _ _ _ tu
     let same = refused_same turn did.0.dest in
     ap (λ (w : Writing). w.tree) (some_same now had.0 (sym dest_is ∙ same ∙ had.1))
     ∙ first_tree run.phase (follows_first turn early) had.2
-early_leaves_dest _ _ old new _ _ why _ _ (_, _) (FailsAtFirst _ stays _) early _ _ = absurd (true≢false (sym early ∙ failed_late why old.failures new.failures stays.3))
-early_leaves_dest _ _ old new _ _ why _ _ (_, _) (FailsLater _ _ _ _ _ _ _ leaves _ _) early _ _ = absurd (true≢false (sym early ∙ failed_late why old.failures new.failures leaves.1))
+early_leaves_dest _ _ old new _ _ why _ _ (_, _) (FailsAtFirst _ stays _) early _ _ = absurd
+    (true≢false (sym early ∙ failed_late why old.failures new.failures stays.3))
+early_leaves_dest _ _ old new _ _ why _ _ (_, _) (FailsLater _ _ _ _ _ _ _ leaves _ _) early _ _ = absurd
+    (true≢false (sym early ∙ failed_late why old.failures new.failures leaves.1))
 
 pub early_leaves_log : EarlyLeavesLog
 unfolding RunInvariant Did FailsUnchanged FailsPartway
@@ -88,5 +106,7 @@ early_leaves_log _ start old _ run _ _ _ last (_, is) (IsRefused _ _ calls _ tur
     let same = none_put calls.line (refused_quiet turn) did.0.log in
     some_same last had.0 (sym last_is ∙ same ∙ had.1)
     ∙ quiet_is run.phase (first_starts run.phase (follows_first turn early)) had.2
-early_leaves_log _ _ old new _ _ why _ _ (_, _) (FailsAtFirst _ stays _) early _ _ = absurd (true≢false (sym early ∙ failed_late why old.failures new.failures stays.3))
-early_leaves_log _ _ old new _ _ why _ _ (_, _) (FailsLater _ _ _ _ _ _ _ leaves _ _) early _ _ = absurd (true≢false (sym early ∙ failed_late why old.failures new.failures leaves.1))
+early_leaves_log _ _ old new _ _ why _ _ (_, _) (FailsAtFirst _ stays _) early _ _ = absurd
+    (true≢false (sym early ∙ failed_late why old.failures new.failures stays.3))
+early_leaves_log _ _ old new _ _ why _ _ (_, _) (FailsLater _ _ _ _ _ _ _ leaves _ _) early _ _ = absurd
+    (true≢false (sym early ∙ failed_late why old.failures new.failures leaves.1))

@@ -32,22 +32,28 @@ use Rattle.pt_invariant.proofs.items.Telling.{both_tell}
 -- ---- a root that can be gone on with
 
 -- what holds of all objects that are carried holds of each
-of_each : (test : Carried → Bool) (f : Marked → List Carried) (ms : List Marked) (k : ℕ) {m : Marked} → slice_get ms k ≡ Some m → list_all test (flat_map f ms) ≡ true → list_all test (f m) ≡ true
+of_each : (test : Carried → Bool) (f : Marked → List Carried) (ms : List Marked) (k : ℕ) {m : Marked} → slice_get ms k ≡ Some m
+    → list_all test (flat_map f ms) ≡ true → list_all test (f m) ≡ true
 of_each test f [] k is all = absurd (cc)
 of_each test f (x ∷ ms) zero {m} is all =
     let same : x ≡ m = cc in
-    ap (λ (y : Marked). list_all test (f y)) (sym same) ∙ (and_parts (list_all test (f x)) (list_all test (flat_map f ms)) (sym (list_all-append test (f x) (flat_map f ms)) ∙ all)).0
-of_each test f (x ∷ ms) (suc k) is all = of_each test f ms k is (and_parts (list_all test (f x)) (list_all test (flat_map f ms)) (sym (list_all-append test (f x) (flat_map f ms)) ∙ all)).1
+    ap (λ (y : Marked). list_all test (f y)) (sym same) ∙ (and_parts (list_all test (f x)) (list_all test (flat_map f ms))
+    (sym (list_all-append test (f x) (flat_map f ms)) ∙ all)).0
+of_each test f (x ∷ ms) (suc k) is all = of_each test f ms k is (and_parts (list_all test (f x)) (list_all test (flat_map f ms))
+    (sym (list_all-append test (f x) (flat_map f ms)) ∙ all)).1
 
 module _ (job : Job) (source : Forest) (root : Tree) where
-  way_of : {object : Carried} → IsCarriedOf job source root object → list_all (is_way_free job root) (all_carried job source root) ≡ true → is_way_free job root object ≡ true
+  way_of : {object : Carried} → IsCarriedOf job source root object → list_all (is_way_free job root) (all_carried job source root) ≡ true
+      → is_way_free job root object ≡ true
   way_of {object} (k, (m, is, gives)) all =
       (and_parts (is_way_free job root object) true
-      (sym (ap (list_all (is_way_free job root)) gives) ∙ of_each (is_way_free job root) (λ (m : Marked). carried_by job m.1 m.0.verdict) (marked job source root) k is all)).0
+      (sym (ap (list_all (is_way_free job root)) gives) ∙ of_each (is_way_free job root) (λ (m : Marked). carried_by job m.1 m.0.verdict)
+      (marked job source root) k is all)).0
 
   -- where there is none, nothing is in the way
   free_way : (object : Carried) → IsFree root [] → is_way_free job root object ≡ true
-  free_way object free = all_true (λ folder. is_folder_or_free (root folder)) (λ folder. ap is_folder_or_free (free folder)) (folders_above (place_of_carried job object))
+  free_way object free = all_true (λ folder. is_folder_or_free (root folder)) (λ folder. ap is_folder_or_free (free folder))
+      (folders_above (place_of_carried job object))
 
   never_bad : root [] ≡ Some Folder ⊎ IsFree root [] → IsFree root [] ⊎ IsUsable job source root → IsBadTarget job root (IsCarriedOf job source root) → ⊥
   never_bad _ (inl free) (IsNoFolder else_there) = true≢false (sym (ap is_folder_or_free (free [])) ∙ else_there)
@@ -55,11 +61,13 @@ module _ (job : Job) (source : Forest) (root : Tree) where
   never_bad _ (inl free) (IsBarred object _ barred) = true≢false (sym (free_way object free) ∙ barred)
   never_bad (inl folder) (inr _) (IsNoFolder else_there) = true≢false (sym (ap is_folder_or_free folder) ∙ else_there)
   never_bad (inr free) (inr _) (IsNoFolder else_there) = true≢false (sym (ap is_folder_or_free (free [])) ∙ else_there)
-  never_bad _ (inr usable) (HasOtherFile number _ _ is other) = other (all_at (λ (f : File). root f.0 ≡ Some (Bytes f.1)) (root_files_of job.tuples) number usable.files is)
+  never_bad _ (inr usable) (HasOtherFile number _ _ is other) = other (all_at (λ (f : File). root f.0 ≡ Some (Bytes f.1)) (root_files_of job.tuples) number
+      usable.files is)
   never_bad _ (inr usable) (IsBarred _ carried barred) = true≢false (sym (way_of carried usable.ways) ∙ barred)
 
 -- what stands at the top of a root that holds files is a folder
-top_of : {job : Job} {source : Forest} {t : Tree} → IsTree t → IsFree (root_in t) [] ⊎ IsUsable job source (root_in t) → root_in t [] ≡ Some Folder ⊎ IsFree (root_in t) []
+top_of : {job : Job} {source : Forest} {t : Tree} → IsTree t → IsFree (root_in t) [] ⊎ IsUsable job source (root_in t)
+    → root_in t [] ≡ Some Folder ⊎ IsFree (root_in t) []
 top_of _ (inl free) = inr free
 top_of {job} {t} tree (inr usable) = inl (root_stands job t tree usable.files)
 
@@ -93,5 +101,6 @@ nothing_is_refused job start old new run after fault.Target s t begun turn told 
     absurd
     (never_bad job s.tree (root_in t) (top_of (tree_of job start old run begun some) good.target) good.target
     (finds_target_of job start old new run after s t begun turn told some).1)
-nothing_is_refused job start old new run after fault.Changed s _ begun turn told _ _ _ _ = absurd (refuses_rightly job start old new run after fault.Changed s begun turn told)
+nothing_is_refused job start old new run after fault.Changed s _ begun turn told _ _ _ _ = absurd
+    (refuses_rightly job start old new run after fault.Changed s begun turn told)
 nothing_is_refused _ _ _ _ _ _ _ _ _ _ turn _ _ _ _ _ = absurd (of_turn turn)

@@ -4,7 +4,21 @@ use Rattle.std.specs.Prelude.{Err, ◌⊎◌}
 use Rattle.pt_plan.specs.Job.{Job}
 use Rattle.pt_plan.specs.Run.{Counts, Held, Kept}
 use Rattle.pt_plan.specs.RunFaults.{IsOfTurn}
-use Rattle.pt_plan.specs.Turn.{FailsAtFirst, FailsLater, Next, HasFailed, IsRefused, FailsPartway, Make, Place, Scan, Start as a_start, FailsUnchanged, Turn, Walk}
+use Rattle.pt_plan.specs.Turn.{
+  FailsAtFirst,
+  FailsLater,
+  Next,
+  HasFailed,
+  IsRefused,
+  FailsPartway,
+  Make,
+  Place,
+  Scan,
+  Start as a_start,
+  FailsUnchanged,
+  Turn,
+  Walk,
+}
 use Rattle.pt_plan.specs.TurnMake.{ReadsMore, ReadsOther}
 use Rattle.pt_plan.specs.TurnPlace.{IsInTheWay}
 use Rattle.pt_plan.specs.TurnStart.{IsNoStore}
@@ -22,7 +36,8 @@ is_refusal fault.Target = true
 is_refusal fault.Changed = true
 is_refusal _ = false
 
-follows_for : {job : Job} {counts : Counts} {here : Phase} {prefix : List ℕ} {held : Held} {read : List ℕ} {new : Held} {calls : Calls} {why : Fault} → Next job counts here prefix held read new calls (Err why) → is_refusal why ≡ true
+follows_for : {job : Job} {counts : Counts} {here : Phase} {prefix : List ℕ} {held : Held} {read : List ℕ} {new : Held} {calls : Calls} {why : Fault}
+    → Next job counts here prefix held read new calls (Err why) → is_refusal why ≡ true
 follows_for (a_start (IsNoStore _ _ _)) = refl
 follows_for (a_start _) = refl
 follows_for (Walk turn) = elim turn [ ]
@@ -32,7 +47,8 @@ follows_for (Make (ReadsOther _ _ _ _ _ _ _)) = refl
 follows_for (Place (IsInTheWay _ _ _ _ _)) = refl
 
 -- or a device that failed
-pub halts_for : {job : Job} {here : Phase} {before after : Kept} {old new : DeviceStates} {why : Fault} → Turn job here before after old new (Err why) → (is_refusal why ≡ true) ⊎ HasFailed why old.failures new.failures
+pub halts_for : {job : Job} {here : Phase} {before after : Kept} {old new : DeviceStates} {why : Fault} → Turn job here before after old new (Err why)
+    → (is_refusal why ≡ true) ⊎ HasFailed why old.failures new.failures
 unfolding FailsUnchanged FailsPartway
 halts_for (IsRefused _ _ _ _ turn _ _) = inl (follows_for turn)
 halts_for (FailsAtFirst _ stays _) = inr stays.3
@@ -49,7 +65,8 @@ failed_of_turn fault.Ended _ _ it = absurd (it)
 failed_of_turn _ _ _ _ = tt
 
 -- the limit of turns, and that a run has ended, are no answers of a turn
-pub of_turn : {job : Job} {here : Phase} {before after : Kept} {old new : DeviceStates} {why : Fault} → Turn job here before after old new (Err why) → IsOfTurn why
+pub of_turn : {job : Job} {here : Phase} {before after : Kept} {old new : DeviceStates} {why : Fault} → Turn job here before after old new (Err why)
+    → IsOfTurn why
 of_turn {why} turn = elim (halts_for turn) [
   | inl refused ↦ refused_of_turn why refused
   | inr failed ↦ failed_of_turn why _ _ failed

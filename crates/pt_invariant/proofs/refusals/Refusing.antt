@@ -20,7 +20,22 @@ use Rattle.pt_walk.specs.Left.{bytes_at}
 use Rattle.pt_plan.specs.Job.{Job}
 use Rattle.pt_plan.specs.Run.{Counts, Held, Kept, Run, turning}
 use Rattle.pt_plan.specs.Store.{is_prefix, pairtree_of, prefix_file}
-use Rattle.pt_plan.specs.Turn.{Did, Next, Turn, IsRefused, FailsAtFirst, FailsLater, HasFailed, FailsPartway, FailsUnchanged, Start as a_start, Walk, Scan, Make, Place}
+use Rattle.pt_plan.specs.Turn.{
+  Did,
+  Next,
+  Turn,
+  IsRefused,
+  FailsAtFirst,
+  FailsLater,
+  HasFailed,
+  FailsPartway,
+  FailsUnchanged,
+  Start as a_start,
+  Walk,
+  Scan,
+  Make,
+  Place,
+}
 use Rattle.pt_plan.specs.TurnMake.{ReadsMore, ReadsOther, is_as_read, path_of_source}
 use Rattle.pt_plan.specs.TurnPlace.{IsInTheWay}
 use Rattle.pt_plan.specs.TurnStart.{IsNoStore, IsNoPrefixFile, IsNoPrefix, is_file_kind, lists_store}
@@ -51,21 +66,26 @@ no_file (Some (Dir inside)) _ _ _ = refl
 no_file (Some Other) _ _ _ = refl
 
 long_refused : (bytes : List ℕ) → 1024 < length bytes → is_none (prefix_refusal bytes) ≡ false
-long_refused bytes long = ap (λ b. is_none (cond b (Some bad.TooLong) (cond (is_utf8 (without_line_ends bytes)) None (Some bad.NotUtf8)))) (lt-ltb 1024 (length bytes) long)
+long_refused bytes long = ap (λ b. is_none (cond b (Some bad.TooLong) (cond (is_utf8 (without_line_ends bytes)) None (Some bad.NotUtf8))))
+    (lt-ltb 1024 (length bytes) long)
 
-block_refused : (bytes : List ℕ) {block : List ℕ} {why : PrefixFault} → take 8192 bytes ≡ block → prefix_refusal block ≡ Some why → is_none (prefix_refusal bytes) ≡ false
+block_refused : (bytes : List ℕ) {block : List ℕ} {why : PrefixFault} → take 8192 bytes ≡ block → prefix_refusal block ≡ Some why
+    → is_none (prefix_refusal bytes) ≡ false
 block_refused bytes read bad = elim (cases_lt 1024 (length bytes)) [
   | inl long ↦ long_refused bytes long
   | inr short ↦ (let few = short in ap (λ (l : List ℕ). is_none (prefix_refusal l)) (sym (take_all 8192 bytes (omega (arith, few))) ∙ read) ∙ ap is_none bad)
 ]
 
-bad_prefix : (o : Option Node) {block : List ℕ} {why : PrefixFault} → Some kind.File ≡ option_map kind_of o → option_map (take 8192) (option_and_then as_file (option_and_then (λ node. node_at node []) o)) ≡ Some block → prefix_refusal block ≡ Some why → is_prefix o ≡ false
+bad_prefix : (o : Option Node) {block : List ℕ} {why : PrefixFault} → Some kind.File ≡ option_map kind_of o
+    → option_map (take 8192) (option_and_then as_file (option_and_then (λ node. node_at node []) o)) ≡ Some block → prefix_refusal block ≡ Some why
+    → is_prefix o ≡ false
 bad_prefix (Some (File bytes)) {block} _ read bad = block_refused bytes (some_same _ block read) bad
 bad_prefix _ is read bad = absurd (cc)
 
 -- ---- the copy
 
-module _ (job : Job) (s : Reading) (prefix : List ℕ) (count : ℕ) (object : Object) (held : Held) (position : Position) (left : ℕ) (proper : is_proper s.tree ≡ true) (at : SourceAt job s prefix count (phase.Carrying object (stage.Copy position left)) held) where
+module _ (job : Job) (s : Reading) (prefix : List ℕ) (count : ℕ) (object : Object) (held : Held) (position : Position) (left : ℕ) (proper : is_proper s.tree
+    ≡ true) (at : SourceAt job s prefix count (phase.Carrying object (stage.Copy position left)) held) where
   abbrev copying : IsCopyingFile s.tree object held position s.unread left
   copying = at.2
 
@@ -103,8 +123,10 @@ module _ (job : Job) (s : Reading) (prefix : List ℕ) (count : ℕ) (object : O
 
 -- ---- the turns
 
-follows_refuse : {job : Job} (s : Reading) (new : Option Reading) {counts : Counts} (count : ℕ) {here : Phase} {prefix : List ℕ} {held : Held} {read : List ℕ} {after : Held} {calls : Calls} {why : Fault}
-    → is_proper s.tree ≡ true → Next job counts here prefix held read after calls (Err why) → SourceAt job s prefix count here held → Answers calls.asked (Some s) new → SaysOfSource why s.tree
+follows_refuse : {job : Job} (s : Reading) (new : Option Reading) {counts : Counts} (count : ℕ) {here : Phase} {prefix : List ℕ} {held : Held} {read : List ℕ}
+    {after : Held} {calls : Calls} {why : Fault}
+    → is_proper s.tree ≡ true → Next job counts here prefix held read after calls (Err why) → SourceAt job s prefix count here held
+    → Answers calls.asked (Some s) new → SaysOfSource why s.tree
 unfolding Answers IsListed IsRead
 follows_refuse s _ _ _ (a_start (IsNoStore _ entries is)) _ answers =
     let listed : entries ≡ listing_of s.tree = sym (some_same _ entries (answers.0 s refl)) in
@@ -119,7 +141,8 @@ follows_refuse {job} s _ count {prefix} proper (Make (ReadsMore was object posit
     absurd (never_more job s prefix count object was position left proper at more (answers.0 s refl))
 follows_refuse {job} s _ count {prefix} proper (Make (ReadsOther was object position row left is other)) at answers =
     absurd (let same = some_same row at.2.row (sym is ∙ at.2.is_row) in
-    true≢false (sym (ap (λ (r : Row). is_as_read job r left was.fed) same ∙ as_read job s prefix count object was position left proper at (answers.0 s refl)) ∙ other))
+    true≢false (sym (ap (λ (r : Row). is_as_read job r left was.fed) same ∙ as_read job s prefix count object was position left proper at (answers.0 s refl))
+    ∙ other))
 follows_refuse _ _ _ _ (Place (IsInTheWay _ _ _ _ _)) at _ = (at.0.store, at.0.good)
 
 -- a device that failed says nothing of the source
@@ -130,7 +153,8 @@ failed fault.Log _ _ _ _ = tt
 failed fault.Memory _ _ _ _ = tt
 failed _ _ _ _ it = absurd (it)
 
-refused : {job : Job} {past : History} {start : Start} {old new : DeviceStates} {run : Run} {after : Kept} {why : Fault} {s : Reading} → IsHistory job start old run past → Turn job run.phase (turning run.kept) after old new (Err why) → old.source ≡ Some s → SaysOfSource why s.tree
+refused : {job : Job} {past : History} {start : Start} {old new : DeviceStates} {run : Run} {after : Kept} {why : Fault} {s : Reading}
+    → IsHistory job start old run past → Turn job run.phase (turning run.kept) after old new (Err why) → old.source ≡ Some s → SaysOfSource why s.tree
 unfolding Did FailsUnchanged FailsPartway
 refused {past} {new} {s} is (IsRefused _ _ calls _ turn did _) told =
     let part = is.source s told in

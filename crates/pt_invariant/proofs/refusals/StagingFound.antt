@@ -23,8 +23,10 @@ some_kind : (o : Option Entry) {here : Kind} → option_map kind_of_entry o ≡ 
 some_kind None is = absurd (cc)
 some_kind (Some _) _ = refl
 
-follows_find : {job : Job} {past : History} {t : Tree} {w : Writing} (new : Option Writing) {counts : Counts} {here : Phase} {prefix : List ℕ} {held : Held} {read : List ℕ} {after : Held} {calls : Calls}
-    → Next job counts here prefix held read after calls (Err fault.StagingLeft) → DestPart job past here held t w → Changes calls.change (Some w) new → is_some (t staging) ≡ true
+follows_find : {job : Job} {past : History} {t : Tree} {w : Writing} (new : Option Writing) {counts : Counts} {here : Phase} {prefix : List ℕ} {held : Held}
+    {read : List ℕ} {after : Held} {calls : Calls}
+    → Next job counts here prefix held read after calls (Err fault.StagingLeft) → DestPart job past here held t w → Changes calls.change (Some w) new
+    → is_some (t staging) ≡ true
 unfolding Changes IsKindAt
 follows_find {w} _ (a_start (HasStaging _ _)) dest change =
     ap (λ (tree : Tree). is_some (tree staging)) (sym dest.at.tree) ∙ some_kind (w.tree staging) (change.0 w refl)
@@ -33,7 +35,8 @@ follows_find _ (Scan turn) _ _ = elim turn [ ]
 follows_find _ (Make turn) _ _ = elim turn [ ]
 follows_find _ (Place turn) _ _ = elim turn [ ]
 
-found : {job : Job} {past : History} {start : Start} {old new : DeviceStates} {run : Run} {after : Kept} {t : Tree} → IsHistory job start old run past → Turn job run.phase (turning run.kept) after old new (Err fault.StagingLeft) → start.dest ≡ Some t → is_some (t staging) ≡ true
+found : {job : Job} {past : History} {start : Start} {old new : DeviceStates} {run : Run} {after : Kept} {t : Tree} → IsHistory job start old run past
+    → Turn job run.phase (turning run.kept) after old new (Err fault.StagingLeft) → start.dest ≡ Some t → is_some (t staging) ≡ true
 unfolding Did FailsUnchanged FailsPartway
 found {job} {past} {start} {old} {new} {run} is (IsRefused _ _ calls _ turn did _) told =
     let had = both_tell (DestPart job past run.phase run.kept.held) start.dest old.dest told is.dest in

@@ -56,23 +56,29 @@ no_file : {o : Option Entry} {here : Option Kind} (bytes : List ℕ) → option_
 no_file _ is other same = true≢false (ap (λ (e : Option Entry). is_file_kind (option_map kind_of_entry e)) (sym same) ∙ ap is_file_kind is ∙ other)
 
 -- other bytes
-other_bytes : {o : Option Entry} {bytes : List ℕ} {block : List ℕ} → option_map (take 8192) (bytes_of o) ≡ Some block → bytes_eq block bytes ≡ false → length bytes < 8192 → o ≢ Some (Bytes bytes)
+other_bytes : {o : Option Entry} {bytes : List ℕ} {block : List ℕ} → option_map (take 8192) (bytes_of o) ≡ Some block → bytes_eq block bytes ≡ false
+    → length bytes < 8192 → o ≢ Some (Bytes bytes)
 other_bytes {bytes} {block} read other short same =
-    let whole : block ≡ bytes = some_same block bytes (sym read ∙ ap (λ (e : Option Entry). option_map (take 8192) (bytes_of e)) same ∙ ap (λ (l : List ℕ). Some l) (take_all 8192 bytes (omega (arith, short)))) in
+    let whole : block ≡ bytes = some_same block bytes (sym read ∙ ap (λ (e : Option Entry). option_map (take 8192) (bytes_of e)) same
+    ∙ ap (λ (l : List ℕ). Some l) (take_all 8192 bytes (omega (arith, short)))) in
     true≢false (sym (ap (λ (l : List ℕ). bytes_eq l bytes) whole ∙ name_itself bytes) ∙ other)
 
 -- ---- what is in the way
 
 -- the first names of a path are a folder above it
-above_passes : (test : Path → Bool) (place : Path) (n : ℕ) → suc (suc n) ≤ length place → list_all test (folders_above place) ≡ true → test (take (suc n) place) ≡ true
+above_passes : (test : Path → Bool) (place : Path) (n : ℕ) → suc (suc n) ≤ length place → list_all test (folders_above place) ≡ true
+    → test (take (suc n) place) ≡ true
 above_passes test [] n long all = absurd (omega (arith, long))
 above_passes test (name ∷ []) n long all = absurd (omega (arith, long))
-above_passes test (name ∷ next ∷ place) zero _ all = (and_parts (test (name ∷ [])) (list_all test (map (λ (folder : Path). name ∷ folder) (folders_above (next ∷ place)))) all).0
+above_passes test (name ∷ next ∷ place) zero _ all = (and_parts (test (name ∷ []))
+    (list_all test (map (λ (folder : Path). name ∷ folder) (folders_above (next ∷ place)))) all).0
 above_passes test (name ∷ next ∷ place) (suc n) long all =
     above_passes (λ (folder : Path). test (name ∷ folder)) (next ∷ place) n (omega (arith, long))
-    (sym (all_map (λ (folder : Path). name ∷ folder) test (folders_above (next ∷ place))) ∙ (and_parts (test (name ∷ [])) (list_all test (map (λ (folder : Path). name ∷ folder) (folders_above (next ∷ place)))) all).1)
+    (sym (all_map (λ (folder : Path). name ∷ folder) test (folders_above (next ∷ place)))
+    ∙ (and_parts (test (name ∷ [])) (list_all test (map (λ (folder : Path). name ∷ folder) (folders_above (next ∷ place)))) all).1)
 
-barred_at : (test : Path → Bool) (place : Path) {n : ℕ} → suc (suc n) ≤ length place → test (take (suc n) place) ≡ false → list_all test (folders_above place) ≡ false
+barred_at : (test : Path → Bool) (place : Path) {n : ℕ} → suc (suc n) ≤ length place → test (take (suc n) place) ≡ false
+    → list_all test (folders_above place) ≡ false
 barred_at test place {n} long bad = by (list_all test (folders_above place)) refl
   where
     by : (b : Bool) → list_all test (folders_above place) ≡ b → b ≡ false
@@ -86,8 +92,10 @@ not_made None false bad = absurd (true≢false bad)
 not_made (Some _) _ bad = bad
 
 -- what is in the way to a place stood in the root
-barred : {job : Job} {past : History} {start : Tree} {object : Object} {held : Held} {number : ℕ} {old : Writing} {here : Kind} → HeldAt job past (phase.Carrying object (stage.Tuples number)) held → DestPart job past (phase.Carrying object (stage.Tuples number)) held start old
-    → option_map kind_of_entry (old.tree (tuple_folder object number)) ≡ Some here → is_dir_kind (Some here) ≡ false → is_way_free job (root_in start) (object_held object held.rows past.bytes) ≡ false
+barred : {job : Job} {past : History} {start : Tree} {object : Object} {held : Held} {number : ℕ} {old : Writing} {here : Kind}
+    → HeldAt job past (phase.Carrying object (stage.Tuples number)) held → DestPart job past (phase.Carrying object (stage.Tuples number)) held start old
+    → option_map kind_of_entry (old.tree (tuple_folder object number)) ≡ Some here → is_dir_kind (Some here) ≡ false
+    → is_way_free job (root_in start) (object_held object held.rows past.bytes) ≡ false
 barred {job} {past} {start} {object} {held} {number} {old} at dest found other =
     let few = at.numbers in
     let long = place_long job object at.ends.0 in
@@ -98,11 +106,14 @@ barred {job} {past} {start} {object} {held} {number} {old} at dest found other =
     let root = root_now job start past.placed in
     let bad = no_folder (old.tree (tuple_folder object number)) found other in
     let on_way : is_folder_or_free (root_on_way job start past.placed place number p) ≡ false =
-    ap is_folder_or_free (sym (at_root job past start object held number old p dest.started at.rows dest.at.0) ∙ ap (λ n. old.tree (storage_root ++ take n place)) (sym next)) ∙ bad in
+    ap is_folder_or_free (sym (at_root job past start object held number old p dest.started at.rows dest.at.0)
+    ∙ ap (λ n. old.tree (storage_root ++ take n place)) (sym next)) ∙ bad in
     let stood = not_made (root p) _ on_way in
     let way : is_way_free job root carried ≡ false =
-    ap (λ (q : Path). list_all (λ folder. is_folder_or_free (root folder)) (folders_above q)) (sym at.ends.0.place) ∙ barred_at (λ folder. is_folder_or_free (root folder)) place (omega (arith, few, long)) stood in
-    sym (way_in_base job (root_in start) carried (roots_have_no_gaps start dest.started).1) ∙ sym (way_with_objects job past.placed (base job.tuples (root_in start)) carried) ∙ way
+    ap (λ (q : Path). list_all (λ folder. is_folder_or_free (root folder)) (folders_above q)) (sym at.ends.0.place)
+    ∙ barred_at (λ folder. is_folder_or_free (root folder)) place (omega (arith, few, long)) stood in
+    sym (way_in_base job (root_in start) carried (roots_have_no_gaps start dest.started).1)
+    ∙ sym (way_with_objects job past.placed (base job.tuples (root_in start)) carried) ∙ way
 
 -- ---- the turns
 
@@ -110,11 +121,16 @@ module _ (job : Job) (past : History) (t : Tree) (old : Writing) (new : Option W
   abbrev IsFound : Type 0
   IsFound = IsFree t staging × IsBadTarget job (root_in t) objects
 
-  follows_find : {counts : Counts} {here : Phase} {prefix read : List ℕ} {after : Held} {calls : Calls} → IsLayout job.tuples → Next job counts here prefix held read after calls (Err fault.Target) → HeldAt job past here held → DestPart job past here held t old → Changes calls.change (Some old) new
+  follows_find : {counts : Counts} {here : Phase} {prefix read : List ℕ} {after : Held} {calls : Calls} → IsLayout job.tuples
+      → Next job counts here prefix held read after calls (Err fault.Target) → HeldAt job past here held → DestPart job past here held t old
+      → Changes calls.change (Some old) new
       → ((object : Object) (number : ℕ) → here ≡ phase.Carrying object (stage.Tuples number) → objects (object_held object held.rows past.bytes)) → IsFound
   unfolding Changes IsKindAt IsPeeked
-  follows_find _ (a_start (IsNoRoot _ _ other)) _ dest change _ =
-      (dest.at.1, IsNoFolder (ap (λ (tree : Tree). is_folder_or_free (tree storage_root)) (sym dest.at.0.tree) ∙ no_folder (old.tree storage_root) (change.0 old refl) other))
+  follows_find _ (a_start (IsNoRoot _ _ other)) _ dest change _ = (
+    dest.at.1,
+    IsNoFolder (ap (λ (tree : Tree). is_folder_or_free (tree storage_root)) (sym dest.at.0.tree)
+        ∙ no_folder (old.tree storage_root) (change.0 old refl) other),
+  )
   follows_find _ (a_start (IsNoFile _ number path bytes _ is other)) _ dest change _ = (
     dest.at.free,
     HasOtherFile number (path, bytes) dest.at.top is
@@ -123,7 +139,8 @@ module _ (job : Job) (past : History) (t : Tree) (old : Writing) (new : Option W
   follows_find layout (a_start (Differs _ number path bytes _ is other)) _ dest change _ = (
     dest.at.free,
     HasOtherFile number (path, bytes) dest.at.top is
-        (λ same. other_bytes (change.1 old refl) other (file_short job.tuples number path bytes layout is) (ap (λ (tree : Tree). tree (storage_root ++ path)) dest.at.tree ∙ same)),
+        (λ same. other_bytes (change.1 old refl) other (file_short job.tuples number path bytes layout is)
+        (ap (λ (tree : Tree). tree (storage_root ++ path)) dest.at.tree ∙ same)),
   )
   follows_find _ (Walk turn) _ _ _ _ = elim turn [ ]
   follows_find _ (Scan turn) _ _ _ _ = elim turn [ ]
@@ -133,8 +150,10 @@ module _ (job : Job) (past : History) (t : Tree) (old : Writing) (new : Option W
 
 -- ---- the laws
 
-found : (job : Job) (past : History) (start : Start) (old new : DeviceStates) (run : Run) (after : Kept) (t : Tree) (objects : Carried → Type 0) → IsHistory job start old run past → Turn job run.phase (turning run.kept) after old new (Err fault.Target) → start.dest ≡ Some t
-    → ((object : Object) (number : ℕ) → run.phase ≡ phase.Carrying object (stage.Tuples number) → objects (object_held object run.kept.held.rows past.bytes)) → IsFree t staging × IsBadTarget job (root_in t) objects
+found : (job : Job) (past : History) (start : Start) (old new : DeviceStates) (run : Run) (after : Kept) (t : Tree) (objects : Carried → Type 0)
+    → IsHistory job start old run past → Turn job run.phase (turning run.kept) after old new (Err fault.Target) → start.dest ≡ Some t
+    → ((object : Object) (number : ℕ) → run.phase ≡ phase.Carrying object (stage.Tuples number) → objects (object_held object run.kept.held.rows past.bytes))
+    → IsFree t staging × IsBadTarget job (root_in t) objects
 unfolding Did FailsUnchanged FailsPartway
 found job past start old new run _ t objects is (IsRefused _ _ calls _ turn did _) told some =
     let had = both_tell (DestPart job past run.phase run.kept.held) start.dest old.dest told is.dest in

@@ -24,7 +24,8 @@ abbrev pub AreThere : Forest → Path → List Entry → Type 0
 AreThere directory base [] = Unit {0}
 AreThere directory base (entry ∷ others) = IsThere directory base entry × AreThere directory base others
 
-both_there : (directory : Forest) (base : Path) (first later : List Entry) → AreThere directory base first → AreThere directory base later → AreThere directory base (first ++ later)
+both_there : (directory : Forest) (base : Path) (first later : List Entry) → AreThere directory base first → AreThere directory base later
+    → AreThere directory base (first ++ later)
 both_there directory base [] later a b = b
 both_there directory base (entry ∷ first) later a b = (a.0, both_there directory base first later a.1 b)
 
@@ -32,7 +33,8 @@ both_there directory base (entry ∷ first) later a b = (a.0, both_there directo
 abbrev IsBefore : List ℕ → Node → Forest → Forest → Type 0
 IsBefore n node after directory = (m : List ℕ) → find directory m ≡ cond (bytes_eq n m) (Some node) (find after m)
 
-lifted : (n : List ℕ) (node : Node) (after directory : Forest) (base : Path) → IsBefore n node after directory → comes_before n after ≡ true → is_proper after ≡ true → (some : List Entry) → AreThere after base some → AreThere directory base some
+lifted : (n : List ℕ) (node : Node) (after directory : Forest) (base : Path) → IsBefore n node after directory → comes_before n after ≡ true
+    → is_proper after ≡ true → (some : List Entry) → AreThere after base some → AreThere directory base some
 lifted n node after directory base more comes proper [] there = tt
 lifted n node after directory base more comes proper (entry ∷ some) there =
     let it = there.0 in
@@ -47,7 +49,8 @@ lifted n node after directory base more comes proper (entry ∷ some) there =
     )
 
 -- what stands in a directory of it
-inner : (n : List ℕ) (inside directory : Forest) (base : Path) → find directory n ≡ Some (Dir inside) → (some : List Entry) → AreThere inside (base ++ n ∷ []) some → AreThere directory base some
+inner : (n : List ℕ) (inside directory : Forest) (base : Path) → find directory n ≡ Some (Dir inside) → (some : List Entry)
+    → AreThere inside (base ++ n ∷ []) some → AreThere directory base some
 inner n inside directory base is [] there = tt
 inner n inside directory base is (entry ∷ some) there =
     let it = there.0 in (
@@ -103,10 +106,16 @@ gathered_there (dir n inside after) base proper =
     (inner n inside _ base (first_found n (find after n)) (entries_in (base ++ n ∷ []) inside) (all_there inside (base ++ n ∷ []) parts.3))
     (lifted n _ _ _ base (λ m. refl) parts.1 parts.2 (entries_in base (without_shorties after)) (gathered_there after base parts.2))
   where
-    by : (short : Bool) → IsThere (dir n inside after) base (base ++ n ∷ [], Dir inside) → AreThere (dir n inside after) base (entries_in (base ++ n ∷ []) inside) → AreThere (dir n inside after) base (entries_in base (without_shorties after))
+    by : (short : Bool) → IsThere (dir n inside after) base (base ++ n ∷ [], Dir inside)
+        → AreThere (dir n inside after) base (entries_in (base ++ n ∷ []) inside)
+        → AreThere (dir n inside after) base (entries_in base (without_shorties after))
         → AreThere (dir n inside after) base (entries_in base (cond short (without_shorties after) (dir n inside (without_shorties after))))
     by true here in_it later = later
-    by false here in_it later = (here, both_there (dir n inside after) base (entries_in (base ++ n ∷ []) inside) (entries_in base (without_shorties after)) in_it later)
+    by false here in_it later = (
+      here,
+      both_there (dir n inside after) base (entries_in (base ++ n ∷ []) inside) (entries_in base (without_shorties after))
+          in_it later,
+    )
 
 -- ---- files
 
@@ -115,7 +124,8 @@ front_there directory base [] left there = tt
 front_there directory base (entry ∷ front) left there = (there.0, front_there directory base front left there.1)
 
 -- a file that is one of the entries stands there
-pub file_of : {directory : Forest} {base : Path} (some : List Entry) (k : ℕ) {path : Path} {bytes : List ℕ} → AreThere directory base some → slice_get (files some) k ≡ Some (path, bytes) → IsThere directory base (path, File bytes)
+pub file_of : {directory : Forest} {base : Path} (some : List Entry) (k : ℕ) {path : Path} {bytes : List ℕ} → AreThere directory base some
+    → slice_get (files some) k ≡ Some (path, bytes) → IsThere directory base (path, File bytes)
 file_of [] k there is = absurd (cc)
 file_of {directory} {base} ((p, File b) ∷ some) zero {path} {bytes} there is =
     let same : (p, b) ≡ (path, bytes) = some_same (p, b) (path, bytes) is in
@@ -128,7 +138,8 @@ file_of ((p, Other) ∷ some) k there is = file_of some k there.1 is
 
 -- of a directory in the tree: the file stands in the tree
 pub file_stands : (top inside : Forest) (at : Path) (front left : List Entry) (k : ℕ) {path : Path} {bytes : List ℕ} → AreThere inside [] (front ++ left)
-    → ((below : Path) → node_at (Dir top) (at ++ below) ≡ node_at (Dir inside) below) → slice_get (files front) k ≡ Some (path, bytes) → file_at top (at ++ path) ≡ Some bytes
+    → ((below : Path) → node_at (Dir top) (at ++ below) ≡ node_at (Dir inside) below) → slice_get (files front) k ≡ Some (path, bytes)
+    → file_at top (at ++ path) ≡ Some bytes
 file_stands top inside at front left k there down is =
     let it = file_of front k (front_there inside [] front left there) is in
     ap (option_and_then as_file) (ap (λ (p : Path). node_at (Dir top) (at ++ p)) it.path ∙ down (it.name ∷ it.rest) ∙ it.stands)

@@ -1,5 +1,33 @@
 -- How an object under way stands as the trail moves in it.
-use Rattle.std.proofs.Common.{◌≡◌, ◌<◌, ◌≤◌, ◌-◌, ℕ, zero, suc, ◌+◌, ◌==◌, ◌&&◌, Bool, true, false, List, [], ◌∷◌, ◌++◌, refl, ap, sym, ◌∙◌, cond, length, arith, drop, take, append_assoc}
+use Rattle.std.proofs.Common.{
+  ◌≡◌,
+  ◌<◌,
+  ◌≤◌,
+  ◌-◌,
+  ℕ,
+  zero,
+  suc,
+  ◌+◌,
+  ◌==◌,
+  ◌&&◌,
+  Bool,
+  true,
+  false,
+  List,
+  [],
+  ◌∷◌,
+  ◌++◌,
+  refl,
+  ap,
+  sym,
+  ◌∙◌,
+  cond,
+  length,
+  arith,
+  drop,
+  take,
+  append_assoc,
+}
 use Rattle.std.specs.Prelude.{None, Some}
 use Rattle.std.proofs.lemmas.Bool.{eq-eqb}
 use Rattle.std.proofs.lemmas.List.{length-append, length-map, map-append}
@@ -26,7 +54,8 @@ use Rattle.pt_plan.specs.declared.object.Object.{Object}
 
 -- ---- the trail as far as the site
 
-pub site_entered : (object : Object) (items : List Item) (trail : List Frame) → object.site ≤ length trail → to_site object (entered items trail) ≡ to_site object trail
+pub site_entered : (object : Object) (items : List Item) (trail : List Frame) → object.site ≤ length trail
+    → to_site object (entered items trail) ≡ to_site object trail
 site_entered object items trail within =
     let more : length (entered items trail) - object.site ≡ suc (length trail - object.site) = omega (arith, within) in
     ap (λ (n : ℕ). drop n (entered items trail)) more
@@ -50,7 +79,8 @@ site_itself object trail same =
 
 -- ---- an object stays under way
 
-pub still_in : (job : Job) (source : Forest) (prefix : List ℕ) (object : Object) {old new : List Frame} (count : ℕ) → object.site ≤ length new → Fits (pairtree_of source) new → to_site object new ≡ to_site object old
+pub still_in : (job : Job) (source : Forest) (prefix : List ℕ) (object : Object) {old new : List Frame} (count : ℕ) → object.site ≤ length new
+    → Fits (pairtree_of source) new → to_site object new ≡ to_site object old
     → IsInObject job source prefix object old count → IsInObject job source prefix object new count
 still_in job source prefix object count within fits same it = record {
   some = it.some;
@@ -75,7 +105,8 @@ same_choice : {X : Type 0} → (b : Bool) (x y z : X) → b ≡ true → cond b 
 same_choice true x y z is = refl
 same_choice false x y z is = absurd (cc)
 
-pub object_moved : (source : Forest) (object : Object) (frame : Frame) (frames : List Frame) (place : ℕ) → object.gathered ≡ true → object_at source object (frame ∷ frames) ≡ object_at source object (sought place (frame ∷ frames))
+pub object_moved : (source : Forest) (object : Object) (frame : Frame) (frames : List Frame) (place : ℕ) → object.gathered ≡ true
+    → object_at source object (frame ∷ frames) ≡ object_at source object (sought place (frame ∷ frames))
 object_moved source object frame frames place gathered =
     let top = pairtree_of source in
     let old = frame ∷ frames in
@@ -86,7 +117,8 @@ object_moved source object frame frames place gathered =
     (same_choice object.gathered (without_shorties (inside_at top (names_to frames))) (inside_at top (names_to old)) (inside_at top (names_to new)) gathered)
 
 -- a gathered object, when the place in its site moves
-pub site_moved : {job : Job} (source : Forest) {prefix : List ℕ} (object : Object) (frame : Frame) (frames : List Frame) (place : ℕ) {count : ℕ} → object.gathered ≡ true
+pub site_moved : {job : Job} (source : Forest) {prefix : List ℕ} (object : Object) (frame : Frame) (frames : List Frame) (place : ℕ) {count : ℕ}
+    → object.gathered ≡ true
     → IsSiteOf job source prefix object (frame ∷ frames) count → IsSiteOf job source prefix object (sought place (frame ∷ frames)) count
 site_moved source object frame frames place gathered it =
     let same = object_moved source object frame frames place gathered in
@@ -108,11 +140,13 @@ unfolding own_at
 own_more true n site within = omega (arith, within)
 own_more false n site within = omega (arith, within)
 
-pub own_entered : (object : Object) (items : List Item) (trail : List Frame) → object.site ≤ length trail → own_listings object (entered items trail) ≡ suc (own_listings object trail)
+pub own_entered : (object : Object) (items : List Item) (trail : List Frame) → object.site ≤ length trail
+    → own_listings object (entered items trail) ≡ suc (own_listings object trail)
 unfolding own_at
 own_entered object items trail within = own_more object.gathered (length trail) object.site within
 
-pub own_parent : (object : Object) (frame : Frame) (frames : List Frame) → object.site ≤ length frames → own_listings object (frame ∷ frames) ≡ suc (own_listings object frames)
+pub own_parent : (object : Object) (frame : Frame) (frames : List Frame) → object.site ≤ length frames
+    → own_listings object (frame ∷ frames) ≡ suc (own_listings object frames)
 unfolding own_at
 own_parent object frame frames within = own_more object.gathered (length frames) object.site within
 
@@ -131,7 +165,8 @@ unfolding own_at
 own_at_site object trail same = own_here object.gathered _ same
 
 -- an entry that isn't passed over isn't a shorty of a gathered site
-not_passed : (g : Bool) (n site k : ℕ) (item : Item) → site ≤ n → own_at g n site ≡ suc k → (n == site) && is_shorty item ≡ false → walk.is_passed g k item ≡ false
+not_passed : (g : Bool) (n site k : ℕ) (item : Item) → site ≤ n → own_at g n site ≡ suc k → (n == site) && is_shorty item ≡ false
+    → walk.is_passed g k item ≡ false
 unfolding own_at
 not_passed g n site (suc k) item within own apart = refl
 not_passed false n site zero item within own apart = refl
@@ -139,7 +174,8 @@ not_passed true n site zero item within own apart =
     let same : n ≡ site = omega (arith, own, within) in
     ap (λ b. b && is_shorty item) (sym (eq-eqb n site same)) ∙ apart
 
-pub passed_not : (object : Object) (trail : List Frame) (k : ℕ) (item : Item) → object.site ≤ length trail → own_listings object trail ≡ suc k → (length trail == object.site) && is_shorty item ≡ false → walk.is_passed object.gathered k item ≡ false
+pub passed_not : (object : Object) (trail : List Frame) (k : ℕ) (item : Item) → object.site ≤ length trail → own_listings object trail ≡ suc k
+    → (length trail == object.site) && is_shorty item ≡ false → walk.is_passed object.gathered k item ≡ false
 unfolding own_at
 passed_not object trail k item within own apart = not_passed object.gathered (length trail) object.site k item within own apart
 
@@ -161,7 +197,8 @@ parent-drop zero (f ∷ t) = refl
 parent-drop (suc n) [] = refl
 parent-drop (suc n) (f ∷ t) = parent-drop n t
 
-above_own : (g : Bool) (n site : ℕ) (trail : List Frame) → names_to (drop (own_at g n site) trail) ≡ cond g (trail_path (drop (n - site) trail)) (names_to (drop (n - site) trail))
+above_own : (g : Bool) (n site : ℕ) (trail : List Frame) → names_to (drop (own_at g n site) trail)
+    ≡ cond g (trail_path (drop (n - site) trail)) (names_to (drop (n - site) trail))
 unfolding own_at
 above_own false n site trail = refl
 above_own true n site trail =
@@ -171,16 +208,20 @@ above_own true n site trail =
 pub path_in_object : (object : Object) (trail : List Frame) → names_to trail ≡ path_of_source object (to_site object trail) ++ logical_path object trail
 unfolding own_at
 path_in_object object trail =
-    path_splits (own_listings object trail) trail ∙ ap (λ (p : Path). p ++ logical_path object trail) (above_own object.gathered (length trail) object.site trail)
+    path_splits (own_listings object trail) trail ∙ ap (λ (p : Path). p ++ logical_path object trail)
+    (above_own object.gathered (length trail) object.site trail)
 
 -- it has a name for each listing
-pub path_length : (frame : Frame) (frames : List Frame) (item : Item) → is_trail (frame ∷ frames) ≡ true → entry_at frame ≡ Some item → length (names_to (frame ∷ frames)) ≡ length (frame ∷ frames)
+pub path_length : (frame : Frame) (frames : List Frame) (item : Item) → is_trail (frame ∷ frames) ≡ true → entry_at frame ≡ Some item
+    → length (names_to (frame ∷ frames)) ≡ length (frame ∷ frames)
 path_length frame frames item is_one e =
-    let grown : length (names_to (frame ∷ frames)) ≡ length (names_to frames) + 1 = ap length (path_grows frame frames item e) ∙ length-append (names_to frames) (item.0 ∷ []) in
+    let grown : length (names_to (frame ∷ frames)) ≡ length (names_to frames) + 1 = ap length (path_grows frame frames item e)
+    ∙ length-append (names_to frames) (item.0 ∷ []) in
     let outer = name_for_each frame frames is_one in
     omega (arith, grown, outer)
 
-pub logical_is : (object : Object) (frame : Frame) (frames : List Frame) (k : ℕ) (item : Item) → entry_at frame ≡ Some item → own_listings object (frame ∷ frames) ≡ suc k
+pub logical_is : (object : Object) (frame : Frame) (frames : List Frame) (k : ℕ) (item : Item) → entry_at frame ≡ Some item
+    → own_listings object (frame ∷ frames) ≡ suc k
     → names_to (take k frames) ++ item.0 ∷ [] ≡ logical_path object (frame ∷ frames)
 logical_is object frame frames k item e own =
     sym (path_grows frame (take k frames) item e) ∙ sym (ap (λ (n : ℕ). names_to (take n (frame ∷ frames))) own)
@@ -193,7 +234,8 @@ pub scans_more : (job : Job) {object : PairtreeObject} {rows : List Row} {empty 
 scans_more job {object} {rows} {entry} {left} none counted it =
     let both = counts it.front (entry ∷ []) in
     let many : 0 + length (files it.front) ≡ length rows =
-    (let long : length rows ≡ length (files it.front) = ap length it.rows_are ∙ length-map (files it.front) (row_of_file job.algorithm) in omega (arith, long)) in
+    (let long : length rows ≡ length (files it.front) = ap length it.rows_are ∙ length-map (files it.front) (row_of_file job.algorithm) in omega (arith, long))
+    in
     let was = it.empty_is in
     let gained = both.1 in
     record {
@@ -209,5 +251,6 @@ scans_more job {object} {rows} {entry} {left} none counted it =
     }
 
 -- what is left may be said otherwise
-pub scans_same : {job : Job} {object : PairtreeObject} {rows : List Row} {empty : ℕ} {old new : List Entry} → old ≡ new → HasScanned job object rows empty old → HasScanned job object rows empty new
+pub scans_same : {job : Job} {object : PairtreeObject} {rows : List Row} {empty : ℕ} {old new : List Entry} → old ≡ new → HasScanned job object rows empty old
+    → HasScanned job object rows empty new
 scans_same {job} {object} {rows} {empty} same it = rw same at it

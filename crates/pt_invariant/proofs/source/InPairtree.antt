@@ -30,7 +30,8 @@ pairtree_proper source store proper = (reads_below source (pairtree_of source) (
 
 pub listing_in : (source : Forest) (path : Path) → is_store source ≡ true → listing_at source (pairtree_root ∷ path) ≡ listing_at (pairtree_of source) path
 listing_in source path store =
-    ap (λ (o : Option Node). option_map listing_of (option_and_then as_dir o)) (reads_below source (pairtree_of source) (pairtree_root ∷ []) path (pairtree_there source store)).0
+    ap (λ (o : Option Node). option_map listing_of (option_and_then as_dir o))
+    (reads_below source (pairtree_of source) (pairtree_root ∷ []) path (pairtree_there source store)).0
 
 pub file_in_pairtree : (source : Forest) (path : Path) → is_store source ≡ true → file_at source (pairtree_root ∷ path) ≡ file_at (pairtree_of source) path
 file_in_pairtree source path store =

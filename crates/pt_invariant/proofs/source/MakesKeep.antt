@@ -10,7 +10,17 @@ use Rattle.pt_walk.specs.Left.{bytes_at}
 use Rattle.pt_plan.specs.Job.{Job}
 use Rattle.pt_plan.specs.Run.{Held, with_fed}
 use Rattle.pt_plan.specs.Store.{pairtree_of, pairtree_root}
-use Rattle.pt_plan.specs.TurnMake.{MakeStep, OpensCopy, CopiesOn, EndsCopy, MakesVersionInventory, MakesVersionSidecar, MakesInventory, MakesSidecar, path_of_source}
+use Rattle.pt_plan.specs.TurnMake.{
+  MakeStep,
+  OpensCopy,
+  CopiesOn,
+  EndsCopy,
+  MakesVersionInventory,
+  MakesVersionSidecar,
+  MakesInventory,
+  MakesSidecar,
+  path_of_source,
+}
 use Rattle.pt_plan.specs.TurnScan.{to_site}
 use Rattle.pt_plan.specs.DeviceStates.{Answers, Calls}
 use Rattle.pt_plan.specs.declared.object.Object.{Object}
@@ -48,7 +58,8 @@ module _ (job : Job) (s : Reading) (prefix : List ℕ) (object : Object) (held :
       rw (site_itself object _ it.1.at_site) at
       (row_file job s.tree object (to_site object held.trail) [] n row (pairtree_proper s.tree it.0.store proper) it.1.scanned is)
 
-  opens_copy : (position : Position) (row : Row) → is_proper s.tree ≡ true → slice_get held.rows position.row ≡ Some row → Scanned job prefix object count held s
+  opens_copy : (position : Position) (row : Row) → is_proper s.tree ≡ true → slice_get held.rows position.row ≡ Some row
+      → Scanned job prefix object count held s
       → IsCopyingFile s.tree object (with_fed held []) position (file_at s.tree (pairtree_root ∷ (path_of_source object held.trail ++ row.path))) row.length
   opens_copy position row proper is it =
       let file = file_of_row position.row row proper is it in
@@ -64,7 +75,8 @@ module _ (job : Job) (s : Reading) (prefix : List ℕ) (object : Object) (held :
         read = rw none_read (reads_first opened);
       }
 
-  copies_on : (position : Position) (left : ℕ) (block : List ℕ) → nat_lt left (length block) ≡ false → ForSome (Some s) (λ (r : Reading). option_map (take 8192) r.unread ≡ Some block) → IsCopyingFile s.tree object held position s.unread left
+  copies_on : (position : Position) (left : ℕ) (block : List ℕ) → nat_lt left (length block) ≡ false
+      → ForSome (Some s) (λ (r : Reading). option_map (take 8192) r.unread ≡ Some block) → IsCopyingFile s.tree object held position s.unread left
       → IsCopyingFile s.tree object (with_fed held (held.fed ++ block)) position (after_next s).unread (left - length block)
   copies_on position left block fits read it =
       let few = ltb-false left (length block) fits in
@@ -78,11 +90,15 @@ module _ (job : Job) (s : Reading) (prefix : List ℕ) (object : Object) (held :
         read = rw more at (reads_block 8192 bytes _ held.fed block s.unread it.read (read s refl));
       }
 
-fed_stays : (job : Job) {s new : Reading} (prefix : List ℕ) (object : Object) (held : Held) (count : ℕ) {fed : List ℕ} → Some new ≡ Some s → Scanned job prefix object count held s → Scanned job prefix object count (with_fed held fed) new
-fed_stays job {s} prefix object held count {fed} same it = stays (Scanned job prefix object count (with_fed held fed)) same (fed_scanned job s prefix object held count fed it)
+fed_stays : (job : Job) {s new : Reading} (prefix : List ℕ) (object : Object) (held : Held) (count : ℕ) {fed : List ℕ} → Some new ≡ Some s
+    → Scanned job prefix object count held s → Scanned job prefix object count (with_fed held fed) new
+fed_stays job {s} prefix object held count {fed} same it = stays (Scanned job prefix object count (with_fed held fed)) same
+    (fed_scanned job s prefix object held count fed it)
 
-pub makes_keep : (job : Job) (s new : Reading) (prefix : List ℕ) (count : ℕ) {here : Phase} {held after : Held} {calls : Calls} {next : Phase} → is_proper s.tree ≡ true → MakeStep job here held after calls (Ok next)
-    → SourceAt job s prefix count here held → Answers calls.asked (Some s) (Some new) → SourceAt job new prefix (done_after here held.trail next count) next after
+pub makes_keep : (job : Job) (s new : Reading) (prefix : List ℕ) (count : ℕ) {here : Phase} {held after : Held} {calls : Calls} {next : Phase}
+    → is_proper s.tree ≡ true → MakeStep job here held after calls (Ok next)
+    → SourceAt job s prefix count here held → Answers calls.asked (Some s) (Some new)
+    → SourceAt job new prefix (done_after here held.trail next count) next after
 unfolding Answers IsRead
 makes_keep job s new prefix count proper (OpensCopy was object position row is stored all) at answers =
     stays (Copies job prefix object count position row.length (with_fed was [])) answers
@@ -90,7 +106,12 @@ makes_keep job s new prefix count proper (OpensCopy was object position row is s
 makes_keep job s new prefix count proper (CopiesOn was object position left byte block fits) at answers =
     let fed = was.fed ++ byte ∷ block in
     stays (Copies job prefix object count position (left - length (byte ∷ block)) (with_fed was fed)) answers.1
-    (let it = fed_scanned job s prefix object was count fed (at.0, at.1) in (it.0, it.1, copies_on job s prefix object was count position left (byte ∷ block) fits answers.0 at.2))
+    (let it = fed_scanned job s prefix object was count fed (at.0, at.1) in (
+      it.0,
+      it.1,
+      copies_on job s prefix object was count position left (byte ∷ block)
+          fits answers.0 at.2,
+    ))
 makes_keep job s new prefix count proper (EndsCopy was object position row left is same) at answers =
     stays (Scanned job prefix object count (with_fed was [])) answers.1 (fed_scanned job s prefix object was count [] (at.0, at.1))
 makes_keep job s new prefix count proper (MakesVersionInventory was object) at answers = fed_stays job prefix object was count answers at

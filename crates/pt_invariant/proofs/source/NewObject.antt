@@ -24,7 +24,20 @@ use Rattle.pt_walk.specs.declared.site.Form.{Form}
 use Rattle.pt_walk.specs.declared.site.Finding.{Finding}
 use Rattle.pt_walk.specs.declared.site.Finding.TheVariants as finding
 use Rattle.pt_invariant.specs.SourceInvariant.{IsInObject, IsSiteOf, IsToJudge, inside_object, object_at}
-use Rattle.pt_plan.specs.Items.{Interior, Named, Skip, Verdict, VerdictOn, encapsulated, ours, verdict_by_finding, verdict_by_identifier, verdict_by_visit, verdict_of, verdict_on_candidate}
+use Rattle.pt_plan.specs.Items.{
+  Interior,
+  Named,
+  Skip,
+  Verdict,
+  VerdictOn,
+  encapsulated,
+  ours,
+  verdict_by_finding,
+  verdict_by_identifier,
+  verdict_by_visit,
+  verdict_of,
+  verdict_on_candidate,
+}
 use Rattle.pt_plan.specs.Job.{Job, form_of}
 use Rattle.pt_plan.specs.Store.{pairtree_of}
 use Rattle.pt_plan.specs.TurnScan.{to_site}
@@ -42,8 +55,10 @@ dirs_same a b e = cc
 encapsulated_is : (site : Path) (f : Forest) {name : List ℕ} (inside : Forest) {rest : List Entry} → entries_in [] f ++ [] ≡ (name ∷ [], Dir inside) ∷ rest
     → encapsulated site f ≡ Some (record { at = site ++ name ∷ []; gathered = false; inside = inside })
 encapsulated_is site none inside e = absurd (cc)
-encapsulated_is site (file n bytes after) inside e = absurd (let nodes : Rattle.pt_tree.specs.Forest.File bytes ≡ Dir inside = ap (λ (x : Entry). x.1) (heads _ _ _ _ e) in cc)
-encapsulated_is site (other n after) inside e = absurd (let nodes : Rattle.pt_tree.specs.Forest.Other ≡ Dir inside = ap (λ (x : Entry). x.1) (heads _ _ _ _ e) in cc)
+encapsulated_is site (file n bytes after) inside e = absurd (let nodes : Rattle.pt_tree.specs.Forest.File bytes
+    ≡ Dir inside = ap (λ (x : Entry). x.1) (heads _ _ _ _ e) in cc)
+encapsulated_is site (other n after) inside e = absurd (let nodes : Rattle.pt_tree.specs.Forest.Other
+    ≡ Dir inside = ap (λ (x : Entry). x.1) (heads _ _ _ _ e) in cc)
 encapsulated_is site (dir n d after) {name} inside e =
     let head = heads _ _ _ _ e in
     let names : n ≡ name = heads n name [] [] (ap (λ (x : Entry). x.0) head) in
@@ -53,16 +68,19 @@ encapsulated_is site (dir n d after) {name} inside e =
 
 -- ---- the object of a site that was judged
 
-pub found_there : (job : Job) (top : Forest) (frame : Frame) (frames : List Frame) {what : Finding} → is_proper top ≡ true → Fits top (frame ∷ frames) → found frame.listing (at_of (names_to frames)) (form_of job) ≡ what
+pub found_there : (job : Job) (top : Forest) (frame : Frame) (frames : List Frame) {what : Finding} → is_proper top ≡ true → Fits top (frame ∷ frames)
+    → found frame.listing (at_of (names_to frames)) (form_of job) ≡ what
     → found (listing_of (inside_at top (names_to frames))) (at_of (names_to frames)) (form_of job) ≡ what
 found_there job top frame frames proper fits is =
     ap (λ (l : List Item). found l (at_of (names_to frames)) (form_of job)) (listing_there top frame frames proper fits).1 ∙ is
 
 -- it comes to what its identifier is read as
-visit_there : (job : Job) (source : Forest) (prefix : List ℕ) (frame : Frame) (frames : List Frame) (index : Option ℕ) → is_proper (pairtree_of source) ≡ true → Fits (pairtree_of source) (frame ∷ frames)
+visit_there : (job : Job) (source : Forest) (prefix : List ℕ) (frame : Frame) (frames : List Frame) (index : Option ℕ) → is_proper (pairtree_of source) ≡ true
+    → Fits (pairtree_of source) (frame ∷ frames)
     → found_at (form_of job) (frame ∷ frames) ≡ has_object index
     → verdict_by_visit job prefix (names_to frames) (Listed (inside_at (pairtree_of source) (names_to frames)))
-    ≡ verdict_by_identifier (object_at source (new_object job [] index (frame ∷ frames)) (at_object index (frame ∷ frames))) (identifier_at job.tuples prefix (names_to frames))
+    ≡ verdict_by_identifier (object_at source (new_object job [] index (frame ∷ frames)) (at_object index (frame ∷ frames)))
+    (identifier_at job.tuples prefix (names_to frames))
 visit_there job source prefix frame frames None proper fits is =
     ap (verdict_by_finding job prefix (names_to frames) (inside_at (pairtree_of source) (names_to frames))) (found_there job _ frame frames proper fits is)
 visit_there job source prefix frame frames (Some i) proper fits is =
@@ -87,12 +105,15 @@ module _ (job : Job) (source : Forest) where
   module _ (prefix : List ℕ) (frame : Frame) (frames : List Frame) where
     by_identifier : (index : Option ℕ) (read : Result (List ℕ) Refusal) → is_proper (pairtree_of source) ≡ true → Fits (pairtree_of source) (frame ∷ frames)
         → found_at (form_of job) (frame ∷ frames) ≡ has_object index → identifier_at job.tuples prefix (names_to frames) ≡ read
-        → verdict_by_visit job prefix (names_to frames) (Listed (inside_at (pairtree_of source) (names_to frames))) ≡ verdict_there job source (frame ∷ frames) (verdict_by_identifier index read)
+        → verdict_by_visit job prefix (names_to frames) (Listed (inside_at (pairtree_of source) (names_to frames)))
+        ≡ verdict_there job source (frame ∷ frames) (verdict_by_identifier index read)
     by_identifier index (Ok id) proper fits is reads = visit_there job source prefix frame frames index proper fits is ∙ ap (verdict_by_identifier _) reads
     by_identifier index (Err why) proper fits is reads = visit_there job source prefix frame frames index proper fits is ∙ ap (verdict_by_identifier _) reads
 
-    by_found : (what : Finding) → is_proper (pairtree_of source) ≡ true → Fits (pairtree_of source) (frame ∷ frames) → found_at (form_of job) (frame ∷ frames) ≡ what
-        → verdict_by_visit job prefix (names_to frames) (Listed (inside_at (pairtree_of source) (names_to frames))) ≡ verdict_there job source (frame ∷ frames) (judged_by_finding job prefix (names_to frames) what)
+    by_found : (what : Finding) → is_proper (pairtree_of source) ≡ true → Fits (pairtree_of source) (frame ∷ frames)
+        → found_at (form_of job) (frame ∷ frames) ≡ what
+        → verdict_by_visit job prefix (names_to frames) (Listed (inside_at (pairtree_of source) (names_to frames)))
+        ≡ verdict_there job source (frame ∷ frames) (judged_by_finding job prefix (names_to frames) what)
     by_found finding.Interior proper fits is =
         ap (verdict_by_finding job prefix (names_to frames) (inside_at (pairtree_of source) (names_to frames))) (found_there job _ frame frames proper fits is)
     by_found (finding.Skip why) proper fits is =
@@ -101,7 +122,8 @@ module _ (job : Job) (source : Forest) where
     by_found finding.Gathered proper fits is = by_identifier None _ proper fits is refl
 
   -- as far as it is of the share
-  ours_there : (t : List Frame) (what : VerdictOn (Option ℕ)) → ours job.share (verdict_there job source t what) ≡ verdict_there job source t (ours job.share what)
+  ours_there : (t : List Frame) (what : VerdictOn (Option ℕ)) → ours job.share (verdict_there job source t what)
+      ≡ verdict_there job source t (ours job.share what)
   ours_there t Interior = refl
   ours_there t (Skip why) = either (is_first job.share)
     where
@@ -115,8 +137,10 @@ module _ (job : Job) (source : Forest) where
       either false = refl
 
   -- the verdict on the site is what it is judged to be
-  pub judged_there : (prefix : List ℕ) (frame : Frame) (frames : List Frame) → is_proper (pairtree_of source) ≡ true → Fits (pairtree_of source) (frame ∷ frames)
-      → verdict_of job prefix (names_to frames) (Listed (inside_at (pairtree_of source) (names_to frames))) ≡ verdict_there job source (frame ∷ frames) (judged_at job prefix (frame ∷ frames))
+  pub judged_there : (prefix : List ℕ) (frame : Frame) (frames : List Frame) → is_proper (pairtree_of source) ≡ true
+      → Fits (pairtree_of source) (frame ∷ frames)
+      → verdict_of job prefix (names_to frames) (Listed (inside_at (pairtree_of source) (names_to frames)))
+      ≡ verdict_there job source (frame ∷ frames) (judged_at job prefix (frame ∷ frames))
   judged_there prefix frame frames proper fits =
       let what = found_at (form_of job) (frame ∷ frames) in
       ap (λ (v : Verdict). ours job.share v) (by_found prefix frame frames what proper fits refl)
@@ -140,7 +164,8 @@ named_identifier : {own index : Option ℕ} (read : Result (List ℕ) Refusal) (
 named_identifier (Ok i) id is = cc
 named_identifier (Err why) id is = absurd (cc)
 
-pub named_found : (job : Job) (prefix : List ℕ) (t : List Frame) (index : Option ℕ) (id : List ℕ) → judged_at job prefix t ≡ Named id index → found_at (form_of job) t ≡ has_object index
+pub named_found : (job : Job) (prefix : List ℕ) (t : List Frame) (index : Option ℕ) (id : List ℕ) → judged_at job prefix t ≡ Named id index
+    → found_at (form_of job) t ≡ has_object index
 named_found job prefix t index id is = by (found_at (form_of job) t) (ours_named job.share _ id index is)
   where
     by : (what : Finding) → judged_by_finding job prefix (trail_path t) what ≡ Named id index → what ≡ has_object index
@@ -170,7 +195,8 @@ some_found form items at.Root is = some_at_top _ is
 some_found form items at.Pair is = some_below form items _ is
 some_found form items at.Last is = some_below form items _ is
 
-either_left : (short : Bool) (x : ℕ × Kind) (l m : List (ℕ × Kind)) (name : List ℕ) (inside after : Forest) → ((l ≡ [] → ⊥) → emptiness (without_shorties after) ≡ 0)
+either_left : (short : Bool) (x : ℕ × Kind) (l m : List (ℕ × Kind)) (name : List ℕ) (inside after : Forest)
+    → ((l ≡ [] → ⊥) → emptiness (without_shorties after) ≡ 0)
     → (cond short l (x ∷ m) ≡ [] → ⊥) → emptiness (cond short (without_shorties after) (dir name inside (without_shorties after))) ≡ 0
 either_left true x l m name inside after later some = later some
 either_left false x l m name inside after later some = refl
@@ -182,7 +208,8 @@ some_left i (other name after) some = refl
 some_left i (dir name inside after) some =
     either_left (is_short name) (i, kind.Dir) _ _ name inside after (some_left (i + 1) after) some
 
-filled_there : (job : Job) (source : Forest) (frame : Frame) (frames : List Frame) (index : Option ℕ) (id : List ℕ) → is_proper (pairtree_of source) ≡ true → Fits (pairtree_of source) (frame ∷ frames) → found_at (form_of job) (frame ∷ frames) ≡ has_object index
+filled_there : (job : Job) (source : Forest) (frame : Frame) (frames : List Frame) (index : Option ℕ) (id : List ℕ) → is_proper (pairtree_of source) ≡ true
+    → Fits (pairtree_of source) (frame ∷ frames) → found_at (form_of job) (frame ∷ frames) ≡ has_object index
     → is_none index ≡ true → emptiness (inside_object source (new_object job id index (frame ∷ frames)) (at_object index (frame ∷ frames))) ≡ 0
 filled_there job source frame frames (Some i) id proper fits is gathered = absurd (cc)
 filled_there job source frame frames None id proper fits is gathered =
@@ -213,7 +240,8 @@ pub record IsNewObject (job : Job) (source : Forest) (prefix : List ℕ) (object
   pub stands : IsInObject job source prefix object trail count
   pub at_site : length trail ≡ object.site
 
-pub new_object_there : (job : Job) (source : Forest) (prefix : List ℕ) (trail : List Frame) (index : Option ℕ) (id : List ℕ) (count : ℕ) → is_proper (pairtree_of source) ≡ true
+pub new_object_there : (job : Job) (source : Forest) (prefix : List ℕ) (trail : List Frame) (index : Option ℕ) (id : List ℕ) (count : ℕ)
+    → is_proper (pairtree_of source) ≡ true
     → judged_at job prefix trail ≡ Named id index → IsToJudge job source trail count
     → IsNewObject job source prefix (new_object job id index trail) (at_object index trail) count
 new_object_there job source prefix [] index id count proper is judge = absurd (omega (arith, judge.way.entered))

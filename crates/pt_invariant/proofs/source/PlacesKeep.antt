@@ -18,8 +18,10 @@ use Rattle.pt_invariant.proofs.held.EitherPhase.{after_tuple_folder}
 use Rattle.pt_invariant.proofs.source.InObject.{site_itself}
 use Rattle.pt_invariant.proofs.source.InPairtree.{stays}
 
-after_a_tuple : (job : Job) {s new : Reading} {prefix : List ℕ} {object : Object} {held : Held} {count : ℕ} (number : ℕ) → Some new ≡ Some s → HasStarted s.tree prefix × IsScanned job s.tree prefix object held count
-    → SourceAt job new prefix (done_after (phase.Carrying object (stage.Tuples number)) held.trail (after_tuple job object number) count) (after_tuple job object number) held
+after_a_tuple : (job : Job) {s new : Reading} {prefix : List ℕ} {object : Object} {held : Held} {count : ℕ} (number : ℕ) → Some new ≡ Some s
+    → HasStarted s.tree prefix × IsScanned job s.tree prefix object held count
+    → SourceAt job new prefix (done_after (phase.Carrying object (stage.Tuples number)) held.trail (after_tuple job object number) count)
+    (after_tuple job object number) held
 after_a_tuple job {new} {prefix} {object} {held} {count} number same at =
     let next = λ (p : Phase). SourceAt job new prefix (done_after (phase.Carrying object (stage.Tuples number)) held.trail p count) p held in
     let it = stays (λ r. HasStarted r.tree prefix × IsScanned job r.tree prefix object held count) same at in
@@ -31,7 +33,8 @@ pub places_keep : (job : Job) {counts : Counts} (s new : Reading) (prefix : List
 unfolding Answers
 places_keep job s new prefix count (MakesTuple was object number) at answers = after_a_tuple job number answers at
 places_keep job s new prefix count (FindsTuple was object number) at answers = after_a_tuple job number answers at
-places_keep job s new prefix count (RenamesObject was object) at answers = stays (λ r. HasStarted r.tree prefix × IsScanned job r.tree prefix object was count) answers at
+places_keep job s new prefix count (RenamesObject was object) at answers = stays (λ r. HasStarted r.tree prefix × IsScanned job r.tree prefix object was count)
+    answers at
 places_keep job s new prefix count (TellsDone was object) at answers =
     stays (λ r. HoldsNoObject (restarted was) × HasStarted r.tree prefix × IsOnWay job r.tree (sought 0 was.trail) (suc count)) answers
     (record { rows = refl; contents = refl }, at.0, rw (site_itself object _ at.1.at_site) at at.1.stands.site.way)

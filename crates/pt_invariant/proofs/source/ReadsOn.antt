@@ -15,7 +15,8 @@ pub reads_first : {bytes : List ℕ} {unread : Option (List ℕ)} → unread ≡
 reads_first is = record { within = omega arith; fed_is = refl; left = is }
 
 -- a block more
-pub reads_block : (most : ℕ) (bytes : List ℕ) (count : ℕ) (fed block : List ℕ) (unread : Option (List ℕ)) → IsReading bytes count fed unread → option_map (take most) unread ≡ Some block
+pub reads_block : (most : ℕ) (bytes : List ℕ) (count : ℕ) (fed block : List ℕ) (unread : Option (List ℕ)) → IsReading bytes count fed unread
+    → option_map (take most) unread ≡ Some block
     → IsReading bytes (count + length block) (fed ++ block) (option_map (drop most) unread)
 reads_block most bytes count fed block unread it read =
     let rest = drop count bytes in
@@ -29,10 +30,12 @@ reads_block most bytes count fed block unread it read =
     let long : length bytes ≡ length (fed ++ block) + length behind = ap length whole ∙ length-append (fed ++ block) behind in
     record {
       within = omega (arith, many, long);
-      fed_is = sym (take-append_seam (fed ++ block) behind) ∙ ap (λ (n : ℕ). take n ((fed ++ block) ++ behind)) many ∙ ap (take (count + length block)) (sym whole);
+      fed_is = sym (take-append_seam (fed ++ block) behind) ∙ ap (λ (n : ℕ). take n ((fed ++ block) ++ behind)) many
+          ∙ ap (take (count + length block)) (sym whole);
       left =
           ap (option_map (drop most)) it.left
-          ∙ ap (λ (l : List ℕ). Some l) (sym (drop-append_seam (fed ++ block) behind) ∙ ap (λ (n : ℕ). drop n ((fed ++ block) ++ behind)) many ∙ ap (drop (count + length block)) (sym whole));
+          ∙ ap (λ (l : List ℕ). Some l) (sym (drop-append_seam (fed ++ block) behind) ∙ ap (λ (n : ℕ). drop n ((fed ++ block) ++ behind)) many
+          ∙ ap (drop (count + length block)) (sym whole));
     }
 
 none_taken : (most : ℕ) (xs : List ℕ) → 0 < most → take most xs ≡ [] → xs ≡ []
@@ -45,9 +48,11 @@ pub record IsWhole (bytes : List ℕ) (count : ℕ) (fed : List ℕ) : Type 0 wh
   pub all : fed ≡ bytes
   pub length_is : count ≡ length bytes
 
-pub reads_end : (most : ℕ) (bytes : List ℕ) (count : ℕ) (fed : List ℕ) (unread : Option (List ℕ)) → 0 < most → IsReading bytes count fed unread → option_map (take most) unread ≡ Some [] → IsWhole bytes count fed
+pub reads_end : (most : ℕ) (bytes : List ℕ) (count : ℕ) (fed : List ℕ) (unread : Option (List ℕ)) → 0 < most → IsReading bytes count fed unread
+    → option_map (take most) unread ≡ Some [] → IsWhole bytes count fed
 reads_end most bytes count fed unread some it read =
     let rest = drop count bytes in
     let none : rest ≡ [] = none_taken most rest some (some_same (take most rest) [] (sym (ap (option_map (take most)) it.left) ∙ read)) in
-    let all : fed ≡ bytes = it.fed_is ∙ sym (append-nil (take count bytes)) ∙ ap (λ (l : List ℕ). take count bytes ++ l) (sym none) ∙ take-append-drop count bytes in
+    let all : fed ≡ bytes = it.fed_is ∙ sym (append-nil (take count bytes)) ∙ ap (λ (l : List ℕ). take count bytes ++ l) (sym none)
+    ∙ take-append-drop count bytes in
     record { all = all; length_is = sym (fed_length it) ∙ ap length all }

@@ -23,7 +23,8 @@ peeked_whole (Some (Bytes held)) {bytes} read short =
     ap (λ (l : List ℕ). Some (Bytes l)) (sym (take_all 8192 held (omega (arith, long, short))) ∙ block)
 
 five_parts : (a x b y c : List ℕ) → length (a ++ (x ++ (b ++ (y ++ c)))) ≡ length a + (length x + (length b + (length y + length c)))
-five_parts a x b y c = let one = length-append a (x ++ (b ++ (y ++ c))) in let two = length-append x (b ++ (y ++ c)) in let three = length-append b (y ++ c) in let four = length-append y c in omega (arith, one, two, three, four)
+five_parts a x b y c = let one = length-append a (x ++ (b ++ (y ++ c))) in let two = length-append x (b ++ (y ++ c)) in let three = length-append b (y ++ c)
+    in let four = length-append y c in omega (arith, one, two, three, four)
 
 config_short : (tuples : Tuples) → IsLayout tuples → length (config_text tuples) < 8192
 config_short tuples is =
@@ -32,11 +33,13 @@ config_short tuples is =
     let one : length (decimal tuples.size) ≤ 2 = length-decimal-le 2 tuples.size (omega arith) (omega (arith, size)) (omega (arith, size)) in
     let two : length (decimal tuples.count) ≤ 2 = length-decimal-le 2 tuples.count (omega arith) (omega (arith, count)) (omega (arith, count)) in
     let all = five_parts
-    (codes "{\"digestAlgorithm\":\"sha256\",\"extensionName\":\"0003-hash-and-id-n-tuple-storage-layout\",\"numberOfTuples\":") (decimal tuples.count) (codes ",\"tupleSize\":") (decimal tuples.size) (codes "}") in
+    (codes "{\"digestAlgorithm\":\"sha256\",\"extensionName\":\"0003-hash-and-id-n-tuple-storage-layout\",\"numberOfTuples\":") (decimal tuples.count)
+    (codes ",\"tupleSize\":") (decimal tuples.size) (codes "}") in
     omega (arith, one, two, all)
 
 -- so is each file of the root
-pub file_short : (tuples : Tuples) (number : ℕ) (path : Path) (bytes : List ℕ) → IsLayout tuples → slice_get (root_files_of tuples) number ≡ Some (path, bytes) → length bytes < 8192
+pub file_short : (tuples : Tuples) (number : ℕ) (path : Path) (bytes : List ℕ) → IsLayout tuples → slice_get (root_files_of tuples) number ≡ Some (path, bytes)
+    → length bytes < 8192
 file_short tuples zero path bytes layout is =
     let same : root_declaration_bytes ≡ bytes = ap (λ (f : Path × List ℕ). f.1) (some_same _ (path, bytes) is) in
     rw (← same) (ltb-true (length root_declaration_bytes) 8192 refl)

@@ -1,5 +1,30 @@
 -- The trail in an object, step by step, and what of the object is left to scan.
-use Rattle.std.proofs.Common.{◌≡◌, ◌<◌, ◌≤◌, ◌-◌, ℕ, suc, ◌+◌, ◌==◌, ◌&&◌, Bool, true, false, List, [], ◌∷◌, ◌++◌, refl, ap, sym, ◌∙◌, subst, cond, length, arith}
+use Rattle.std.proofs.Common.{
+  ◌≡◌,
+  ◌<◌,
+  ◌≤◌,
+  ◌-◌,
+  ℕ,
+  suc,
+  ◌+◌,
+  ◌==◌,
+  ◌&&◌,
+  Bool,
+  true,
+  false,
+  List,
+  [],
+  ◌∷◌,
+  ◌++◌,
+  refl,
+  ap,
+  sym,
+  ◌∙◌,
+  subst,
+  cond,
+  length,
+  arith,
+}
 use Rattle.std.specs.Prelude.{None, Some}
 use Rattle.std.proofs.lemmas.Bool.{and_parts, eqb-false, eqb-true}
 use Rattle.pt_tree.specs.Forest.{Forest, File, Dir, is_proper, listing_at, listing_of}
@@ -17,7 +42,21 @@ use Rattle.pt_plan.specs.Job.{Job}
 use Rattle.pt_plan.specs.Store.{pairtree_of}
 use Rattle.pt_plan.specs.TurnScan.{is_passed, logical_path, own_listings, to_site}
 use Rattle.pt_plan.specs.declared.object.Object.{Object}
-use Rattle.pt_invariant.proofs.source.InObject.{is_gathered, logical_is, object_moved, own_at_site, own_entered, own_parent, passed_not, site_advanced, site_entered, site_itself, site_moved, site_parent, still_in}
+use Rattle.pt_invariant.proofs.source.InObject.{
+  is_gathered,
+  logical_is,
+  object_moved,
+  own_at_site,
+  own_entered,
+  own_parent,
+  passed_not,
+  site_advanced,
+  site_entered,
+  site_itself,
+  site_moved,
+  site_parent,
+  still_in,
+}
 
 -- ---- the object stays the same
 
@@ -26,15 +65,18 @@ pub record Moved (job : Job) (source : Forest) (prefix : List ℕ) (object : Obj
   pub stands : IsInObject job source prefix object new count
   pub same : object_at source object (to_site object old) ≡ object_at source object (to_site object new)
 
-pub moved_twice : {job : Job} {source : Forest} {prefix : List ℕ} {object : Object} (a b d : List Frame) {count : ℕ} → Moved job source prefix object a b count → Moved job source prefix object b d count → Moved job source prefix object a d count
+pub moved_twice : {job : Job} {source : Forest} {prefix : List ℕ} {object : Object} (a b d : List Frame) {count : ℕ} → Moved job source prefix object a b count
+    → Moved job source prefix object b d count → Moved job source prefix object a d count
 moved_twice a b d first second = record { stands = second.stands; same = first.same ∙ second.same }
 
-moved_by : {job : Job} {source : Forest} {prefix : List ℕ} {object : Object} {old new : List Frame} {count : ℕ} → object.site ≤ length new → Fits (pairtree_of source) new → to_site object new ≡ to_site object old
+moved_by : {job : Job} {source : Forest} {prefix : List ℕ} {object : Object} {old new : List Frame} {count : ℕ} → object.site ≤ length new
+    → Fits (pairtree_of source) new → to_site object new ≡ to_site object old
     → IsInObject job source prefix object old count → Moved job source prefix object old new count
 moved_by {job} {source} {prefix} {object} {count} within fits same it =
     record { stands = still_in job source prefix object count within fits same it; same = ap (object_at source object) (sym same) }
 
-pub moved_in : {job : Job} {source : Forest} {prefix : List ℕ} {object : Object} {items : List Item} {trail : List Frame} {count : ℕ} → listing_at (pairtree_of source) (names_to trail) ≡ Some items
+pub moved_in : {job : Job} {source : Forest} {prefix : List ℕ} {object : Object} {items : List Item} {trail : List Frame} {count : ℕ}
+    → listing_at (pairtree_of source) (names_to trail) ≡ Some items
     → IsInObject job source prefix object trail count → Moved job source prefix object trail (entered items trail) count
 moved_in {source} {object} {items} {trail} listed it =
     let within = it.within in
@@ -47,7 +89,8 @@ moved_out {source} {object} (frame ∷ frames) inside it =
     moved_by (omega (arith, inside)) (fits_moved (pairtree_of source) (frame ∷ frames) 0 it.fits).2 (site_parent object (frame ∷ frames) inside) it
 
 -- in the site of a gathered object
-pub moved_at_site : (job : Job) (source : Forest) (prefix : List ℕ) (object : Object) (trail : List Frame) (place count : ℕ) → object.gathered ≡ true → length trail ≡ object.site
+pub moved_at_site : (job : Job) (source : Forest) (prefix : List ℕ) (object : Object) (trail : List Frame) (place count : ℕ) → object.gathered ≡ true
+    → length trail ≡ object.site
     → IsInObject job source prefix object trail count → Moved job source prefix object trail (sought place trail) count
 moved_at_site job source prefix object [] place count gathered at_site it = absurd (let some = it.some in omega (arith, some, at_site))
 moved_at_site job source prefix object (frame ∷ frames) place count gathered at_site it =
@@ -70,7 +113,8 @@ moved_at_site job source prefix object (frame ∷ frames) place count gathered a
 pub below_site : (n m : ℕ) → (n == m) ≡ false → m ≤ n → m < n
 below_site n m apart within = let other = eqb-false n m apart in omega (arith, other, within)
 
-advances : (job : Job) (source : Forest) {prefix : List ℕ} (object : Object) (frame : Frame) (frames : List Frame) {count : ℕ} (at_site : Bool) → (length (frame ∷ frames) == object.site) ≡ at_site → 0 < own_listings object (frame ∷ frames)
+advances : (job : Job) (source : Forest) {prefix : List ℕ} (object : Object) (frame : Frame) (frames : List Frame) {count : ℕ} (at_site : Bool)
+    → (length (frame ∷ frames) == object.site) ≡ at_site → 0 < own_listings object (frame ∷ frames)
     → IsInObject job source prefix object (frame ∷ frames) count → Moved job source prefix object (frame ∷ frames) (advanced (frame ∷ frames)) count
 advances job source {prefix} object frame frames {count} true is inside it =
     let same = eqb-true (length (frame ∷ frames)) object.site is in
@@ -98,7 +142,8 @@ one_less some = omega (arith, some)
 
 module _ (source : Forest) (object : Object) where
   -- a shorty of the site is passed
-  pub left_shorty : (trail : List Frame) (item : Item) → is_proper (pairtree_of source) ≡ true → Fits (pairtree_of source) trail → current_entry trail ≡ Some item → is_passed object trail item ≡ true → 0 < own_listings object trail
+  pub left_shorty : (trail : List Frame) (item : Item) → is_proper (pairtree_of source) ≡ true → Fits (pairtree_of source) trail
+      → current_entry trail ≡ Some item → is_passed object trail item ≡ true → 0 < own_listings object trail
       → left_of source object trail ≡ left_of source object (advanced trail)
   left_shorty [] item proper fits e passed inside = absurd (cc)
   left_shorty (frame ∷ frames) item proper fits e passed inside =
@@ -114,8 +159,10 @@ module _ (source : Forest) (object : Object) where
       ∙ sym (ap (λ (n : ℕ). entries_left object.gathered top n (advanced trail)) own)
 
   -- a directory is entered
-  pub left_directory : (frame : Frame) (frames : List Frame) (name : List ℕ) (items : List Item) (inside : Forest) → is_proper (pairtree_of source) ≡ true → Fits (pairtree_of source) (frame ∷ frames)
-      → object.site ≤ length (frame ∷ frames) → 0 < own_listings object (frame ∷ frames) → entry_at frame ≡ Some (name, kind.Dir) → is_passed object (frame ∷ frames) (name, kind.Dir) ≡ false
+  pub left_directory : (frame : Frame) (frames : List Frame) (name : List ℕ) (items : List Item) (inside : Forest) → is_proper (pairtree_of source) ≡ true
+      → Fits (pairtree_of source) (frame ∷ frames)
+      → object.site ≤ length (frame ∷ frames) → 0 < own_listings object (frame ∷ frames) → entry_at frame ≡ Some (name, kind.Dir)
+      → is_passed object (frame ∷ frames) (name, kind.Dir) ≡ false
       → inside ≡ inside_at (pairtree_of source) (names_to frames ++ name ∷ []) → listing_of inside ≡ items
       → left_of source object (frame ∷ frames) ≡ (logical_path object (frame ∷ frames), Dir inside) ∷ left_of source object (entered items (frame ∷ frames))
   left_directory frame frames name items inside proper fits within some e apart is items_are =
@@ -126,14 +173,16 @@ module _ (source : Forest) (object : Object) where
       let own' : own_listings object (entered items trail) ≡ suc (suc k) = own_entered object items trail within ∙ ap (λ (n : ℕ). suc n) own in
       ap (λ (n : ℕ). entries_left object.gathered top n trail) own
       ∙ step.enters object.gathered top k frame frames name inside proper fits e (passed_not object trail k (name, kind.Dir) within own apart) is
-      ∙ ap (λ (p : Path). (p, Dir inside) ∷ entries_left object.gathered top (suc (suc k)) (entered (listing_of inside) trail)) (logical_is object frame frames k _ e own)
+      ∙ ap (λ (p : Path). (p, Dir inside) ∷ entries_left object.gathered top (suc (suc k)) (entered (listing_of inside) trail))
+      (logical_is object frame frames k _ e own)
       ∙ ap (λ (l : List Item). (logical_path object trail, Dir inside) ∷ entries_left object.gathered top (suc (suc k)) (entered l trail)) items_are
       ∙ ap (λ (n : ℕ). (logical_path object trail, Dir inside) ∷ entries_left object.gathered top n (entered items trail)) (sym own')
 
   -- a file is read
   pub left_file : (frame : Frame) (frames : List Frame) (name : List ℕ) → is_proper (pairtree_of source) ≡ true → Fits (pairtree_of source) (frame ∷ frames)
       → 0 < own_listings object (frame ∷ frames) → entry_at frame ≡ Some (name, kind.File)
-      → left_of source object (frame ∷ frames) ≡ (logical_path object (frame ∷ frames), File (bytes_at (pairtree_of source) (names_to (frame ∷ frames)))) ∷ left_of source object (advanced (frame ∷ frames))
+      → left_of source object (frame ∷ frames) ≡ (logical_path object (frame ∷ frames), File (bytes_at (pairtree_of source) (names_to (frame ∷ frames))))
+      ∷ left_of source object (advanced (frame ∷ frames))
   left_file frame frames name proper fits some e =
       let top = pairtree_of source in
       let trail = frame ∷ frames in
@@ -142,12 +191,14 @@ module _ (source : Forest) (object : Object) where
       let here : names_to trail ≡ names_to frames ++ name ∷ [] = path_grows frame frames (name, kind.File) e in
       ap (λ (n : ℕ). entries_left object.gathered top n trail) own
       ∙ step.reads object.gathered top k frame frames name proper fits e
-      ∙ ap (λ (p : Path). (p, File (bytes_at top (names_to frames ++ name ∷ []))) ∷ entries_left object.gathered top (suc k) (advanced trail)) (logical_is object frame frames k _ e own)
+      ∙ ap (λ (p : Path). (p, File (bytes_at top (names_to frames ++ name ∷ []))) ∷ entries_left object.gathered top (suc k) (advanced trail))
+      (logical_is object frame frames k _ e own)
       ∙ ap (λ (p : Path). (logical_path object trail, File (bytes_at top p)) ∷ entries_left object.gathered top (suc k) (advanced trail)) (sym here)
       ∙ ap (λ (n : ℕ). (logical_path object trail, File (bytes_at top (names_to trail))) ∷ entries_left object.gathered top n (advanced trail)) (sym own)
 
   -- a directory is left
-  pub left_behind : (trail : List Frame) → Fits (pairtree_of source) trail → current_entry trail ≡ None → 0 < object.site → object.site < length trail → 0 < own_listings object (parent trail)
+  pub left_behind : (trail : List Frame) → Fits (pairtree_of source) trail → current_entry trail ≡ None → 0 < object.site → object.site < length trail
+      → 0 < own_listings object (parent trail)
       → left_of source object trail ≡ left_of source object (advanced (parent trail))
   left_behind [] fits e first below some = absurd (omega (arith, below))
   left_behind (frame ∷ []) fits e first below some = absurd (omega (arith, first, below))
@@ -155,13 +206,16 @@ module _ (source : Forest) (object : Object) where
       let top = pairtree_of source in
       let k = own_listings object (outer ∷ frames) - 1 in
       let own : own_listings object (outer ∷ frames) ≡ suc k = one_less some in
-      let whole : own_listings object (frame ∷ outer ∷ frames) ≡ suc (suc k) = own_parent object frame (outer ∷ frames) (omega (arith, below)) ∙ ap (λ (n : ℕ). suc n) own in
+      let whole : own_listings object (frame ∷ outer ∷ frames) ≡ suc (suc k) = own_parent object frame (outer ∷ frames) (omega (arith, below))
+      ∙ ap (λ (n : ℕ). suc n) own in
       ap (λ (n : ℕ). entries_left object.gathered top n (frame ∷ outer ∷ frames)) whole
       ∙ step.leaves object.gathered top k frame outer frames fits e
       ∙ sym (ap (λ (n : ℕ). entries_left object.gathered top n (advanced (outer ∷ frames))) own)
 
   -- nothing is left at the end of the object's own listing
-  pub left_none : (trail : List Frame) → Fits (pairtree_of source) trail → current_entry trail ≡ None → own_listings object trail ≡ 1 → left_of source object trail ≡ []
+  pub left_none : (trail : List Frame) → Fits (pairtree_of source) trail → current_entry trail ≡ None → own_listings object trail ≡ 1
+      → left_of source object trail ≡ []
   left_none [] fits e own = ap (λ (n : ℕ). entries_left object.gathered (pairtree_of source) n []) own
   left_none (frame ∷ frames) fits e own =
-      ap (λ (n : ℕ). entries_left object.gathered (pairtree_of source) n (frame ∷ frames)) own ∙ step.ends object.gathered (pairtree_of source) frame frames fits e
+      ap (λ (n : ℕ). entries_left object.gathered (pairtree_of source) n (frame ∷ frames)) own
+      ∙ step.ends object.gathered (pairtree_of source) frame frames fits e

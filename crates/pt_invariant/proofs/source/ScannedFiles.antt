@@ -18,7 +18,8 @@ use Rattle.pt_plan.specs.declared.object.Object.{Object}
 use Rattle.pt_invariant.specs.SourceInvariant.{HasScanned, object_at}
 use Rattle.pt_invariant.proofs.source.EntriesThere.{AreThere, all_there, file_of, file_stands, front_there, gathered_there}
 
-pub get_map_back : {X Y : Type 0} → (f : X → Y) (xs : List X) (n : ℕ) (y : Y) → slice_get (map f xs) n ≡ Some y → (x : X) × (slice_get xs n ≡ Some x) × (f x ≡ y)
+pub get_map_back : {X Y : Type 0} → (f : X → Y) (xs : List X) (n : ℕ) (y : Y) → slice_get (map f xs) n ≡ Some y
+    → (x : X) × (slice_get xs n ≡ Some x) × (f x ≡ y)
 get_map_back f [] n y is = absurd (cc)
 get_map_back f (x ∷ xs) zero y is = (x, refl, (let same : f x ≡ y = cc in same))
 get_map_back f (x ∷ xs) (suc n) y is = get_map_back f xs n y is
@@ -34,7 +35,8 @@ entries_there true top site own proper = gathered_there (inside_at top site) [] 
 entries_there false top site own proper = all_there (inside_at top own) [] (inside_proper top own _ refl proper)
 
 -- what stands in a directory stands in the tree
-pub file_in : (top : Forest) (at : Path) (o : Option Forest) → dir_at top at ≡ o → (front left : List Entry) (k : ℕ) (path : Path) (bytes : List ℕ) → AreThere (unwrap_or o none) [] (front ++ left) → slice_get (files front) k ≡ Some (path, bytes) → file_at top (at ++ path) ≡ Some bytes
+pub file_in : (top : Forest) (at : Path) (o : Option Forest) → dir_at top at ≡ o → (front left : List Entry) (k : ℕ) (path : Path) (bytes : List ℕ)
+    → AreThere (unwrap_or o none) [] (front ++ left) → slice_get (files front) k ≡ Some (path, bytes) → file_at top (at ++ path) ≡ Some bytes
 file_in top at None is front left k path bytes there one = absurd (let nothing = (file_of front k (front_there none [] front left there) one).stands in cc)
 file_in top at (Some f) is front left k path bytes there one = file_stands top f at front left k there (λ below. (reads_below top f at below is).0) one
 
@@ -46,8 +48,10 @@ pub record RowFile (job : Job) (top : Forest) (at : Path) (row : Row) : Type 0 w
   pub digest : row.digest ≡ digest_of job.algorithm bytes
   pub long : row.length ≡ length bytes
 
-pub row_file : (job : Job) (source : Forest) (object : Object) (site : List Frame) {rows : List Row} {empty : ℕ} (left : List Entry) (n : ℕ) (row : Row) → is_proper (pairtree_of source) ≡ true
-    → HasScanned job (object_at source object site) rows empty left → slice_get rows n ≡ Some row → RowFile job (pairtree_of source) (path_of_source object site) row
+pub row_file : (job : Job) (source : Forest) (object : Object) (site : List Frame) {rows : List Row} {empty : ℕ} (left : List Entry) (n : ℕ) (row : Row)
+    → is_proper (pairtree_of source) ≡ true
+    → HasScanned job (object_at source object site) rows empty left → slice_get rows n ≡ Some row
+    → RowFile job (pairtree_of source) (path_of_source object site) row
 row_file job source object site left n row proper scanned is =
     let top = pairtree_of source in
     let at = path_of_source object site in

@@ -1,5 +1,30 @@
 -- The turns of the scan keep what holds where the source tells.
-use Rattle.std.proofs.Common.{◌≡◌, ◌<◌, ◌≤◌, ◌-◌, ℕ, suc, ◌+◌, ◌==◌, ◌&&◌, Bool, true, false, List, [], ◌∷◌, ◌++◌, refl, ap, sym, ◌∙◌, cond, length, arith, append-nil}
+use Rattle.std.proofs.Common.{
+  ◌≡◌,
+  ◌<◌,
+  ◌≤◌,
+  ◌-◌,
+  ℕ,
+  suc,
+  ◌+◌,
+  ◌==◌,
+  ◌&&◌,
+  Bool,
+  true,
+  false,
+  List,
+  [],
+  ◌∷◌,
+  ◌++◌,
+  refl,
+  ap,
+  sym,
+  ◌∙◌,
+  cond,
+  length,
+  arith,
+  append-nil,
+}
 use Rattle.std.specs.Prelude.{Option, None, Some, Ok, nat_le, nat_lt, not, ◌||◌}
 use Rattle.std.specs.Option.{option_map}
 use Rattle.std.proofs.lemmas.Bool.{and_parts, eqb-true, le-ltb, ltb-false, or_from}
@@ -19,7 +44,19 @@ use Rattle.pt_walk.specs.Object.{Entry, emptiness, entries, entry_cause, without
 use Rattle.pt_walk.specs.Trail.{advanced, current_entry, entered, is_dir_entry, is_trail, names_to, parent, sought}
 use Rattle.pt_walk.specs.declared.cause.Cause.TheVariants as cause
 use Rattle.pt_walk.specs.declared.frame.Frame.{Frame}
-use Rattle.pt_invariant.specs.SourceInvariant.{HasScanned, HasStarted, IsInObject, IsOnWay, IsReadingFile, IsScanned, IsScanning, SourceAt, inside_object, left_of, object_at}
+use Rattle.pt_invariant.specs.SourceInvariant.{
+  HasScanned,
+  HasStarted,
+  IsInObject,
+  IsOnWay,
+  IsReadingFile,
+  IsScanned,
+  IsScanning,
+  SourceAt,
+  inside_object,
+  left_of,
+  object_at,
+}
 use Rattle.pt_invariant.specs.HeldInvariant.{HoldsNoObject}
 use Rattle.pt_invariant.specs.History.{done_after}
 use Rattle.pt_plan.specs.Items.{PairtreeObject}
@@ -27,14 +64,63 @@ use Rattle.pt_plan.specs.Job.{Job}
 use Rattle.pt_plan.specs.Run.{Held, with_fed, with_trail}
 use Rattle.pt_plan.specs.Store.{is_store, pairtree_of, pairtree_root}
 use Rattle.pt_plan.specs.TurnMake.{path_of_source}
-use Rattle.pt_plan.specs.TurnScan.{ScanStep, StartsInSite, EntersObject, IsTooDeep, PassesShorty, EntersDirectory, MeetsDeep, OpensFile, MeetsLimit, MeetsOther, EndsSite, EndsObject, LeavesDirectory, ReadsOn, IsTooLong, EndsFile, back_at_site, is_in_site, is_own_directory, is_passed, logical_path, none_listed, own_listings, to_site, with_directory}
+use Rattle.pt_plan.specs.TurnScan.{
+  ScanStep,
+  StartsInSite,
+  EntersObject,
+  IsTooDeep,
+  PassesShorty,
+  EntersDirectory,
+  MeetsDeep,
+  OpensFile,
+  MeetsLimit,
+  MeetsOther,
+  EndsSite,
+  EndsObject,
+  LeavesDirectory,
+  ReadsOn,
+  IsTooLong,
+  EndsFile,
+  back_at_site,
+  is_in_site,
+  is_own_directory,
+  is_passed,
+  logical_path,
+  none_listed,
+  own_listings,
+  to_site,
+  with_directory,
+}
 use Rattle.pt_plan.specs.DeviceStates.{Answers, Calls}
 use Rattle.pt_plan.specs.declared.phase.Phase.{Phase}
 use Rattle.pt_plan.specs.declared.object.Object.{Object}
-use Rattle.pt_invariant.proofs.source.InObject.{is_gathered, own_advanced, own_at_site, own_entered, path_in_object, path_length, scans_more, scans_same, site_itself, still_counted}
+use Rattle.pt_invariant.proofs.source.InObject.{
+  is_gathered,
+  own_advanced,
+  own_at_site,
+  own_entered,
+  path_in_object,
+  path_length,
+  scans_more,
+  scans_same,
+  site_itself,
+  still_counted,
+}
 use Rattle.pt_invariant.proofs.source.InPairtree.{file_in_pairtree, listing_in, pairtree_proper, some_same, stays}
 use Rattle.pt_invariant.proofs.source.ReadsOn.{reads_block, reads_end, reads_first}
-use Rattle.pt_invariant.proofs.source.ScanSteps.{left_behind, left_directory, left_file, left_none, left_shorty, moved_at_site, moved_behind, moved_in, moved_on, moved_out, below_site}
+use Rattle.pt_invariant.proofs.source.ScanSteps.{
+  left_behind,
+  left_directory,
+  left_file,
+  left_none,
+  left_shorty,
+  moved_at_site,
+  moved_behind,
+  moved_in,
+  moved_on,
+  moved_out,
+  below_site,
+}
 
 none_is : (f : Forest) → none_listed (listing_of f) ≡ emptiness f
 none_is none = refl
@@ -44,20 +130,25 @@ none_is (dir name inside after) = refl
 
 -- ---- the object is given up
 
-given_up : {job : Job} {s new : Reading} {prefix : List ℕ} {object : Object} (held : Held) {count : ℕ} → Some new ≡ Some s → HasStarted s.tree prefix → IsInObject job s.tree prefix object held.trail count
+given_up : {job : Job} {s new : Reading} {prefix : List ℕ} {object : Object} (held : Held) {count : ℕ} → Some new ≡ Some s → HasStarted s.tree prefix
+    → IsInObject job s.tree prefix object held.trail count
     → HoldsNoObject (back_at_site object held) × HasStarted new.tree prefix × IsOnWay job new.tree (sought 0 (to_site object held.trail)) (suc count)
 given_up {job} {prefix} {object} held {count} same started it =
-    stays (λ r. HoldsNoObject (back_at_site object held) × HasStarted r.tree prefix × IsOnWay job r.tree (sought 0 (to_site object held.trail)) (suc count)) same
+    stays (λ r. HoldsNoObject (back_at_site object held) × HasStarted r.tree prefix × IsOnWay job r.tree (sought 0 (to_site object held.trail)) (suc count))
+    same
     (record { rows = refl; contents = refl }, started, it.site.way)
 
 -- ---- the scan goes on
 
-scanned_as : {job : Job} {object other : PairtreeObject} {rows : List Row} {empty : ℕ} {left : List Entry} → object ≡ other → HasScanned job object rows empty left → HasScanned job other rows empty left
+scanned_as : {job : Job} {object other : PairtreeObject} {rows : List Row} {empty : ℕ} {left : List Entry} → object ≡ other
+    → HasScanned job object rows empty left → HasScanned job other rows empty left
 scanned_as {job} {rows} {empty} {left} same it = rw same at it
 
 -- where an entry that isn't of the object is passed, or a listing is left
-scans_on : (job : Job) {source : Forest} {prefix : List ℕ} {object : Object} {held : Held} {trail : List Frame} {count : ℕ} → IsInObject job source prefix object trail count
-    → object_at source object (to_site object held.trail) ≡ object_at source object (to_site object trail) → 0 < own_listings object trail → left_of source object held.trail ≡ left_of source object trail
+scans_on : (job : Job) {source : Forest} {prefix : List ℕ} {object : Object} {held : Held} {trail : List Frame} {count : ℕ}
+    → IsInObject job source prefix object trail count
+    → object_at source object (to_site object held.trail) ≡ object_at source object (to_site object trail) → 0 < own_listings object trail
+    → left_of source object held.trail ≡ left_of source object trail
     → IsScanning job source prefix object held count → IsScanning job source prefix object (with_trail held trail) count
 scans_on job stands same inside left it = record {
   stands = stands;
@@ -68,14 +159,17 @@ scans_on job stands same inside left it = record {
 }
 
 -- there is no cause against a directory that isn't too deep
-pub no_cause_dir : (job : Job) (at path whole : Path) (rows : List Row) (trail : List Frame) (inside : Forest) → whole ≡ at ++ path → length whole ≡ length trail → nat_lt job.limits.depth (length trail) ≡ false
+pub no_cause_dir : (job : Job) (at path whole : Path) (rows : List Row) (trail : List Frame) (inside : Forest) → whole ≡ at ++ path
+    → length whole ≡ length trail → nat_lt job.limits.depth (length trail) ≡ false
     → entry_cause job.limits (length at) (length rows) (path, Dir inside) ≡ None
 no_cause_dir job at path whole rows trail inside is long shallow =
     let sum : length at + length path ≡ length trail = sym (ap length is ∙ length-append at path) ∙ long in
     ap (λ (n : ℕ). cond (nat_lt job.limits.depth n) (Some cause.Limit) None) sum ∙ ap (λ b. cond b (Some cause.Limit) None) shallow
 
-enters_directory : (job : Job) {source : Forest} {prefix : List ℕ} {object : Object} (held : Held) (trail : List Frame) {name : List ℕ} {items : List Item} {count : ℕ}
-    → is_proper (pairtree_of source) ≡ true → is_trail trail ≡ true → current_entry trail ≡ Some (name, kind.Dir) → is_passed object trail (name, kind.Dir) ≡ false
+enters_directory : (job : Job) {source : Forest} {prefix : List ℕ} {object : Object} (held : Held) (trail : List Frame) {name : List ℕ} {items : List Item}
+    {count : ℕ}
+    → is_proper (pairtree_of source) ≡ true → is_trail trail ≡ true → current_entry trail ≡ Some (name, kind.Dir)
+    → is_passed object trail (name, kind.Dir) ≡ false
     → nat_lt job.limits.depth (length trail) ≡ false → listing_at (pairtree_of source) (names_to trail) ≡ Some items
     → IsInObject job source prefix object trail count → 0 < own_listings object trail
     → HasScanned job (object_at source object (to_site object trail)) held.rows object.empty (left_of source object trail)
@@ -88,7 +182,8 @@ enters_directory job {source} {object} held (frame ∷ frames) {name} {items} pr
     let in_it = inside_at top path in
     let here : names_to trail ≡ path = path_grows frame frames (name, kind.Dir) e in
     let there = directory_there top frame frames name proper stands.fits e in
-    let items_are : listing_of in_it ≡ items = some_same (listing_of in_it) items (sym (ap (option_map listing_of) there) ∙ ap (listing_at top) (sym here) ∙ listed) in
+    let items_are : listing_of in_it ≡ items = some_same (listing_of in_it) items (sym (ap (option_map listing_of) there) ∙ ap (listing_at top) (sym here)
+    ∙ listed) in
     let left = left_directory source object frame frames name items in_it proper stands.fits stands.within inside e apart refl items_are in
     let object_is = object_at source object (to_site object trail) in
     let none_cause = no_cause_dir job object_is.at _ _ held.rows trail in_it (path_in_object object trail) (path_length frame frames _ is_one e) shallow in
@@ -115,7 +210,8 @@ dir_entry (Some (name, kind.Dir)) is = (name, refl)
 dir_entry (Some (name, kind.Other)) is = absurd (cc)
 
 enters_object : (job : Job) {source : Forest} {prefix : List ℕ} {object : Object} (held : Held) (trail : List Frame) {items : List Item} {count : ℕ}
-    → is_proper (pairtree_of source) ≡ true → is_trail trail ≡ true → object.gathered ≡ false → nat_lt job.limits.depth (length trail) ≡ false → listing_at (pairtree_of source) (names_to trail) ≡ Some items
+    → is_proper (pairtree_of source) ≡ true → is_trail trail ≡ true → object.gathered ≡ false → nat_lt job.limits.depth (length trail) ≡ false
+    → listing_at (pairtree_of source) (names_to trail) ≡ Some items
     → IsInObject job source prefix object trail count → length trail ≡ object.site → object.empty ≡ 0 → held.rows ≡ []
     → IsScanning job source prefix (with_directory object items) (with_trail held (entered items trail)) count
 enters_object job held [] proper is_one apart shallow listed stands at_site empty none_held = absurd (let some = stands.some in omega (arith, some, at_site))
@@ -130,11 +226,14 @@ enters_object job {source} {object} held (frame ∷ frames) {items} proper is_on
     let in_it = inside_at top path in
     let here : names_to trail ≡ path = path_grows frame frames (name, kind.Dir) e in
     let there = directory_there top frame frames name proper stands.fits e in
-    let items_are : listing_of in_it ≡ items = some_same (listing_of in_it) items (sym (ap (option_map listing_of) there) ∙ ap (listing_at top) (sym here) ∙ listed) in
-    let own : own_listings object (entered items trail) ≡ 1 = own_entered object items trail stands.within ∙ ap (λ (n : ℕ). suc n) (own_at_site object trail at_site ∙ ap (λ b. cond b 1 0) apart) in
+    let items_are : listing_of in_it ≡ items = some_same (listing_of in_it) items (sym (ap (option_map listing_of) there) ∙ ap (listing_at top) (sym here)
+    ∙ listed) in
+    let own : own_listings object (entered items trail) ≡ 1 = own_entered object items trail stands.within
+    ∙ ap (λ (n : ℕ). suc n) (own_at_site object trail at_site ∙ ap (λ b. cond b 1 0) apart) in
     let object_is = object_at source object (to_site object trail) in
     let inside_is : object_is.inside ≡ in_it =
-    ap (λ (t : List Frame). inside_object source object t) site ∙ ap (λ b. cond b (without_shorties (inside_at top (names_to frames))) (inside_at top (names_to trail))) apart ∙ ap (inside_at top) here in
+    ap (λ (t : List Frame). inside_object source object t) site ∙ ap (λ b. cond b (without_shorties (inside_at top (names_to frames)))
+    (inside_at top (names_to trail))) apart ∙ ap (inside_at top) here in
     let at_is : object_is.at ≡ names_to trail = ap (path_of_source object) site ∙ ap (λ b. cond b (names_to frames) (names_to trail)) apart in
     let long = path_length frame frames _ is_one e in
     let left : left_of source object (entered items trail) ≡ entries in_it =
@@ -146,7 +245,8 @@ enters_object job {source} {object} held (frame ∷ frames) {items} proper is_on
     let emptier : emptiness object_is.inside ≡ emptiness in_it = ap emptiness inside_is in
     let step_in = moved_in listed stands in
     let first : HasScanned job object_is held.rows (object.empty + none_listed items) (left_of source object (entered items trail)) = record {
-      shallow = ap (λ b. not b && nat_lt job.limits.depth (length object_is.at)) apart ∙ ap (λ (n : ℕ). nat_lt job.limits.depth n) (ap length at_is ∙ long) ∙ shallow;
+      shallow = ap (λ b. not b && nat_lt job.limits.depth (length object_is.at)) apart ∙ ap (λ (n : ℕ). nat_lt job.limits.depth n) (ap length at_is ∙ long)
+          ∙ shallow;
       front = [];
       all = ap entries inside_is ∙ sym left;
       good = refl;
@@ -170,7 +270,8 @@ starts_in_site job {source} {prefix} {object} held (frame ∷ frames) {count} ga
     let own : own_listings object (sought 0 trail) ≡ 1 = own_at_site object (sought 0 trail) at_site ∙ ap (λ b. cond b 1 0) gathered in
     let object_is = object_at source object (to_site object trail) in
     let inside_is : object_is.inside ≡ without_shorties (inside_at top (names_to frames)) =
-    ap (λ (t : List Frame). inside_object source object t) site ∙ ap (λ b. cond b (without_shorties (inside_at top (names_to frames))) (inside_at top (names_to trail))) gathered in
+    ap (λ (t : List Frame). inside_object source object t) site ∙ ap (λ b. cond b (without_shorties (inside_at top (names_to frames)))
+    (inside_at top (names_to trail))) gathered in
     let left : left_of source object (sought 0 trail) ≡ entries (without_shorties (inside_at top (names_to frames))) =
     ap (λ (n : ℕ). entries_left object.gathered top n (sought 0 trail)) own
     ∙ ap (λ b. entries_left b top 1 (sought 0 trail)) gathered
@@ -202,11 +303,13 @@ own_around : (g : Bool) (n m site : ℕ) → not g && (m == site) ≡ false → 
 own_around true n m site apart is within = omega arith
 own_around false n m site apart is within = let less = below_site m site apart within in omega (arith, less)
 
-pub some_around : (object : Object) (trail : List Frame) → is_own_directory object trail ≡ false → object.site < length trail → 0 < own_listings object (parent trail)
+pub some_around : (object : Object) (trail : List Frame) → is_own_directory object trail ≡ false → object.site < length trail
+    → 0 < own_listings object (parent trail)
 some_around object [] apart below = absurd (omega (arith, below))
 some_around object (frame ∷ frames) apart below = own_around object.gathered _ _ object.site apart refl (omega (arith, below))
 
-leaves_directory : (job : Job) (source : Forest) (prefix : List ℕ) (object : Object) (held : Held) (count : ℕ) → current_entry held.trail ≡ None → is_in_site object held.trail ≡ false → is_own_directory object held.trail ≡ false
+leaves_directory : (job : Job) (source : Forest) (prefix : List ℕ) (object : Object) (held : Held) (count : ℕ) → current_entry held.trail ≡ None
+    → is_in_site object held.trail ≡ false → is_own_directory object held.trail ≡ false
     → IsScanning job source prefix object held count → IsScanning job source prefix object (with_trail held (advanced (parent held.trail))) count
 leaves_directory job source prefix object held count e apart outside it =
     let below = below_site_of object held.trail apart it.stands.within in
@@ -215,7 +318,8 @@ leaves_directory job source prefix object held count e apart outside it =
     scans_on job moved.stands moved.same (own_advanced object (parent held.trail) around)
     (left_behind source object held.trail it.stands.fits e it.stands.some below around) it
 
-ends_site : {job : Job} (source : Forest) {prefix : List ℕ} (object : Object) (held : Held) {count : ℕ} → current_entry held.trail ≡ None → is_in_site object held.trail ≡ true
+ends_site : {job : Job} (source : Forest) {prefix : List ℕ} (object : Object) (held : Held) {count : ℕ} → current_entry held.trail ≡ None
+    → is_in_site object held.trail ≡ true
     → IsScanning job source prefix object held count → IsScanned job source prefix object held count
 ends_site source object held e here it =
     let same = eqb-true (length held.trail) object.site here in
@@ -231,8 +335,10 @@ own_one : (g : Bool) (n m site : ℕ) → not g && (m == site) ≡ true → n �
 own_one true n m site is next = absurd (cc)
 own_one false n m site is next = let same = eqb-true m site is in omega (arith, same, next)
 
-ends_object : (job : Job) {source : Forest} {prefix : List ℕ} {object : Object} (held : Held) (trail : List Frame) {count : ℕ} → held.trail ≡ trail → current_entry trail ≡ None → is_in_site object trail ≡ false → is_own_directory object trail ≡ true
-    → IsInObject job source prefix object trail count → HasScanned job (object_at source object (to_site object trail)) held.rows object.empty (left_of source object trail)
+ends_object : (job : Job) {source : Forest} {prefix : List ℕ} {object : Object} (held : Held) (trail : List Frame) {count : ℕ} → held.trail ≡ trail
+    → current_entry trail ≡ None → is_in_site object trail ≡ false → is_own_directory object trail ≡ true
+    → IsInObject job source prefix object trail count → HasScanned job (object_at source object (to_site object trail)) held.rows object.empty
+    (left_of source object trail)
     → IsScanned job source prefix object (with_trail held (parent trail)) count
 ends_object job held [] is e apart own stands scanned = absurd (let some = stands.some in let within = stands.within in omega (arith, some, within))
 ends_object job {source} {object} held (frame ∷ frames) is e apart own stands scanned =
@@ -249,7 +355,8 @@ ends_object job {source} {object} held (frame ∷ frames) is e apart own stands 
           (scans_same (left_none source object trail stands.fits e one) scanned);
     }
 
-passes_shorty : (job : Job) (source : Forest) (prefix : List ℕ) (object : Object) (held : Held) (item : Item) (count : ℕ) → is_proper (pairtree_of source) ≡ true → current_entry held.trail ≡ Some item → is_passed object held.trail item ≡ true
+passes_shorty : (job : Job) (source : Forest) (prefix : List ℕ) (object : Object) (held : Held) (item : Item) (count : ℕ)
+    → is_proper (pairtree_of source) ≡ true → current_entry held.trail ≡ Some item → is_passed object held.trail item ≡ true
     → IsScanning job source prefix object held count → IsScanning job source prefix object (with_trail held (advanced held.trail)) count
 passes_shorty job source prefix object held item count proper e passed it =
     let moved = moved_on job source prefix object held.trail count it.inside it.stands in
@@ -258,31 +365,39 @@ passes_shorty job source prefix object held item count proper e passed it =
 
 -- ---- a file
 
-pub opened : (source : Forest) (trail : List Frame) (name : List ℕ) → is_store source ≡ true → is_proper (pairtree_of source) ≡ true → Fits (pairtree_of source) trail → current_entry trail ≡ Some (name, kind.File)
+pub opened : (source : Forest) (trail : List Frame) (name : List ℕ) → is_store source ≡ true → is_proper (pairtree_of source) ≡ true
+    → Fits (pairtree_of source) trail → current_entry trail ≡ Some (name, kind.File)
     → file_at source (pairtree_root ∷ names_to trail) ≡ Some (bytes_at (pairtree_of source) (names_to trail))
 opened source [] name store proper fits e = absurd (cc)
 opened source (frame ∷ frames) name store proper fits e =
     let top = pairtree_of source in
     let here : names_to (frame ∷ frames) ≡ names_to frames ++ name ∷ [] = path_grows frame frames (name, kind.File) e in
-    file_in_pairtree source _ store ∙ ap (file_at top) here ∙ file_there top frame frames name proper fits e ∙ ap (λ (p : Path). Some (bytes_at top p)) (sym here)
+    file_in_pairtree source _ store ∙ ap (file_at top) here ∙ file_there top frame frames name proper fits e
+    ∙ ap (λ (p : Path). Some (bytes_at top p)) (sym here)
 
-same_scan : {job : Job} {source : Forest} {prefix : List ℕ} {object : Object} {held : Held} (fed : List ℕ) {count : ℕ} → IsScanning job source prefix object held count → IsScanning job source prefix object (with_fed held fed) count
+same_scan : {job : Job} {source : Forest} {prefix : List ℕ} {object : Object} {held : Held} (fed : List ℕ) {count : ℕ}
+    → IsScanning job source prefix object held count → IsScanning job source prefix object (with_fed held fed) count
 same_scan fed it = record { stands = it.stands; inside = it.inside; scanned = it.scanned }
 
 -- there is no cause against a file that may have a row
-pub no_cause_file : (job : Job) (at path : Path) (rows : List Row) (bytes : List ℕ) → nat_le job.limits.files (length rows) || nat_lt job.limits.path_bytes (length (joined path)) ≡ false → length bytes ≤ job.limits.file_bytes
+pub no_cause_file : (job : Job) (at path : Path) (rows : List Row) (bytes : List ℕ)
+    → nat_le job.limits.files (length rows) || nat_lt job.limits.path_bytes (length (joined path)) ≡ false → length bytes ≤ job.limits.file_bytes
     → entry_cause job.limits (length at) (length rows) (path, File bytes) ≡ None
 no_cause_file job at path rows bytes room short =
     ap (λ b. cond b (Some cause.Limit) None)
     (or_from _ _ room (le-ltb job.limits.file_bytes (length bytes) short))
 
-ends_file : (job : Job) {source : Forest} {prefix : List ℕ} {object : Object} (held : Held) (trail : List Frame) {name : List ℕ} {read count : ℕ} → is_proper (pairtree_of source) ≡ true → current_entry trail ≡ Some (name, kind.File)
-    → nat_le job.limits.files (length held.rows) || nat_lt job.limits.path_bytes (length (joined (logical_path object trail))) ≡ false → read ≤ job.limits.file_bytes
+ends_file : (job : Job) {source : Forest} {prefix : List ℕ} {object : Object} (held : Held) (trail : List Frame) {name : List ℕ} {read count : ℕ}
+    → is_proper (pairtree_of source) ≡ true → current_entry trail ≡ Some (name, kind.File)
+    → nat_le job.limits.files (length held.rows) || nat_lt job.limits.path_bytes (length (joined (logical_path object trail))) ≡ false
+    → read ≤ job.limits.file_bytes
     → held.fed ≡ bytes_at (pairtree_of source) (names_to trail) → read ≡ length (bytes_at (pairtree_of source) (names_to trail))
-    → IsInObject job source prefix object trail count → 0 < own_listings object trail → HasScanned job (object_at source object (to_site object trail)) held.rows object.empty (left_of source object trail)
+    → IsInObject job source prefix object trail count → 0 < own_listings object trail
+    → HasScanned job (object_at source object (to_site object trail)) held.rows object.empty (left_of source object trail)
     → IsInObject job source prefix object (advanced trail) count
     × (0 < own_listings object (advanced trail))
-    × HasScanned job (object_at source object (to_site object (advanced trail))) (held.rows ++ row_of (logical_path object trail) (digest_of job.algorithm held.fed) read ∷ []) object.empty (left_of source object (advanced trail))
+    × HasScanned job (object_at source object (to_site object (advanced trail)))
+    (held.rows ++ row_of (logical_path object trail) (digest_of job.algorithm held.fed) read ∷ []) object.empty (left_of source object (advanced trail))
 ends_file job held [] proper e room short whole long stands inside scanned = absurd (cc)
 ends_file job {source} {prefix} {object} held (frame ∷ frames) {name} {read} {count} proper e room short whole long stands inside scanned =
     let top = pairtree_of source in
@@ -293,7 +408,8 @@ ends_file job {source} {prefix} {object} held (frame ∷ frames) {name} {read} {
     let none_cause = no_cause_file job object_is.at (logical_path object trail) held.rows bytes room (omega (arith, short, long)) in
     let next = scans_more job none_cause (omega arith)
     (scans_same left scanned) in
-    let row_is : row_of (logical_path object trail) (digest_of job.algorithm bytes) (length bytes) ≡ row_of (logical_path object trail) (digest_of job.algorithm held.fed) read =
+    let row_is : row_of (logical_path object trail) (digest_of job.algorithm bytes) (length bytes)
+    ≡ row_of (logical_path object trail) (digest_of job.algorithm held.fed) read =
     ap (λ (b : List ℕ). row_of (logical_path object trail) (digest_of job.algorithm b) (length bytes)) (sym whole)
     ∙ ap (λ (n : ℕ). row_of (logical_path object trail) (digest_of job.algorithm held.fed) n) (sym long) in
     let moved = moved_on job source prefix object trail count inside stands in (
@@ -323,16 +439,22 @@ scans_keep {job} s new prefix count {after} proper is_one (StartsInSite was obje
     stays (InScan job prefix object count after) answers
     (at.1, starts_in_site job was was.trail gathered at.2 at.3 at.4 at.0.rows)
 scans_keep {job} s new prefix count {after} proper is_one (EntersObject was object items apart shallow) at answers =
-    stays (InScan job prefix (with_directory object items) count after) answers.2
-    (at.1, enters_object job was was.trail (pairtree_proper s.tree at.1.store proper) is_one apart shallow (sym (listing_in s.tree (names_to was.trail) at.1.store) ∙ answers.0 s refl) at.2 at.3 at.4 at.0.rows)
+    stays (InScan job prefix (with_directory object items) count after) answers.2 (
+      at.1,
+      enters_object job was was.trail (pairtree_proper s.tree at.1.store proper) is_one apart shallow
+          (sym (listing_in s.tree (names_to was.trail) at.1.store) ∙ answers.0 s refl) at.2 at.3 at.4 at.0.rows,
+    )
 scans_keep s new prefix count proper is_one (IsTooDeep was object apart deep) at answers =
     given_up was answers at.1 at.2
 scans_keep {job} s new prefix count {after} proper is_one (PassesShorty was object item e passed) at answers =
     stays (InScan job prefix object count after) answers
     (at.0, passes_shorty job s.tree prefix object was item count (pairtree_proper s.tree at.0.store proper) e passed at.1)
 scans_keep {job} s new prefix count {after} proper is_one (EntersDirectory was object name items e apart shallow) at answers =
-    stays (InScan job prefix (with_directory object items) count after) answers.2
-    (at.0, enters_directory job was was.trail (pairtree_proper s.tree at.0.store proper) is_one e apart shallow (sym (listing_in s.tree (names_to was.trail) at.0.store) ∙ answers.0 s refl) at.1.stands at.1.inside at.1.scanned)
+    stays (InScan job prefix (with_directory object items) count after) answers.2 (
+      at.0,
+      enters_directory job was was.trail (pairtree_proper s.tree at.0.store proper) is_one e apart shallow
+          (sym (listing_in s.tree (names_to was.trail) at.0.store) ∙ answers.0 s refl) at.1.stands at.1.inside at.1.scanned,
+    )
 scans_keep s new prefix count proper is_one (MeetsDeep was object name e apart deep) at answers =
     given_up was answers at.0 at.1.stands
 scans_keep {job} s new prefix count {after} proper is_one (OpensFile was object name e room) at answers =
@@ -378,5 +500,6 @@ scans_keep s new prefix count proper is_one (IsTooLong was object bytes byte blo
 scans_keep {job} s new prefix count {after} proper is_one (EndsFile was object bytes) at answers =
     let whole = bytes_at (pairtree_of s.tree) (names_to was.trail) in
     let all = reads_end 8192 whole bytes was.fed s.unread (omega arith) at.2.read (answers.0 s refl) in
-    let it = ends_file job was was.trail (pairtree_proper s.tree at.0.store proper) at.2.file at.2.room at.2.short all.all all.length_is at.1.stands at.1.inside at.1.scanned in
+    let it = ends_file job was was.trail (pairtree_proper s.tree at.0.store proper) at.2.file at.2.room at.2.short all.all all.length_is at.1.stands at.1.inside
+    at.1.scanned in
     stays (InScan job prefix object count after) answers.1 (at.0, record { stands = it.0; inside = it.1; scanned = it.2 })

@@ -55,7 +55,8 @@ pub record BesideAt (job : Job) (source : Forest) (bytes : Path → List ℕ) (h
   pub few : FewAt job source here held
 
 module _ {job : Job} (past : History) {here : Phase} {prefix : List ℕ} {held : Held} (asked : Asked) (s new : Reading) where
-  pub with_beside : Answers asked (Some s) (Some new) → is_proper s.tree ≡ true → SourceAt job new prefix past.count here held → BesideAt job s.tree past.bytes here held → SourcePart job past here prefix held new
+  pub with_beside : Answers asked (Some s) (Some new) → is_proper s.tree ≡ true → SourceAt job new prefix past.count here held
+      → BesideAt job s.tree past.bytes here held → SourcePart job past here prefix held new
   with_beside answers proper at beside =
       let same = tree_kept asked s new answers in
       let moved = rw (← same) at beside in
@@ -63,7 +64,8 @@ module _ {job : Job} (past : History) {here : Phase} {prefix : List ℕ} {held :
 
 -- ---- the start
 
-starts_beside : {job : Job} {source : Forest} {bytes : Path → List ℕ} {prefix read : List ℕ} {here next : Phase} {held : Held} {calls : Calls} → StartStep job here prefix read calls (Ok next) → FewAt job source here held → BesideAt job source bytes next held
+starts_beside : {job : Job} {source : Forest} {bytes : Path → List ℕ} {prefix read : List ℕ} {here next : Phase} {held : Held} {calls : Calls}
+    → StartStep job here prefix read calls (Ok next) → FewAt job source here held → BesideAt job source bytes next held
 starts_beside {job} {source} {bytes} {held} (MakesRoot was number item is) few =
     after_root_item (λ p. BesideAt job source bytes p held) number (λ last. record { bytes_are = tt; few = few }) (λ more. record { bytes_are = tt; few = few })
 starts_beside {job} {source} {bytes} {held} (IsSame was number path read is) few =
@@ -78,7 +80,8 @@ starts_source job past s new prefix read here next held calls turn answers at pa
 -- ---- the walk
 
 -- with the trail moved so that it lists no more
-fewer : (job : Job) (source : Forest) (held new : Held) → new.rows ≡ held.rows → new.contents ≡ held.contents → entries_held new.trail ≤ entries_held held.trail → IsWithinBound job source held → IsWithinBound job source new
+fewer : (job : Job) (source : Forest) (held new : Held) → new.rows ≡ held.rows → new.contents ≡ held.contents → entries_held new.trail ≤ entries_held held.trail
+    → IsWithinBound job source held → IsWithinBound job source new
 fewer job source held new rows contents less few = let one = ap length rows in let two = ap length contents in omega (arith, one, two, less, few)
 
 object_sought : (index : Option ℕ) (t : List Frame) → entries_held (at_object index t) ≡ entries_held t
@@ -89,7 +92,8 @@ pub behind_parent : (t : List Frame) → entries_held (advanced (parent t)) ≤ 
 behind_parent t = let one = entries_advanced (parent t) in let two = entries_parent t in omega (arith, one, two)
 
 -- at a site nothing is held but its listings
-within_at_site : (job : Job) {past : History} (s : Reading) {prefix : List ℕ} {here : Phase} {held after : Held} {calls : Calls} → WalkStep job prefix here held after calls (Ok phase.Judge) → Answers calls.asked (Some s) (Some s)
+within_at_site : (job : Job) {past : History} (s : Reading) {prefix : List ℕ} {here : Phase} {held after : Held} {calls : Calls}
+    → WalkStep job prefix here held after calls (Ok phase.Judge) → Answers calls.asked (Some s) (Some s)
     → HeldAt job past here held → SourcePart job past here prefix held s → IsWithinBound job s.tree after
 within_at_site job {past} s {after} turn answers at part =
     let one = (trail.walks_keep (Some s) (Some s) turn answers at.trail).is_one in
@@ -100,7 +104,8 @@ within_at_site job {past} s {after} turn answers at part =
     omega (arith, rows, contents, room)
 
 module _ (job : Job) (past : History) (s new : Reading) (prefix : List ℕ) where
-  walks_beside : (here next : Phase) (held after : Held) (calls : Calls) → WalkStep job prefix here held after calls (Ok next) → Answers calls.asked (Some s) (Some new) → HeldAt job past here held
+  walks_beside : (here next : Phase) (held after : Held) (calls : Calls) → WalkStep job prefix here held after calls (Ok next)
+      → Answers calls.asked (Some s) (Some new) → HeldAt job past here held
       → SourcePart job past here prefix held s → BesideAt job s.tree (bytes_after here next held past.bytes) next after
   unfolding Answers
   walks_beside here next held after calls (OpensRoot was items) answers at part =
@@ -121,12 +126,14 @@ module _ (job : Job) (past : History) (s new : Reading) (prefix : List ℕ) wher
 
 pub walks_source : WalkingKeepsSource
 walks_source job past s new prefix here next held after calls turn answers at part =
-    with_beside (history_after here next held past) calls.asked s new answers part.proper (walks_keep job s new past.count part.proper at.trail.is_one turn part.at answers)
+    with_beside (history_after here next held past) calls.asked s new answers part.proper
+    (walks_keep job s new past.count part.proper at.trail.is_one turn part.at answers)
     (walks_beside job past s new prefix here next held after calls turn answers at part)
 
 -- ---- an object at its place
 
-after_a_tuple : (job : Job) {source : Forest} {bytes : Path → List ℕ} (object : Object) {held : Held} (number : ℕ) → AreHeldThere source object (to_site object held.trail) bytes held.rows → IsWithinBound job source held
+after_a_tuple : (job : Job) {source : Forest} {bytes : Path → List ℕ} (object : Object) {held : Held} (number : ℕ)
+    → AreHeldThere source object (to_site object held.trail) bytes held.rows → IsWithinBound job source held
     → BesideAt job source bytes (after_tuple job object number) held
 after_a_tuple job {source} {bytes} object {held} number there few =
     after_tuple_folder (λ p. BesideAt job source bytes p held) job object number
@@ -135,7 +142,8 @@ after_a_tuple job {source} {bytes} object {held} number there few =
 at_site_again : (job : Job) (source : Forest) (held : Held) → IsWithinBound job source held → IsWithinBound job source (restarted held)
 at_site_again job source held few = let same = entries_sought 0 held.trail in omega (arith, same, few)
 
-places_beside : {job : Job} {counts : Counts} {past : History} {s : Reading} {prefix : List ℕ} {here next : Phase} {held after : Held} {calls : Calls} → PlaceStep job counts here held after calls (Ok next)
+places_beside : {job : Job} {counts : Counts} {past : History} {s : Reading} {prefix : List ℕ} {here next : Phase} {held after : Held} {calls : Calls}
+    → PlaceStep job counts here held after calls (Ok next)
     → SourcePart job past here prefix held s → BesideAt job s.tree (bytes_after here next held past.bytes) next after
 places_beside {job} (MakesTuple was object number) part = after_a_tuple job object number part.bytes part.few
 places_beside {job} (FindsTuple was object number) part = after_a_tuple job object number part.bytes part.few
@@ -145,27 +153,32 @@ places_beside (TellsEnd was) part = record { bytes_are = tt; few = tt }
 
 pub places_source : PlacingKeepsSource
 places_source job counts past s new prefix here next held after calls turn answers at part =
-    with_beside (history_after here next held past) calls.asked s new answers part.proper (places_keep job s new prefix past.count turn part.at answers) (places_beside turn part)
+    with_beside (history_after here next held past) calls.asked s new answers part.proper (places_keep job s new prefix past.count turn part.at answers)
+    (places_beside turn part)
 
 -- ---- an object that is made
 
 -- what was read of a file a second time is what the source holds there
-read_again : (s : Reading) (bytes : Path → List ℕ) (object : Object) (held : Held) (n : ℕ) (row : Row) → slice_get held.rows n ≡ Some row → part_in_order (row_paths held.rows) ≡ true → to_site object held.trail ≡ held.trail
-    → held.fed ≡ bytes_at (pairtree_of s.tree) (path_of_source object held.trail ++ row.path) → AreHeldThere s.tree object (to_site object held.trail) bytes held.rows
+read_again : (s : Reading) (bytes : Path → List ℕ) (object : Object) (held : Held) (n : ℕ) (row : Row) → slice_get held.rows n ≡ Some row
+    → part_in_order (row_paths held.rows) ≡ true → to_site object held.trail ≡ held.trail
+    → held.fed ≡ bytes_at (pairtree_of s.tree) (path_of_source object held.trail ++ row.path)
+    → AreHeldThere s.tree object (to_site object held.trail) bytes held.rows
     → AreHeldThere s.tree object (to_site object held.trail) (with_bytes_of (slice_get held.rows n) held.fed bytes) held.rows
 read_again s bytes object held n row is order site whole there =
     rows_again (λ b r. b ≡ bytes_at (pairtree_of s.tree) (path_of_source object (to_site object held.trail) ++ r.path)) bytes held.fed held.rows n _ is order
     (whole ∙ ap (λ (t : List Frame). bytes_at (pairtree_of s.tree) (path_of_source object t ++ row.path)) (sym site)) there
 
 -- at its end all of it was read
-copied_whole : (s : Reading) (object : Object) (held : Held) {position : Position} {left : ℕ} (row : Row) → slice_get held.rows position.row ≡ Some row → ForSome (Some s) (λ (r : Reading). option_map (take 8192) r.unread ≡ Some []) → IsCopyingFile s.tree object held position s.unread left
+copied_whole : (s : Reading) (object : Object) (held : Held) {position : Position} {left : ℕ} (row : Row) → slice_get held.rows position.row ≡ Some row
+    → ForSome (Some s) (λ (r : Reading). option_map (take 8192) r.unread ≡ Some []) → IsCopyingFile s.tree object held position s.unread left
     → held.fed ≡ bytes_at (pairtree_of s.tree) (path_of_source object held.trail ++ row.path)
 copied_whole s object held row is ended it =
     let same : it.row ≡ row = some_same it.row row (sym it.is_row ∙ is) in
     (reads_end 8192 _ _ held.fed s.unread (omega arith) it.read (ended s refl)).all
     ∙ ap (λ (r : Row). bytes_at (pairtree_of s.tree) (path_of_source object held.trail ++ r.path)) same
 
-makes_beside : {job : Job} (past : History) (s new : Reading) {prefix : List ℕ} {here : Phase} {held after : Held} {calls : Calls} {next : Phase} → MakeStep job here held after calls (Ok next) → Answers calls.asked (Some s) (Some new)
+makes_beside : {job : Job} (past : History) (s new : Reading) {prefix : List ℕ} {here : Phase} {held after : Held} {calls : Calls} {next : Phase}
+    → MakeStep job here held after calls (Ok next) → Answers calls.asked (Some s) (Some new)
     → HeldAt job past here held → SourcePart job past here prefix held s → BesideAt job s.tree (bytes_after here next held past.bytes) next after
 unfolding Answers IsRead
 makes_beside past s new (EndsCopy was object position row left is same) answers at part = record {
@@ -181,4 +194,5 @@ makes_beside past s new turn answers at part = record { bytes_are = part.bytes; 
 
 pub makes_source : MakingKeepsSource
 makes_source job past s new prefix here held after calls next turn answers at part =
-    with_beside (history_after here next held past) calls.asked s new answers part.proper (makes_keep job s new prefix past.count part.proper turn part.at answers) (makes_beside past s new turn answers at part)
+    with_beside (history_after here next held past) calls.asked s new answers part.proper
+    (makes_keep job s new prefix past.count part.proper turn part.at answers) (makes_beside past s new turn answers at part)

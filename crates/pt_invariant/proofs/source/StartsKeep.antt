@@ -44,7 +44,8 @@ store_listed f =
     ap (λ (o : Option Kind). is_file_kind o && is_dir_kind (kind_in (listing_of f) pairtree_root)) (kind_listed f version_file)
     ∙ ap (λ (o : Option Kind). is_file_kind (option_map kind_of (find f version_file)) && is_dir_kind o) (kind_listed f pairtree_root)
     ∙ ap (λ (b : Bool). b && is_dir_kind (option_map kind_of (find f pairtree_root))) (file_kind (find f version_file))
-    ∙ ap (λ (b : Bool). is_some (option_and_then as_file (option_and_then (λ node. node_at node []) (find f version_file))) && b) (dir_kind (find f pairtree_root))
+    ∙ ap (λ (b : Bool). is_some (option_and_then as_file (option_and_then (λ node. node_at node []) (find f version_file))) && b)
+    (dir_kind (find f pairtree_root))
 
 -- ---- the prefix
 
@@ -55,7 +56,8 @@ no_prefix (Some node) absent = absurd (cc)
 -- a prefix has at most 1024 bytes
 prefix_short : (bytes : List ℕ) → prefix_refusal bytes ≡ None → length bytes ≤ 1024
 prefix_short bytes good = elim (cases_Bool (nat_lt 1024 (length bytes))) [
-  | inl long ↦ absurd (let no : Some fault.TooLong ≡ None = sym (ap (λ b. cond b (Some fault.TooLong) (cond (is_utf8 (without_line_ends bytes)) None (Some fault.NotUtf8))) long) ∙ good in cc)
+  | inl long ↦ absurd (let no : Some fault.TooLong
+      ≡ None = sym (ap (λ b. cond b (Some fault.TooLong) (cond (is_utf8 (without_line_ends bytes)) None (Some fault.NotUtf8))) long) ∙ good in cc)
   | inr short ↦ ltb-false 1024 (length bytes) short
 ]
 
@@ -66,7 +68,8 @@ read_whole bytes block read good =
     let long : length block ≡ min 8192 (length bytes) = ap length (sym read) ∙ length-take 8192 bytes in
     sym (take_all 8192 bytes (omega (arith, few, long))) ∙ read
 
-good_prefix : (o : Option Node) {block : List ℕ} → Some kind.File ≡ option_map kind_of o → option_map (take 8192) (option_and_then as_file (option_and_then (λ node. node_at node []) o)) ≡ Some block → prefix_refusal block ≡ None
+good_prefix : (o : Option Node) {block : List ℕ} → Some kind.File ≡ option_map kind_of o
+    → option_map (take 8192) (option_and_then as_file (option_and_then (λ node. node_at node []) o)) ≡ Some block → prefix_refusal block ≡ None
     → (is_prefix o ≡ true) × (prefix_in o ≡ without_line_ends block)
 good_prefix None is read good = absurd (cc)
 good_prefix (Some (Dir inside)) is read good = absurd (cc)
@@ -83,12 +86,14 @@ abbrev Started : List ℕ → ℕ → Held → Reading → Type 0
 Started prefix count held s = HoldsNothing held × (count ≡ 0) × HasStarted s.tree prefix
 
 pub starts_keep : {job : Job} (s new : Reading) {prefix read : List ℕ} (count : ℕ) {here next : Phase} (held : Held) {calls : Calls}
-    → StartStep job here prefix read calls (Ok next) → SourceAt job s prefix count here held → Answers calls.asked (Some s) (Some new) → SourceAt job new read (done_after here held.trail next count) next held
+    → StartStep job here prefix read calls (Ok next) → SourceAt job s prefix count here held → Answers calls.asked (Some s) (Some new)
+    → SourceAt job new read (done_after here held.trail next count) next held
 unfolding Answers IsListed IsRead
 starts_keep s new {prefix} count held (IsStore was entries is) at answers =
     let listed : entries ≡ listing_of s.tree = sym (some_same (listing_of s.tree) entries (answers.0 s refl)) in
     let store : is_store s.tree ≡ true = sym (store_listed s.tree) ∙ ap lists_store (sym listed) ∙ is in
-    stays (λ r. HoldsNothing held × (count ≡ 0) × (is_store r.tree ≡ true) × (kind_in entries prefix_file ≡ option_map kind_of (find r.tree prefix_file)) × (prefix ≡ [])) answers.2
+    stays (λ r. HoldsNothing held × (count ≡ 0) × (is_store r.tree ≡ true) × (kind_in entries prefix_file ≡ option_map kind_of (find r.tree prefix_file))
+    × (prefix ≡ [])) answers.2
     (at.0, at.1, store, ap (λ l. kind_in l prefix_file) listed ∙ kind_listed s.tree prefix_file, at.2)
 starts_keep s new {prefix} count held (HasNoPrefix was) at answers =
     let none_there = no_prefix (find s.tree prefix_file) at.3 in

@@ -52,63 +52,83 @@ opens_root job source trail items store none first listed =
 met_past : (depth : ℕ) (path : Path) (inside : Forest) → is_last (at_of path) ≡ true → visit_of depth path inside ≡ Past
 met_past depth path inside last = ap (λ b. cond b Past (cond (nat_lt depth (length path + 1)) Deep (Listed inside))) last
 
-met_else : (depth : ℕ) (path : Path) (inside : Forest) {deep : Bool} → is_last (at_of path) ≡ false → nat_lt depth (length path + 1) ≡ deep → visit_of depth path inside ≡ cond deep Deep (Listed inside)
+met_else : (depth : ℕ) (path : Path) (inside : Forest) {deep : Bool} → is_last (at_of path) ≡ false → nat_lt depth (length path + 1) ≡ deep
+    → visit_of depth path inside ≡ cond deep Deep (Listed inside)
 met_else depth path inside last is =
     ap (λ b. cond b Past (cond (nat_lt depth (length path + 1)) Deep (Listed inside))) last ∙ ap (λ b. cond b Deep (Listed inside)) is
 
 -- the depth of what is entered next is the number of listings
-deep_as : (depth : ℕ) (frame : Frame) (frames : List Frame) {deep : Bool} → is_trail (frame ∷ frames) ≡ true → nat_lt depth (length (frame ∷ frames)) ≡ deep → nat_lt depth (length (names_to frames) + 1) ≡ deep
+deep_as : (depth : ℕ) (frame : Frame) (frames : List Frame) {deep : Bool} → is_trail (frame ∷ frames) ≡ true → nat_lt depth (length (frame ∷ frames)) ≡ deep
+    → nat_lt depth (length (names_to frames) + 1) ≡ deep
 deep_as depth frame frames is_one deep_is =
     let names = name_for_each frame frames is_one in
     let same : length (names_to frames) + 1 ≡ length (frame ∷ frames) = omega (arith, names) in
     ap (nat_lt depth) same ∙ deep_is
 
 -- a shorty that isn't listed is the next site, and is passed
-passes_by : (job : Job) {source : Forest} {frame : Frame} {frames : List Frame} {name : List ℕ} {count : ℕ} → is_proper (pairtree_of source) ≡ true → entry_at frame ≡ Some (name, kind.Dir) → is_short name ≡ true
+passes_by : (job : Job) {source : Forest} {frame : Frame} {frames : List Frame} {name : List ℕ} {count : ℕ} → is_proper (pairtree_of source) ≡ true
+    → entry_at frame ≡ Some (name, kind.Dir) → is_short name ≡ true
     → is_listed (visit_of job.limits.depth (names_to frames) (inside_at (pairtree_of source) (names_to frames ++ name ∷ []))) ≡ false
     → IsOnWay job source (frame ∷ frames) count
-    → (slice_get (sites_of job.limits.depth source) count ≡ Some (names_to frames ++ name ∷ [], visit_of job.limits.depth (names_to frames) (inside_at (pairtree_of source) (names_to frames ++ name ∷ []))))
+    → (slice_get (sites_of job.limits.depth source) count ≡ Some (
+      names_to frames ++ name ∷ [],
+      visit_of job.limits.depth (names_to frames)
+          (inside_at (pairtree_of source) (names_to frames ++ name ∷ [])),
+    ))
     × IsOnWay job source (advanced (frame ∷ frames)) (suc count)
 passes_by job {source} {frame} {frames} {name} {count} proper e short unlisted way =
     let depth = job.limits.depth in
     let top = pairtree_of source in
     let path = names_to frames ++ name ∷ [] in
     let next = passes depth top frame frames name path (inside_at top path) proper way.fits e short refl refl unlisted in
-    let split = split_left count (sites_of depth source) (path, visit_of depth (names_to frames) (inside_at top path)) (sites_left depth top (advanced (frame ∷ frames))) (sym next ∙ way.left) in
+    let split = split_left count (sites_of depth source) (path, visit_of depth (names_to frames) (inside_at top path))
+    (sites_left depth top (advanced (frame ∷ frames))) (sym next ∙ way.left) in
     (split.0, record { entered = omega arith; fits = (fits_moved top (frame ∷ frames) 0 way.fits).1; left = split.1 })
 
-pub past_next : (job : Job) (source : Forest) (trail : List Frame) (name : List ℕ) (count : ℕ) → is_proper (pairtree_of source) ≡ true → current_entry trail ≡ Some (name, kind.Dir) → is_short name ≡ true
-    → is_last (at_of (trail_path trail)) ≡ true → IsOnWay job source trail count → slice_get (sites_of job.limits.depth source) count ≡ Some (names_to trail, Past)
+pub past_next : (job : Job) (source : Forest) (trail : List Frame) (name : List ℕ) (count : ℕ) → is_proper (pairtree_of source) ≡ true
+    → current_entry trail ≡ Some (name, kind.Dir) → is_short name ≡ true
+    → is_last (at_of (trail_path trail)) ≡ true → IsOnWay job source trail count
+    → slice_get (sites_of job.limits.depth source) count ≡ Some (names_to trail, Past)
 past_next job source [] name count proper e short last way = absurd (cc)
 past_next job source (frame ∷ frames) name count proper e short last way =
     let path = names_to frames ++ name ∷ [] in
     let met = met_past job.limits.depth (names_to frames) _ last in
-    (passes_by job proper e short (ap is_listed met) way).0 ∙ ap (λ (v : Visit). Some (path, v)) met ∙ ap (λ (p : Path). Some (p, Past)) (sym (path_grows frame frames (name, kind.Dir) e))
+    (passes_by job proper e short (ap is_listed met) way).0 ∙ ap (λ (v : Visit). Some (path, v)) met
+    ∙ ap (λ (p : Path). Some (p, Past)) (sym (path_grows frame frames (name, kind.Dir) e))
 
-pub deep_next : (job : Job) (source : Forest) (trail : List Frame) (name : List ℕ) (count : ℕ) → is_proper (pairtree_of source) ≡ true → is_trail trail ≡ true → current_entry trail ≡ Some (name, kind.Dir) → is_short name ≡ true
-    → is_last (at_of (trail_path trail)) ≡ false → nat_lt job.limits.depth (length trail) ≡ true → IsOnWay job source trail count → slice_get (sites_of job.limits.depth source) count ≡ Some (names_to trail, Deep)
+pub deep_next : (job : Job) (source : Forest) (trail : List Frame) (name : List ℕ) (count : ℕ) → is_proper (pairtree_of source) ≡ true → is_trail trail ≡ true
+    → current_entry trail ≡ Some (name, kind.Dir) → is_short name ≡ true
+    → is_last (at_of (trail_path trail)) ≡ false → nat_lt job.limits.depth (length trail) ≡ true → IsOnWay job source trail count
+    → slice_get (sites_of job.limits.depth source) count ≡ Some (names_to trail, Deep)
 deep_next job source [] name count proper is_one e short last deep way = absurd (cc)
 deep_next job source (frame ∷ frames) name count proper is_one e short last deep way =
     let path = names_to frames ++ name ∷ [] in
     let met = met_else job.limits.depth (names_to frames) _ last (deep_as job.limits.depth frame frames is_one deep) in
-    (passes_by job proper e short (ap is_listed met) way).0 ∙ ap (λ (v : Visit). Some (path, v)) met ∙ ap (λ (p : Path). Some (p, Deep)) (sym (path_grows frame frames (name, kind.Dir) e))
+    (passes_by job proper e short (ap is_listed met) way).0 ∙ ap (λ (v : Visit). Some (path, v)) met
+    ∙ ap (λ (p : Path). Some (p, Deep)) (sym (path_grows frame frames (name, kind.Dir) e))
 
-pub passes_past : (job : Job) {source : Forest} (trail : List Frame) {name : List ℕ} {count : ℕ} → is_proper (pairtree_of source) ≡ true → current_entry trail ≡ Some (name, kind.Dir) → is_short name ≡ true
+pub passes_past : (job : Job) {source : Forest} (trail : List Frame) {name : List ℕ} {count : ℕ} → is_proper (pairtree_of source) ≡ true
+    → current_entry trail ≡ Some (name, kind.Dir) → is_short name ≡ true
     → is_last (at_of (trail_path trail)) ≡ true → IsOnWay job source trail count → IsOnWay job source (advanced trail) (suc count)
 passes_past job [] proper e short last way = absurd (cc)
 passes_past job {source} (frame ∷ frames) {name} proper e short last way =
     let inside = inside_at (pairtree_of source) (names_to frames ++ name ∷ []) in
     (passes_by job proper e short (ap is_listed (met_past job.limits.depth (names_to frames) inside last)) way).1
 
-pub passes_deep : (job : Job) {source : Forest} (trail : List Frame) {name : List ℕ} {count : ℕ} → is_proper (pairtree_of source) ≡ true → is_trail trail ≡ true → current_entry trail ≡ Some (name, kind.Dir) → is_short name ≡ true
-    → is_last (at_of (trail_path trail)) ≡ false → nat_lt job.limits.depth (length trail) ≡ true → IsOnWay job source trail count → IsOnWay job source (advanced trail) (suc count)
+pub passes_deep : (job : Job) {source : Forest} (trail : List Frame) {name : List ℕ} {count : ℕ} → is_proper (pairtree_of source) ≡ true → is_trail trail ≡ true
+    → current_entry trail ≡ Some (name, kind.Dir) → is_short name ≡ true
+    → is_last (at_of (trail_path trail)) ≡ false → nat_lt job.limits.depth (length trail) ≡ true → IsOnWay job source trail count
+    → IsOnWay job source (advanced trail) (suc count)
 passes_deep job [] proper is_one e short last deep way = absurd (cc)
 passes_deep job {source} (frame ∷ frames) {name} proper is_one e short last deep way =
     let inside = inside_at (pairtree_of source) (names_to frames ++ name ∷ []) in
-    (passes_by job proper e short (ap is_listed (met_else job.limits.depth (names_to frames) inside last (deep_as job.limits.depth frame frames is_one deep))) way).1
+    (passes_by job proper e short (ap is_listed (met_else job.limits.depth (names_to frames) inside last (deep_as job.limits.depth frame frames is_one deep)))
+    way).1
 
-pub enters_site : (job : Job) {source : Forest} (trail : List Frame) {name : List ℕ} {items : List Item} {count : ℕ} → is_proper (pairtree_of source) ≡ true → is_trail trail ≡ true → current_entry trail ≡ Some (name, kind.Dir) → is_short name ≡ true
-    → is_last (at_of (trail_path trail)) ≡ false → nat_lt job.limits.depth (length trail) ≡ false → listing_at (pairtree_of source) (names_to trail) ≡ Some items
+pub enters_site : (job : Job) {source : Forest} (trail : List Frame) {name : List ℕ} {items : List Item} {count : ℕ} → is_proper (pairtree_of source) ≡ true
+    → is_trail trail ≡ true → current_entry trail ≡ Some (name, kind.Dir) → is_short name ≡ true
+    → is_last (at_of (trail_path trail)) ≡ false → nat_lt job.limits.depth (length trail) ≡ false
+    → listing_at (pairtree_of source) (names_to trail) ≡ Some items
     → IsOnWay job source trail count → IsToJudge job source (entered items trail) count
 enters_site job [] proper is_one e short last deep listed way = absurd (cc)
 enters_site job {source} (frame ∷ frames) {name} {items} {count} proper is_one e short last deep listed way =
@@ -122,7 +142,8 @@ enters_site job {source} (frame ∷ frames) {name} {items} {count} proper is_one
     let there = directory_there top frame frames name proper way.fits e in
     let items_are : listing_of (inside_at top path) ≡ items =
     some_same (listing_of (inside_at top path)) items (sym (ap (λ o. option_listing o) there) ∙ ap (listing_at top) (sym here) ∙ listed) in
-    let split = split_left count (sites_of depth source) (path, Listed (inside_at top path)) (sites_left depth top (entered (listing_of (inside_at top path)) trail)) (sym next ∙ way.left) in
+    let split = split_left count (sites_of depth source) (path, Listed (inside_at top path))
+    (sites_left depth top (entered (listing_of (inside_at top path)) trail)) (sym next ∙ way.left) in
     record {
       here = record { site = split.0 ∙ ap (λ (p : Path). Some (p, Listed (inside_at top p))) (sym here) };
       first = refl;
@@ -137,7 +158,8 @@ enters_site job {source} (frame ∷ frames) {name} {items} {count} proper is_one
     option_listing None = None
     option_listing (Some f) = Some (listing_of f)
 
-pub passes_entry : (job : Job) {source : Forest} (trail : List Frame) {item : Item} {count : ℕ} → is_proper (pairtree_of source) ≡ true → current_entry trail ≡ Some item → is_shorty item ≡ false
+pub passes_entry : (job : Job) {source : Forest} (trail : List Frame) {item : Item} {count : ℕ} → is_proper (pairtree_of source) ≡ true
+    → current_entry trail ≡ Some item → is_shorty item ≡ false
     → IsOnWay job source trail count → IsOnWay job source (advanced trail) count
 passes_entry job [] proper e apart way = absurd (cc)
 passes_entry job {source} (frame ∷ frames) {item} proper e apart way =
@@ -169,11 +191,13 @@ ends_walk (frame ∷ outer ∷ frames) e short way = absurd (let few = ltb-false
 -- ---- whether an item ends
 
 -- at a shorty one does
-pub done_at_shorty : (trail : List Frame) (name : List ℕ) (count : ℕ) → current_entry trail ≡ Some (name, kind.Dir) → is_short name ≡ true → done_after phase.Walk trail phase.Walk count ≡ suc count
+pub done_at_shorty : (trail : List Frame) (name : List ℕ) (count : ℕ) → current_entry trail ≡ Some (name, kind.Dir) → is_short name ≡ true
+    → done_after phase.Walk trail phase.Walk count ≡ suc count
 done_at_shorty trail name count e short = ap (λ (o : Option Item). cond (is_shorty_there o) (suc count) count) e ∙ ap (λ b. cond b (suc count) count) short
 
 -- elsewhere none
-pub none_at_entry : (trail : List Frame) (item : Item) (count : ℕ) → current_entry trail ≡ Some item → is_shorty item ≡ false → done_after phase.Walk trail phase.Walk count ≡ count
+pub none_at_entry : (trail : List Frame) (item : Item) (count : ℕ) → current_entry trail ≡ Some item → is_shorty item ≡ false
+    → done_after phase.Walk trail phase.Walk count ≡ count
 none_at_entry trail item count e apart = ap (λ (o : Option Item). cond (is_shorty_there o) (suc count) count) e ∙ ap (λ b. cond b (suc count) count) apart
 
 pub none_at_end : (trail : List Frame) (count : ℕ) → current_entry trail ≡ None → done_after phase.Walk trail phase.Walk count ≡ count
@@ -185,17 +209,20 @@ abbrev AtWalk : Job → List ℕ → Held → ℕ → Reading → Type 0
 AtWalk job prefix held count s = HoldsNoObject held × HasStarted s.tree prefix × IsOnWay job s.tree held.trail count
 
 -- the trail moves on, and so many items are done
-walked : {job : Job} {s new : Reading} {prefix : List ℕ} {held : Held} {trail : List Frame} (n : ℕ) {count : ℕ} → n ≡ count → Some new ≡ Some s → HoldsNoObject held → HasStarted s.tree prefix → IsOnWay job s.tree trail count
+walked : {job : Job} {s new : Reading} {prefix : List ℕ} {held : Held} {trail : List Frame} (n : ℕ) {count : ℕ} → n ≡ count → Some new ≡ Some s
+    → HoldsNoObject held → HasStarted s.tree prefix → IsOnWay job s.tree trail count
     → AtWalk job prefix (with_trail held trail) n new
 walked {job} {s} {prefix} {held} {trail} n done same none started way =
     stays (AtWalk job prefix (with_trail held trail) n) same
     (record { rows = none.rows; contents = none.contents }, started, rw done way)
 
 -- a site is entered
-at_site : (job : Job) {s new : Reading} {prefix : List ℕ} (held : Held) {trail : List Frame} {count : ℕ} → Some new ≡ Some s → held.rows ≡ [] → held.contents ≡ [] → HasStarted s.tree prefix → IsToJudge job s.tree trail count
+at_site : (job : Job) {s new : Reading} {prefix : List ℕ} (held : Held) {trail : List Frame} {count : ℕ} → Some new ≡ Some s → held.rows ≡ []
+    → held.contents ≡ [] → HasStarted s.tree prefix → IsToJudge job s.tree trail count
     → HoldsNoObject (with_trail held trail) × HasStarted new.tree prefix × IsToJudge job new.tree trail count
 at_site job {prefix} held {trail} {count} same rows contents started site =
-    stays (λ r. HoldsNoObject (with_trail held trail) × HasStarted r.tree prefix × IsToJudge job r.tree trail count) same (record { rows = rows; contents = contents }, started, site)
+    stays (λ r. HoldsNoObject (with_trail held trail) × HasStarted r.tree prefix × IsToJudge job r.tree trail count) same
+    (record { rows = rows; contents = contents }, started, site)
 
 pub walks_keep : (job : Job) (s new : Reading) {prefix : List ℕ} (count : ℕ) {here next : Phase} {held after : Held} {calls : Calls}
     → is_proper s.tree ≡ true → is_trail held.trail ≡ true → WalkStep job prefix here held after calls (Ok next) → SourceAt job s prefix count here held
@@ -207,19 +234,25 @@ walks_keep job s new count proper is_one (OpensRoot was items) at answers =
 walks_keep job s new {prefix} count {after} proper is_one (IsNew was index id is) at answers =
     let object = new_object job id index was.trail in
     let it = new_object_there job s.tree prefix was.trail index id count (pairtree_proper s.tree at.1.store proper) is at.2 in
-    stays (λ r. HoldsNoObject after × HasStarted r.tree prefix × IsInObject job r.tree prefix object after.trail count × (length after.trail ≡ length was.trail) × (object.empty ≡ 0)) answers
+    stays (λ r. HoldsNoObject after × HasStarted r.tree prefix × IsInObject job r.tree prefix object after.trail count × (length after.trail ≡ length was.trail)
+    × (object.empty ≡ 0)) answers
     (record { rows = at.0.rows; contents = at.0.contents }, at.1, it.stands, it.at_site, refl)
 walks_keep job s new count proper is_one (IsPast was name e short last) at answers =
-    walked _ (done_at_shorty was.trail name count e short) answers at.0 at.1 (passes_past job was.trail (pairtree_proper s.tree at.1.store proper) e short last at.2)
+    walked _ (done_at_shorty was.trail name count e short) answers at.0 at.1
+    (passes_past job was.trail (pairtree_proper s.tree at.1.store proper) e short last at.2)
 walks_keep job s new count proper is_one (IsDeep was name e short last deep) at answers =
-    walked _ (done_at_shorty was.trail name count e short) answers at.0 at.1 (passes_deep job was.trail (pairtree_proper s.tree at.1.store proper) is_one e short last deep at.2)
+    walked _ (done_at_shorty was.trail name count e short) answers at.0 at.1
+    (passes_deep job was.trail (pairtree_proper s.tree at.1.store proper) is_one e short last deep at.2)
 walks_keep job s new count proper is_one (EntersSite was name items e short last deep) at answers =
-    let listed : listing_at (pairtree_of s.tree) (names_to was.trail) ≡ Some items = sym (listing_in s.tree (names_to was.trail) at.1.store) ∙ answers.0 s refl in
-    at_site job was answers.2 at.0.rows at.0.contents at.1 (enters_site job was.trail (pairtree_proper s.tree at.1.store proper) is_one e short last deep listed at.2)
+    let listed : listing_at (pairtree_of s.tree) (names_to was.trail) ≡ Some items = sym (listing_in s.tree (names_to was.trail) at.1.store)
+    ∙ answers.0 s refl in
+    at_site job was answers.2 at.0.rows at.0.contents at.1 (enters_site job was.trail (pairtree_proper s.tree at.1.store proper) is_one e short last deep listed
+    at.2)
 walks_keep job s new count proper is_one (PassesEntry was item e apart) at answers =
     walked _ (none_at_entry was.trail item count e apart) answers at.0 at.1 (passes_entry job was.trail (pairtree_proper s.tree at.1.store proper) e apart at.2)
 walks_keep job s new count proper is_one (LeavesSite was e long) at answers =
     walked _ (none_at_end was.trail count e) answers at.0 at.1 (leaves_site was.trail e long at.2)
 walks_keep job s new {prefix} count proper is_one (EndsWalk was e short) at answers =
-    stays (λ r. HoldsNoObject was × HasStarted r.tree prefix × (drop count (sites_of job.limits.depth r.tree) ≡ [])) answers (at.0, at.1, ends_walk was.trail e short at.2)
+    stays (λ r. HoldsNoObject was × HasStarted r.tree prefix × (drop count (sites_of job.limits.depth r.tree) ≡ [])) answers
+    (at.0, at.1, ends_walk was.trail e short at.2)
 walks_keep job s new {prefix} count {after} proper is_one judged at answers = stays (AtWalk job prefix after (suc count)) answers (at.0, at.1, at.2.way)

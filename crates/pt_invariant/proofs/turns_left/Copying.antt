@@ -1,5 +1,31 @@
 -- The rows that are still to copy or to pass, and the blocks of a file.
-use Rattle.std.proofs.Common.{◌≡◌, ◌<◌, ◌≤◌, ◌-◌, ℕ, zero, suc, ◌+◌, ◌/◌, Bool, true, false, List, [], ◌∷◌, ◌++◌, refl, ap, sym, ◌∙◌, arith, cond, drop, length, take}
+use Rattle.std.proofs.Common.{
+  ◌≡◌,
+  ◌<◌,
+  ◌≤◌,
+  ◌-◌,
+  ℕ,
+  zero,
+  suc,
+  ◌+◌,
+  ◌/◌,
+  Bool,
+  true,
+  false,
+  List,
+  [],
+  ◌∷◌,
+  ◌++◌,
+  refl,
+  ap,
+  sym,
+  ◌∙◌,
+  arith,
+  cond,
+  drop,
+  length,
+  take,
+}
 use Rattle.std.specs.Prelude.{Option, Some, nat_lt, slice_get, sum_by}
 use Rattle.std.specs.Option.{option_map}
 use Rattle.std.proofs.lemmas.Bool.{ltb-false, ltb-true}
@@ -25,7 +51,8 @@ drop_at zero (y ∷ xs) {x} is =
 drop_at (suc n) (_ ∷ xs) is = drop_at n xs is
 
 -- one row, and those behind it
-pub copy_next : (rows : List Row) (n : ℕ) {row : Row} {known : Bool} → slice_get rows n ≡ Some row → is_known (take n rows) row ≡ known → to_copy_from rows n ≡ cond known 1 (reads row.length) + to_copy_from rows (n + 1)
+pub copy_next : (rows : List Row) (n : ℕ) {row : Row} {known : Bool} → slice_get rows n ≡ Some row → is_known (take n rows) row ≡ known
+    → to_copy_from rows n ≡ cond known 1 (reads row.length) + to_copy_from rows (n + 1)
 copy_next rows n {row} {known} is is_it =
     let next : suc n ≡ n + 1 = omega arith in
     ap (to_copy (take n rows)) (drop_at n rows is)
@@ -34,7 +61,8 @@ copy_next rows n {row} {known} is is_it =
     ∙ ap (λ (k : ℕ). cond known 1 (reads row.length) + to_copy_from rows k) next
 
 -- all of them are the work to copy
-copies_after : (earlier rows : List Row) → (to_copy earlier rows ≡ sum_by (λ row. reads row.length) (distinct_after earlier rows) + (length rows - length (distinct_after earlier rows))) × (length (distinct_after earlier rows) ≤ length rows)
+copies_after : (earlier rows : List Row) → (to_copy earlier rows ≡ sum_by (λ row. reads row.length) (distinct_after earlier rows)
+    + (length rows - length (distinct_after earlier rows))) × (length (distinct_after earlier rows) ≤ length rows)
 copies_after earlier [] = (refl, omega arith)
 copies_after earlier (row ∷ rows) = by (is_known earlier row) (copies_after (earlier ++ row ∷ []) rows)
   where
@@ -44,13 +72,16 @@ copies_after earlier (row ∷ rows) = by (is_known earlier row) (copies_after (e
     others : List Row
     others = distinct_after (earlier ++ row ∷ []) rows
 
-    by : (known : Bool) → (to_copy (earlier ++ row ∷ []) rows ≡ sum_by (λ row. reads row.length) others + (length rows - length others)) × (length others ≤ length rows)
-        → (cond known 1 (reads row.length) + to_copy (earlier ++ row ∷ []) rows ≡ sum_by (λ row. reads row.length) (cond known others (row ∷ others)) + (suc (length rows) - length (cond known others (row ∷ others)))) × (length (cond known others (row ∷ others)) ≤ suc (length rows))
+    by : (known : Bool) → (to_copy (earlier ++ row ∷ []) rows ≡ sum_by (λ row. reads row.length) others + (length rows - length others))
+        × (length others ≤ length rows)
+        → (cond known 1 (reads row.length) + to_copy (earlier ++ row ∷ []) rows ≡ sum_by (λ row. reads row.length) (cond known others (row ∷ others))
+        + (suc (length rows) - length (cond known others (row ∷ others)))) × (length (cond known others (row ∷ others)) ≤ suc (length rows))
     by true later = let sum = later.0 in let few = later.1 in (omega (arith, sum, few), omega (arith, few))
     by false later =
         let sum = later.0 in
         let few = later.1 in
-        let more : sum_by (λ row. reads row.length) (row ∷ others) ≡ reads row.length + sum_by (λ row. reads row.length) others = sum_by-cons (λ (row : Row). reads row.length) row others in
+        let more : sum_by (λ row. reads row.length) (row ∷ others) ≡ reads row.length + sum_by (λ row. reads row.length) others = sum_by-cons
+        (λ (row : Row). reads row.length) row others in
         (omega (arith, sum, few, more), omega (arith, few))
 
 pub copies_all : (rows : List Row) → to_copy_from rows 0 ≡ work_to_copy rows
@@ -73,7 +104,8 @@ more_blocks {n} many =
     omega (arith, whole, same)
 
 -- a block that is read of what is left lowers the reads of it
-pub block_read : {bytes : List ℕ} {count : ℕ} {fed : List ℕ} {byte : ℕ} {block : List ℕ} {unread : Option (List ℕ)} → IsReading bytes count fed unread → option_map (take 8192) unread ≡ Some (byte ∷ block)
+pub block_read : {bytes : List ℕ} {count : ℕ} {fed : List ℕ} {byte : ℕ} {block : List ℕ} {unread : Option (List ℕ)} → IsReading bytes count fed unread
+    → option_map (take 8192) unread ≡ Some (byte ∷ block)
     → reads (length bytes - (count + length (byte ∷ block))) + 1 ≤ reads (length bytes - count)
 block_read {bytes} {count} {byte} {block} it read = by (nat_lt 8192 (length rest)) refl
   where

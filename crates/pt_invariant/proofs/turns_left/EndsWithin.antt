@@ -19,7 +19,8 @@ use Rattle.pt_invariant.specs.WorkLaws.{InvariantWithinWork, IsWithinWork, Stops
 use Rattle.pt_invariant.proofs.turns_left.Within.{turns_are_within_work}
 
 -- a turn leaves the source's tree
-pub turn_tree : (job : Job) (here : Phase) (before after : Kept) (old new : DeviceStates) (answer : Answer) → Turn job here before after old new answer → tree_in new.source ≡ tree_in old.source
+pub turn_tree : (job : Job) (here : Phase) (before after : Kept) (old new : DeviceStates) (answer : Answer) → Turn job here before after old new answer
+    → tree_in new.source ≡ tree_in old.source
 unfolding Did FailsPartway FailsUnchanged
 turn_tree _ _ _ _ old new _ (GoesOn calls _ _ did _) = answers_tree calls.asked old.source new.source did.0.source
 turn_tree _ _ _ _ old new _ (IsRefused _ _ calls _ _ did _) = answers_tree calls.asked old.source new.source did.0.source
@@ -27,7 +28,8 @@ turn_tree _ _ _ _ _ _ _ (FailsAtFirst _ stays _) = stays.0
 turn_tree _ _ _ _ _ _ _ (FailsLater _ _ _ _ _ _ _ leaves _ _) = leaves.0.source
 
 -- of a run that has ended no turn is left
-no_more : {job : Job} {source : Forest} {root : Tree} (count : ℕ) {kept : Kept} → kept.counts.turns ≤ work job source root → IsWithinWork job source root count (record { phase = phase.Ended; kept = kept })
+no_more : {job : Job} {source : Forest} {root : Tree} (count : ℕ) {kept : Kept} → kept.counts.turns ≤ work job source root
+    → IsWithinWork job source root count (record { phase = phase.Ended; kept = kept })
 no_more count few = record { within = omega (arith, few) }
 
 pub turn_ends_within_work : TurnEndsWithinWork
@@ -43,16 +45,40 @@ turn_ends_within_work job start old new run after why (past, is, within) going t
     )
 
 -- its own count has no part in what a run that ended is
-without_turn : (job : Job) (start : Start) (states : DeviceStates) (kept : Kept) → RunInvariant job start states (record { phase = phase.Ended; kept = turning kept }) → RunInvariant job start states (record { phase = phase.Ended; kept = kept })
+without_turn : (job : Job) (start : Start) (states : DeviceStates) (kept : Kept)
+    → RunInvariant job start states (record { phase = phase.Ended; kept = turning kept })
+    → RunInvariant job start states (record { phase = phase.Ended; kept = kept })
 unfolding RunInvariant
-without_turn _ _ _ _ (past, is) = (past, record { layout = is.layout; held = is.held; source = is.source; dest = is.dest; items = λ s e old f. record { places = (is.items s e old f).places; lines_are = record { done = (is.items s e old f).lines_are.done; present = (is.items s e old f).lines_are.present; skipped = (is.items s e old f).lines_are.skipped } }; log = is.log; quiet = is.quiet; left = is.left })
+without_turn _ _ _ _ (past, is) = (
+  past,
+  record {
+    layout = is.layout;
+    held = is.held;
+    source = is.source;
+    dest = is.dest;
+    items = λ s e old f. record {
+      places = (is.items s e old f).places;
+      lines_are = record {
+        done = (is.items s e old f).lines_are.done;
+        present = (is.items s e old f).lines_are.present;
+        skipped = (is.items s e old f).lines_are.skipped;
+      };
+    };
+    log = is.log;
+    quiet = is.quiet;
+    left = is.left;
+  },
+)
 
 no_turn : (job : Job) (here : Phase) (kept : Kept) (states : DeviceStates) → Turn job here (turning kept) (turning kept) states states (Err fault.Memory)
 unfolding FailsUnchanged
-no_turn _ _ _ _ = FailsAtFirst fault.Memory (refl, refl, refl, refl, tt) (record { prefix = refl; trail = refl; rows_are = refl; contents = refl; counts = refl })
+no_turn _ _ _ _ = FailsAtFirst fault.Memory (refl, refl, refl, refl, tt)
+    (record { prefix = refl; trail = refl; rows_are = refl; contents = refl; counts = refl })
 
-stops_begun : (job : Job) (start : Start) (states : DeviceStates) (run : Run) → RunInvariant job start states run → RunInvariant job start states (record { phase = phase.Ended; kept = run.kept })
-stops_begun job start states run begun = without_turn job start states run.kept (turn_ends_invariant job start states states run (turning run.kept) fault.Memory begun (no_turn job run.phase run.kept states))
+stops_begun : (job : Job) (start : Start) (states : DeviceStates) (run : Run) → RunInvariant job start states run
+    → RunInvariant job start states (record { phase = phase.Ended; kept = run.kept })
+stops_begun job start states run begun = without_turn job start states run.kept
+    (turn_ends_invariant job start states states run (turning run.kept) fault.Memory begun (no_turn job run.phase run.kept states))
 
 pub stops_within_work : StopsWithinWork
 unfolding InvariantWithinWork RunInvariant

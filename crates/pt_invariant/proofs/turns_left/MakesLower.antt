@@ -17,7 +17,25 @@ use Rattle.pt_plan.specs.Carried.{Marked}
 use Rattle.pt_plan.specs.Job.{Job}
 use Rattle.pt_plan.specs.Run.{Held, with_fed}
 use Rattle.pt_plan.specs.Store.{pairtree_of}
-use Rattle.pt_plan.specs.TurnMake.{CopiesOn, EndsCopy, MakesDeclaration, MakesFolder, MakesInventory, MakesSidecar, MakesStaging, MakesVersion, MakesVersionInventory, MakesVersionSidecar, OpensCopy, PassesRow, behind, behind_stored, content_at, is_stored, path_of_source}
+use Rattle.pt_plan.specs.TurnMake.{
+  CopiesOn,
+  EndsCopy,
+  MakesDeclaration,
+  MakesFolder,
+  MakesInventory,
+  MakesSidecar,
+  MakesStaging,
+  MakesVersion,
+  MakesVersionInventory,
+  MakesVersionSidecar,
+  OpensCopy,
+  PassesRow,
+  behind,
+  behind_stored,
+  content_at,
+  is_stored,
+  path_of_source,
+}
 use Rattle.pt_plan.specs.TurnScan.{to_site}
 use Rattle.pt_plan.specs.Work.{reads}
 use Rattle.pt_plan.specs.DeviceStates.{Answers}
@@ -33,7 +51,18 @@ use Rattle.pt_invariant.proofs.dest.ContentParts.{IsHere, file_made, file_next, 
 use Rattle.pt_invariant.proofs.held.DistinctRows.{is_known, stored_where_new}
 use Rattle.pt_invariant.proofs.dest.MakesDest.{copy_here, copy_stands, is_here}
 use Rattle.pt_invariant.proofs.source.MakesKeep.{file_of_row}
-use Rattle.pt_invariant.proofs.dest.ObjectParts.{after_first, after_second, after_third, next_declaration, next_first, next_fourth, next_second, next_staging, next_third, next_version}
+use Rattle.pt_invariant.proofs.dest.ObjectParts.{
+  after_first,
+  after_second,
+  after_third,
+  next_declaration,
+  next_first,
+  next_fourth,
+  next_second,
+  next_staging,
+  next_third,
+  next_version,
+}
 use Rattle.pt_invariant.proofs.held.Positions.{is_new, stored_more, stored_passed}
 use Rattle.pt_invariant.proofs.dest.ScriptParts.{IsNext}
 use Rattle.pt_invariant.specs.WorkLaws.{DecreasesRank, MakingDecreasesRank}
@@ -49,7 +78,8 @@ some_left {script} {front} {item} next =
     omega (arith, long)
 
 -- and with it one less
-one_less : {script front after : List Item} {item : Item} → IsNext script front item → after ≡ front ++ item ∷ [] → length script - length after + 1 ≤ length script - length front
+one_less : {script front after : List Item} {item : Item} → IsNext script front item → after ≡ front ++ item ∷ []
+    → length script - length after + 1 ≤ length script - length front
 one_less {script} {front} {after} {item} next is =
     let long : length script ≡ length front + length (item ∷ next.rest) = ap length next.is ∙ length-append front (item ∷ next.rest) in
     let more : length after ≡ length front + 1 = ap length is ∙ length-append front (item ∷ []) in
@@ -66,7 +96,9 @@ no_more_to_copy rows position = by (nat_lt position.row (length rows))
     by false = omega arith
 
 -- a row is passed where its digest is known
-passed_known : {rows : List Row} {contents : List Content} {position : Position} {row : Row} → contents ≡ map content_of_row (distinct rows) → part_in_order (row_paths rows) ≡ true → slice_get rows position.row ≡ Some row → is_stored contents position.stored row.path ≡ false → IsAtRow rows position
+passed_known : {rows : List Row} {contents : List Content} {position : Position} {row : Row} → contents ≡ map content_of_row (distinct rows)
+    → part_in_order (row_paths rows) ≡ true → slice_get rows position.row ≡ Some row → is_stored contents position.stored row.path ≡ false
+    → IsAtRow rows position
     → is_known (take position.row rows) row ≡ true
 passed_known {rows} {contents} {position} {row} are order is passed at = by (is_known (take position.row rows) row) refl
   where
@@ -75,13 +107,16 @@ passed_known {rows} {contents} {position} {row} are order is passed at = by (is_
     by false new = absurd (true≢false (sym (stored_where_new rows contents position.row position.stored row are at.stored order is false new) ∙ passed))
 
 -- a row that is copied is the first of its digest
-copied_next : {rows : List Row} {contents : List Content} {position : Position} {row : Row} → IsHere rows contents position row → to_copy_from rows position.row ≡ reads row.length + to_copy_from rows (position.row + 1)
+copied_next : {rows : List Row} {contents : List Content} {position : Position} {row : Row} → IsHere rows contents position row
+    → to_copy_from rows position.row ≡ reads row.length + to_copy_from rows (position.row + 1)
 copied_next {rows} {contents} {position} {row} it = copy_next rows position.row it.is (is_new rows contents position row it.are it.order it.is it.stored it.at)
 
 -- ---- a copy
 
 -- so many bytes of the file are left
-copy_lowers : {job : Job} {s : Reading} {prefix : List ℕ} {past : History} {object : Object} {held : Held} {position : Position} {left byte : ℕ} {block : List ℕ} → SourcePart job past (phase.Carrying object (stage.Copy position left)) prefix held s → option_map (take 8192) s.unread ≡ Some (byte ∷ block)
+copy_lowers : {job : Job} {s : Reading} {prefix : List ℕ} {past : History} {object : Object} {held : Held} {position : Position} {left byte : ℕ}
+    {block : List ℕ} → SourcePart job past (phase.Carrying object (stage.Copy position left)) prefix held s
+    → option_map (take 8192) s.unread ≡ Some (byte ∷ block)
     → reads (left - length (byte ∷ block)) + 1 ≤ reads left
 copy_lowers {job} {s} {prefix} {past} {object} {held} {position} {left} {byte} {block} part read =
     let it = part.at.2 in
@@ -98,8 +133,10 @@ copy_lowers {job} {s} {prefix} {past} {object} {held} {position} {left} {byte} {
 
 -- ---- each turn
 
-after_sidecar : (job : Job) (source : Forest) (marks : List Marked) (count : ℕ) (object : Object) (held : Held) (flat : Bool) → 0 < items_to_make job source object (to_site object held.trail) held.rows part.Sidecar
-    → DecreasesRank job source marks count (phase.Carrying object (stage.Make part.Sidecar)) held (cond flat (phase.Carrying object stage.Rename) (phase.Carrying object (stage.Tuples 0))) (with_fed held [])
+after_sidecar : (job : Job) (source : Forest) (marks : List Marked) (count : ℕ) (object : Object) (held : Held) (flat : Bool)
+    → 0 < items_to_make job source object (to_site object held.trail) held.rows part.Sidecar
+    → DecreasesRank job source marks count (phase.Carrying object (stage.Make part.Sidecar)) held
+    (cond flat (phase.Carrying object stage.Rename) (phase.Carrying object (stage.Tuples 0))) (with_fed held [])
 after_sidecar job source marks count object held true some = omega (arith, some)
 after_sidecar job source marks count object held false some = omega (arith, some)
 
@@ -122,7 +159,8 @@ makes_lower job past s new marks prefix here held after calls next (MakesVersion
     omega (arith, less, few)
 makes_lower job past s new marks prefix here held after calls next (PassesRow was object position row is other) answers at part_is =
     let b = bytes_there s.tree object (to_site object was.trail) in
-    let same = ap length (made_at job object was.rows b (behind position) (stored_passed was.rows was.contents position row at.rows.contents at.rows.order is other at.numbers)) in
+    let same = ap length (made_at job object was.rows b (behind position)
+    (stored_passed was.rows was.contents position row at.rows.contents at.rows.order is other at.numbers)) in
     let one = copy_next was.rows position.row is (passed_known at.rows.contents at.rows.order is other at.numbers) in
     let few = no_more_to_copy was.rows (behind position) in
     omega (arith, same, one, few)
@@ -149,7 +187,8 @@ makes_lower job past s new marks prefix here held after calls next (EndsCopy was
     let later = behind_stored was.contents position row.path in
     let less = one_less
     (file_next job object was.rows was.contents b position row it stand)
-    (made_at job object was.rows b later (stored_more was.rows was.contents position row it.are it.order it.is it.stored it.at) ∙ file_made job object was.rows was.contents b position row it stand) in
+    (made_at job object was.rows b later (stored_more was.rows was.contents position row it.are it.order it.is it.stored it.at)
+    ∙ file_made job object was.rows was.contents b position row it stand) in
     let few = no_more_to_copy was.rows later in
     omega (arith, less, few)
 makes_lower job past s new marks prefix here held after calls next (MakesVersionInventory was object) answers at part_is =

@@ -12,7 +12,21 @@ use Rattle.pt_walk.specs.declared.frame.Frame.{Frame}
 use Rattle.pt_plan.specs.Items.{PairtreeObject, outcome}
 use Rattle.pt_plan.specs.Job.{Job}
 use Rattle.pt_plan.specs.Store.{pairtree_of}
-use Rattle.pt_plan.specs.TurnScan.{EndsFile, EndsObject, EndsSite, EntersDirectory, EntersObject, IsTooDeep, LeavesDirectory, OpensFile, PassesShorty, ReadsOn, StartsInSite, logical_path, to_site}
+use Rattle.pt_plan.specs.TurnScan.{
+  EndsFile,
+  EndsObject,
+  EndsSite,
+  EntersDirectory,
+  EntersObject,
+  IsTooDeep,
+  LeavesDirectory,
+  OpensFile,
+  PassesShorty,
+  ReadsOn,
+  StartsInSite,
+  logical_path,
+  to_site,
+}
 use Rattle.pt_plan.specs.Work.{met, reads, work_at, work_by_outcome}
 use Rattle.pt_plan.specs.DeviceStates.{Answers}
 use Rattle.pt_plan.specs.declared.object.Object.{Object}
@@ -27,18 +41,35 @@ use Rattle.pt_invariant.proofs.source.ScansSource.{scans_source}
 use Rattle.pt_invariant.specs.WorkLaws.{ScanningDecreasesRank}
 use Rattle.pt_invariant.specs.Rank.{after_scan, still_here, to_meet}
 use Rattle.pt_invariant.proofs.turns_left.Copying.{block_read}
-use Rattle.pt_invariant.proofs.turns_left.ScanParts.{comes_to, enters_meets, file_meets, leave_directory, leave_less, leave_on, leave_site, none_met, noted_meets, pass_less, site_behind, site_on, site_sought}
+use Rattle.pt_invariant.proofs.turns_left.ScanParts.{
+  comes_to,
+  enters_meets,
+  file_meets,
+  leave_directory,
+  leave_less,
+  leave_on,
+  leave_site,
+  none_met,
+  noted_meets,
+  pass_less,
+  site_behind,
+  site_on,
+  site_sought,
+}
 
 -- what comes of an object is the same if the object is
-same_work : (job : Job) (object : Object) {one other : PairtreeObject} → one ≡ other → work_by_outcome job object.id (outcome job.limits one) ≡ work_by_outcome job object.id (outcome job.limits other)
+same_work : (job : Job) (object : Object) {one other : PairtreeObject} → one ≡ other
+    → work_by_outcome job object.id (outcome job.limits one) ≡ work_by_outcome job object.id (outcome job.limits other)
 same_work job object same = ap (λ (o : PairtreeObject). work_by_outcome job object.id (outcome job.limits o)) same
 
 -- so are the entries that are left of it
-same_meets : (job : Job) {one other : PairtreeObject} (held : ℕ) (some : List Entry) → one ≡ other → to_meet job.limits (length one.at) held some ≡ to_meet job.limits (length other.at) held some
+same_meets : (job : Job) {one other : PairtreeObject} (held : ℕ) (some : List Entry) → one ≡ other
+    → to_meet job.limits (length one.at) held some ≡ to_meet job.limits (length other.at) held some
 same_meets job held some same = ap (λ (o : PairtreeObject). to_meet job.limits (length o.at) held some) same
 
 -- and all that are met
-same_met : (job : Job) {one other : PairtreeObject} → one ≡ other → sum_by (λ (entry : Entry). work_at entry.1) (met job.limits one) ≡ sum_by (λ (entry : Entry). work_at entry.1) (met job.limits other)
+same_met : (job : Job) {one other : PairtreeObject} → one ≡ other → sum_by (λ (entry : Entry). work_at entry.1) (met job.limits one)
+    ≡ sum_by (λ (entry : Entry). work_at entry.1) (met job.limits other)
 same_met job same = ap (λ (o : PairtreeObject). sum_by (λ (entry : Entry). work_at entry.1) (met job.limits o)) same
 
 -- ---- each turn
@@ -64,7 +95,8 @@ scans_lower job past s new marks prefix here next held after calls (EntersObject
     let t = was.trail in
     let stands = known.at.2 in
     let at_site = known.at.3 in
-    let later = scans_source job past s s prefix here next held after calls (EntersObject was object items apart shallow) (answers.0, answers.1, refl) at known in
+    let later = scans_source job past s s prefix here next held after calls (EntersObject was object items apart shallow) (answers.0, answers.1, refl) at known
+    in
     let site = site_entered object items t stands.within in
     let other = object_at s.tree object (to_site object (entered items t)) in
     let few = none_met later.at.1.scanned known.at.0.rows in
@@ -90,7 +122,8 @@ scans_lower job past s new marks prefix here next held after calls (EntersDirect
     let t = was.trail in
     let it = known.at.1 in
     let listed : listing_at (pairtree_of s.tree) (names_to t) ≡ Some items = sym (listing_in s.tree (names_to t) known.at.0.store) ∙ answers.0 s refl in
-    let meets = enters_meets job s.tree object was.rows t (pairtree_proper s.tree known.at.0.store known.proper) at.trail.is_one e apart shallow listed it.stands.fits it.stands.within it.inside in
+    let meets = enters_meets job s.tree object was.rows t (pairtree_proper s.tree known.at.0.store known.proper) at.trail.is_one e apart shallow listed
+    it.stands.fits it.stands.within it.inside in
     let site = site_entered object items t it.stands.within in
     let other = same_meets job (length was.rows) (left_of s.tree object (entered items t)) (ap (object_at s.tree object) site) in
     let own = own_entered object items t it.stands.within in
@@ -107,14 +140,16 @@ scans_lower job past s new marks prefix here next held after calls (OpensFile wa
     omega (arith, meets, whole)
 scans_lower job past s new marks prefix here next held after calls (EndsSite was object e in_site) answers at known =
     let later = scans_source job past s s prefix here next held after calls (EndsSite was object e in_site) refl at known in
-    let comes = comes_to s.tree object (to_site object was.trail) (pairtree_proper s.tree known.at.0.store known.proper) later.at.1.scanned at.rows known.bytes in
+    let comes = comes_to s.tree object (to_site object was.trail) (pairtree_proper s.tree known.at.0.store known.proper) later.at.1.scanned at.rows known.bytes
+    in
     let some = known.at.1.inside in
     omega (arith, comes, some)
 scans_lower job past s new marks prefix here next held after calls (EndsObject was object e in_site own) answers at known =
     let t = was.trail in
     let later = scans_source job past s s prefix here next held after calls (EndsObject was object e in_site own) refl at known in
     let below = below_site_of object t in_site known.at.1.stands.within in
-    let comes = comes_to s.tree object (to_site object (parent t)) (pairtree_proper s.tree known.at.0.store known.proper) later.at.1.scanned at.rows later.bytes in
+    let comes = comes_to s.tree object (to_site object (parent t)) (pairtree_proper s.tree known.at.0.store known.proper) later.at.1.scanned at.rows later.bytes
+    in
     let behind = ap (after_scan job s.tree marks past.count object) (site_parent object t below) in
     let some = known.at.1.inside in
     omega (arith, comes, behind, some)
@@ -127,7 +162,8 @@ scans_lower job past s new marks prefix here next held after calls (LeavesDirect
     let one = object_at s.tree object (to_site object t) in
     let other = object_at s.tree object (to_site object (advanced (parent t))) in
     let same = (moved_behind job s.tree prefix object t past.count below around it.stands).same in
-    let meets = ap (to_meet job.limits (length one.at) (length was.rows)) left ∙ same_meets job (length was.rows) (left_of s.tree object (advanced (parent t))) same in
+    let meets = ap (to_meet job.limits (length one.at) (length was.rows)) left
+    ∙ same_meets job (length was.rows) (left_of s.tree object (advanced (parent t))) same in
     let leave = leave_less object t below in
     let work = same_work job object same in
     let walk = site_behind object t below in
@@ -143,7 +179,8 @@ scans_lower job past s new marks prefix here next held after calls (EndsFile was
     let whole = bytes_at (pairtree_of s.tree) (names_to t) in
     let short = file.short in
     let ended = (reads_end 8192 whole bytes was.fed s.unread (omega arith) file.read (answers.0 s refl)).length_is in
-    let meets = noted_meets job s.tree object was.rows t (pairtree_proper s.tree known.at.0.store known.proper) file.file it.stands.fits it.inside file.room (omega (arith, short, ended)) in
+    let meets = noted_meets job s.tree object was.rows t (pairtree_proper s.tree known.at.0.store known.proper) file.file it.stands.fits it.inside file.room
+    (omega (arith, short, ended)) in
     let one = object_at s.tree object (to_site object t) in
     let other = object_at s.tree object (to_site object (advanced t)) in
     let same = (moved_on job s.tree prefix object t past.count it.inside it.stands).same in

@@ -10,11 +10,15 @@ use Rattle.pt_plan.specs.declared.phase.Opening.TheVariants as opening
 use Rattle.pt_plan.specs.declared.phase.Phase.TheVariants as phase
 use Rattle.pt_invariant.specs.WorkLaws.{DecreasesRank, StartingDecreasesRank}
 
-makes_item : (job : Job) (source : Forest) (marks : List Marked) (count : ℕ) {number : ℕ} (held : Held) (last : Bool) → (number == 5) ≡ last → number < 6 → DecreasesRank job source marks count (phase.Opening (opening.RootMake number)) held (cond last (phase.Opening opening.RootRename) (phase.Opening (opening.RootMake (number + 1)))) held
+makes_item : (job : Job) (source : Forest) (marks : List Marked) (count : ℕ) {number : ℕ} (held : Held) (last : Bool) → (number == 5) ≡ last → number < 6
+    → DecreasesRank job source marks count (phase.Opening (opening.RootMake number)) held
+    (cond last (phase.Opening opening.RootRename) (phase.Opening (opening.RootMake (number + 1)))) held
 makes_item job source marks count {number} held true is within = let five = eqb-true number 5 is in omega (arith, five)
 makes_item job source marks count held false is within = omega (arith, within)
 
-compares_file : (job : Job) (source : Forest) (marks : List Marked) (count : ℕ) {number : ℕ} (held : Held) (last : Bool) → (number == 2) ≡ last → number < 3 → DecreasesRank job source marks count (phase.Opening (opening.RootCheck number)) held (cond last (phase.Opening opening.OpenRoot) (phase.Opening (opening.RootCheck (number + 1)))) held
+compares_file : (job : Job) (source : Forest) (marks : List Marked) (count : ℕ) {number : ℕ} (held : Held) (last : Bool) → (number == 2) ≡ last → number < 3
+    → DecreasesRank job source marks count (phase.Opening (opening.RootCheck number)) held
+    (cond last (phase.Opening opening.OpenRoot) (phase.Opening (opening.RootCheck (number + 1)))) held
 compares_file job source marks count {number} held true is within = let two = eqb-true number 2 is in omega (arith, two)
 compares_file job source marks count held false is within = omega (arith, within)
 

@@ -36,18 +36,21 @@ use Rattle.pt_invariant.proofs.turns_left.Copying.{drop_at}
 
 -- ---- the items
 
-mark_in : (marks : List Marked) (count : ℕ) {item : Item} → slice_get (map (λ (m : Marked). m.0) marks) count ≡ Some item → (taken : Bool) × (slice_get marks count ≡ Some (item, taken))
+mark_in : (marks : List Marked) (count : ℕ) {item : Item} → slice_get (map (λ (m : Marked). m.0) marks) count ≡ Some item
+    → (taken : Bool) × (slice_get marks count ≡ Some (item, taken))
 mark_in [] zero is = absurd (cc)
 mark_in [] (suc _) is = absurd (cc)
 mark_in (m ∷ _) zero is = (m.1, let same = some_same m.0 _ is in ap (λ (i : Item). Some (i, m.1)) same)
 mark_in (_ ∷ marks) (suc count) is = mark_in marks count is
 
 -- each item has a mark
-mark_there : (items : List Item) (marks : List Marked) (count : ℕ) {item : Item} → AreMarked items marks → slice_get items count ≡ Some item → (taken : Bool) × (slice_get marks count ≡ Some (item, taken))
+mark_there : (items : List Item) (marks : List Marked) (count : ℕ) {item : Item} → AreMarked items marks → slice_get items count ≡ Some item
+    → (taken : Bool) × (slice_get marks count ≡ Some (item, taken))
 mark_there items marks count are is = mark_in marks count (ap (λ (l : List Item). slice_get l count) are ∙ is)
 
 -- on one item, and on those behind it
-pub item_next : (job : Job) (marks : List Marked) (count : ℕ) {m : Marked} → slice_get marks count ≡ Some m → items_left job marks count ≡ work_on_item job m + items_left job marks (suc count)
+pub item_next : (job : Job) (marks : List Marked) (count : ℕ) {m : Marked} → slice_get marks count ≡ Some m
+    → items_left job marks count ≡ work_on_item job m + items_left job marks (suc count)
 item_next job marks count {m} is = ap (sum_by (work_on_item job)) (drop_at count marks is) ∙ sum_by-cons (work_on_item job) m (drop (suc count) marks)
 
 fewer : {X : Type 0} → (f : X → ℕ) (n : ℕ) (xs : List X) → sum_by f (drop (suc n) xs) ≤ sum_by f (drop n xs)
@@ -63,7 +66,8 @@ items_fewer job marks count = fewer (work_on_item job) count marks
 -- ---- the listings
 
 -- the listing of a frame is that of its directory
-pub listed_there : (top : Forest) (frame : Frame) (frames : List Frame) → Fits top (frame ∷ frames) → listing_of (inside_at top (names_to frames)) ≡ frame.listing
+pub listed_there : (top : Forest) (frame : Frame) (frames : List Frame) → Fits top (frame ∷ frames)
+    → listing_of (inside_at top (names_to frames)) ≡ frame.listing
 listed_there top frame frames fits = by (dir_at top (names_to frames)) refl
   where
     by : (o : Option Forest) → dir_at top (names_to frames) ≡ o → listing_of (inside_at top (names_to frames)) ≡ frame.listing
@@ -93,19 +97,22 @@ left_less (frame ∷ outer ∷ frames) is_one long =
 -- ---- a site
 
 -- a site that is listed is judged, walked and left
-site_walked : {job : Job} {source : Forest} (marks : List Marked) → AreMarked (items job source) marks → (trail : List Frame) {count : ℕ} → IsToJudge job source trail count → still_listed trail + 2 + items_left job marks (suc count) ≤ still_listed (parent trail) + items_left job marks count
+site_walked : {job : Job} {source : Forest} (marks : List Marked) → AreMarked (items job source) marks → (trail : List Frame) {count : ℕ}
+    → IsToJudge job source trail count → still_listed trail + 2 + items_left job marks (suc count) ≤ still_listed (parent trail) + items_left job marks count
 site_walked _ _ [] it = absurd (omega (arith, it.way.entered))
 site_walked {job} {source} marks are (frame ∷ frames) {count} it =
     let top = pairtree_of source in
     let path = names_to frames in
     let item = item_of job (prefix_of source) (path, Listed (inside_at top path)) in
-    let mine : slice_get (items job source) count ≡ Some item = get_map (item_of job (prefix_of source)) (sites_of job.limits.depth source) count _ it.here.site in
+    let mine : slice_get (items job source) count ≡ Some item = get_map (item_of job (prefix_of source)) (sites_of job.limits.depth source) count _ it.here.site
+    in
     let next = item_next job marks count (mark_there (items job source) marks count are mine).1 in
     let same = ap length (listed_there top frame frames it.way.fits) in
     omega (arith, next, same)
 
 -- the site's listing, from its start on
-site_long : (top : Forest) (trail : List Frame) → Fits top trail → still_listed (sought 0 trail) ≤ still_listed (parent trail) + length (listing_of (inside_at top (trail_path trail)))
+site_long : (top : Forest) (trail : List Frame) → Fits top trail → still_listed (sought 0 trail) ≤ still_listed (parent trail)
+    + length (listing_of (inside_at top (trail_path trail)))
 site_long top [] fits = omega arith
 site_long top (frame ∷ frames) fits = let same = ap length (listed_there top frame frames fits) in omega (arith, same)
 
@@ -115,13 +122,17 @@ same_parent (Some _) [] = refl
 same_parent (Some _) (_ ∷ _) = refl
 
 -- its object is to be scanned
-object_next : {job : Job} {source : Forest} (marks : List Marked) → AreMarked (items job source) marks → {prefix : List ℕ} {object : Object} {trail : List Frame} {outer count : ℕ} (held : Held) → HasStarted source prefix → IsInObject job source prefix object trail count → length trail ≡ object.site → held.trail ≡ trail
-    → still_listed (parent trail) ≡ outer → EntersFree (phase.Carrying object stage.Open) marks count → rank job source marks count (phase.Carrying object stage.Open) held + 1 ≤ outer + items_left job marks count + 1
+object_next : {job : Job} {source : Forest} (marks : List Marked) → AreMarked (items job source) marks
+    → {prefix : List ℕ} {object : Object} {trail : List Frame} {outer count : ℕ} (held : Held) → HasStarted source prefix
+    → IsInObject job source prefix object trail count → length trail ≡ object.site → held.trail ≡ trail
+    → still_listed (parent trail) ≡ outer → EntersFree (phase.Carrying object stage.Open) marks count
+    → rank job source marks count (phase.Carrying object stage.Open) held + 1 ≤ outer + items_left job marks count + 1
 object_next {job} {source} marks are {object} {trail} {outer} {count} held started it at_site is same free =
     let site = to_site object trail in
     let what = object_at source object site in
     let item = item_of_site job source site in
-    let mine : slice_get (items job source) count ≡ Some item = get_map (item_of job (prefix_of source)) (sites_of job.limits.depth source) count _ it.site.here.site in
+    let mine : slice_get (items job source) count ≡ Some item = get_map (item_of job (prefix_of source)) (sites_of job.limits.depth source) count _
+    it.site.here.site in
     let mark = mark_there (items job source) marks count are mine in
     let not = free item mark.0 mark.1 in
     let next = item_next job marks count (mark.1 ∙ ap (λ (taken : Bool). Some (item, taken)) not) in
@@ -140,9 +151,12 @@ unfolding Answers
 walks_lower job past s new marks prefix here next held after calls (OpensRoot was items) answers at part are free =
     let none = ap still_listed at.trail.none in
     omega (arith, none)
-walks_lower job past s new marks prefix here next held after calls (LeadsOn was found) answers at part are free = let walked = site_walked marks are was.trail part.at.2 in omega (arith, walked)
-walks_lower job past s new marks prefix here next held after calls (IsSkipped was why found) answers at part are free = let walked = site_walked marks are was.trail part.at.2 in omega (arith, walked)
-walks_lower job past s new marks prefix here next held after calls (IsPresent was index id kind found) answers at part are free = let walked = site_walked marks are was.trail part.at.2 in omega (arith, walked)
+walks_lower job past s new marks prefix here next held after calls (LeadsOn was found) answers at part are free = let walked = site_walked marks are was.trail
+    part.at.2 in omega (arith, walked)
+walks_lower job past s new marks prefix here next held after calls (IsSkipped was why found) answers at part are free = let walked = site_walked marks are
+    was.trail part.at.2 in omega (arith, walked)
+walks_lower job past s new marks prefix here next held after calls (IsPresent was index id kind found) answers at part are free = let walked = site_walked marks
+    are was.trail part.at.2 in omega (arith, walked)
 walks_lower job past s _ marks prefix _ _ _ _ _ (IsNew was index id found) _ _ part are free =
     let it = new_object_there job s.tree prefix was.trail index id past.count (pairtree_proper s.tree part.at.1.store part.proper) found part.at.2 in
     object_next marks are (with_trail was (at_object index was.trail)) part.at.1 it.stands it.at_site refl (same_parent index was.trail) free

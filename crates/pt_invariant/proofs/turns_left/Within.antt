@@ -26,7 +26,18 @@ use Rattle.pt_invariant.proofs.ends.NewRun.{new_past}
 use Rattle.pt_invariant.proofs.source.InPairtree.{some_same}
 use Rattle.pt_invariant.proofs.source.SourceKeeps.{tree_kept}
 use Rattle.pt_invariant.proofs.ends.TurnKeeps.{told_source, turned}
-use Rattle.pt_invariant.specs.WorkLaws.{AreMarked, InvariantWithinWork, EntersFree, IsWithinWork, DecreasesRank, NewRunIsWithinWork, TurnIsLeft, TurnKeepsWithinWork, TurnsAreWithinWork, WithinWorkHoldsInvariant}
+use Rattle.pt_invariant.specs.WorkLaws.{
+  AreMarked,
+  InvariantWithinWork,
+  EntersFree,
+  IsWithinWork,
+  DecreasesRank,
+  NewRunIsWithinWork,
+  TurnIsLeft,
+  TurnKeepsWithinWork,
+  TurnsAreWithinWork,
+  WithinWorkHoldsInvariant,
+}
 use Rattle.pt_invariant.specs.Rank.{rank}
 use Rattle.pt_invariant.proofs.turns_left.MakesLower.{makes_lower}
 use Rattle.pt_invariant.proofs.turns_left.PlacesLower.{places_lower}
@@ -40,23 +51,34 @@ marks_of : (job : Job) (root : Tree) (earlier others : List Item) → map (λ (m
 marks_of job root earlier [] = refl
 marks_of job root earlier (item ∷ others) = ap (λ (l : List Item). item ∷ l) (marks_of job root (earlier ++ item ∷ []) others)
 
-enters_free : (job : Job) (source : Forest) (root : Tree) (next : Phase) (count : ℕ) → IsFreeAt next job source root count → EntersFree next (marked job source root) count
-enters_free _ _ _ (phase.Carrying _ stage.Open) _ (mine, is) = λ item taken found. ap (λ (m : Marked). m.1) (some_same (item, taken) (mine, false) (sym found ∙ is))
+enters_free : (job : Job) (source : Forest) (root : Tree) (next : Phase) (count : ℕ) → IsFreeAt next job source root count
+    → EntersFree next (marked job source root) count
+enters_free _ _ _ (phase.Carrying _ stage.Open) _ (mine, is) = λ item taken found. ap (λ (m : Marked). m.1)
+    (some_same (item, taken) (mine, false) (sym found ∙ is))
 enters_free _ _ _ _ _ free = tt
 
 -- ---- a turn lowers what is left
 
 -- the groups together
-pub follows_lower : {job : Job} {past : History} {s : Reading} (new : Reading) (marks : List Marked) → AreMarked (items job s.tree) marks → {counts : Counts} {here : Phase} {prefix : List ℕ} {held : Held} {read : List ℕ} {after : Held} {calls : Calls} {next : Phase} → Next job counts here prefix held read after calls (Ok next)
-    → Answers calls.asked (Some s) (Some new) → HeldAt job past here held → SourcePart job past here prefix held s → EntersFree next marks (done_after here held.trail next past.count) → DecreasesRank job s.tree marks past.count here held next after
-follows_lower {job} {past} {s} _ marks are {here} {prefix} {held} {read} {calls} {next} (a_start turn) _ at _ _ = starts_lower job past s.tree marks prefix read here next held calls turn at
-follows_lower {job} {past} {s} new marks are {here} {prefix} {held} {after} {calls} {next} (Walk turn) answers at known free = walks_lower job past s new marks prefix here next held after calls turn answers at known are free
-follows_lower {job} {past} {s} new marks are {here} {prefix} {held} {after} {calls} {next} (Scan turn) answers at known _ = scans_lower job past s new marks prefix here next held after calls turn answers at known
-follows_lower {job} {past} {s} new marks are {here} {prefix} {held} {after} {calls} {next} (Make turn) answers at known _ = makes_lower job past s new marks prefix here held after calls next turn answers at known
-follows_lower {job} {past} {s} _ marks are {counts} {here} {held} {after} {calls} {next} (Place turn) _ at _ _ = places_lower job counts past s.tree marks here next held after calls turn at
+pub follows_lower : {job : Job} {past : History} {s : Reading} (new : Reading) (marks : List Marked) → AreMarked (items job s.tree) marks
+    → {counts : Counts} {here : Phase} {prefix : List ℕ} {held : Held} {read : List ℕ} {after : Held} {calls : Calls} {next : Phase}
+    → Next job counts here prefix held read after calls (Ok next)
+    → Answers calls.asked (Some s) (Some new) → HeldAt job past here held → SourcePart job past here prefix held s
+    → EntersFree next marks (done_after here held.trail next past.count) → DecreasesRank job s.tree marks past.count here held next after
+follows_lower {job} {past} {s} _ marks are {here} {prefix} {held} {read} {calls} {next} (a_start turn) _ at _ _ = starts_lower job past s.tree marks prefix read
+    here next held calls turn at
+follows_lower {job} {past} {s} new marks are {here} {prefix} {held} {after} {calls} {next} (Walk turn) answers at known free = walks_lower job past s new marks
+    prefix here next held after calls turn answers at known are free
+follows_lower {job} {past} {s} new marks are {here} {prefix} {held} {after} {calls} {next} (Scan turn) answers at known _ = scans_lower job past s new marks
+    prefix here next held after calls turn answers at known
+follows_lower {job} {past} {s} new marks are {here} {prefix} {held} {after} {calls} {next} (Make turn) answers at known _ = makes_lower job past s new marks
+    prefix here held after calls next turn answers at known
+follows_lower {job} {past} {s} _ marks are {counts} {here} {held} {after} {calls} {next} (Place turn) _ at _ _ = places_lower job counts past s.tree marks here
+    next held after calls turn at
 
 -- before the end one turn is left at least
-pub some_left : (job : Job) (source : Forest) (marks : List Marked) (count : ℕ) (here : Phase) (held : Held) → is_ended here ≡ false → 0 < rank job source marks count here held
+pub some_left : (job : Job) (source : Forest) (marks : List Marked) (count : ℕ) (here : Phase) (held : Held) → is_ended here ≡ false
+    → 0 < rank job source marks count here held
 some_left _ _ _ _ phase.Ended _ not = absurd (true≢false not)
 some_left job source marks count (phase.Opening opening.Begin) held not = omega arith
 some_left job source marks count (phase.Carrying object stage.Open) held not = omega arith
@@ -104,7 +126,8 @@ turn_keeps_within_work job start old new run after next (past, is, within) (Goes
         let tree = tree_kept calls.asked s v answers in
         let free = rw tree at (is_later.items v same t some).places.next in
         let enters = enters_free job s.tree (root_in t) next later.count free in
-        let lowers = follows_lower v (marked job s.tree (root_in t)) (marks_of job (root_in t) [] (items job s.tree)) turn answers is.held (is.source s told.1) enters in
+        let lowers = follows_lower v (marked job s.tree (root_in t)) (marks_of job (root_in t) [] (items job s.tree)) turn answers is.held (is.source s told.1)
+        enters in
         let was = (within s told.1 t some).within in
         let one = ap (λ (c : Counts). c.turns) counts ∙ same_turns calls.line (turning run.kept).counts in
         rw tree (record { within = omega (arith, lowers, was, one) })
@@ -133,7 +156,8 @@ turns_are_within_work job start old new run after _ s t (past, is, within) not (
     let one = ap (λ (c : Counts). c.turns) halted.counts in
     let more = some_left job s.tree (marked job s.tree (root_in t)) past.count run.phase run.kept.held not in
     omega (arith, was, one, more)
-turns_are_within_work job start old new run after _ s t (past, is, within) not (FailsLater prefix held calls answer rows why turn leaves which halted) told some =
+turns_are_within_work job start old new run after _ s t (past, is, within) not (FailsLater prefix held calls answer rows why turn leaves which halted) told
+    some =
     let was = (within s told t some).within in
     let one = ap (λ (c : Counts). c.turns) halted.counts in
     let more = some_left job s.tree (marked job s.tree (root_in t)) past.count run.phase run.kept.held not in

@@ -5,10 +5,10 @@ use crate::texts::trees::way;
 use pt_tree::{NamePath, TreeFault};
 use std::alloc::Global;
 
-/// A store of this version with what stands below `pairtree_root`, each entry with a space before it: `a/b=abc` is a
-/// file that holds `abc`, `a/b*9` one of nine letters `a`, `a/b/` a directory, and `a/b?` neither. An entry that begins
-/// with `pairtree_` stands at the top.
-/// `Device` or `Memory` where `plant` answers so for an entry.
+/// A store of this version with what stands below `pairtree_root`, each entry with a space before
+/// it: `a/b=abc` is a file that holds `abc`, `a/b*9` one of nine letters `a`, `a/b/` a directory,
+/// and `a/b?` neither. An entry that begins with `pairtree_` stands at the top. `Device` or
+/// `Memory` where `plant` answers so for an entry.
 pub fn store(alloc: Global, entries: &str) -> Result<MemSource, TreeFault> {
     let mut source = MemSource::new(alloc);
     plant_each(alloc, &mut source, "pairtree_version0_1= pairtree_root/")?;
@@ -32,9 +32,9 @@ enum Planting<'a> {
     Other,
 }
 
-/// Plants one entry, with the directories on the way to it.
-/// `Device` where a piece of its path is no name, its number of letters is none, or what is no directory can't be planted; `Memory` where a growth
-/// was refused for these. A directory that can't be planted is passed over.
+/// Plants one entry, with the directories on the way to it. `Device` where a piece of its path is
+/// no name, its number of letters is none, or what is no directory can't be planted; `Memory` where
+/// a growth was refused for these. A directory that can't be planted is passed over.
 pub fn plant(alloc: Global, source: &mut MemSource, entry: &str) -> Result<(), TreeFault> {
     let (at, what) = parts(entry);
     let at = way(alloc, source, top(alloc, at)?, at)?;

@@ -33,8 +33,8 @@ impl Plants for MemDest {
     }
 }
 
-/// A destination with these files, and with the directories on the way to them. A path that ends in `/` is a directory.
-/// The faults are those of `add`.
+/// A destination with these files, and with the directories on the way to them. A path that ends in
+/// `/` is a directory. The faults are those of `add`.
 pub fn tree(alloc: Global, files: &[(&str, &str)]) -> Result<MemDest, TreeFault> {
     let mut dest = MemDest::new(alloc);
     add(alloc, &mut dest, files)?;
@@ -43,8 +43,8 @@ pub fn tree(alloc: Global, files: &[(&str, &str)]) -> Result<MemDest, TreeFault>
 
 /// Adds such files to a tree.
 ///
-/// `Device` where a piece of a path is no name, or a file can't be planted; `Memory` where a growth was refused for these. A directory that
-/// can't be planted is passed over.
+/// `Device` where a piece of a path is no name, or a file can't be planted; `Memory` where a growth
+/// was refused for these. A directory that can't be planted is passed over.
 pub fn add<T: Plants>(
     alloc: Global,
     tree: &mut T,
@@ -59,7 +59,8 @@ pub fn add<T: Plants>(
     Ok(())
 }
 
-/// The path of an entry below another. Each directory that it names is planted where it isn't there.
+/// The path of an entry below another. Each directory that it names is planted where it isn't
+/// there.
 pub(crate) fn way<T: Plants>(
     alloc: Global,
     tree: &mut T,

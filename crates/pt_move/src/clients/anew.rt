@@ -14,7 +14,8 @@ use std::alloc::Global;
 
 /// A destination in which what a fault left can be taken away.
 pub trait Mended: Dest {
-    /// Takes away what stands at `staging`, with all below; whether that was done, or nothing stood there.
+    /// Takes away what stands at `staging`, with all below; whether that was done, or nothing stood
+    /// there.
     fn take_staging_away(&mut self) -> bool
         ensures { result ≡ true → TakesStaging (Self.told self.old) (Self.told self.new) };
 }
@@ -39,8 +40,9 @@ pub struct Attempts<J> {
     pub tries: u32,
 }
 
-/// Makes a run, and after each fault takes `staging` away and makes another, so many in all: whether one came to its end. Whatever faults there
-/// were, and wherever they came: where all three tell and a run could end well, the destination then holds what one undisturbed run leaves.
+/// Makes a run, and after each fault takes `staging` away and makes another, so many in all:
+/// whether one came to its end. Whatever faults there were, and wherever they came: where all three
+/// tell and a run could end well, the destination then holds what one undisturbed run leaves.
 pub fn carry_through<S: Source, D: Mended, L: Log, J: Jobs + Drop>(
     alloc: Global,
     source: &mut S,

@@ -10,8 +10,8 @@ use crate::{Fault, Job, migrate};
 use pt_tree::{Dest, Log, Source};
 use std::alloc::Global;
 
-/// Whether a run came to its end: then, where all three tell, the root holds all objects that are carried, each whole, nothing else is
-/// changed, and the log has all lines.
+/// Whether a run came to its end: then, where all three tell, the root holds all objects that are
+/// carried, each whole, nothing else is changed, and the log has all lines.
 pub fn carries_all<S: Source, D: Dest, L: Log>(
     alloc: Global,
     source: &mut S,
@@ -29,9 +29,8 @@ pub fn carries_all<S: Source, D: Dest, L: Log>(
     }
 }
 
-/// How many lines a run told before its end line. Whatever the devices are, and though they tell nothing, they are no more than its limit of
-/// turns.
-/// The faults are those of `migrate`.
+/// How many lines a run told before its end line. Whatever the devices are, and though they tell
+/// nothing, they are no more than its limit of turns. The faults are those of `migrate`.
 pub fn lines_told<S: Source, D: Dest, L: Log>(
     alloc: Global,
     source: &mut S,

@@ -20,7 +20,8 @@ pub struct Most {
     pub turns: u64,
 }
 
-/// A run under way with its source, destination and log, which nobody else can change between two steps.
+/// A run under way with its source, destination and log, which nobody else can change between two
+/// steps.
 #[derive(Drop)]
 pub struct Run<S: Source, D: Dest, L: Log> {
     mover: Mover,
@@ -46,9 +47,9 @@ impl<S: Source, D: Dest, L: Log> Run<S, D, L> {
         }
     }
 
-    /// Makes one turn, with all that a step promises: from whatever start it is in progress, it keeps the promises of the run so far.
-    /// What it asks for holds of a new run, and after each step.
-    /// The faults are those of `Mover::step`.
+    /// Makes one turn, with all that a step promises: from whatever start it is in progress, it
+    /// keeps the promises of the run so far. What it asks for holds of a new run, and after each
+    /// step. The faults are those of `Mover::step`.
     pub fn step(&mut self) -> Result<Turn, Fault>
         requires { HasBegun
             (states_of S.Source D.Dest L.Log self.old.source self.old.dest self.old.log)
@@ -80,8 +81,9 @@ impl<S: Source, D: Dest, L: Log> Run<S, D, L> {
         Ok(true)
     }
 
-    /// Makes so many turns, unless the run ends before, and gives the most that was held and made after one of them. From whatever start the run
-    /// is in progress: where the source tells, what was held is within the bound of the source; where the destination told too, the turns are
+    /// Makes so many turns, unless the run ends before, and gives the most that was held and made
+    /// after one of them. From whatever start the run is in progress: where the source tells, what
+    /// was held is within the bound of the source; where the destination told too, the turns are
     /// within the work.
     pub fn measure_steps(&mut self, turns: u64) -> Most
         requires { HasBegun
@@ -110,8 +112,8 @@ impl<S: Source, D: Dest, L: Log> Run<S, D, L> {
         most
     }
 
-    /// The run with another log, and the one that it had, where neither tells what it holds: it is in progress as before, however often the two
-    /// failed.
+    /// The run with another log, and the one that it had, where neither tells what it holds: it is
+    /// in progress as before, however often the two failed.
     pub fn with_log<M: Log>(self, log: M) -> (Run<S, D, M>, L)
         requires begun { HasBegun (states_of S.Source D.Dest L.Log self.source self.dest self.log)
             self.mover }

@@ -1,6 +1,7 @@
-// Contents that are read before they are put. They come in the order of their digests, in which each lies anywhere in memory: a
-// put by itself waits for its content and then for the names of its path, where loops that do nothing but read wait for many at once.
-// What is read is asked for no more than the room that it needs.
+// Contents that are read before they are put. They come in the order of their digests, in which
+// each lies anywhere in memory: a put by itself waits for its content and then for the names of its
+// path, where loops that do nothing but read wait for many at once. What is read is asked for no
+// more than the room that it needs.
 ghost use Rattle.std.specs.Prelude.{◌≡◌, ◌+◌, ◌≤◌, OnOk, length};
 ghost use Rattle.pt_object.specs.Index.{IsIndex};
 
@@ -13,7 +14,8 @@ use std::alloc::AllocError;
 const AHEAD: usize = 16;
 
 impl<'a> Parts<'a> {
-    // Reads the contents from a place of the index on, where those that were read before have been put.
+    // Reads the contents from a place of the index on, where those that were read before have been
+    // put.
     pub(crate) fn read_ahead(&self, out: &mut Output, place: usize) -> Result<(), AllocError>
         requires { IsIndex self.now.items.now self.now.index.now }
         ensures { OnOk result (out.new ≡ out.old) }
@@ -43,7 +45,8 @@ impl<'a> Parts<'a> {
         place.saturating_add(AHEAD).min(self.items.len())
     }
 
-    // The most bytes that one of the contents of these places has in its digest, or in the first or last name of its path.
+    // The most bytes that one of the contents of these places has in its digest, or in the first or
+    // last name of its path.
     fn longest(&self, place: usize, end: usize) -> usize
         requires ordered { IsIndex self.now.items.now self.now.index.now }
         requires few { end ≤ place + 16 }
@@ -60,7 +63,8 @@ impl<'a> Parts<'a> {
         longest_name(&paths).max(most)
     }
 
-    // The most bytes that the first of the later paths of one of these contents has in its first or last name.
+    // The most bytes that the first of the later paths of one of these contents has in its first or
+    // last name.
     fn longest_later(&self, place: usize, end: usize) -> usize
         requires ordered { IsIndex self.now.items.now self.now.index.now }
         requires few { end ≤ place + 16 }

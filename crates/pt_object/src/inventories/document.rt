@@ -20,7 +20,8 @@ pub(crate) fn put_head(out: &mut Output, id: &str, algorithm: Algorithm) -> Resu
     Ok(out.key("manifest")?)
 }
 
-// What stands between the manifest and the state: the manifest's end, and of the version when and why it was made.
+// What stands between the manifest and the state: the manifest's end, and of the version when and
+// why it was made.
 pub(crate) fn put_middle(out: &mut Output, meta: &Meta) -> Result<(), MemoryFault>
     ensures { OnOk result (out.new ≡ out.old ++ middle meta.now) }
 {

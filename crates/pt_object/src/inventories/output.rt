@@ -40,8 +40,8 @@ impl Model for Output {
 }
 
 impl Output {
-    // No text yet but a bracket, in the place of what stands before it: behind a value one that ends a value. The room is that of a text
-    // which has been cleared.
+    // No text yet but a bracket, in the place of what stands before it: behind a value one that
+    // ends a value. The room is that of a text which has been cleared.
     pub(crate) fn begin(
         alloc: Global,
         room: Vec<u8>,

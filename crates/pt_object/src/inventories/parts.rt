@@ -10,7 +10,8 @@ use crate::table::SortedIndex;
 use crate::{Algorithm, Content, Meta, Rows};
 use pt_tree::MemoryFault;
 
-// How many contents are put at once, at most: an object of fewer files has an inventory of one piece, some 80 MB long.
+// How many contents are put at once, at most: an object of fewer files has an inventory of one
+// piece, some 80 MB long.
 const CONTENTS: usize = 262_144;
 
 #[derive(Drop)]

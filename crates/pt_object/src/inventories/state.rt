@@ -16,7 +16,8 @@ use crate::{Content, Contents, Row};
 use pt_tree::{MemoryFault, NamePath};
 use std::alloc::{AllocError, Global};
 
-// What some rows have of a content: whether it has one of them, and the paths of those behind its first.
+// What some rows have of a content: whether it has one of them, and the paths of those behind its
+// first.
 #[derive(Drop)]
 pub(crate) struct Group<'a> {
     is_met: bool,

@@ -64,8 +64,9 @@ impl Contents {
         }
     }
 
-    /// Notes a file: true where its digest is new, which is then added at the end with a copy of the path; false
-    /// where an item has the digest already. After `Memory`, which only a new digest can meet, all is as before.
+    /// Notes a file: true where its digest is new, which is then added at the end with a copy of
+    /// the path; false where an item has the digest already. After `Memory`, which only a new
+    /// digest can meet, all is as before.
     pub fn note(&mut self, digest: &Digest, path: &NamePath) -> Result<bool, MemoryFault>
         ensures answer { IfOk result (λ is_new. is_new ≡ not (is_noted self.old digest.now)) }
         ensures ok { OnOk result (self.new ≡ noted self.old digest.now path.now) }
@@ -97,8 +98,8 @@ impl Contents {
         self.first_counted(digest).0
     }
 
-    /// What `first` gives, and how many digests were compared for it: at most as many as the number of items has
-    /// binary digits, and none only where there are no items.
+    /// What `first` gives, and how many digests were compared for it: at most as many as the number
+    /// of items has binary digits, and none only where there are no items.
     pub fn first_counted(&self, digest: &Digest) -> (Option<&NamePath>, u32)
         ensures path { option_copied result.0 ≡ first_path self.now digest.now }
         ensures few { IsWithinBinaryDigits result.1 (length self.now) }

@@ -10,16 +10,16 @@ use crate::table::sorted_index::SortedIndex;
 use crate::{Content, Digest};
 use std::cmp::Ordering;
 
-// Where a digest is: the position of its item, or the place in the index where it belongs; and how many digests
-// were compared to find that.
+// Where a digest is: the position of its item, or the place in the index where it belongs; and how
+// many digests were compared to find that.
 #[derive(Drop)]
 pub(crate) struct Searched {
     pub(crate) found: Result<usize, usize>,
     pub(crate) comparisons: u32,
 }
 
-// The one search: it halves the part of the index in which the digest can be, with the middle taken out. The keys of the items
-// lie side by side, and most comparisons need no more than them.
+// The one search: it halves the part of the index in which the digest can be, with the middle taken
+// out. The keys of the items lie side by side, and most comparisons need no more than them.
 pub(crate) fn search(
     items: &[Content],
     keys: &[u32],
@@ -64,8 +64,8 @@ pub(crate) fn search(
     }
 }
 
-// The one comparison of two digests, with their keys, which it counts: `cmp` of the digests, which are looked at only where they
-// have one key.
+// The one comparison of two digests, with their keys, which it counts: `cmp` of the digests, which
+// are looked at only where they have one key.
 fn compare(a_key: u32, a: &Digest, b_key: u32, b: &Digest, comparisons: &mut u32) -> Ordering
     requires a { a_key ≡ key_of a.now }
     requires b { b_key ≡ key_of b.now }

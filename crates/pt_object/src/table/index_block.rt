@@ -6,8 +6,8 @@ use std::alloc::{AllocError, Global};
 use std::collections::VecDeque;
 use std::marker::Model;
 
-// How many positions a row has room for: all are full but the last. A new one moves a quarter of its row on average, and one of each
-// later row; in one list it would move half of all.
+// How many positions a row has room for: all are full but the last. A new one moves a quarter of
+// its row on average, and one of each later row; in one list it would move half of all.
 pub(crate) const ROW: usize = 4096;
 
 // Positions in a block of memory for a whole row, seen as their list.
@@ -61,7 +61,8 @@ impl IndexBlock {
         self.positions.pop_back().unwrap()
     }
 
-    // Puts a position at the i-th place. The nearer end moves, so at the first place nothing else does.
+    // Puts a position at the i-th place. The nearer end moves, so at the first place nothing else
+    // does.
     pub(crate) fn insert(&mut self, i: usize, position: usize)
         requires within { i ≤ length self.old }
         requires room { length self.old < row_length }

@@ -11,8 +11,9 @@ use std::alloc::Global;
 #[derive(Clone, Copy)]
 pub struct Case {
     pub name: &'static str,
-    /// What stands below `pairtree_root`, with spaces between: `a/b=abc` is a file that holds `abc`, `a/b/` a directory,
-    /// and `a/b?` neither. What begins with `pairtree_` stands at the top.
+    /// What stands below `pairtree_root`, with spaces between: `a/b=abc` is a file that holds
+    /// `abc`, `a/b/` a directory, and `a/b?` neither. What begins with `pairtree_` stands at the
+    /// top.
     pub entries: &'static str,
     /// The store that an earlier run carried into the destination.
     pub earlier: Option<&'static str>,

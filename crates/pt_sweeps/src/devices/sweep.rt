@@ -14,14 +14,15 @@ pub enum Device {
     Log,
 }
 
-/// What a sweep finds: at how many places the device failed, or the first place where something isn't well.
+/// What a sweep finds: at how many places the device failed, or the first place where something
+/// isn't well.
 pub enum Found {
     Well(u64),
     Wrong(u64, &'static str),
 }
 
-/// A run of the case that this device stops at each place in turn, until it isn't stopped, each time followed by a run
-/// that nothing stops.
+/// A run of the case that this device stops at each place in turn, until it isn't stopped, each
+/// time followed by a run that nothing stops.
 pub fn sweep(alloc: Global, case: &Case, device: Device) -> Found {
     let mut setting = Setting {
         ends: Vec::new(alloc),
@@ -38,8 +39,9 @@ pub fn sweep(alloc: Global, case: &Case, device: Device) -> Found {
 // What a sweep goes over.
 #[derive(Drop)]
 struct Setting {
-    // What runs of the case may leave, but for `staging`: first a run that nothing stops, then those that are stopped, which
-    // leave the destination as before it, or with the first objects whole and some of the tuple directories of the next one.
+    // What runs of the case may leave, but for `staging`: first a run that nothing stops, then
+    // those that are stopped, which leave the destination as before it, or with the first objects
+    // whole and some of the tuple directories of the next one.
     ends: Vec<MemDest>,
     source: MemSource,
     dest: MemDest,
@@ -207,7 +209,8 @@ fn check_second_run(case: &Case, is_done: bool, setting: &Setting, log: &MemLog)
     }
 }
 
-// Whether two logs tell once of each object: the first as done, or the second as done, or as present.
+// Whether two logs tell once of each object: the first as done, or the second as done, or as
+// present.
 fn are_told_once(case: &Case, first: &MemLog, second: &MemLog) -> bool {
     for place in case.places.split(' ') {
         let earlier = lines(first, "done", place);

@@ -1,6 +1,8 @@
-//! What is planted beside the objects of a root, and what an audit tells of it; computed apart from the program.
+//! What is planted beside the objects of a root, and what an audit tells of it; computed apart from
+//! the program.
 
-/// An object that no store here has, with what an audit reads of it; a file below a folder that no object has, and an empty folder.
+/// An object that no store here has, with what an audit reads of it; a file below a folder that no
+/// object has, and an empty folder.
 pub const PLANTED: &[(&str, &str)] = &[
     (
         "ocfl/a52/d15/9f2/abd/0=ocfl_object_1.1",

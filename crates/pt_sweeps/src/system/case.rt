@@ -5,7 +5,8 @@ use pt_memory::texts::{Plants, add, path, tree};
 use pt_memory::{MemDest, MemSource};
 use std::alloc::Global;
 
-/// A store, and what runs over it must tell and leave. All of it was computed apart from the program.
+/// A store, and what runs over it must tell and leave. All of it was computed apart from the
+/// program.
 #[derive(Clone, Copy)]
 pub struct Case {
     pub name: &'static str,
@@ -73,7 +74,8 @@ impl Object {
         Some(root.file(&at).is_some())
     }
 
-    // Plants what OCFL 1.1 wants of it: its declaration, and for itself and its one version the inventory with its sidecar.
+    // Plants what OCFL 1.1 wants of it: its declaration, and for itself and its one version the
+    // inventory with its sidecar.
     fn plant<T: Plants>(&self, alloc: Global, root: &mut T) -> Option<()> {
         self.put(alloc, root, "", (DECLARATION, "ocfl_object_1.1\n"))?;
         for above in ["", "v1/"] {

@@ -1,4 +1,5 @@
-//! What a run over a case must tell, by the root that it finds; and an audit of a root that has more.
+//! What a run over a case must tell, by the root that it finds; and an audit of a root that has
+//! more.
 use crate::system::beside;
 use crate::system::case::{Case, Met};
 use pt_memory::MemDest;
@@ -20,7 +21,8 @@ struct Counts {
 }
 
 impl Case {
-    /// What a run must tell that finds this root: an object that stands there is present, and each other is carried.
+    /// What a run must tell that finds this root: an object that stands there is present, and each
+    /// other is carried.
     pub fn tells(&self, alloc: Global, root: &MemDest) -> Option<Expected> {
         let mut counts = Counts {
             done: 0,
@@ -36,7 +38,8 @@ impl Case {
         Some(Expected { status, log })
     }
 
-    /// What an audit of both ways must tell of a root with each object whole, and with what is planted beside them.
+    /// What an audit of both ways must tell of a root with each object whole, and with what is
+    /// planted beside them.
     pub fn tells_audit(&self, alloc: Global) -> Option<Expected> {
         let mut log = String::new(alloc);
         let (mut same, mut skip) = (0u32, 0u32);

@@ -29,7 +29,8 @@ pub enum Row {
     RehearseAfter,
     /// A run stopped at each call in turn, each time followed by one that nothing stops.
     Stop,
-    /// An audit of both ways, of a root that has more than the store: stopped at each call in turn, and whole.
+    /// An audit of both ways, of a root that has more than the store: stopped at each call in turn,
+    /// and whole.
     Audit,
 }
 

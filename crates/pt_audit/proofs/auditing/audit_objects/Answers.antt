@@ -36,7 +36,8 @@ pub returns-clause-ends : goal.returns-clause-ends
 returns-clause-ends g c =
     let start = start_over (tree_in (g.S.Source.told c.args.source.now)) (tree_in (g.R.Source.told c.args.root.now)) (g.L.Log.told c.args.log.now) in
     let was = c.in_ok-counts.ensures.ends in
-    subst (λ (job : Job). AllToldAs (job_of job) start (g.L.Log.told c.go_through.new.log) c.in_ok-counts.counts) (was.1 ∙ c.start.ensures.new.job_is) was.0.told
+    subst (λ (job : Job). AllToldAs (job_of job) start (g.L.Log.told c.go_through.new.log) c.in_ok-counts.counts) (was.1 ∙ c.start.ensures.new.job_is)
+    was.0.told
 
 pub returns-clause-layout : goal.returns-clause-layout
 returns-clause-layout g c =

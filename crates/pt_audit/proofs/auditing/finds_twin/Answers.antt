@@ -24,4 +24,5 @@ returns-in_ok-is_twin-in-Differs-clause-twin g c =
     let second : ForSome tree (λ s. twin ≡ is_second (job_of c.job.result.now) s c.in_ok-site-in-Differs.site c.skip_prefix-own.result.now) = search rules in
     told_as_twin tree r c.args.id.now c.args.finding.now twin (ap is_differing c.in-Differs.is)
     (twin_at_hand tree r c.args.id.now c.skip_prefix-own.result.now c.prefix.result.now c.job.result.now c.in_ok-site-in-Differs.site twin
-    (at_site (g.S.Source.told c.args.source.now) r c.requires.at_hand c.requires.under_way) c.job.ensures c.in_ok-site-in-Differs.ensures c.prefix.ensures rest second)
+    (at_site (g.S.Source.told c.args.source.now) r c.requires.at_hand c.requires.under_way) c.job.ensures c.in_ok-site-in-Differs.ensures c.prefix.ensures rest
+    second)

@@ -20,4 +20,5 @@ has_files-requires-clause-folder g c =
 pub returns-clause-layout : goal.returns-clause-layout
 returns-clause-layout g c =
     other_root _ (job_of c.args.job.now) c.in_ok-top.top c.in_ok-here.here c.in_ok-top.ensures
-    (subst (λ o. IsSeen (tree_in o) c.in_ok-top.top c.in_ok-here.here) c.in_ok-_entries.ensures.same c.in_ok-here.ensures.kind) c.if-is_none.ensures (sym c.if-is_dir.ensures)
+    (subst (λ o. IsSeen (tree_in o) c.in_ok-top.top c.in_ok-here.here) c.in_ok-_entries.ensures.same c.in_ok-here.ensures.kind) c.if-is_none.ensures
+    (sym c.if-is_dir.ensures)

@@ -16,7 +16,8 @@ returns-in_err-pass-clause-leaves g c =
 
 pub returns-in_err-look-clause-well : goal.returns-in_err-look-clause-well
 returns-in_err-look-clause-well g c =
-    halt_well c.args.here c.in_err-look.field-0.0 _ _ _ _ _ _ _ _ _ _ _ c.from_residual-in_err-look.result (search rules) c.requires.ready c.in_err-look.ensures.turn
+    halt_well c.args.here c.in_err-look.field-0.0 _ _ _ _ _ _ _ _ _ _ _ c.from_residual-in_err-look.result (search rules) c.requires.ready
+    c.in_err-look.ensures.turn
 
 pub returns-in_err-look-clause-leaves : goal.returns-in_err-look-clause-leaves
 returns-in_err-look-clause-leaves g c =
@@ -50,14 +51,16 @@ returns-in_ok-look-clause-leaves g c =
 pub returns-in_ok-pass-clause-made : goal.returns-in_ok-pass-clause-made
 returns-in_ok-pass-clause-made g c = record {
   steps = step_steps c.args.here c.in_ok-pass.field-0 _ _ _ _ _ _ None None _ _ _ _ _ _ _ (search rules) c.requires.ready c.in_ok-pass.ensures.turn;
-  scans = step_scans_none c.args.here c.in_ok-pass.field-0 _ _ _ _ _ _ _ _ _ _ _ _ _ _ _ (search rules) (search rules) c.requires.ready.under_way c.in_ok-pass.ensures.turn;
+  scans = step_scans_none c.args.here c.in_ok-pass.field-0 _ _ _ _ _ _ _ _ _ _ _ _ _ _ _ (search rules) (search rules) c.requires.ready.under_way
+      c.in_ok-pass.ensures.turn;
 }
 
 pub returns-in_ok-look-clause-made : goal.returns-in_ok-look-clause-made
 returns-in_ok-look-clause-made g c = record {
   steps = step_steps c.args.here c.in_ok-look.field-0 _ _ _ _ _ _ _ _ _ _ _ _ _ _ _ (search rules) c.requires.ready c.in_ok-look.ensures.turn;
   scans = step_scans c.args.here c.in_ok-look.field-0 _ _ _ _ _ _ _ _ _ _ _ _ _ _ _ (search rules)
-      (looking_is _ c.args.here _ c.requires.ready.under_way (search rules) c.requires.more) c.requires.ready.under_way c.in_ok-look.ensures.turn c.in_ok-look.ensures.block;
+      (looking_is _ c.args.here _ c.requires.ready.under_way (search rules) c.requires.more) c.requires.ready.under_way c.in_ok-look.ensures.turn
+      c.in_ok-look.ensures.block;
 }
 
 pub returns-in_err-pass-clause-stops : goal.returns-in_err-pass-clause-stops

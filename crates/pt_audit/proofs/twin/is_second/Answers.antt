@@ -11,5 +11,6 @@ returns-clause-second g c =
     let proper = c.in_ok-proper.proper in
     let apart : same_path c.args.site.now proper ≡ false = search rules in
     IfOk-weaker c.object_stands.result _ _
-    (λ b stands. second_of (job_of c.args.job.now) c.args.site.now proper c.args.id.now (tree_in (g.S.Source.told c.args.source.now)) b c.in_ok-proper.ensures apart stands)
+    (λ b stands. second_of (job_of c.args.job.now) c.args.site.now proper c.args.id.now (tree_in (g.S.Source.told c.args.source.now)) b c.in_ok-proper.ensures
+    apart stands)
     c.object_stands.ensures.stands

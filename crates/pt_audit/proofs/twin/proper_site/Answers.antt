@@ -11,4 +11,5 @@ returns-in-Ok c =
 pub unreachable-requires : goal.unreachable-requires
 unreachable-requires c =
     let bytes = All-from_get_or (λ b. b < 256) c.args.id.now 0 (λ i h. omega (arith, c.type_inv.id i)) in
-    c.in_default.not-Memory (proper_refused c.args.id.now c.deref.result.now c.in-Err.fault bytes (c.deref.ensures.value ∙ c.in_ok-text.ensures) c.in-Err.ensures.refused)
+    c.in_default.not-Memory (proper_refused c.args.id.now c.deref.result.now c.in-Err.fault bytes (c.deref.ensures.value ∙ c.in_ok-text.ensures)
+    c.in-Err.ensures.refused)

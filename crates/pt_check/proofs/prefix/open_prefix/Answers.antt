@@ -15,17 +15,20 @@ next-requires g c = is_opened (g.S.Source.told c.args.source.now) (g.S.Source.to
 
 pub returns-clause-trouble : goal.returns-clause-trouble
 returns-clause-trouble g c =
-    let front = front_read (g.S.Source.told c.args.source.now) (g.S.Source.told c.open.new.self) c.args.path.now c.next.new.block.items c.requires c.in_ok-open.ensures.opened c.in_ok-next.ensures.block in
+    let front = front_read (g.S.Source.told c.args.source.now) (g.S.Source.told c.open.new.self) c.args.path.now c.next.new.block.items c.requires
+    c.in_ok-open.ensures.opened c.in_ok-next.ensures.block in
     λ tree told. c.in_ok-front_of.ensures.trouble ∙ ap prefix_trouble (c.as_slice.ensures.value ∙ front tree told)
 
 pub returns-clause-prefix : goal.returns-clause-prefix
 returns-clause-prefix g c =
-    let front = front_read (g.S.Source.told c.args.source.now) (g.S.Source.told c.open.new.self) c.args.path.now c.next.new.block.items c.requires c.in_ok-open.ensures.opened c.in_ok-next.ensures.block in
+    let front = front_read (g.S.Source.told c.args.source.now) (g.S.Source.told c.open.new.self) c.args.path.now c.next.new.block.items c.requires
+    c.in_ok-open.ensures.opened c.in_ok-next.ensures.block in
     λ tree told. c.in_ok-front_of.ensures.prefix ∙ ap (λ (l : List ℕ). prefix_in (Some (File l))) (c.as_slice.ensures.value ∙ front tree told)
 
 pub returns-clause-ended : goal.returns-clause-ended
 returns-clause-ended g c =
-    let front = front_read (g.S.Source.told c.args.source.now) (g.S.Source.told c.open.new.self) c.args.path.now c.next.new.block.items c.requires c.in_ok-open.ensures.opened c.in_ok-next.ensures.block in
+    let front = front_read (g.S.Source.told c.args.source.now) (g.S.Source.told c.open.new.self) c.args.path.now c.next.new.block.items c.requires
+    c.in_ok-open.ensures.opened c.in_ok-next.ensures.block in
     let opened = g.S.Source.failing c.open.new.self in
     λ tree told few.
     let same = ap length (front tree told) in

@@ -11,4 +11,5 @@ read_on-requires g c = is_opened (g.S.Source.told c.args.source.now) (g.S.Source
 
 pub returns-then-reads-clause-ended : goal.returns-then-reads-clause-ended
 returns-then-reads-clause-ended g c =
-    IfOk-weaker c.read_on.result _ _ (λ n goes reads few. opened_goes (g.S.Source.failing c.args.source.now) _ c.args.path.now _ c.in_ok-open.ensures.fails (goes few)) c.read_on.ensures.ended
+    IfOk-weaker c.read_on.result _ _ (λ n goes reads few. opened_goes (g.S.Source.failing c.args.source.now) _ c.args.path.now _ c.in_ok-open.ensures.fails
+    (goes few)) c.read_on.ensures.ended

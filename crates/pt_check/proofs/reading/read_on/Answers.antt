@@ -16,17 +16,20 @@ loop-total-init g c = record {
 
 pub next-requires : goal.next-requires
 next-requires g c =
-    may_read c.loop-total.total (g.S.Source.told c.args.source.now) (g.S.Source.told c.loop-total.source) c.requires c.loop-total.invariant.tree c.loop-total.invariant.read
+    may_read c.loop-total.total (g.S.Source.told c.args.source.now) (g.S.Source.told c.loop-total.source) c.requires c.loop-total.invariant.tree
+    c.loop-total.invariant.read
 
 pub returns-then-is_empty-clause-bytes : goal.returns-then-is_empty-clause-bytes
 returns-then-is_empty-clause-bytes g c =
-    read_all c.loop-total.total (g.S.Source.told c.args.source.now) (g.S.Source.told c.loop-total.source) c.next.new.block.items c.loop-total.invariant.read c.in_ok-next.ensures.block
+    read_all c.loop-total.total (g.S.Source.told c.args.source.now) (g.S.Source.told c.loop-total.source) c.next.new.block.items c.loop-total.invariant.read
+    c.in_ok-next.ensures.block
     (eqb-true (length c.next.new.block.items) 0 (sym c.if-is_empty.ensures))
 
 pub returns-then-is_empty-clause-ended : goal.returns-then-is_empty-clause-ended
 returns-then-is_empty-clause-ended g c =
     let none = eqb-true (length c.next.new.block.items) 0 (sym c.if-is_empty.ensures) in
-    λ few. read_goes (g.S.Source.failing c.args.source.now) _ _ c.next.new.block.items _ c.loop-total.invariant.still c.in_ok-next.ensures.fails (omega (arith, none))
+    λ few. read_goes (g.S.Source.failing c.args.source.now) _ _ c.next.new.block.items _ c.loop-total.invariant.still c.in_ok-next.ensures.fails
+    (omega (arith, none))
 
 pub loop-total-preserved : goal.loop-total-preserved
 loop-total-preserved g c =
@@ -38,7 +41,8 @@ loop-total-preserved g c =
       failed = c.in_ok-next.ensures.failures ∙ so_far.failed;
       keeps = g.met.S.Source.keeps_on _ _ _ so_far.keeps c.next.ensures.keeps;
       still = fails_still (g.S.Source.failing c.args.source.now) _ _ _ _ so_far.still c.in_ok-next.ensures.fails;
-      read = read_more c.loop-total.total c.saturating_add-total.result (g.S.Source.told c.args.source.now) (g.S.Source.told c.loop-total.source) (g.S.Source.told c.next.new.self)
+      read = read_more c.loop-total.total c.saturating_add-total.result (g.S.Source.told c.args.source.now) (g.S.Source.told c.loop-total.source)
+          (g.S.Source.told c.next.new.self)
           c.next.new.block.items so_far.read c.in_ok-next.ensures.block c.in_ok-next.ensures.moved adds;
     }
 

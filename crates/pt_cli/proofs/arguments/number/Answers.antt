@@ -9,5 +9,6 @@ use Rattle.pt_cli.proofs.arguments.number.Goals as goal
 
 pub returns : goal.returns
 returns c =
-    reads_one _ (λ bs r. ParsesUnsigned 32 10 bs r × ExplainsUnsignedError 10 bs r × HasUnsignedDigitsIfOk bs r) (λ u x g. g.0) _ _ c.get_one.ensures.none c.get_one.ensures.value
+    reads_one _ (λ bs r. ParsesUnsigned 32 10 bs r × ExplainsUnsignedError 10 bs r × HasUnsignedDigitsIfOk bs r) (λ u x g. g.0) _ _ c.get_one.ensures.none
+    c.get_one.ensures.value
     ∙ ap (option_and_then number_of) (one_text-rows (found_of c.args.matches.now) c.args.id.now)

@@ -10,6 +10,7 @@ pub returns : goal.returns
 returns c =
     let start : IsLocalApp _ c.after_long_help-parser.result = (
       ap app_of_fields c.after_long_help-parser.ensures ∙ ap app_of_fields c.about.ensures ∙ c.new.ensures.app,
-      ap (λ (f : Command-F Command). f.has_globals) c.after_long_help-parser.ensures ∙ ap (λ (f : Command-F Command). f.has_globals) c.about.ensures ∙ c.new.ensures.local,
+      ap (λ (f : Command-F Command). f.has_globals) c.after_long_help-parser.ensures ∙ ap (λ (f : Command-F Command). f.has_globals) c.about.ensures
+          ∙ c.new.ensures.local,
     ) in
     IfOk-weaker c.with_taken.result _ _ (λ r told. grown _ _ _ _ start told) c.with_taken.ensures

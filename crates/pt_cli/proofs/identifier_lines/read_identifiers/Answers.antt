@@ -19,13 +19,16 @@ pub returns-in_err-take_piece-in-Ok : goal.returns-in_err-take_piece-in-Ok
 returns-in_err-take_piece-in-Ok g c =
     let block = c.read_piece.new.buffer in
     let whole : length block ≡ 8192 = c.read_piece.auto.buffer ∙ c.loop.invariant.whole in
-    piece_ends g.F.Input.reads c.args.file.now c.loop.file c.read_piece.new.self c.loop.reader block c.loop.invariant.so_far whole c.in-Ok.count c.in-Ok.ensures.bound.0 c.in-Ok.count-test.1 c.in-Ok.ensures.read
-    c.take_piece.new.self _ (ap (λ n. take n block) (omega arith)) c.in_err-take_piece-in-Ok.field-0.0 c.from_residual.result c.in_err-take_piece-in-Ok.ensures c.from_residual.ensures.1
+    piece_ends g.F.Input.reads c.args.file.now c.loop.file c.read_piece.new.self c.loop.reader block c.loop.invariant.so_far whole c.in-Ok.count
+    c.in-Ok.ensures.bound.0 c.in-Ok.count-test.1 c.in-Ok.ensures.read
+    c.take_piece.new.self _ (ap (λ n. take n block) (omega arith)) c.in_err-take_piece-in-Ok.field-0.0 c.from_residual.result c.in_err-take_piece-in-Ok.ensures
+    c.from_residual.ensures.1
 
 pub returns-in-Err : goal.returns-in-Err
 returns-in-Err g c =
     let whole : length c.read_piece.new.buffer ≡ 8192 = c.read_piece.auto.buffer ∙ c.loop.invariant.whole in
-    piece_fails g.F.Input.reads c.args.file.now c.loop.file c.read_piece.new.self c.loop.reader c.read_piece.new.buffer c.loop.invariant.so_far whole c.in-Err.error c.in-Err.ensures.read
+    piece_fails g.F.Input.reads c.args.file.now c.loop.file c.read_piece.new.self c.loop.reader c.read_piece.new.buffer c.loop.invariant.so_far whole
+    c.in-Err.error c.in-Err.ensures.read
 
 pub loop-preserved : goal.loop-preserved
 loop-preserved g c =
@@ -33,7 +36,8 @@ loop-preserved g c =
     let whole : length block ≡ 8192 = c.read_piece.auto.buffer ∙ c.loop.invariant.whole in
     record {
       whole = whole;
-      so_far = piece_more g.F.Input.reads c.args.file.now c.loop.file c.read_piece.new.self c.loop.reader block c.loop.invariant.so_far whole c.in-Ok.count c.in-Ok.ensures.bound.0 c.in-Ok.count-test.1 c.in-Ok.ensures.read
+      so_far = piece_more g.F.Input.reads c.args.file.now c.loop.file c.read_piece.new.self c.loop.reader block c.loop.invariant.so_far whole c.in-Ok.count
+          c.in-Ok.ensures.bound.0 c.in-Ok.count-test.1 c.in-Ok.ensures.read
           c.take_piece.new.self _ (ap (λ n. take n block) (omega arith)) c.in_ok-take_piece-in-Ok.ensures;
     }
 

@@ -13,7 +13,8 @@ use Rattle.pt_cli.proofs.job_words.meta_of.Goals as goal
 
 -- a description that is refused
 no_meta : (parts : MetaParts) (refusal : Option MetaFault) (e : MetaFault) (r : Result MetaParts Unread)
-    → Answers {T = MetaParts} refusal meta_fault.Memory (Err e) (λ m. m ≡ parts) → IsErrAnd r (λ y. y ≡ unread_of_meta e) → ReadsAs (described_by parts refusal) r
+    → Answers {T = MetaParts} refusal meta_fault.Memory (Err e) (λ m. m ≡ parts) → IsErrAnd r (λ y. y ≡ unread_of_meta e)
+    → ReadsAs (described_by parts refusal) r
 no_meta parts refusal e (Ok meta) told is = absurd is
 no_meta parts (Some x) e (Err y) told is =
     let is_x : e ≡ x = cc in
@@ -21,7 +22,8 @@ no_meta parts (Some x) e (Err y) told is =
 no_meta parts None e (Err y) told is = inr (is ∙ ap unread_of_meta told)
 
 -- and one that is made
-the_meta : (parts meta : MetaParts) (refusal : Option MetaFault) → Answers refusal meta_fault.Memory (Ok meta) (λ m. m ≡ parts) → described_by parts refusal ≡ Ok meta
+the_meta : (parts meta : MetaParts) (refusal : Option MetaFault) → Answers refusal meta_fault.Memory (Ok meta) (λ m. m ≡ parts)
+    → described_by parts refusal ≡ Ok meta
 the_meta parts meta (Some x) told = absurd (cc)
 the_meta parts meta None told = ap Ok (sym told)
 
@@ -35,4 +37,5 @@ returns-in_err-of c =
 
 pub returns : goal.returns
 returns c =
-    the_meta (texts_of c.args.created.now c.args.name.now c.args.address c.args.message.now) c.in_ok-of.field-0 (meta_refusal c.args.created.now c.args.name.now) c.in_ok-of.ensures
+    the_meta (texts_of c.args.created.now c.args.name.now c.args.address c.args.message.now) c.in_ok-of.field-0
+    (meta_refusal c.args.created.now c.args.name.now) c.in_ok-of.ensures

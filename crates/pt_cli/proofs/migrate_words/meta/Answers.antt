@@ -6,7 +6,8 @@ use Rattle.pt_cli.specs.declared.faults.Unread.{Unread}
 use Rattle.pt_cli.proofs.migrate_words.meta.Goals as goal
 
 -- a text that has to be there, and is
-there : (given : Option (Bor Text)) (text : Bor Text) (found : Option Text) → Ok text ≡ needed given → option_map (λ (s : Bor Text). s.now) given ≡ found → found ≡ Some text.now
+there : (given : Option (Bor Text)) (text : Bor Text) (found : Option Text) → Ok text ≡ needed given → option_map (λ (s : Bor Text). s.now) given ≡ found
+    → found ≡ Some text.now
 there None text found is same = absurd (cc)
 there (Some other) text found is same =
     let one : other ≡ text = cc in

@@ -27,8 +27,12 @@ returns-in-Ok g c =
     let others = c.in_ok-parser.ensures.1 in
     let told = c.in_ok-parser.ensures.2 in
     let none = ap (λ (a : App). fault_of a words) (sym told) ∙ c.in-Ok.ensures.kinds (ap is_simple_and_free told ∙ program-free spelled others) in
-    let found = (c.in-Ok.ensures.matches (ap is_simple told ∙ program-simple spelled others)).1 ∙ ap (λ (a : App). subcommand_of a words) told in
-    (spelled, others, answers_found (fault_of (program spelled others) words) (subcommand_rows_of c.in-Ok.matches) (subcommand_of (program spelled others) words) c.command.result none found c.command.ensures)
+    let found = (c.in-Ok.ensures.matches (ap is_simple told ∙ program-simple spelled others)).1 ∙ ap (λ (a : App). subcommand_of a words) told in (
+      spelled,
+      others,
+      answers_found (fault_of (program spelled others) words) (subcommand_rows_of c.in-Ok.matches)
+          (subcommand_of (program spelled others) words) c.command.result none found c.command.ensures,
+    )
 
 pub returns-in-Err : goal.returns-in-Err
 returns-in-Err g c =
@@ -37,5 +41,9 @@ returns-in-Err g c =
     let others = c.in_ok-parser.ensures.1 in
     let told = c.in_ok-parser.ensures.2 in
     let failed = c.in-Err.ensures.kinds (ap is_simple_and_free told ∙ program-free spelled others) in
-    let P : App → Type 0 = λ a. HasKind (fault_of a words) c.in-Err.error in
-    (spelled, others, answers_error (fault_of (program spelled others) words) (subcommand_of (program spelled others) words) c.in-Err.error c.refusal.result (subst P told failed) c.refusal.ensures)
+    let P : App → Type 0 = λ a. HasKind (fault_of a words) c.in-Err.error in (
+      spelled,
+      others,
+      answers_error (fault_of (program spelled others) words) (subcommand_of (program spelled others) words) c.in-Err.error c.refusal.result
+          (subst P told failed) c.refusal.ensures,
+    )

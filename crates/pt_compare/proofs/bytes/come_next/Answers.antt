@@ -19,9 +19,16 @@ pub loop-rest-preserved : goal.loop-rest-preserved
 loop-rest-preserved g c =
     let told = g.R.Source.told in
     let same = told_same c.as_slice.result.now c.next.new.block.items c.split_at.result.0.now c.if-ne.ensures c.as_slice.ensures.value in
-    let has = one_passed c.min.result c.args.bytes.now c.loop-rest.rest.now c.split_at.result.0.now c.split_at.result.1.now c.next.new.block.items (told c.args.root.now) (told c.loop-rest.root) (told c.next.new.self)
-    c.loop-rest.invariant.2 c.in_ok-next.ensures.block c.in_ok-next.ensures.moved c.min.ensures c.split_at.ensures.front c.split_at.ensures.back same in
-    (ap tree_in c.in_ok-next.ensures.moved ∙ next_tree (told c.loop-rest.root) ∙ c.loop-rest.invariant.0, ap is_reading c.in_ok-next.ensures.moved ∙ next_reads (told c.loop-rest.root) c.loop-rest.invariant.1, has, g.met.R.Source.keeps_on _ _ _ c.loop-rest.invariant.3 c.next.ensures.keeps, c.in_ok-next.ensures.failures ∙ c.loop-rest.invariant.4)
+    let has = one_passed c.min.result c.args.bytes.now c.loop-rest.rest.now c.split_at.result.0.now c.split_at.result.1.now c.next.new.block.items
+    (told c.args.root.now) (told c.loop-rest.root) (told c.next.new.self)
+    c.loop-rest.invariant.2 c.in_ok-next.ensures.block c.in_ok-next.ensures.moved c.min.ensures c.split_at.ensures.front c.split_at.ensures.back same in (
+      ap tree_in c.in_ok-next.ensures.moved ∙ next_tree (told c.loop-rest.root) ∙ c.loop-rest.invariant.0,
+      ap is_reading c.in_ok-next.ensures.moved
+          ∙ next_reads (told c.loop-rest.root) c.loop-rest.invariant.1,
+      has,
+      g.met.R.Source.keeps_on _ _ _ c.loop-rest.invariant.3 c.next.ensures.keeps,
+      c.in_ok-next.ensures.failures ∙ c.loop-rest.invariant.4,
+    )
 
 pub loop-rest-init : goal.loop-rest-init
 loop-rest-init g c = (refl, c.requires, none_passed c.args.bytes.now (g.R.Source.told c.args.root.now), g.met.R.Source.is_kept c.args.root.now, refl)
@@ -36,4 +43,5 @@ pub returns-then-ne-clause-keeps : goal.returns-then-ne-clause-keeps
 returns-then-ne-clause-keeps g c = g.met.R.Source.keeps_on _ _ _ c.loop-rest.invariant.3 c.next.ensures.keeps
 
 pub returns-clause-next : goal.returns-clause-next
-returns-clause-next g c = λ is. all_passed c.args.bytes.now c.loop-rest.rest.now (g.R.Source.told c.args.root.now) (g.R.Source.told c.loop-rest.root) c.loop-rest.invariant.2 ((Decides-eqb (length c.loop-rest.rest.now) 0).0 (sym c.loop-rest-test.ensures))
+returns-clause-next g c = λ is. all_passed c.args.bytes.now c.loop-rest.rest.now (g.R.Source.told c.args.root.now) (g.R.Source.told c.loop-rest.root)
+    c.loop-rest.invariant.2 ((Decides-eqb (length c.loop-rest.rest.now) 0).0 (sym c.loop-rest-test.ensures))

@@ -16,5 +16,7 @@ invariant-loop-i g l = record {
   root_tree : tree_in (g.R.Source.told l.root) ≡ tree_in (g.R.Source.told l.fn.root);
   root_failed : g.R.Source.failed l.root ≡ g.R.Source.failed l.fn.root;
   noted : NotedStand (tree_in (g.R.Source.told l.root)) l.object.to.now (marks_of l.entries);
-  goes : GoesFrom (tree_in (g.S.Source.told l.fn.source)) (tree_in (g.R.Source.told l.fn.root)) l.object.to.now (items_from l.object.from.now l.last (drop l.i l.object.contents.now)) (marks_of l.entries) (items_from l.object.from.now None l.object.contents.now) (marks_of l.fn.entries);
+  goes : GoesFrom (tree_in (g.S.Source.told l.fn.source)) (tree_in (g.R.Source.told l.fn.root)) l.object.to.now
+      (items_from l.object.from.now l.last (drop l.i l.object.contents.now)) (marks_of l.entries) (items_from l.object.from.now None l.object.contents.now)
+      (marks_of l.fn.entries);
 }

@@ -12,5 +12,6 @@ invariant-loop-names g l = record {
   tree : tree_in (g.R.Source.told l.root) ≡ tree_in (g.R.Source.told l.fn.root);
   failed : g.R.Source.failed l.root ≡ g.R.Source.failed l.fn.root;
   noted : NotedStand (tree_in (g.R.Source.told l.root)) l.place (marks_of l.entries);
-  goes : GoesOn (tree_in (g.R.Source.told l.fn.root)) l.place (way_items l.way.last.now (drop l.names (fronts l.way.path.now))) (marks_of l.entries) (way_items l.way.last.now (fronts l.way.path.now)) (marks_of l.fn.entries);
+  goes : GoesOn (tree_in (g.R.Source.told l.fn.root)) l.place (way_items l.way.last.now (drop l.names (fronts l.way.path.now))) (marks_of l.entries)
+      (way_items l.way.last.now (fronts l.way.path.now)) (marks_of l.fn.entries);
 }

@@ -29,13 +29,18 @@ pub list-requires : goal.list-requires
 list-requires g c =
     subst (λ (p : Path). CanList (g.R.Source.told c.args.root.now) p) (sym c.in_ok-whole.ensures)
     (can_list (g.R.Source.told c.args.root.now) (c.args.place.now ++ c.args.path)
-    (noted_kind (tree_in (g.R.Source.told c.args.root.now)) c.args.place.now c.args.path (marks_of c.args.entries.now) kind.Dir c.requires (sym c.in_ok-here.ensures.kind ∙ kind_is kind.Dir c.in_ok-here.here (sym c.is_of_kind.ensures ∙ c.if-not-is_of_kind.false))))
+    (noted_kind (tree_in (g.R.Source.told c.args.root.now)) c.args.place.now c.args.path (marks_of c.args.entries.now) kind.Dir c.requires
+    (sym c.in_ok-here.ensures.kind ∙ kind_is kind.Dir c.in_ok-here.here (sym c.is_of_kind.ensures ∙ c.if-not-is_of_kind.false))))
 
 pub returns-clause-met : goal.returns-clause-met
 returns-clause-met g c =
-    entered (tree_in (g.R.Source.told c.args.root.now)) c.args.place.now c.args.path (marks_of c.args.entries.now) (marks_of c.take.new.self) (marks_of c.note.new.entries) c.in_ok-here.here c.in_ok-listing.listing _ refl c.requires c.in_ok-here.ensures.kind (sym c.is_of_kind.ensures ∙ c.if-not-is_of_kind.false) c.in_ok-here.ensures.marks
+    entered (tree_in (g.R.Source.told c.args.root.now)) c.args.place.now c.args.path (marks_of c.args.entries.now) (marks_of c.take.new.self)
+    (marks_of c.note.new.entries) c.in_ok-here.here c.in_ok-listing.listing _ refl c.requires c.in_ok-here.ensures.kind (sym c.is_of_kind.ensures
+    ∙ c.if-not-is_of_kind.false) c.in_ok-here.ensures.marks
     (subst (λ (p : Path). Lists (tree_in (g.R.Source.told c.args.root.now)) p c.in_ok-listing.listing) c.in_ok-whole.ensures
-    (listed_now (g.R.Source.told c.args.root.now) c.in_ok-whole.whole c.in_ok-listing.listing (g.met.R.Source.proper c.args.root.now) (first_of (search rules, grind arith)))) c.in_ok-note.ensures
+    (listed_now (g.R.Source.told c.args.root.now) c.in_ok-whole.whole c.in_ok-listing.listing (g.met.R.Source.proper c.args.root.now)
+    (first_of (search rules, grind arith)))) c.in_ok-note.ensures
 
 pub returns-then-not-is_of_kind-clause-met : goal.returns-then-not-is_of_kind-clause-met
-returns-then-not-is_of_kind-clause-met g c = wrong_one _ c.args.place.now _ _ _ c.in_ok-here.here c.wrong.result _ refl c.wrong.ensures c.in_ok-here.ensures.kind (sym c.is_of_kind.ensures ∙ c.if-not-is_of_kind.true)
+returns-then-not-is_of_kind-clause-met g c = wrong_one _ c.args.place.now _ _ _ c.in_ok-here.here c.wrong.result _ refl c.wrong.ensures
+    c.in_ok-here.ensures.kind (sym c.is_of_kind.ensures ∙ c.if-not-is_of_kind.true)

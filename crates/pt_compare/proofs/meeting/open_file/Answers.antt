@@ -12,9 +12,11 @@ pub open-requires : goal.open-requires
 open-requires g c =
     subst (λ (p : Path). CanOpen (g.R.Source.told c.args.root.now) p) (sym c.in_ok-whole.ensures)
     (can_open (g.R.Source.told c.args.root.now) (c.args.place.now ++ c.args.path.now)
-    (noted_kind (tree_in (g.R.Source.told c.args.root.now)) c.args.place.now c.args.path.now (marks_of c.args.entries.now) kind.File c.requires (sym c.in_ok-here.ensures.kind ∙ kind_is kind.File c.in_ok-here.here (sym c.is_of_kind.ensures ∙ c.if-not-is_of_kind.false))))
+    (noted_kind (tree_in (g.R.Source.told c.args.root.now)) c.args.place.now c.args.path.now (marks_of c.args.entries.now) kind.File c.requires
+    (sym c.in_ok-here.ensures.kind ∙ kind_is kind.File c.in_ok-here.here (sym c.is_of_kind.ensures ∙ c.if-not-is_of_kind.false))))
 
 pub returns-clause-opened : goal.returns-clause-opened
 returns-clause-opened g c =
-    opens (g.R.Source.told c.args.root.now) (g.R.Source.told c.open.new.self) c.args.place.now c.args.path.now c.in_ok-whole.whole (marks_of c.args.entries.now) (marks_of c.take.new.self) c.in_ok-here.here c.requires c.in_ok-here.ensures.kind
+    opens (g.R.Source.told c.args.root.now) (g.R.Source.told c.open.new.self) c.args.place.now c.args.path.now c.in_ok-whole.whole (marks_of c.args.entries.now)
+    (marks_of c.take.new.self) c.in_ok-here.here c.requires c.in_ok-here.ensures.kind
     (sym c.is_of_kind.ensures ∙ c.if-not-is_of_kind.false) c.in_ok-here.ensures.marks (first_of (search rules, grind arith)) c.in_ok-whole.ensures

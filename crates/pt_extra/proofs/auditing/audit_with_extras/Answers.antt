@@ -17,7 +17,8 @@ use Rattle.pt_tree.specs.Forest.{Forest}
 use Rattle.pt_extra.proofs.auditing.audit_with_extras.Goals as goal
 
 -- the counts of the objects stay what they were behind them
-made_rest : (job : own.Job) (source : Option Forest) (counts : Counts) (ran : Result AuditCounts Fault) → IfOk ran (λ told. told.counts ≡ counts) → IsMade job source (Ok counts) → IsMade job source (in_both ran)
+made_rest : (job : own.Job) (source : Option Forest) (counts : Counts) (ran : Result AuditCounts Fault) → IfOk ran (λ told. told.counts ≡ counts)
+    → IsMade job source (Ok counts) → IsMade job source (in_both ran)
 made_rest job source counts (Ok told) is it = made_by (Ok told.counts) (ap (λ (c : Counts). Ok c) (sym is)) it
 made_rest job source counts (Err why) is it = made_by (Err why) tt it
 
@@ -27,7 +28,8 @@ returns-in-Ok-clause-ends g c =
     (start_over (tree_in (g.S.Source.told c.args.devices.store)) (tree_in (g.R.Source.told c.args.devices.root)) (g.L.Log.told c.args.devices.log))
     (tree_in (g.S.Source.told c.audit_objects-audited.new.source)) (tree_in (g.R.Source.told c.audit_objects-audited.new.root))
     (g.L.Log.told c.audit_objects-audited.new.log) (g.L.Log.told c.tell_rest.result.devices.log) c.in-Ok.audited c.tell_rest.result.ran
-    c.audit_objects-audited.ensures.sides.source.1 c.audit_objects-audited.ensures.sides.root.1 c.in-Ok.ensures.ends c.in-Ok.ensures.given c.tell_rest.ensures.told
+    c.audit_objects-audited.ensures.sides.source.1 c.audit_objects-audited.ensures.sides.root.1 c.in-Ok.ensures.ends c.in-Ok.ensures.given
+    c.tell_rest.ensures.told
 
 pub returns-in-Ok-clause-log : goal.returns-in-Ok-clause-log
 returns-in-Ok-clause-log g c = (

@@ -6,7 +6,17 @@ use Rattle.json.specs.Reads.{token_of}
 use Rattle.json.proofs.Grammar.{value_is, value-begin_array, value-begin_object, read_key-shorter}
 use Rattle.serde_json.specs.Data.{Data, Num, Items, Members, no_items, null, boolean, number, string, array, object, item, put}
 use Rattle.serde_json.specs.Read.{of_json, of_items, of_members, converted, number_of}
-use Rattle.pt_extra.proofs.Converted.{converted-array, converted-object, item_read, item_refused, items_over, member_read, member_refused, key_refused, members_over}
+use Rattle.pt_extra.proofs.Converted.{
+  converted-array,
+  converted-object,
+  item_read,
+  item_refused,
+  items_over,
+  member_read,
+  member_refused,
+  key_refused,
+  members_over,
+}
 use Rattle.pt_extra.proofs.Passed.{at_err, behind, in_range, is_there, none_before, not_there, plain}
 use Rattle.pt_extra.proofs.inventory.+read.Goals as goal
 
@@ -39,7 +49,8 @@ read_items-returns-in_err-read_value-clause-refused t c =
     let l = c.items in
     let n = l.invariant.0 in
     let going : (after_end_array l.reader ≡ None) × (c.take_end_array.new.self ≡ l.reader) = grind arith in
-    at_err c.from_residual.result (l.invariant.3 ∙ ap (parse_map l.invariant.2) (item_refused p n l.reader going.0 (rw (← going.1) c.in_err-read_value.ensures.refused)))
+    at_err c.from_residual.result (l.invariant.3 ∙ ap (parse_map l.invariant.2)
+    (item_refused p n l.reader going.0 (rw (← going.1) c.in_err-read_value.ensures.refused)))
 
 pub read_items-returns-clause-read : goal.read_items-returns-clause-read
 read_items-returns-clause-read t c =
@@ -66,7 +77,9 @@ pub read_value-returns-in_err-read_items-in-BeginArray-clause-refused :
     goal.read_value-returns-in_err-read_items-in-BeginArray-clause-refused
 read_value-returns-in_err-read_items-in-BeginArray-clause-refused t c =
     let first : c.args.reader.now ≡ token_of c.in_ok-token.token ∷ c.next.new.self = grind arith in
-    let opened = ap (converted of_json) (ap (value c.args.depth) (first ∙ ap (λ k. token_of k ∷ c.next.new.self) c.in-BeginArray.is) ∙ value-begin_array c.args.depth c.next.new.self (omega (arith, c.if-depth-eq0.false))) ∙ converted-array (items (value (c.args.depth - 1)) (length c.next.new.self) c.next.new.self) in
+    let opened = ap (converted of_json) (ap (value c.args.depth) (first ∙ ap (λ k. token_of k ∷ c.next.new.self) c.in-BeginArray.is)
+    ∙ value-begin_array c.args.depth c.next.new.self (omega (arith, c.if-depth-eq0.false)))
+    ∙ converted-array (items (value (c.args.depth - 1)) (length c.next.new.self) c.next.new.self) in
     at_err c.from_residual-in_err-read_items-in-BeginArray.result (opened ∙ ap (parse_map array) c.in_err-read_items-in-BeginArray.ensures.refused)
 
 pub read_value-returns-then-depth-eq0-2-clause-refused : goal.read_value-returns-then-depth-eq0-2-clause-refused
@@ -80,7 +93,9 @@ pub read_value-returns-in_err-read_members-in-BeginObject-clause-refused :
     goal.read_value-returns-in_err-read_members-in-BeginObject-clause-refused
 read_value-returns-in_err-read_members-in-BeginObject-clause-refused t c =
     let first : c.args.reader.now ≡ token_of c.in_ok-token.token ∷ c.next.new.self = grind arith in
-    let opened = ap (converted of_json) (ap (value c.args.depth) (first ∙ ap (λ k. token_of k ∷ c.next.new.self) c.in-BeginObject.is) ∙ value-begin_object c.args.depth c.next.new.self (omega (arith, c.if-depth-eq0-2.false))) ∙ converted-object (members (value (c.args.depth - 1)) (length c.next.new.self) c.next.new.self) in
+    let opened = ap (converted of_json) (ap (value c.args.depth) (first ∙ ap (λ k. token_of k ∷ c.next.new.self) c.in-BeginObject.is)
+    ∙ value-begin_object c.args.depth c.next.new.self (omega (arith, c.if-depth-eq0-2.false)))
+    ∙ converted-object (members (value (c.args.depth - 1)) (length c.next.new.self) c.next.new.self) in
     at_err c.from_residual-in_err-read_members-in-BeginObject.result (opened ∙ ap (parse_map object) c.in_err-read_members-in-BeginObject.ensures.refused)
 
 pub read_value-returns-in-String-clause-read : goal.read_value-returns-in-String-clause-read
@@ -124,7 +139,9 @@ pub read_value-returns-in_ok-read_items-in-BeginArray-clause-read :
     goal.read_value-returns-in_ok-read_items-in-BeginArray-clause-read
 read_value-returns-in_ok-read_items-in-BeginArray-clause-read t c =
     let first : c.args.reader.now ≡ token_of c.in_ok-token.token ∷ c.next.new.self = grind arith in
-    let opened = ap (converted of_json) (ap (value c.args.depth) (first ∙ ap (λ k. token_of k ∷ c.next.new.self) c.in-BeginArray.is) ∙ value-begin_array c.args.depth c.next.new.self (omega (arith, c.if-depth-eq0.false))) ∙ converted-array (items (value (c.args.depth - 1)) (length c.next.new.self) c.next.new.self) in
+    let opened = ap (converted of_json) (ap (value c.args.depth) (first ∙ ap (λ k. token_of k ∷ c.next.new.self) c.in-BeginArray.is)
+    ∙ value-begin_array c.args.depth c.next.new.self (omega (arith, c.if-depth-eq0.false)))
+    ∙ converted-array (items (value (c.args.depth - 1)) (length c.next.new.self) c.next.new.self) in
     let found = c.in_ok-read_items-in-BeginArray.ensures.read in
     (array found.0, opened ∙ ap (parse_map array) found.1, refl)
 
@@ -132,7 +149,9 @@ pub read_value-returns-in_ok-read_members-in-BeginObject-clause-read :
     goal.read_value-returns-in_ok-read_members-in-BeginObject-clause-read
 read_value-returns-in_ok-read_members-in-BeginObject-clause-read t c =
     let first : c.args.reader.now ≡ token_of c.in_ok-token.token ∷ c.next.new.self = grind arith in
-    let opened = ap (converted of_json) (ap (value c.args.depth) (first ∙ ap (λ k. token_of k ∷ c.next.new.self) c.in-BeginObject.is) ∙ value-begin_object c.args.depth c.next.new.self (omega (arith, c.if-depth-eq0-2.false))) ∙ converted-object (members (value (c.args.depth - 1)) (length c.next.new.self) c.next.new.self) in
+    let opened = ap (converted of_json) (ap (value c.args.depth) (first ∙ ap (λ k. token_of k ∷ c.next.new.self) c.in-BeginObject.is)
+    ∙ value-begin_object c.args.depth c.next.new.self (omega (arith, c.if-depth-eq0-2.false)))
+    ∙ converted-object (members (value (c.args.depth - 1)) (length c.next.new.self) c.next.new.self) in
     let found = c.in_ok-read_members-in-BeginObject.ensures.read in
     (object found.0, opened ∙ ap (parse_map object) found.1, refl)
 

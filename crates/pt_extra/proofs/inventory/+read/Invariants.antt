@@ -19,7 +19,8 @@ abbrev pub invariant-read_items-items : goal.invariant-read_items-items
 invariant-read_items-items l =
     (n : ℕ) × (length l.reader ≤ n)
     × (before : Items → Items)
-    × (converted of_items (items (value l.depth) (length l.initial.reader) l.initial.reader) ≡ parse_map before (converted of_items (items (value l.depth) n l.reader)))
+    × (converted of_items (items (value l.depth) (length l.initial.reader) l.initial.reader)
+    ≡ parse_map before (converted of_items (items (value l.depth) n l.reader)))
     × (length l.reader ≤ length l.initial.reader)
 
 abbrev pub decreases-read_items-items : goal.decreases-read_items-items
@@ -29,7 +30,8 @@ abbrev pub invariant-read_members-members : goal.invariant-read_members-members
 invariant-read_members-members l =
     (n : ℕ) × (length l.reader ≤ n)
     × (found : Members)
-    × (converted (λ ms. of_members ms no_members) (members (value l.depth) (length l.initial.reader) l.initial.reader) ≡ converted (λ ms. of_members ms found) (members (value l.depth) n l.reader))
+    × (converted (λ ms. of_members ms no_members) (members (value l.depth) (length l.initial.reader) l.initial.reader)
+    ≡ converted (λ ms. of_members ms found) (members (value l.depth) n l.reader))
     × (length l.reader ≤ length l.initial.reader)
     × (option_map (λ text. text.now) l.id ≡ text_in (object found))
 

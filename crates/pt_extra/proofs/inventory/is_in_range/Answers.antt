@@ -18,4 +18,5 @@ returns-else-begins_with_minus c =
     let s = c.as_bytes-bytes.result.now in
     let unsigned : (get_or s 0 0 == 45) ≡ false = sym c.if-begins_with_minus.ensures.value in
     let read : number_from false (scan s) ≡ number_of s = rw unsigned in
-    c.fits-else-begins_with_minus.ensures ∙ ap (λ (p : Parts). is_some (number_from false p)) c.scan-else-begins_with_minus.ensures.parts ∙ ap is_some (read ∙ ap number_of c.as_bytes-bytes.ensures.value)
+    c.fits-else-begins_with_minus.ensures ∙ ap (λ (p : Parts). is_some (number_from false p)) c.scan-else-begins_with_minus.ensures.parts
+    ∙ ap is_some (read ∙ ap number_of c.as_bytes-bytes.ensures.value)

@@ -18,13 +18,15 @@ returns-in_err-token-clause-refused c =
 pub returns-in-BeginObject-clause-read : goal.returns-in-BeginObject-clause-read
 returns-in-BeginObject-clause-read c =
     let first : c.args.reader.now ≡ token_of c.in_ok-token.token ∷ c.next.new.self = grind arith in
-    let opened = ap (converted of_json) (ap (value 127) (first ∙ ap (λ k. token_of k ∷ c.next.new.self) c.in-BeginObject.is) ∙ value-begin_object 127 c.next.new.self (omega arith)) ∙ converted-object (members (value 126) (length c.next.new.self) c.next.new.self) in
+    let opened = ap (converted of_json) (ap (value 127) (first ∙ ap (λ k. token_of k ∷ c.next.new.self) c.in-BeginObject.is)
+    ∙ value-begin_object 127 c.next.new.self (omega arith)) ∙ converted-object (members (value 126) (length c.next.new.self) c.next.new.self) in
     IfOk-weaker c.read_members.result _ _ (λ id found. (found.0, opened ∙ ap (parse_map object) found.1, found.2)) c.read_members.ensures.read
 
 pub returns-in-BeginObject-clause-refused : goal.returns-in-BeginObject-clause-refused
 returns-in-BeginObject-clause-refused c =
     let first : c.args.reader.now ≡ token_of c.in_ok-token.token ∷ c.next.new.self = grind arith in
-    let opened = ap (converted of_json) (ap (value 127) (first ∙ ap (λ k. token_of k ∷ c.next.new.self) c.in-BeginObject.is) ∙ value-begin_object 127 c.next.new.self (omega arith)) ∙ converted-object (members (value 126) (length c.next.new.self) c.next.new.self) in
+    let opened = ap (converted of_json) (ap (value 127) (first ∙ ap (λ k. token_of k ∷ c.next.new.self) c.in-BeginObject.is)
+    ∙ value-begin_object 127 c.next.new.self (omega arith)) ∙ converted-object (members (value 126) (length c.next.new.self) c.next.new.self) in
     on_err_weaker c.read_members.result (λ refused. ap text_read (opened ∙ ap (parse_map object) refused)) c.read_members.ensures.refused
 
 pub returns-in_default : goal.returns-in_default

@@ -19,11 +19,13 @@ returns-then-not-branch-clause-has g c = λ x told.
     let site = proper_site (drop (length c.args.prefix.now) c.args.id.now) in
     none_of (begins_with c.args.prefix.now c.args.id.now)
     ∙ ap (λ (b : Bool). begins_with c.args.prefix.now c.args.id.now && b)
-    (none_there (job_of c.args.job.now) site tree (λ s is. lacks_top s pairtree_root site (sym c.if-not-branch.true ∙ c.in_ok-has_folder.ensures.has s is)) x told)
+    (none_there (job_of c.args.job.now) site tree (λ s is. lacks_top s pairtree_root site (sym c.if-not-branch.true ∙ c.in_ok-has_folder.ensures.has s is)) x
+    told)
 
 pub object_stands-requires : goal.object_stands-requires
 object_stands-requires g c =
     let tree = tree_in (g.S.Source.told c.args.store.now) in
-    let stands : Stands tree (pairtree_root ∷ [], kind.Dir) = stands_top tree pairtree_root (λ s is. sym c.if-not-branch.false ∙ c.in_ok-has_folder.ensures.has s is) in
+    let stands : Stands tree (pairtree_root ∷ [], kind.Dir) = stands_top tree pairtree_root (λ s is. sym c.if-not-branch.false
+    ∙ c.in_ok-has_folder.ensures.has s is) in
     let there : Stands tree (in_pairtree c.new.result, kind.Dir) = subst (λ (p : Path). Stands tree (in_pairtree p, kind.Dir)) (sym c.new.ensures) stands in
     subst (λ (t : Option Reading). Stands (tree_in t) (in_pairtree c.new.result, kind.Dir)) (sym c.in_ok-has_folder.ensures.same) there

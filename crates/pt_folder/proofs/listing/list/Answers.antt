@@ -17,9 +17,14 @@ use Rattle.pt_folder.proofs.listing.list.Goals.{After-with_kinds, then-not-is_em
 -- the text that each entry's path begins with
 begins : (g : Over) (c : After-with_kinds g) → string_bytes c.if-not-is_empty.text ≡ dir_front c.args.folder.now.path.now c.args.path.now
 begins g c =
-    front_is c.args.folder.now.path.now c.args.path.now (string_bytes c.in_ok-text.text) (string_bytes c.if-not-is_empty.text) c.is_empty.result c.is_empty.ensures c.in_ok-text.ensures.text
+    front_is c.args.folder.now.path.now c.args.path.now (string_bytes c.in_ok-text.text) (string_bytes c.if-not-is_empty.text) c.is_empty.result
+    c.is_empty.ensures c.in_ok-text.ensures.text
     (elim c.if-not-is_empty.branch [
-      | then-not-is_empty+in_ok-push w ↦ inl (w.if-not-is_empty.true, ap string_bytes w.text-is ∙ w.in_ok-push.ensures.bytes ∙ ap (λ l. string_bytes c.in_ok-text.text ++ l) (w.in_ok-push.ensures.ascii (lit< tt)))
+      | then-not-is_empty+in_ok-push w ↦ inl (
+        w.if-not-is_empty.true,
+        ap string_bytes w.text-is ∙ w.in_ok-push.ensures.bytes
+            ∙ ap (λ l. string_bytes c.in_ok-text.text ++ l) (w.in_ok-push.ensures.ascii (lit< tt)),
+      )
       | else-not-is_empty w ↦ inr (w.if-not-is_empty.false, ap string_bytes w.text-is)
     ])
 
@@ -29,8 +34,10 @@ returns-clause-same g c =
     let p = c.args.path.now in
     let kept = g.S.System.forest in
     let text : c.as_str.result.now ≡ entry_text folder p = c.as_str.ensures.value ∙ c.in_ok-text.ensures.text in
-    let same = names_same kept g.S.Dir.Input g.S.System.opens_dir g.met.S.System.names_law folder p c.args.syscalls.now.system c.take_dir.new.syscalls.system c.as_str.result.now c.in_ok-text.ensures.named text c.requires _ c.take_dir.ensures.asked in
-    list_same kept folder p c.args.syscalls.now.system c.take_dir.new.syscalls.system c.with_kinds.new.syscalls.system (string_bytes c.if-not-is_empty.text) c.in_ok-text.ensures.named (begins g c) same c.requires c.with_kinds.result c.with_kinds.ensures.seen c.with_kinds.ensures.same
+    let same = names_same kept g.S.Dir.Input g.S.System.opens_dir g.met.S.System.names_law folder p c.args.syscalls.now.system c.take_dir.new.syscalls.system
+    c.as_str.result.now c.in_ok-text.ensures.named text c.requires _ c.take_dir.ensures.asked in
+    list_same kept folder p c.args.syscalls.now.system c.take_dir.new.syscalls.system c.with_kinds.new.syscalls.system (string_bytes c.if-not-is_empty.text)
+    c.in_ok-text.ensures.named (begins g c) same c.requires c.with_kinds.result c.with_kinds.ensures.seen c.with_kinds.ensures.same
 
 pub returns-clause-told : goal.returns-clause-told
 returns-clause-told g c =
@@ -38,19 +45,24 @@ returns-clause-told g c =
     let p = c.args.path.now in
     let kept = g.S.System.forest in
     let text : c.as_str.result.now ≡ entry_text folder p = c.as_str.ensures.value ∙ c.in_ok-text.ensures.text in
-    let same = names_same kept g.S.Dir.Input g.S.System.opens_dir g.met.S.System.names_law folder p c.args.syscalls.now.system c.take_dir.new.syscalls.system c.as_str.result.now c.in_ok-text.ensures.named text c.requires _ c.take_dir.ensures.asked in
+    let same = names_same kept g.S.Dir.Input g.S.System.opens_dir g.met.S.System.names_law folder p c.args.syscalls.now.system c.take_dir.new.syscalls.system
+    c.as_str.result.now c.in_ok-text.ensures.named text c.requires _ c.take_dir.ensures.asked in
     let names = c.take_dir.new.taken in
-    let all = names_given kept g.S.Dir.Input g.S.System.opens_dir g.met.S.System.names_law folder p c.args.syscalls.now.system c.take_dir.new.syscalls.system c.as_str.result.now c.in_ok-text.ensures.named text c.requires AreAll names c.in_ok-take_dir.field-0 c.in_ok-take_dir.ensures.asked in
+    let all = names_given kept g.S.Dir.Input g.S.System.opens_dir g.met.S.System.names_law folder p c.args.syscalls.now.system c.take_dir.new.syscalls.system
+    c.as_str.result.now c.in_ok-text.ensures.named text c.requires AreAll names c.in_ok-take_dir.field-0 c.in_ok-take_dir.ensures.asked in
     let given : ForSome (kept c.args.syscalls.now.system folder) (λ f. (d : Forest) → dir_at f p ≡ Some d → IsPermutation names.items (names_of d)) =
     λ f known d at. let these = all f known d at in subst (λ (l : List (List ℕ)). IsPermutation l (names_of d)) (sym these.1.same) these.2 in
-    list_told kept folder p c.args.syscalls.now.system c.take_dir.new.syscalls.system c.with_kinds.new.syscalls.system (string_bytes c.if-not-is_empty.text) c.in_ok-text.ensures.named (begins g c) same c.requires names.items c.sort_unstable.new.self.items c.with_kinds.result (g.met.S.System.proper_law c.args.syscalls.now.system folder) given c.sort_unstable.ensures.permutation
+    list_told kept folder p c.args.syscalls.now.system c.take_dir.new.syscalls.system c.with_kinds.new.syscalls.system (string_bytes c.if-not-is_empty.text)
+    c.in_ok-text.ensures.named (begins g c) same c.requires names.items c.sort_unstable.new.self.items c.with_kinds.result
+    (g.met.S.System.proper_law c.args.syscalls.now.system folder) given c.sort_unstable.ensures.permutation
     c.with_kinds.ensures.names c.with_kinds.ensures.seen c.with_kinds.ensures.rise
 
 pub returns-clause-most : goal.returns-clause-most
 returns-clause-most g c =
     let text : c.as_str.result.now ≡ entry_text c.args.folder.now.path.now c.args.path.now = c.as_str.ensures.value ∙ c.in_ok-text.ensures.text in
     let names = c.take_dir.new.taken in
-    let few = few_names g.S.System g.S.Dir.Input c.args.folder.now.path.now c.args.path.now c.args.syscalls.now.system c.take_dir.new.syscalls.system c.as_str.result.now text names c.in_ok-take_dir.field-0 c.in_ok-take_dir.ensures.asked in
+    let few = few_names g.S.System g.S.Dir.Input c.args.folder.now.path.now c.args.path.now c.args.syscalls.now.system c.take_dir.new.syscalls.system
+    c.as_str.result.now text names c.in_ok-take_dir.field-0 c.in_ok-take_dir.ensures.asked in
     few_listed names.items c.sort_unstable.new.self.items few c.sort_unstable.ensures.permutation c.with_kinds.result c.with_kinds.ensures.names
 
 pub returns-clause-listed : goal.returns-clause-listed
@@ -58,7 +70,9 @@ returns-clause-listed g c =
     let folder = c.args.folder.now.path.now in
     let p = c.args.path.now in
     let text : c.as_str.result.now ≡ entry_text folder p = c.as_str.ensures.value ∙ c.in_ok-text.ensures.text in
-    listed_by g.S.System g.S.Dir.Input folder p c.args.syscalls.now.system c.take_dir.new.syscalls.system c.as_str.result.now text c.take_dir.new.taken c.in_ok-take_dir.field-0 c.in_ok-take_dir.ensures.asked c.sort_unstable.new.self.items c.sort_unstable.ensures.permutation (string_bytes c.if-not-is_empty.text) (begins g c)
+    listed_by g.S.System g.S.Dir.Input folder p c.args.syscalls.now.system c.take_dir.new.syscalls.system c.as_str.result.now text c.take_dir.new.taken
+    c.in_ok-take_dir.field-0 c.in_ok-take_dir.ensures.asked c.sort_unstable.new.self.items c.sort_unstable.ensures.permutation
+    (string_bytes c.if-not-is_empty.text) (begins g c)
     c.with_kinds.new.syscalls.system c.with_kinds.result c.with_kinds.ensures.names c.with_kinds.ensures.looked
 
 pub returns-clause-fault : goal.returns-clause-fault
@@ -66,7 +80,9 @@ returns-clause-fault g c =
     let folder = c.args.folder.now.path.now in
     let p = c.args.path.now in
     let text : c.as_str.result.now ≡ entry_text folder p = c.as_str.ensures.value ∙ c.in_ok-text.ensures.text in
-    entry_fails g.S.System g.S.Dir.Input folder p c.args.syscalls.now.system c.take_dir.new.syscalls.system c.as_str.result.now text c.take_dir.new.taken c.in_ok-take_dir.field-0 c.in_ok-take_dir.ensures.asked c.sort_unstable.new.self.items c.sort_unstable.ensures.permutation (string_bytes c.if-not-is_empty.text) (begins g c)
+    entry_fails g.S.System g.S.Dir.Input folder p c.args.syscalls.now.system c.take_dir.new.syscalls.system c.as_str.result.now text c.take_dir.new.taken
+    c.in_ok-take_dir.field-0 c.in_ok-take_dir.ensures.asked c.sort_unstable.new.self.items c.sort_unstable.ensures.permutation
+    (string_bytes c.if-not-is_empty.text) (begins g c)
     c.with_kinds.new.syscalls.system c.with_kinds.result c.sort_unstable.ensures.sorted c.with_kinds.ensures.fault
 
 pub returns-in_err-take_dir-clause-fault : goal.returns-in_err-take_dir-clause-fault
@@ -74,15 +90,21 @@ returns-in_err-take_dir-clause-fault g c =
     let folder = c.args.folder.now.path.now in
     let p = c.args.path.now in
     let text : c.as_str.result.now ≡ entry_text folder p = c.as_str.ensures.value ∙ c.in_ok-text.ensures.text in
-    err_due c.from_residual-in_err-take_dir.result c.in_err-take_dir.field-0.0 _ c.from_residual-in_err-take_dir.ensures.1 (names_fail g.S.System g.S.Dir.Input folder p c.args.syscalls.now.system c.take_dir.new.syscalls.system c.as_str.result.now text c.take_dir.new.taken c.in_err-take_dir.field-0.0 c.in_err-take_dir.ensures.asked)
+    err_due c.from_residual-in_err-take_dir.result c.in_err-take_dir.field-0.0 _ c.from_residual-in_err-take_dir.ensures.1
+    (names_fail g.S.System g.S.Dir.Input folder p c.args.syscalls.now.system c.take_dir.new.syscalls.system c.as_str.result.now text c.take_dir.new.taken
+    c.in_err-take_dir.field-0.0 c.in_err-take_dir.ensures.asked)
 
 pub returns-in_err-take_dir-clause-same : goal.returns-in_err-take_dir-clause-same
 returns-in_err-take_dir-clause-same g c =
-    names_same g.S.System.forest g.S.Dir.Input g.S.System.opens_dir g.met.S.System.names_law c.args.folder.now.path.now c.args.path.now c.args.syscalls.now.system c.take_dir.new.syscalls.system c.as_str.result.now c.in_ok-text.ensures.named (c.as_str.ensures.value ∙ c.in_ok-text.ensures.text) c.requires _ c.take_dir.ensures.asked
+    names_same g.S.System.forest g.S.Dir.Input g.S.System.opens_dir g.met.S.System.names_law c.args.folder.now.path.now c.args.path.now
+    c.args.syscalls.now.system c.take_dir.new.syscalls.system c.as_str.result.now c.in_ok-text.ensures.named (c.as_str.ensures.value
+    ∙ c.in_ok-text.ensures.text) c.requires _ c.take_dir.ensures.asked
 
 pub returns-in_err-push-clause-same : goal.returns-in_err-push-clause-same
 returns-in_err-push-clause-same g c =
-    names_same g.S.System.forest g.S.Dir.Input g.S.System.opens_dir g.met.S.System.names_law c.args.folder.now.path.now c.args.path.now c.args.syscalls.now.system c.take_dir.new.syscalls.system c.as_str.result.now c.in_ok-text.ensures.named (c.as_str.ensures.value ∙ c.in_ok-text.ensures.text) c.requires _ c.take_dir.ensures.asked
+    names_same g.S.System.forest g.S.Dir.Input g.S.System.opens_dir g.met.S.System.names_law c.args.folder.now.path.now c.args.path.now
+    c.args.syscalls.now.system c.take_dir.new.syscalls.system c.as_str.result.now c.in_ok-text.ensures.named (c.as_str.ensures.value
+    ∙ c.in_ok-text.ensures.text) c.requires _ c.take_dir.ensures.asked
 
 pub returns-in_err-take_dir-clause-kept : goal.returns-in_err-take_dir-clause-kept
 returns-in_err-take_dir-clause-kept g c =
@@ -92,12 +114,14 @@ returns-in_err-take_dir-clause-kept g c =
     let r = c.from_residual-in_err-take_dir.result in
     let last = c.take_dir.new.syscalls.last.failure in
     let named = IsOfNames c.as_str.result.now in
-    kept_weaker r last named _ (λ f is. inl (inr (subst (λ t. IsOfNames t f) text is))) (kept_on r c.in_err-take_dir.field-0.0 (IfSome last named) c.from_residual-in_err-take_dir.ensures.1 c.in_err-take_dir.ensures.kept)
+    kept_weaker r last named _ (λ f is. inl (inr (subst (λ t. IsOfNames t f) text is)))
+    (kept_on r c.in_err-take_dir.field-0.0 (IfSome last named) c.from_residual-in_err-take_dir.ensures.1 c.in_err-take_dir.ensures.kept)
 
 pub returns-clause-kept : goal.returns-clause-kept
 returns-clause-kept g c =
     let looks = g.S.System.looks in
-    kept_weaker c.with_kinds.result c.with_kinds.new.syscalls.last.failure (IsOfEntry looks (string_bytes c.if-not-is_empty.text)) _ (λ f is. inr (subst (λ front. IsOfEntry looks front f) (begins g c) is)) c.with_kinds.ensures.kept
+    kept_weaker c.with_kinds.result c.with_kinds.new.syscalls.last.failure (IsOfEntry looks (string_bytes c.if-not-is_empty.text)) _
+    (λ f is. inr (subst (λ front. IsOfEntry looks front f) (begins g c) is)) c.with_kinds.ensures.kept
 
 pub returns-in_err-text-clause-kept : goal.returns-in_err-text-clause-kept
 returns-in_err-text-clause-kept g c =

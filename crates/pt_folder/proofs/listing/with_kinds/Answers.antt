@@ -28,7 +28,8 @@ loop-name-preserved g c =
       ends = search rules;
       names = names_more c.loop-name.listing c.add_entry.new.listing c.loop-name.yielded name kind inv.names added;
       text = c.in_ok-kind.ensures.text ∙ inv.text;
-      seen = sees_more g.S.System.forest looks g.met.S.System.look_law front old mid new c.loop-name.listing c.add_entry.new.listing name kind inv.seen c.in_ok-kind.ensures.named asked added;
+      seen = sees_more g.S.System.forest looks g.met.S.System.look_law front old mid new c.loop-name.listing c.add_entry.new.listing name kind inv.seen
+          c.in_ok-kind.ensures.named asked added;
       looked = subst (λ l. FoldsTo (LooksAt looks front) old l new) (sym added) more;
     }
 
@@ -45,9 +46,11 @@ returns-in_err-kind-clause-fault g c =
     let inv = c.loop-name.invariant in
     let asked = subst (λ t. LooksIn looks t name mid new (Err fault)) inv.text c.in_err-kind.ensures.asked in
     let gives = YieldsList-from_vec names (search rules) (search rules) in
-    let here = item_here names yielded name (YieldsList-so_far gives yielded c.loop-name.name-iterator c.loop-name.yielded_by) (YieldsList-turn gives yielded c.loop-name.name-iterator c.loop-name.yielded_by c.next.result c.next.new.self name c.in-Some.is c.next.ensures.steps) in
+    let here = item_here names yielded name (YieldsList-so_far gives yielded c.loop-name.name-iterator c.loop-name.yielded_by)
+    (YieldsList-turn gives yielded c.loop-name.name-iterator c.loop-name.yielded_by c.next.result c.next.new.self name c.in-Some.is c.next.ensures.steps) in
     err_due c.from_residual-in_err-kind.result fault _ c.from_residual-in_err-kind.ensures.1
-    (looks_fail looks front names c.args.syscalls.now.system mid new c.loop-name.listing yielded (drop (length yielded + 1) names) name inv.names here inv.looked fault asked)
+    (looks_fail looks front names c.args.syscalls.now.system mid new c.loop-name.listing yielded (drop (length yielded + 1) names) name inv.names here
+    inv.looked fault asked)
 
 pub returns-in_err-add_entry-clause-fault : goal.returns-in_err-add_entry-clause-fault
 returns-in_err-add_entry-clause-fault g c =
@@ -63,9 +66,11 @@ returns-in_err-add_entry-clause-fault g c =
     let inv = c.loop-name.invariant in
     let asked = subst (λ t. LooksIn looks t name mid new (Ok kind)) inv.text c.in_ok-kind.ensures.asked in
     let gives = YieldsList-from_vec names (search rules) (search rules) in
-    let here = item_here names yielded name (YieldsList-so_far gives yielded c.loop-name.name-iterator c.loop-name.yielded_by) (YieldsList-turn gives yielded c.loop-name.name-iterator c.loop-name.yielded_by c.next.result c.next.new.self name c.in-Some.is c.next.ensures.steps) in
+    let here = item_here names yielded name (YieldsList-so_far gives yielded c.loop-name.name-iterator c.loop-name.yielded_by)
+    (YieldsList-turn gives yielded c.loop-name.name-iterator c.loop-name.yielded_by c.next.result c.next.new.self name c.in-Some.is c.next.ensures.steps) in
     err_due c.from_residual-in_err-add_entry.result fault _ c.from_residual-in_err-add_entry.ensures.1
-    (rises_not looks front names c.args.syscalls.now.system mid new c.loop-name.listing yielded (drop (length yielded + 1) names) name inv.names here inv.looked kind fault (looked_one looks front mid new name kind asked) c.in_err-add_entry.ensures.fault)
+    (rises_not looks front names c.args.syscalls.now.system mid new c.loop-name.listing yielded (drop (length yielded + 1) names) name inv.names here inv.looked
+    kind fault (looked_one looks front mid new name kind asked) c.in_err-add_entry.ensures.fault)
 
 pub returns-in_err-kind-clause-same : goal.returns-in_err-kind-clause-same
 returns-in_err-kind-clause-same g c =
@@ -75,7 +80,8 @@ returns-in_err-kind-clause-same g c =
     let name = c.in-Some.name in
     let inv = c.loop-name.invariant in
     let asked = subst (λ t. LooksIn looks t name mid new c.kind_in.result) inv.text c.kind_in.ensures.asked in
-    on_err c.from_residual-in_err-kind.result _ (sees_fail g.S.System.forest looks g.met.S.System.look_law (string_bytes c.args.text) c.args.syscalls.now.system mid new c.loop-name.listing name c.kind_in.result inv.seen c.kind_in.ensures.named asked)
+    on_err c.from_residual-in_err-kind.result _ (sees_fail g.S.System.forest looks g.met.S.System.look_law (string_bytes c.args.text) c.args.syscalls.now.system
+    mid new c.loop-name.listing name c.kind_in.result inv.seen c.kind_in.ensures.named asked)
 
 pub returns-in_err-add_entry-clause-same : goal.returns-in_err-add_entry-clause-same
 returns-in_err-add_entry-clause-same g c =
@@ -85,4 +91,5 @@ returns-in_err-add_entry-clause-same g c =
     let name = c.in-Some.name in
     let inv = c.loop-name.invariant in
     let asked = subst (λ t. LooksIn looks t name mid new c.kind_in.result) inv.text c.kind_in.ensures.asked in
-    on_err c.from_residual-in_err-add_entry.result _ (sees_fail g.S.System.forest looks g.met.S.System.look_law (string_bytes c.args.text) c.args.syscalls.now.system mid new c.loop-name.listing name c.kind_in.result inv.seen c.kind_in.ensures.named asked)
+    on_err c.from_residual-in_err-add_entry.result _ (sees_fail g.S.System.forest looks g.met.S.System.look_law (string_bytes c.args.text)
+    c.args.syscalls.now.system mid new c.loop-name.listing name c.kind_in.result inv.seen c.kind_in.ensures.named asked)

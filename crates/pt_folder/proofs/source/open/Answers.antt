@@ -19,7 +19,8 @@ found (Err e) x leads = absurd (cc)
 
 -- a file was found by a look at a path, and was asked to be opened
 asked : {S F D T : Type 0} (sys : OfSystem S F D)
-    (folder text : List ℕ) (p : Path) (w v : Option (FileInReading F)) (old mid new : S) (x : T) (answer : Result F Error) (result : Result (Unit {0}) TreeFault)
+    (folder text : List ℕ) (p : Path) (w v : Option (FileInReading F)) (old mid new : S) (x : T) (answer : Result F Error)
+    (result : Result (Unit {0}) TreeFault)
     → text ≡ entry_text folder p → (length folder ≡ 0 → ⊥) → IsPath p → (reply : Result Kind Error) × sys.looks old text reply mid × LeadsToFile reply (Ok x)
     → sys.opens mid text answer new → OpensAt w v answer result
     → OpensOnce sys (entry_in folder p) (change_of w v) (change_of old new) result
@@ -40,8 +41,10 @@ returns-in-Ok-clause-asked g c =
     let file = c.in-Ok.file in
     let same : c.as_str.result.now ≡ text = c.as_str.ensures.value ∙ ap string_bytes c.in_ok-text-2.ensures.same in
     let opened = subst (λ t. g.S.System.opens c.look_at_file.new.self.system t (Ok file) c.open_to_read.new.self) same c.in-Ok.ensures in
-    asked g.S.System c.args.folder.now.path.now text c.args.path.now c.args.opened.now _ c.args.syscalls.now.system c.look_at_file.new.self.system c.open_to_read.new.self c.in_ok-text-2.text (Ok file) _
-    c.in_ok-text.ensures.text (λ none. let empty = c.in_ok-text.ensures.empty.1 none in absurd (cc)) c.in_ok-text.ensures.named c.in_ok-text-2.ensures.asked opened (refl, ap Some c.at_start.ensures)
+    asked g.S.System c.args.folder.now.path.now text c.args.path.now c.args.opened.now _ c.args.syscalls.now.system c.look_at_file.new.self.system
+    c.open_to_read.new.self c.in_ok-text-2.text (Ok file) _
+    c.in_ok-text.ensures.text (λ none. let empty = c.in_ok-text.ensures.empty.1 none in absurd (cc)) c.in_ok-text.ensures.named c.in_ok-text-2.ensures.asked
+    opened (refl, ap Some c.at_start.ensures)
 
 pub returns-in-Err-clause-asked : goal.returns-in-Err-clause-asked
 returns-in-Err-clause-asked g c =
@@ -49,5 +52,7 @@ returns-in-Err-clause-asked g c =
     let error = c.in-Err.error in
     let same : c.as_str.result.now ≡ text = c.as_str.ensures.value ∙ ap string_bytes c.in_ok-text-2.ensures.same in
     let opened = subst (λ t. g.S.System.opens c.look_at_file.new.self.system t (Err error) c.open_to_read.new.self) same c.in-Err.ensures in
-    asked g.S.System c.args.folder.now.path.now text c.args.path.now c.args.opened.now _ c.args.syscalls.now.system c.look_at_file.new.self.system c.open_to_read.new.self c.in_ok-text-2.text (Err error) _
-    c.in_ok-text.ensures.text (λ none. let empty = c.in_ok-text.ensures.empty.1 none in absurd (cc)) c.in_ok-text.ensures.named c.in_ok-text-2.ensures.asked opened (ap Err c.record_error.ensures.fault, refl)
+    asked g.S.System c.args.folder.now.path.now text c.args.path.now c.args.opened.now _ c.args.syscalls.now.system c.look_at_file.new.self.system
+    c.open_to_read.new.self c.in_ok-text-2.text (Err error) _
+    c.in_ok-text.ensures.text (λ none. let empty = c.in_ok-text.ensures.empty.1 none in absurd (cc)) c.in_ok-text.ensures.named c.in_ok-text-2.ensures.asked
+    opened (ap Err c.record_error.ensures.fault, refl)

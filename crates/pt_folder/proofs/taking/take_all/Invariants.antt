@@ -8,5 +8,6 @@ use Rattle.pt_folder.proofs.taking.take_all.Given as goal
 abbrev pub invariant-loop : goal.invariant-loop
 invariant-loop g l = record {
   piece : length l.piece ≡ 8192;
-  taken : (all : List (List ℕ)) × g.T.Takes.has l.taken all × ((read : List ℕ) × Consumes (g.D.Input.left l.fn.dir) (g.D.Input.left l.dir) read × GivesNames read all) × Got g.D.Input.reads l.fn.dir l.dir all l.counter;
+  taken : (all : List (List ℕ)) × g.T.Takes.has l.taken all × ((read : List ℕ) × Consumes (g.D.Input.left l.fn.dir) (g.D.Input.left l.dir) read
+      × GivesNames read all) × Got g.D.Input.reads l.fn.dir l.dir all l.counter;
 }

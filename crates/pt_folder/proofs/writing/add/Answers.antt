@@ -11,5 +11,7 @@ returns-in-Err-clause-kept g c =
     let old = c.in-Some.open in
     let folder = c.args.folder.now.path.now in
     let adds = FailsToAdd g.S.System.writes c.args.piece.now c.args.syscalls.now.system in
-    let kept = kept_call {T = Unit {0}} c.record_error_at.new.last.failure (entry_text folder old.path) c.in-Err.error (adds old.file) (Err c.record_error_at.result) c.record_error_at.ensures.kept ((c.write_pieces.new.system, c.write_pieces.new.file), c.in-Err.ensures.error) in
-    subst (λ o. OnDevice {T = Unit {0}} (Err c.record_error_at.result) (IfSome c.record_error_at.new.last.failure (IsOfWriting folder adds o))) (sym c.in-Some.is) kept
+    let kept = kept_call {T = Unit {0}} c.record_error_at.new.last.failure (entry_text folder old.path) c.in-Err.error (adds old.file)
+    (Err c.record_error_at.result) c.record_error_at.ensures.kept ((c.write_pieces.new.system, c.write_pieces.new.file), c.in-Err.ensures.error) in
+    subst (λ o. OnDevice {T = Unit {0}} (Err c.record_error_at.result) (IfSome c.record_error_at.new.last.failure (IsOfWriting folder adds o)))
+    (sym c.in-Some.is) kept

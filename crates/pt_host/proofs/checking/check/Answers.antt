@@ -24,7 +24,8 @@ returns g c =
     let later = store_is forest _ (made.keeps.source.0 ∙ names) (sym kept) (ap (λ f. f.path.now) made.keeps.source.1 ∙ path) in
     record {
       ran = c.run-ran.result;
-      checks = checks_as c.run-ran.result (check_call c.args.options c.args.store.now) _ _ (begun.wants ∙ c.wants_of-wants.ensures) store refl failures first begun.numbers (ap contents (sym output)) made.checked;
+      checks = checks_as c.run-ran.result (check_call c.args.options c.args.store.now) _ _ (begun.wants ∙ c.wants_of-wants.ensures) store refl failures first
+          begun.numbers (ap contents (sym output)) made.checked;
       fault = answers c.run-ran.result _ _ made.fault;
       store_stays = sym later ∙ made.keeps.tree ∙ store;
       grows = subst (λ l. Grows l (contents c.into_writer.result)) first (subst (Grows _) (ap contents (sym output)) made.keeps.log);

@@ -22,5 +22,7 @@ returns g c =
       read = host_io_words g.H.Store.System.forest g.H.Folder.System.forest g.H.Output.Write.contents;
       serves = Serves g.H.Folder.System g.H.Folder.File.Handle g.H.Folder.File.Input g.H.Folder.Dir.Input;
     } in
-    begun_event words (c.args.folders.store.now, c.args.folders.folder.now) (option_map (λ p. p.now) c.args.path) c.in-Some.path.now c.in_ok-file.file c.paths.result.file.now c.paths.result.part.now c.args.host.now c.make.new.host
-    (ap (option_map (λ p. p.now)) c.in-Some.is) c.in_ok-file.ensures.path c.in_ok-file.ensures.part c.paths.ensures.file c.paths.ensures.part c.in_ok-make.ensures
+    begun_event words (c.args.folders.store.now, c.args.folders.folder.now) (option_map (λ p. p.now) c.args.path) c.in-Some.path.now c.in_ok-file.file
+    c.paths.result.file.now c.paths.result.part.now c.args.host.now c.make.new.host
+    (ap (option_map (λ p. p.now)) c.in-Some.is) c.in_ok-file.ensures.path c.in_ok-file.ensures.part c.paths.ensures.file c.paths.ensures.part
+    c.in_ok-make.ensures

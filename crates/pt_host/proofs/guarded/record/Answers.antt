@@ -27,8 +27,10 @@ returns-in-Ok g c =
     } in
     let at : List ℕ × List ℕ = (c.args.folders.store.now, c.args.folders.folder.now) in
     let makes : g.row.H.Denot → g.row.H.Denot → ℕ → Type 0 = λ old new. Makes words (AsksEnd g.R.Reads.ends c.args.rt.now) at c.args.asked (old, new) in
-    recorded words at makes (event_of c.args.asked) c.in-Ok.event c.args.host.now c.begin_event.new.host c.make-status.new.host c.end_event.new.host c.make-status.result.status c.end_event.result
-    (subst (λ (p : Option (List ℕ)). BeginsEvent words at p c.args.host.now c.begin_event.new.host (Ok c.in-Ok.event)) c.event-path.ensures c.in-Ok.ensures) c.make-status.ensures c.end_event.ensures
+    recorded words at makes (event_of c.args.asked) c.in-Ok.event c.args.host.now c.begin_event.new.host c.make-status.new.host c.end_event.new.host
+    c.make-status.result.status c.end_event.result
+    (subst (λ (p : Option (List ℕ)). BeginsEvent words at p c.args.host.now c.begin_event.new.host (Ok c.in-Ok.event)) c.event-path.ensures c.in-Ok.ensures)
+    c.make-status.ensures c.end_event.ensures
 
 pub returns-in-Err : goal.returns-in-Err
 returns-in-Err g c =
@@ -50,4 +52,5 @@ returns-in-Err g c =
     let at : List ℕ × List ℕ = (c.args.folders.store.now, c.args.folders.folder.now) in
     let makes : g.row.H.Denot → g.row.H.Denot → ℕ → Type 0 = λ old new. Makes words (AsksEnd g.R.Reads.ends c.args.rt.now) at c.args.asked (old, new) in
     unbegun words at makes (event_of c.args.asked) c.in-Err.fault c.args.host.now c.begin_event.new.host c.end_unbegun.result
-    (subst (λ (p : Option (List ℕ)). BeginsEvent words at p c.args.host.now c.begin_event.new.host (Err c.in-Err.fault)) c.event-path.ensures c.in-Err.ensures) c.end_unbegun.ensures
+    (subst (λ (p : Option (List ℕ)). BeginsEvent words at p c.args.host.now c.begin_event.new.host (Err c.in-Err.fault)) c.event-path.ensures c.in-Err.ensures)
+    c.end_unbegun.ensures

@@ -13,7 +13,8 @@ returns-in-Some g c =
     let here = in_version _ _ _ _ fed in
     record {
       turn = record {
-        turn = made_version_inventory _ _ _ _ _ _ _ _ here.0 c.in_ok-put_text.ensures.wrote.did c.in_ok-path.ensures c.in_ok-text_of.ensures here.1 (keeps_all refl refl refl refl refl refl);
+        turn = made_version_inventory _ _ _ _ _ _ _ _ here.0 c.in_ok-put_text.ensures.wrote.did c.in_ok-path.ensures c.in_ok-text_of.ensures here.1
+            (keeps_all refl refl refl refl refl refl);
         few = c.in_ok-put_text.ensures.wrote.few;
       };
     }
@@ -23,7 +24,8 @@ returns g c =
     let fed = rw c.in-None.is at (fed_text _ _ _ _ _ c.hasher_for-hasher.ensures c.in_ok-put_text.ensures.fed) in
     record {
       turn = record {
-        turn = made_top_inventory _ _ _ _ _ _ _ _ (at_top _ _ _ fed) c.requires.fed c.in_ok-put_text.ensures.wrote.did c.in_ok-path.ensures c.in_ok-text_of.ensures refl keeps_same;
+        turn = made_top_inventory _ _ _ _ _ _ _ _ (at_top _ _ _ fed) c.requires.fed c.in_ok-put_text.ensures.wrote.did c.in_ok-path.ensures
+            c.in_ok-text_of.ensures refl keeps_same;
         few = c.in_ok-put_text.ensures.wrote.few;
       };
     }

@@ -11,7 +11,8 @@ finish-requires g c = can_write_on _ _ _ _ _ _ _ c.loop-text.invariant.put
 
 pub loop-text-preserved : goal.loop-text-preserved
 loop-text-preserved g c = record {
-  put = one_more_piece _ _ _ _ _ _ _ _ _ _ _ c.loop-text.invariant.put (taken _ _ _ c.if-branch.true c.in_ok-next.ensures) (rw c.piece-piece.ensures at c.in_ok-append.ensures.did) (rw c.piece-piece.ensures at c.feed.ensures);
+  put = one_more_piece _ _ _ _ _ _ _ _ _ _ _ c.loop-text.invariant.put (taken _ _ _ c.if-branch.true c.in_ok-next.ensures)
+      (rw c.piece-piece.ensures at c.in_ok-append.ensures.did) (rw c.piece-piece.ensures at c.feed.ensures);
   few = g.met.O.Io.still _ _ _ _ _ c.loop-text.invariant.few c.append.ensures.few;
 }
 
@@ -27,7 +28,8 @@ returns-in_err-append-clause-wrote g c = record {
   did = search rules;
   left =
       let next = taken _ _ _ c.if-branch.true c.in_ok-next.ensures in
-      answers_with _ _ _ c.from_residual-in_err-append.ensures.1 (stopped_within _ _ _ _ _ _ _ _ _ _ _ c.loop-text.invariant.put next (rw c.piece-piece.ensures at c.in_err-append.ensures.left));
+      answers_with _ _ _ c.from_residual-in_err-append.ensures.1 (stopped_within _ _ _ _ _ _ _ _ _ _ _ c.loop-text.invariant.put next
+      (rw c.piece-piece.ensures at c.in_err-append.ensures.left));
   few = g.met.O.Io.still _ _ _ _ _ c.loop-text.invariant.few c.append.ensures.few;
 }
 

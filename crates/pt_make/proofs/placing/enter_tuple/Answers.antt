@@ -7,7 +7,8 @@ use Rattle.pt_make.proofs.placing.enter_tuple.Goals as goal
 pub returns-in_err-mkdir-in-None : goal.returns-in_err-mkdir-in-None
 returns-in_err-mkdir-in-None g c = record {
   turn = record {
-    turn = stayed _ _ _ _ _ c.in_err-mkdir-in-None.field-0.0 _ (search rules) (looked_then _ _ _ _ _ _ c.in_ok-kind.ensures.did c.in_err-mkdir-in-None.ensures.failed) keeps_same;
+    turn = stayed _ _ _ _ _ c.in_err-mkdir-in-None.field-0.0 _ (search rules)
+        (looked_then _ _ _ _ _ _ c.in_ok-kind.ensures.did c.in_err-mkdir-in-None.ensures.failed) keeps_same;
     few = g.met.O.Io.still _ _ _ _ _ c.kind.ensures.few c.mkdir.ensures.few;
   };
 }

@@ -7,7 +7,8 @@ use Rattle.pt_make.proofs.root.compare.Goals as goal
 pub returns-in_err-peek : goal.returns-in_err-peek
 returns-in_err-peek g c = record {
   turn = record {
-    turn = stayed _ _ _ _ _ c.in_err-peek.field-0.0 _ (search rules) (looked_then _ _ _ _ _ _ c.in_ok-here.ensures.did c.in_err-peek.ensures.failed) (search (rules, starting));
+    turn = stayed _ _ _ _ _ c.in_err-peek.field-0.0 _ (search rules) (looked_then _ _ _ _ _ _ c.in_ok-here.ensures.did c.in_err-peek.ensures.failed)
+        (search (rules, starting));
     few = g.met.O.Io.more _ _ _ 0 0 1 1 c.kind.ensures.few c.peek.ensures.few;
   };
 }

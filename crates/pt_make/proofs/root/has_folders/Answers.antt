@@ -18,7 +18,8 @@ returns-clause-stays g c = looked_same _ _ _ _ c.in_ok-here-2.ensures.did ∙ lo
 
 pub returns-clause-lacks : goal.returns-clause-lacks
 returns-clause-lacks g c lacks =
-    inner_lacks _ _ _ _ _ _ _ c.requires.inner (g.met.O.Io.is_tree c.args.out.now) c.in_ok-here.ensures.did c.in_ok-here-2.ensures.did (sym c.is_dir-2.ensures ∙ lacks)
+    inner_lacks _ _ _ _ _ _ _ c.requires.inner (g.met.O.Io.is_tree c.args.out.now) c.in_ok-here.ensures.did c.in_ok-here-2.ensures.did (sym c.is_dir-2.ensures
+    ∙ lacks)
 
 pub returns-clause-few : goal.returns-clause-few
 returns-clause-few g c = g.met.O.Io.more _ _ _ 0 0 1 1 c.kind.ensures.few c.kind-2.ensures.few

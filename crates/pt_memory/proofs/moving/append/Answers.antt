@@ -9,7 +9,8 @@ use Rattle.pt_memory.proofs.moving.append.Goals as goal
 pub returns-then-is_none-clause-ok : goal.returns-then-is_none-clause-ok
 returns-then-is_none-clause-ok c =
     let f = forest_of c.args.entries.now in
-    added_nowhere (tree_of f) c.args.path.now c.args.piece.now (no_file f c.args.path.now c.file_in.result c.file_in.ensures (c.is_none.ensures ∙ ap not c.if-is_none.true))
+    added_nowhere (tree_of f) c.args.path.now c.args.piece.now (no_file f c.args.path.now c.file_in.result c.file_in.ensures (c.is_none.ensures
+    ∙ ap not c.if-is_none.true))
 
 pub returns-clause-ok : goal.returns-clause-ok
 returns-clause-ok c =

@@ -8,7 +8,8 @@ use Rattle.pt_memory.proofs.moving.take.Goals as goal
 pub returns-in-Some-clause-tree : goal.returns-in-Some-clause-tree
 returns-in-Some-clause-tree c =
     ap tree_of c.remove.ensures.forest
-    ∙ take_at (forest_of c.args.entries.now) c.args.path.now c.in-Some.dir.now c.in-Some.name.now c.in-Some.ensures c.requires.proper c.requires.stands c.requires.below
+    ∙ take_at (forest_of c.args.entries.now) c.args.path.now c.in-Some.dir.now c.in-Some.name.now c.in-Some.ensures c.requires.proper c.requires.stands
+    c.requires.below
 
 pub returns-in-Some-clause-proper : goal.returns-in-Some-clause-proper
 returns-in-Some-clause-proper c =

@@ -20,4 +20,5 @@ returns-in-Some-clause-proper c =
     let f = forest_of c.args.entries.now in
     let leaf = forest_of c.args.leaf in
     let parts = split_parts path c.in-Some.dir.now _ c.in-Some.ensures in
-    ap is_proper (c.insert.ensures.forest ∙ ap (changed (inserted leaf) f) parts.0) ∙ proper_planted f leaf path c.requires.free c.requires.leaf c.requires.proper
+    ap is_proper (c.insert.ensures.forest ∙ ap (changed (inserted leaf) f) parts.0)
+    ∙ proper_planted f leaf path c.requires.free c.requires.leaf c.requires.proper

@@ -24,7 +24,11 @@ returns-then-ne-clause-none c = λ absent p named at.
     ]
 
 pub returns-clause-path : goal.returns-clause-path
-returns-clause-path c = IfOk-weaker c.names_of.result _ _ (λ path is p named at. is p named (rest_is c.args.root.now c.args.text.now c.split_at.result.1.now _ p c.split_at.ensures.back (take_rest c.split_at.result.1.now 1) at)) c.names_of.ensures.path
+returns-clause-path c = IfOk-weaker c.names_of.result _ _ (λ path is p named at. is p named
+    (rest_is c.args.root.now c.args.text.now c.split_at.result.1.now _ p c.split_at.ensures.back (take_rest c.split_at.result.1.now 1) at))
+    c.names_of.ensures.path
 
 pub returns-clause-none : goal.returns-clause-none
-returns-clause-none c = IfErr-weaker c.names_of.result _ _ (λ e is absent p named at. is absent p named (rest_is c.args.root.now c.args.text.now c.split_at.result.1.now _ p c.split_at.ensures.back (take_rest c.split_at.result.1.now 1) at)) c.names_of.ensures.none
+returns-clause-none c = IfErr-weaker c.names_of.result _ _ (λ e is absent p named at. is absent p named
+    (rest_is c.args.root.now c.args.text.now c.split_at.result.1.now _ p c.split_at.ensures.back (take_rest c.split_at.result.1.now 1) at))
+    c.names_of.ensures.none

@@ -26,12 +26,14 @@ loop-mover-preserved g c = (
 
 -- the steps come to an end, for each leaves a turn less to make: Ran.antt (`smaller`)
 pub loop-mover-smaller : goal.loop-mover-smaller
-loop-mover-smaller g c = smaller _ _ _ _ c.in-Ok-More.field-0 c.in-Ok-More.field-0-is c.in-Ok-More.ensures.step.steps.leaves c.in-Ok-More.ensures.step.steps.answer
+loop-mover-smaller g c = smaller _ _ _ _ c.in-Ok-More.field-0 c.in-Ok-More.field-0-is c.in-Ok-More.ensures.step.steps.leaves
+    c.in-Ok-More.ensures.step.steps.answer
 
 -- `run`, where the last turn was made and where a step met a fault: Migrating.antt (`migrates_whole`, `migrates_halted`)
 pub returns-clause-run : goal.returns-clause-run
 returns-clause-run g c = elim c.match-advance.branch [
-  | in-Ok-Finished w ↦ rw w.result-is (migrates_whole _ _ _ _ _ _ c.loop-mover.invariant.0 w.in-Ok-Finished.field-0 w.report-in-Ok-Finished.result w.in-Ok-Finished.field-0-is (search rules) (search rules) w.in-Ok-Finished.ensures.step)
+  | in-Ok-Finished w ↦ rw w.result-is (migrates_whole _ _ _ _ _ _ c.loop-mover.invariant.0 w.in-Ok-Finished.field-0 w.report-in-Ok-Finished.result
+      w.in-Ok-Finished.field-0-is (search rules) (search rules) w.in-Ok-Finished.ensures.step)
   | in-Err w ↦ migrates_halted _ _ _ _ _ _ c.loop-mover.invariant.0 w.in-Err.fault _ (search rules) w.in-Err.ensures.step
 ]
 

@@ -4,7 +4,12 @@ use Rattle.pt_tree.specs.Path.{joined}
 use Rattle.pt_name.specs.Clean.{pieces_of_two}
 use Rattle.pt_name.proofs.Pieces.{spaced, spaced_end, spaced_more, spaced_whole}
 use Rattle.pt_name.proofs.cleaning.pairpath.Goals as goal
-use Rattle.pt_name.proofs.cleaning.pairpath.Goals.{then-i-gt0+then-i-eq0+in_ok-push, else-i-gt0, else-i-gt0-via-then-i-gt0+else-i-eq0, else-i-gt0-via-else-i-gt0}
+use Rattle.pt_name.proofs.cleaning.pairpath.Goals.{
+  then-i-gt0+then-i-eq0+in_ok-push,
+  else-i-gt0,
+  else-i-gt0-via-then-i-gt0+else-i-eq0,
+  else-i-gt0-via-else-i-gt0,
+}
 
 pub loop-i-init : goal.loop-i-init
 loop-i-init c =
@@ -22,7 +27,8 @@ loop-i-preserved c =
       text = c.loop-i.invariant.text;
       path = elim c.if-i-gt0.branch [
         | then-i-gt0+then-i-eq0+in_ok-push w ↦
-            spaced_more xs i c.loop-i.path.items c.if-i-gt0.path.items _ _ true c.loop-i-test.true (grind (arith, nat_tests)) (ap (λ v. v.items) w.path-is ∙ w.in_ok-push.ensures.items) c.in_ok-push-2.ensures.items c.loop-i.invariant.path
+            spaced_more xs i c.loop-i.path.items c.if-i-gt0.path.items _ _ true c.loop-i-test.true (grind (arith, nat_tests)) (ap (λ v. v.items) w.path-is
+            ∙ w.in_ok-push.ensures.items) c.in_ok-push-2.ensures.items c.loop-i.invariant.path
         | else-i-gt0 w ↦
             spaced_more xs i c.loop-i.path.items c.if-i-gt0.path.items _ _ false c.loop-i-test.true
             (elim w.else-i-gt0.branch [
@@ -33,4 +39,5 @@ loop-i-preserved c =
     }
 
 pub returns : goal.returns
-returns c = spaced_end c.deref-character-items.result.now c.loop-i.i _ _ c.loop-i-test.false c.loop-i.invariant.path ∙ ap (λ text. joined (pieces_of_two text)) c.loop-i.invariant.text
+returns c = spaced_end c.deref-character-items.result.now c.loop-i.i _ _ c.loop-i-test.false c.loop-i.invariant.path
+    ∙ ap (λ text. joined (pieces_of_two text)) c.loop-i.invariant.text

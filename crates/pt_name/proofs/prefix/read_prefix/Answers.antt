@@ -15,4 +15,5 @@ returns-in-Err-from_str c =
 
 pub returns-in-Err : goal.returns-in-Err
 returns-in-Err c =
-    answers_some _ _ _ _ (prefix_fails c.args.bytes.now c.if-bytes-gt-LONGEST.false (λ text. c.in-Err.ensures.cases.0 (subst IsUtf8 (sym c.front_of.ensures) text)))
+    answers_some _ _ _ _ (prefix_fails c.args.bytes.now c.if-bytes-gt-LONGEST.false
+    (λ text. c.in-Err.ensures.cases.0 (subst IsUtf8 (sym c.front_of.ensures) text)))

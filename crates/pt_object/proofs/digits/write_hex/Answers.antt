@@ -9,5 +9,6 @@ loop-i-init c = refl
 
 pub loop-i-preserved : goal.loop-i-preserved
 loop-i-preserved c =
-    one_more lower_digits c.args.bytes.now c.loop-i.room c.in_hex.result c.loop-i.i _ (omega arith) (omega (arith, c.loop-i-test.true, c.requires.fits)) (omega (arith, c.loop-i-test.true, c.requires.fits))
+    one_more lower_digits c.args.bytes.now c.loop-i.room c.in_hex.result c.loop-i.i _ (omega arith) (omega (arith, c.loop-i-test.true, c.requires.fits))
+    (omega (arith, c.loop-i-test.true, c.requires.fits))
     (omega (arith, c.loop-i-test.true)) c.loop-i.invariant c.in_hex.ensures

@@ -13,5 +13,6 @@ returns c =
     let id : c.as_str-2.result.now ≡ c.args.id.now = search rules in
     let to : c.as_str-3.result.now ≡ joined c.args.to.now = search rules in
     IfOk-weaker c.line_with.result _ _ (λ s h. text_is (Present c.args.at.now c.args.id.now c.args.to.now) _ h.0 h.1 (string_bytes s)
-    (λ i. object (text_member (codes "as") (codes "present") (text_member (codes "at") (at i) (text_member (codes "id") (id i) (text_member (codes "to") (to i) no_members)))))
+    (λ i. object (text_member (codes "as") (codes "present") (text_member (codes "at") (at i)
+    (text_member (codes "id") (id i) (text_member (codes "to") (to i) no_members)))))
     h.2 h.3 h.4) c.line_with.ensures

@@ -8,5 +8,6 @@ overflow_sub-len c = before_within c.args.object.now c.args.trail.now _ _ c.requ
 
 pub returns : goal.returns
 returns c =
-    let own = own_is c.args.object.now c.args.trail.now c.len.result c.names_before.result _ c.requires.there.site c.len.ensures.len c.names_before.ensures refl in
+    let own = own_is c.args.object.now c.args.trail.now c.len.result c.names_before.result _ c.requires.there.site c.len.ensures.len c.names_before.ensures refl
+    in
     rw (ap (λ k. names_to (take k c.args.trail.now)) own) at c.inner_path.ensures

@@ -9,7 +9,8 @@ returns g c =
     let shallow = c.if-len-depth.false in
     record {
       turn = record {
-        turn = λ here meets. entered_next here c.args.object _ _ _ _ _ _ (meets.shallow (omega (arith, listings, depth, shallow))) c.in_ok-is_empty.ensures.did c.with_directory.ensures;
+        turn = λ here meets. entered_next here c.args.object _ _ _ _ _ _ (meets.shallow (omega (arith, listings, depth, shallow))) c.in_ok-is_empty.ensures.did
+            c.with_directory.ensures;
         few = c.in_ok-is_empty.ensures.few;
       };
     }

@@ -24,4 +24,5 @@ returns-in-Some-put_behind_slash-clause-bytes c =
     let within : n ≤ length c.put_behind_slash.new.zeros = c.in-Some-put_behind_slash.ensures.within in
     let inside : end + n ≤ c.args.text.now.len = search rules in
     put_over end n c.args.text.now.len (take end held) c.put_behind_slash.new.zeros _ _ front within inside
-    ∙ ap (λ l. take end l ++ take n c.put_behind_slash.new.zeros) same ∙ ap (λ l. take end items ++ l) (c.in-Some-put_behind_slash.ensures.bytes ∙ ap (λ l. 47 ∷ l) c.in-Some.ensures.bytes)
+    ∙ ap (λ l. take end l ++ take n c.put_behind_slash.new.zeros) same
+    ∙ ap (λ l. take end items ++ l) (c.in-Some-put_behind_slash.ensures.bytes ∙ ap (λ l. 47 ∷ l) c.in-Some.ensures.bytes)

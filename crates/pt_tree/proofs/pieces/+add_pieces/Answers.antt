@@ -10,17 +10,20 @@ use Rattle.pt_tree.proofs.pieces.+add_pieces.Goals as goal
 pub returns-in_err-add_piece-in-Some-clause-refused : goal.returns-in_err-add_piece-in-Some-clause-refused
 returns-in_err-add_piece-in-Some-clause-refused t c =
     let found : position (λ b. b == 47) c.args.text.now ≡ Some c.in-Some.end = sym c.slash_at.ensures ∙ c.in-Some.is in
-    says_err c.from_residual.result c.in_err-add_piece-in-Some.field-0.0 (IsRefusal (pieces c.args.text.now)) (search rules) (refused_first c.args.text.now c.in-Some.end _ found c.in_err-add_piece-in-Some.ensures.refused)
+    says_err c.from_residual.result c.in_err-add_piece-in-Some.field-0.0 (IsRefusal (pieces c.args.text.now)) (search rules)
+    (refused_first c.args.text.now c.in-Some.end _ found c.in_err-add_piece-in-Some.ensures.refused)
 
 pub returns-in_ok-add_piece-in-Some-clause-added : goal.returns-in_ok-add_piece-in-Some-clause-added
 returns-in_ok-add_piece-in-Some-clause-added t c =
     let found : position (λ b. b == 47) c.args.text.now ≡ Some c.in-Some.end = sym c.slash_at.ensures ∙ c.in-Some.is in
-    on_ok_weaker c.add_pieces.result (added_more c.args.path.now c.add_piece.new.path c.add_pieces.new.path c.args.text.now _ c.in-Some.end found (take_rest c.args.text.now (c.in-Some.end + 1)) c.in_ok-add_piece-in-Some.ensures.added) c.add_pieces.ensures.added
+    on_ok_weaker c.add_pieces.result (added_more c.args.path.now c.add_piece.new.path c.add_pieces.new.path c.args.text.now _ c.in-Some.end found
+    (take_rest c.args.text.now (c.in-Some.end + 1)) c.in_ok-add_piece-in-Some.ensures.added) c.add_pieces.ensures.added
 
 pub returns-in_ok-add_piece-in-Some-clause-refused : goal.returns-in_ok-add_piece-in-Some-clause-refused
 returns-in_ok-add_piece-in-Some-clause-refused t c =
     let found : position (λ b. b == 47) c.args.text.now ≡ Some c.in-Some.end = sym c.slash_at.ensures ∙ c.in-Some.is in
-    IfErr-weaker c.add_pieces.result _ _ (λ e. refused_rest c.args.text.now _ c.in-Some.end e found (take_rest c.args.text.now (c.in-Some.end + 1)) c.in_ok-add_piece-in-Some.ensures.named) c.add_pieces.ensures.refused
+    IfErr-weaker c.add_pieces.result _ _ (λ e. refused_rest c.args.text.now _ c.in-Some.end e found (take_rest c.args.text.now (c.in-Some.end + 1))
+    c.in_ok-add_piece-in-Some.ensures.named) c.add_pieces.ensures.refused
 
 pub returns-in-None-clause-added : goal.returns-in-None-clause-added
 returns-in-None-clause-added t c =

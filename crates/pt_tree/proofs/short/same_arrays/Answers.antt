@@ -29,4 +29,5 @@ both true true true xs ys m n first middle last = sym ((bytes_eq-Decides xs ys).
     at k within = by_word k within (nat_lt k 8) refl
 
 pub returns : goal.returns
-returns c = both c.same_words.result c.same_words-2.result c.same_words-3.result c.args.a.now c.args.b.now (search rules) (search rules) c.same_words.ensures c.same_words-2.ensures c.same_words-3.ensures
+returns c = both c.same_words.result c.same_words-2.result c.same_words-3.result c.args.a.now c.args.b.now (search rules) (search rules) c.same_words.ensures
+    c.same_words-2.ensures c.same_words-3.ensures

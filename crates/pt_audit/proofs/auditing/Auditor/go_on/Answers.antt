@@ -20,7 +20,8 @@ returns-in_err-told-clause-sides g c =
 
 pub returns-clause-on : goal.returns-clause-on
 returns-clause-on g c = λ first it.
-    step_told c.in_ok-told.told.more _ _ _ _ _ first _ _ _ _ _ _ _ c.in_ok-sight.ensures.sides.source.1 c.in_ok-sight.ensures.sides.root.1 c.in_ok-sight.ensures.saw.0.order c.in_ok-sight.ensures.on c.in_ok-told.ensures.on it
+    step_told c.in_ok-told.told.more _ _ _ _ _ first _ _ _ _ _ _ _ c.in_ok-sight.ensures.sides.source.1 c.in_ok-sight.ensures.sides.root.1
+    c.in_ok-sight.ensures.saw.0.order c.in_ok-sight.ensures.on c.in_ok-told.ensures.on it
 
 pub returns-clause-log : goal.returns-clause-log
 returns-clause-log g c = (
@@ -39,4 +40,5 @@ returns-in_err-sight-clause-stops g c =
 pub returns-in_err-told-clause-stops : goal.returns-in_err-told-clause-stops
 returns-in_err-told-clause-stops g c =
     at_err c.from_residual-in_err-told.result c.in_err-told.field-0.0 (search rules)
-    (λ first it. tell_stops _ _ _ _ first _ _ _ _ _ _ c.in_ok-sight.ensures.sides.source.1 c.in_ok-sight.ensures.sides.root.1 c.in_ok-sight.ensures.saw.0.order c.in_ok-sight.ensures.on c.in_err-told.ensures.stops it)
+    (λ first it. tell_stops _ _ _ _ first _ _ _ _ _ _ c.in_ok-sight.ensures.sides.source.1 c.in_ok-sight.ensures.sides.root.1 c.in_ok-sight.ensures.saw.0.order
+    c.in_ok-sight.ensures.on c.in_err-told.ensures.stops it)

@@ -36,7 +36,8 @@ pub returns-then-not-more-clause-ends : goal.returns-then-not-more-clause-ends
 returns-then-not-more-clause-ends g c =
     let was = c.loop-more.invariant in
     let went = c.in_ok-more.ensures in (
-      same_end c.in_ok-more.more _ _ _ _ _ _ _ _ c.so_far-so_far.result c.go_on.new.self.survey (search rules) (search rules) (sym was.3.source.1) (sym was.3.root.1) (went.on _ was.0),
+      same_end c.in_ok-more.more _ _ _ _ _ _ _ _ c.so_far-so_far.result c.go_on.new.self.survey (search rules) (search rules) (sym was.3.source.1)
+          (sym was.3.root.1) (went.on _ was.0),
       went.still.0.job ∙ was.2,
     )
 
@@ -53,10 +54,16 @@ returns-then-not-more-clause-made g c =
 pub returns-in_err-more-clause-stops : goal.returns-in_err-more-clause-stops
 returns-in_err-more-clause-stops g c =
     let was = c.loop-more.invariant in
-    same_stops c.from_residual.result c.in_err-more.field-0.0 c.args.self.now.survey.state.job _ _ _ _ _ _ _ (search rules) was.2 was.3.source.1 was.3.root.1 (c.in_err-more.ensures.stops _ was.0)
+    same_stops c.from_residual.result c.in_err-more.field-0.0 c.args.self.now.survey.state.job _ _ _ _ _ _ _ (search rules) was.2 was.3.source.1 was.3.root.1
+    (c.in_err-more.ensures.stops _ was.0)
 
 pub returns-in_err-more-clause-made : goal.returns-in_err-more-clause-made
-returns-in_err-more-clause-made g c = record { count = c.loop-more.invariant.6.0; last = c.loop-more.self.survey; steps = c.loop-more.invariant.6.1; ended = search rules }
+returns-in_err-more-clause-made g c = record {
+  count = c.loop-more.invariant.6.0;
+  last = c.loop-more.self.survey;
+  steps = c.loop-more.invariant.6.1;
+  ended = search rules;
+}
 
 pub returns-then-not-more-clause-sides : goal.returns-then-not-more-clause-sides
 returns-then-not-more-clause-sides g c =

@@ -9,12 +9,14 @@ use Rattle.pt_audit.proofs.auditing.Auditor.go_through.Given as goal
 
 abbrev pub invariant-loop-more : goal.invariant-loop-more
 invariant-loop-more g l =
-    IsUnderWay (g.S.Source.told l.source) (start_over (tree_in (g.S.Source.told l.source)) (tree_in (g.R.Source.told l.root)) (g.L.Log.told l.fn.log)) (g.L.Log.told l.log) l.self.counts l.self.survey
+    IsUnderWay (g.S.Source.told l.source) (start_over (tree_in (g.S.Source.told l.source)) (tree_in (g.R.Source.told l.root)) (g.L.Log.told l.fn.log))
+    (g.L.Log.told l.log) l.self.counts l.self.survey
     × FollowsOn (g.S.Source.told l.source) (g.R.Source.told l.root) l.self.beside l.self.survey
     × (l.self.survey.state.job ≡ l.fn.self.survey.state.job)
     × KeepsSides g.S.Source.told g.S.Source.keeps g.R.Source.told g.R.Source.keeps (l.fn.source, l.fn.root) (l.source, l.root)
     × KeepsLog g.L.Log.told g.L.Log.keeps l.fn.log l.log
-    × (failures (g.S.Source.failed l.source) (g.R.Source.failed l.root) (g.L.Log.failed l.log) ≡ failures (g.S.Source.failed l.fn.source) (g.R.Source.failed l.fn.root) (g.L.Log.failed l.fn.log))
+    × (failures (g.S.Source.failed l.source) (g.R.Source.failed l.root) (g.L.Log.failed l.log)
+    ≡ failures (g.S.Source.failed l.fn.source) (g.R.Source.failed l.fn.root) (g.L.Log.failed l.fn.log))
     × ((n : ℕ) × Surveyed (tree_in (g.S.Source.told l.fn.source)) l.fn.self.survey n l.self.survey)
 
 abbrev pub decreases-loop-more : goal.decreases-loop-more

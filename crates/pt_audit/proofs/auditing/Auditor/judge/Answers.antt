@@ -19,5 +19,7 @@ returns-in_err-is_twin-clause-source g c = (
 
 pub returns-clause-twin : goal.returns-clause-twin
 returns-clause-twin g c =
-    subst (λ (t : Option Forest). IsTwinAtHand t c.args.self.now.survey c.args.hand.now.told.id.now c.in_ok-comparison.comparison c.in_ok-is_twin.is_twin) c.in_ok-comparison.ensures.source.1
-    (subst (λ (id : List ℕ). IsTwinAtHand (tree_in (g.S.Source.told c.compare.new.source)) c.args.self.now.survey id c.in_ok-comparison.comparison c.in_ok-is_twin.is_twin) c.as_str.ensures c.in_ok-is_twin.ensures.twin)
+    subst (λ (t : Option Forest). IsTwinAtHand t c.args.self.now.survey c.args.hand.now.told.id.now c.in_ok-comparison.comparison c.in_ok-is_twin.is_twin)
+    c.in_ok-comparison.ensures.source.1
+    (subst (λ (id : List ℕ). IsTwinAtHand (tree_in (g.S.Source.told c.compare.new.source)) c.args.self.now.survey id c.in_ok-comparison.comparison
+    c.in_ok-is_twin.is_twin) c.as_str.ensures c.in_ok-is_twin.ensures.twin)

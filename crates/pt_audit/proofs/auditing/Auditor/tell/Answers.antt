@@ -14,7 +14,8 @@ check_layout-requires g c = has_layout _ c.args.sight c.args.self.now.survey c.j
 pub returns-in_err-check_layout-in-Store-clause-says : goal.returns-in_err-check_layout-in-Store-clause-says
 returns-in_err-check_layout-in-Store-clause-says g c =
     let why = c.in_err-check_layout-in-Store.field-0.0 in
-    says_err c.from_residual.result why c.args.self.now.survey.state.job (tree_in (g.S.Source.told c.args.source.now)) (tree_in (g.R.Source.told c.args.root.now)) (search rules)
+    says_err c.from_residual.result why c.args.self.now.survey.state.job (tree_in (g.S.Source.told c.args.source.now))
+    (tree_in (g.R.Source.told c.args.root.now)) (search rules)
     (says_layout (g.S.Source.told c.args.source.now) _ c.args.self.now.survey why _ _ c.job.result.now c.job.ensures
     (subst (λ w. IsAt (g.S.Source.told c.args.source.now) w c.args.self.now.survey) c.in-Store.is (at_sight c.requires))
     c.in_err-check_layout-in-Store.ensures.layout c.in_err-check_layout-in-Store.ensures.failures)
@@ -22,12 +23,14 @@ returns-in_err-check_layout-in-Store-clause-says g c =
 pub returns-in_err-counts-in-Object-clause-says : goal.returns-in_err-counts-in-Object-clause-says
 returns-in_err-counts-in-Object-clause-says g c =
     let why = c.in_err-counts-in-Object.field-0.0 in
-    says_err c.from_residual-in_err-counts-in-Object.result why c.args.self.now.survey.state.job (tree_in (g.S.Source.told c.args.source.now)) (tree_in (g.R.Source.told c.args.root.now)) (search rules)
+    says_err c.from_residual-in_err-counts-in-Object.result why c.args.self.now.survey.state.job (tree_in (g.S.Source.told c.args.source.now))
+    (tree_in (g.R.Source.told c.args.root.now)) (search rules)
     (says_failed c.args.self.now.survey.state.job _ _ why _ _ c.in_err-counts-in-Object.ensures.fails)
 
 pub returns-in_ok-check_layout-in-Store-clause-on : goal.returns-in_ok-check_layout-in-Store-clause-on
 returns-in_ok-check_layout-in-Store-clause-on g c = λ first it.
-    on_store {told = g.S.Source.told c.args.source.now} {root = tree_in (g.R.Source.told c.args.root.now)} {first = first} (g.L.Log.told c.args.log.now) c.args.self.now.counts c.args.self.now.survey c.job.result.now c.job.ensures
+    on_store {told = g.S.Source.told c.args.source.now} {root = tree_in (g.R.Source.told c.args.root.now)} {first = first} (g.L.Log.told c.args.log.now)
+    c.args.self.now.counts c.args.self.now.survey c.job.result.now c.job.ensures
     c.in_ok-check_layout-in-Store.ensures.layout
     (subst (λ w. IsAt (g.S.Source.told c.args.source.now) w c.args.self.now.survey) c.in-Store.is (at_sight c.requires)) it
 
@@ -43,8 +46,12 @@ returns-in-More g c = record {
 }
 
 pub returns-in_ok-counts-in-Object-clause-still : goal.returns-in_ok-counts-in-Object-clause-still
-returns-in_ok-counts-in-Object-clause-still g c =
-    (follows_told _ _ _ _ c.args.self.now.beside c.args.self.now.survey c.args.sight c.requires.saw (ap is_told c.in-Object.is) c.in_ok-counts-in-Object.ensures.sides.source.1 c.in_ok-counts-in-Object.ensures.sides.root.1 c.in_ok-counts-in-Object.ensures.still c.requires.follows, tt, object_is_not_over c.args.self.now.survey c.requires.saw c.in-Object.is)
+returns-in_ok-counts-in-Object-clause-still g c = (
+  follows_told _ _ _ _ c.args.self.now.beside c.args.self.now.survey c.args.sight c.requires.saw (ap is_told c.in-Object.is)
+      c.in_ok-counts-in-Object.ensures.sides.source.1 c.in_ok-counts-in-Object.ensures.sides.root.1 c.in_ok-counts-in-Object.ensures.still c.requires.follows,
+  tt,
+  object_is_not_over c.args.self.now.survey c.requires.saw c.in-Object.is,
+)
 
 pub returns-in_ok-check_layout-in-Store-clause-still : goal.returns-in_ok-check_layout-in-Store-clause-still
 returns-in_ok-check_layout-in-Store-clause-still g c = (search rules, tt, store_is_not_over c.args.self.now.survey c.requires.saw c.in-Store.is)

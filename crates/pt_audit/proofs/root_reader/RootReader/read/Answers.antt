@@ -9,4 +9,5 @@ returns-in_ok-self-clause-paced g c =
     let next : c.in_ok-self.field-0 ≡ true → CameNext c.as_slice.result.now (told c.args.root.now) (told c.come_next.new.root) = search rules in
     λ source behind.
     read_paced source _ _ c.args.self.now _ c.args.survey.now c.in_ok-self.field-0 c.requires.saw (search rules) c.come_next.ensures.tree
-    (λ is. subst (λ (bytes : List ℕ). CameNext bytes (told c.args.root.now) (told c.come_next.new.root)) (c.as_slice.ensures.value ∙ ap (λ k. k.items) c.block.ensures) (next is)) behind
+    (λ is. subst (λ (bytes : List ℕ). CameNext bytes (told c.args.root.now) (told c.come_next.new.root)) (c.as_slice.ensures.value
+    ∙ ap (λ k. k.items) c.block.ensures) (next is)) behind

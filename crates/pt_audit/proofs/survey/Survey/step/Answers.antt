@@ -35,6 +35,8 @@ returns-in_err-self-inside g c =
       log = search rules;
       blames = search rules;
       says = subst (λ (r : Running). IfErr c.from_residual.result (SurveySays r.state.job r.phase source)) c.self.view_is
-          (says_step c.from_residual.result c.in_err-self-inside.field-0.0 c.self.inside.state.job c.self.inside.phase source (search rules) c.in_err-self-inside.ensures.leaves.says);
-      stops = halt_seen c.from_residual.result c.in_err-self-inside.field-0.0 _ _ _ _ _ c.args.self.now (search rules) (search rules) (search rules) c.in_err-self-inside.ensures.stops;
+          (says_step c.from_residual.result c.in_err-self-inside.field-0.0 c.self.inside.state.job c.self.inside.phase source (search rules)
+          c.in_err-self-inside.ensures.leaves.says);
+      stops = halt_seen c.from_residual.result c.in_err-self-inside.field-0.0 _ _ _ _ _ c.args.self.now (search rules) (search rules) (search rules)
+          c.in_err-self-inside.ensures.stops;
     }

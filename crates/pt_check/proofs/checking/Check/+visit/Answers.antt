@@ -21,7 +21,8 @@ loop-i-init g t c = record {
 }
 
 pub loop-i-preserved-in_default-get : goal.loop-i-preserved-in_default-get
-loop-i-preserved-in_default-get g t c = absurd (goes_past c.in-Some.found.listing c.loop-i.i (omega (arith, c.len-i-end.ensures.len, c.loop-i-test.true)) (sym c.in_default-get.ensures))
+loop-i-preserved-in_default-get g t c = absurd (goes_past c.in-Some.found.listing c.loop-i.i (omega (arith, c.len-i-end.ensures.len, c.loop-i-test.true))
+    (sym c.in_default-get.ensures))
 
 pub returns-in_err-bytes-clause-keeps : goal.returns-in_err-bytes-clause-keeps
 returns-in_err-bytes-clause-keeps g t c =
@@ -31,16 +32,19 @@ pub visit-requires : goal.visit-requires
 visit-requires g t c κs within =
     let here = g.S.Source.told c.args.self.now.source in
     let listed : ForSome (tree_in here) (λ t. listing_at t c.args.path.now ≡ Some c.in-Some.found.listing) = rw c.in-Some.is at c.in_ok-found.ensures.listed in
-    let starts = ends_on g.S.Source.told g.S.Source.keeps g.L.Log.told g.met.S.Source.is_kept c.meet.new.self c.begin-before.new.self _ c.begin-before.ensures.rest in
+    let starts = ends_on g.S.Source.told g.S.Source.keeps g.L.Log.told g.met.S.Source.is_kept c.meet.new.self c.begin-before.new.self _
+    c.begin-before.ensures.rest in
     let same_tree = starts.tree ∙ c.meet.ensures.keeps.tree ∙ c.loop-i.invariant.keeps.tree in
-    let stands = dir_there here (g.met.S.Source.proper c.args.self.now.source) c.args.path.now c.in_ok-entry.entry c.in-Some.found.listing c.loop-i.i c.in-Some-get.name.now c.in-Some-get.kind
+    let stands = dir_there here (g.met.S.Source.proper c.args.self.now.source) c.args.path.now c.in_ok-entry.entry c.in-Some.found.listing c.loop-i.i
+    c.in-Some-get.name.now c.in-Some-get.kind
     (tree_by g.S.Source.told c.begin-before.new.self) listed (sym c.in-Some-get.ensures) c.in-Dir.is c.in_ok-entry.ensures same_tree in
     (omega (arith, c.if-left-eq0.false, c.requires.1.0), (within.0, (within.1.0, (within.1.1, stands))))
 
 pub returns-in_err-visit-clause-keeps : goal.returns-in_err-visit-clause-keeps
 returns-in_err-visit-clause-keeps g t c =
     let on = keeps_on g.S.Source.told g.S.Source.keeps g.L.Log.told g.met.S.Source.keeps_on in
-    let starts = ends_on g.S.Source.told g.S.Source.keeps g.L.Log.told g.met.S.Source.is_kept c.meet.new.self c.begin-before.new.self _ c.begin-before.ensures.rest in
+    let starts = ends_on g.S.Source.told g.S.Source.keeps g.L.Log.told g.met.S.Source.is_kept c.meet.new.self c.begin-before.new.self _
+    c.begin-before.ensures.rest in
     on _ _ _ (on _ _ _ (on _ _ _ c.loop-i.invariant.keeps c.meet.ensures.keeps) starts) c.visit.ensures.keeps
 
 pub loop-i-preserved-in-Dir : goal.loop-i-preserved-in-Dir
@@ -54,16 +58,24 @@ loop-i-preserved-in-Dir g t c =
     let same_tree = starts.tree ∙ c.meet.ensures.keeps.tree ∙ c.loop-i.invariant.keeps.tree in
     let same_wants = starts.wants ∙ c.meet.ensures.keeps.wants ∙ c.loop-i.invariant.keeps.wants in
     let folder : Folder = record { path = c.args.path.now; prefix = c.args.prefix.now; here = c.args.within; left = c.args.left } in
-    let inside_is = c.of_child-inside.ensures ∙ ap (λ (n : ℕ). below c.args.within c.in_ok-has_object.has_object c.in-Some-get.name.now n) c.in_ok-bytes.ensures.length in
-    let meets = subst (λ (w : Wants). Meets w c.in_ok-entry.entry c.args.within (c.in-Some-get.name.now, c.in-Some-get.kind) (seen_by g.S.Source g.L.Log c.loop-i.self) (seen_by g.S.Source g.L.Log c.meet.new.self)) c.loop-i.invariant.keeps.wants c.in_ok-bytes.ensures.met in
+    let inside_is = c.of_child-inside.ensures ∙ ap (λ (n : ℕ). below c.args.within c.in_ok-has_object.has_object c.in-Some-get.name.now n)
+    c.in_ok-bytes.ensures.length in
+    let meets = subst (λ (w : Wants). Meets w c.in_ok-entry.entry c.args.within (c.in-Some-get.name.now, c.in-Some-get.kind)
+    (seen_by g.S.Source g.L.Log c.loop-i.self) (seen_by g.S.Source g.L.Log c.meet.new.self)) c.loop-i.invariant.keeps.wants c.in_ok-bytes.ensures.met in
     let start_is = counts c.meet.new.self c.begin-before.new.self _ c.begin-before.ensures.rest c.begin-before.ensures.numbers in
-    let end_is = counts c.visit.new.self c.end.new.self _ c.end.ensures.rest (c.end.ensures.numbers ∙ ap (λ (n : ℕ). ended c.of_child-inside.result c.args.within n c.visit.new.self.numbers) c.begin-before.ensures.bytes) in
+    let end_is = counts c.visit.new.self c.end.new.self _ c.end.ensures.rest (c.end.ensures.numbers
+    ∙ ap (λ (n : ℕ). ended c.of_child-inside.result c.args.within n c.visit.new.self.numbers) c.begin-before.ensures.bytes) in
     record {
-      keeps = on _ _ _ (on _ _ _ (on _ _ _ (on _ _ _ c.loop-i.invariant.keeps c.meet.ensures.keeps) starts) c.visit.ensures.keeps) (ends c.visit.new.self c.end.new.self _ c.end.ensures.rest);
-      unfailed = ap (λ s. g.L.Log.failed s.log) c.end.ensures.rest ∙ c.in_ok-visit.ensures.fault ∙ ap (λ s. g.L.Log.failed s.log) c.begin-before.ensures.rest ∙ c.in_ok-bytes.ensures.fault ∙ c.loop-i.invariant.unfailed;
-      visited = dir_step g.E.Explains.says here (g.met.S.Source.proper c.args.self.now.source) c.args.self.now.wants c.begin-before.new.self.wants folder c.in_ok-has_object.has_object c.in-Some.found.listing c.loop-i.i
-          c.in-Some-get.name.now c.in-Some-get.kind c.in_ok-entry.entry c.of_child-inside.result (seen_by g.S.Source g.L.Log c.judge_found.new.self) (seen_by g.S.Source g.L.Log c.loop-i.self) (seen_by g.S.Source g.L.Log c.meet.new.self)
-          (seen_by g.S.Source g.L.Log c.begin-before.new.self) (seen_by g.S.Source g.L.Log c.visit.new.self) (seen_by g.S.Source g.L.Log c.end.new.self) (tree_by g.S.Source.told c.begin-before.new.self)
+      keeps = on _ _ _ (on _ _ _ (on _ _ _ (on _ _ _ c.loop-i.invariant.keeps c.meet.ensures.keeps) starts) c.visit.ensures.keeps)
+          (ends c.visit.new.self c.end.new.self _ c.end.ensures.rest);
+      unfailed = ap (λ s. g.L.Log.failed s.log) c.end.ensures.rest ∙ c.in_ok-visit.ensures.fault ∙ ap (λ s. g.L.Log.failed s.log) c.begin-before.ensures.rest
+          ∙ c.in_ok-bytes.ensures.fault ∙ c.loop-i.invariant.unfailed;
+      visited = dir_step g.E.Explains.says here (g.met.S.Source.proper c.args.self.now.source) c.args.self.now.wants c.begin-before.new.self.wants folder
+          c.in_ok-has_object.has_object c.in-Some.found.listing c.loop-i.i
+          c.in-Some-get.name.now c.in-Some-get.kind c.in_ok-entry.entry c.of_child-inside.result (seen_by g.S.Source g.L.Log c.judge_found.new.self)
+          (seen_by g.S.Source g.L.Log c.loop-i.self) (seen_by g.S.Source g.L.Log c.meet.new.self)
+          (seen_by g.S.Source g.L.Log c.begin-before.new.self) (seen_by g.S.Source g.L.Log c.visit.new.self) (seen_by g.S.Source g.L.Log c.end.new.self)
+          (tree_by g.S.Source.told c.begin-before.new.self)
           listed (sym c.in-Some-get.ensures) c.in-Dir.is c.in_ok-entry.ensures inside_is c.loop-i.invariant.visited meets same_tree
           same_wants start_is c.in_ok-visit.ensures.visited end_is;
     }
@@ -73,12 +85,15 @@ visit_leaf-requires g t c =
     let here = g.S.Source.told c.args.self.now.source in
     let listed : ForSome (tree_in here) (λ t. listing_at t c.args.path.now ≡ Some c.in-Some.found.listing) = rw c.in-Some.is at c.in_ok-found.ensures.listed in
     let same_tree = c.meet.ensures.keeps.tree ∙ c.loop-i.invariant.keeps.tree in
-    leaf_there here (g.met.S.Source.proper c.args.self.now.source) c.args.path.now c.in_ok-entry.entry c.in-Some.found.listing c.loop-i.i c.in-Some-get.name.now c.in-Some-get.kind
+    leaf_there here (g.met.S.Source.proper c.args.self.now.source) c.args.path.now c.in_ok-entry.entry c.in-Some.found.listing c.loop-i.i c.in-Some-get.name.now
+    c.in-Some-get.kind
     (tree_by g.S.Source.told c.meet.new.self) listed (sym c.in-Some-get.ensures) c.in_ok-entry.ensures same_tree
 
 pub returns-in_err-visit_leaf-clause-keeps : goal.returns-in_err-visit_leaf-clause-keeps
 returns-in_err-visit_leaf-clause-keeps g t c =
-    keeps_on g.S.Source.told g.S.Source.keeps g.L.Log.told g.met.S.Source.keeps_on _ _ _ (keeps_on g.S.Source.told g.S.Source.keeps g.L.Log.told g.met.S.Source.keeps_on _ _ _ c.loop-i.invariant.keeps c.meet.ensures.keeps) c.visit_leaf.ensures.keeps
+    keeps_on g.S.Source.told g.S.Source.keeps g.L.Log.told g.met.S.Source.keeps_on _ _ _
+    (keeps_on g.S.Source.told g.S.Source.keeps g.L.Log.told g.met.S.Source.keeps_on _ _ _ c.loop-i.invariant.keeps c.meet.ensures.keeps)
+    c.visit_leaf.ensures.keeps
 
 pub loop-i-preserved : goal.loop-i-preserved
 loop-i-preserved g t c =
@@ -86,13 +101,19 @@ loop-i-preserved g t c =
     let listed : ForSome (tree_in here) (λ t. listing_at t c.args.path.now ≡ Some c.in-Some.found.listing) = rw c.in-Some.is at c.in_ok-found.ensures.listed in
     let same_tree = c.meet.ensures.keeps.tree ∙ c.loop-i.invariant.keeps.tree in
     let folder : Folder = record { path = c.args.path.now; prefix = c.args.prefix.now; here = c.args.within; left = c.args.left } in
-    let meets = subst (λ (w : Wants). Meets w c.in_ok-entry.entry c.args.within (c.in-Some-get.name.now, c.in-Some-get.kind) (seen_by g.S.Source g.L.Log c.loop-i.self) (seen_by g.S.Source g.L.Log c.meet.new.self)) c.loop-i.invariant.keeps.wants c.in_ok-bytes.ensures.met in
+    let meets = subst (λ (w : Wants). Meets w c.in_ok-entry.entry c.args.within (c.in-Some-get.name.now, c.in-Some-get.kind)
+    (seen_by g.S.Source g.L.Log c.loop-i.self) (seen_by g.S.Source g.L.Log c.meet.new.self)) c.loop-i.invariant.keeps.wants c.in_ok-bytes.ensures.met in
     record {
-      keeps = keeps_on g.S.Source.told g.S.Source.keeps g.L.Log.told g.met.S.Source.keeps_on _ _ _ (keeps_on g.S.Source.told g.S.Source.keeps g.L.Log.told g.met.S.Source.keeps_on _ _ _ c.loop-i.invariant.keeps c.meet.ensures.keeps) c.visit_leaf.ensures.keeps;
+      keeps = keeps_on g.S.Source.told g.S.Source.keeps g.L.Log.told g.met.S.Source.keeps_on _ _ _
+          (keeps_on g.S.Source.told g.S.Source.keeps g.L.Log.told g.met.S.Source.keeps_on _ _ _ c.loop-i.invariant.keeps c.meet.ensures.keeps)
+          c.visit_leaf.ensures.keeps;
       unfailed = c.in_ok-visit_leaf.ensures.fault ∙ c.in_ok-bytes.ensures.fault ∙ c.loop-i.invariant.unfailed;
-      visited = leaf_step g.E.Explains.says here (g.met.S.Source.proper c.args.self.now.source) c.args.self.now.wants c.meet.new.self.wants folder c.in_ok-has_object.has_object c.in-Some.found.listing c.loop-i.i
-          c.in-Some-get.name.now c.in-Some-get.kind c.in_ok-entry.entry (seen_by g.S.Source g.L.Log c.judge_found.new.self) (seen_by g.S.Source g.L.Log c.loop-i.self) (seen_by g.S.Source g.L.Log c.meet.new.self)
-          (seen_by g.S.Source g.L.Log c.visit_leaf.new.self) (tree_by g.S.Source.told c.meet.new.self) listed (sym c.in-Some-get.ensures) c.in_default-kind.not-Dir c.in_ok-entry.ensures
+      visited = leaf_step g.E.Explains.says here (g.met.S.Source.proper c.args.self.now.source) c.args.self.now.wants c.meet.new.self.wants folder
+          c.in_ok-has_object.has_object c.in-Some.found.listing c.loop-i.i
+          c.in-Some-get.name.now c.in-Some-get.kind c.in_ok-entry.entry (seen_by g.S.Source g.L.Log c.judge_found.new.self)
+          (seen_by g.S.Source g.L.Log c.loop-i.self) (seen_by g.S.Source g.L.Log c.meet.new.self)
+          (seen_by g.S.Source g.L.Log c.visit_leaf.new.self) (tree_by g.S.Source.told c.meet.new.self) listed (sym c.in-Some-get.ensures)
+          c.in_default-kind.not-Dir c.in_ok-entry.ensures
           c.loop-i.invariant.visited meets same_tree (c.meet.ensures.keeps.wants ∙ c.loop-i.invariant.keeps.wants) c.in_ok-visit_leaf.ensures.opened;
     }
 
@@ -107,7 +128,10 @@ returns-clause-visited g t c =
     let items = c.in-Some.found.listing in
     let whole = c.in-Some.found.is_whole in
     let finds : Finds g.E.Explains.says c.args.path.now whole a m = rw c.in-Some.is at c.in_ok-found.ensures.found in
-    let judged = subst (λ (w : Wants). cond whole (Judges w (c.args.path.now, c.args.prefix.now) c.args.within items m first) (first ≡ m)) c.list.ensures.keeps.wants c.in_ok-has_object.ensures.judged in
-    all_step g.E.Explains.says here c.args.self.now.wants folder c.in_ok-has_object.has_object items c.loop-i.i a first (seen_by g.S.Source g.L.Log c.loop-i.self)
+    let judged = subst (λ (w : Wants). cond whole (Judges w (c.args.path.now, c.args.prefix.now) c.args.within items m first) (first ≡ m))
+    c.list.ensures.keeps.wants c.in_ok-has_object.ensures.judged in
+    all_step g.E.Explains.says here c.args.self.now.wants folder c.in_ok-has_object.has_object items c.loop-i.i a first
+    (seen_by g.S.Source g.L.Log c.loop-i.self)
     listed (omega (arith, c.len-i-end.ensures.len, c.loop-i-test.false)) c.if-left-eq0.false
-    (begins g.E.Explains.says c.args.self.now.wants folder items whole c.in_ok-has_object.has_object a m first finds judged c.in_ok-has_object.ensures.object) c.loop-i.invariant.visited
+    (begins g.E.Explains.says c.args.self.now.wants folder items whole c.in_ok-has_object.has_object a m first finds judged c.in_ok-has_object.ensures.object)
+    c.loop-i.invariant.visited

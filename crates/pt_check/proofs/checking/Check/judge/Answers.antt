@@ -22,12 +22,15 @@ returns-clause-judged g c =
     let m = seen_by g.S.Source g.L.Log c.tell_if.new.self in
     let b = seen_by g.S.Source g.L.Log c.tell_if-2.new.self in
     let holds = c.has_object-has_object.ensures ∙ ap has_object c.finding_of-finding.ensures in
-    let counts = recounted g.S.Source g.L.Log c.args.self.now c.count.new.self _ c.count.ensures.rest (c.count.ensures.numbers ∙ ap (λ (h : Bool). with_folder c.args.within h a.numbers) holds) in
+    let counts = recounted g.S.Source g.L.Log c.args.self.now c.count.new.self _ c.count.ensures.rest (c.count.ensures.numbers
+    ∙ ap (λ (h : Bool). with_folder c.args.within h a.numbers) holds) in
     let layout : c.count.new.self.wants.layout ≡ c.args.self.now.wants.layout = ap (λ s. s.wants.layout) c.count.ensures.rest in
     let first = c.in_ok-trouble.ensures ∙ ap (λ (f : Finding). folder_trouble c.args.within f path) c.finding_of-finding.ensures in
-    let second = c.in_ok-trouble-2.ensures ∙ ap (λ (f : Finding). reserved_trouble c.count.new.self.wants.layout c.args.prefix.now f path) c.finding_of-finding.ensures
+    let second = c.in_ok-trouble-2.ensures ∙ ap (λ (f : Finding). reserved_trouble c.count.new.self.wants.layout c.args.prefix.now f path)
+    c.finding_of-finding.ensures
     ∙ ap (λ (l : Tuples). reserved_trouble l c.args.prefix.now what path) layout in
-    let tells : TellsIf path (folder_trouble c.args.within what path) n m = subst (λ (o : Option Trouble). TellsIf path o n m) first c.in_ok-tell_if.ensures.told in (
+    let tells : TellsIf path (folder_trouble c.args.within what path) n m = subst (λ (o : Option Trouble). TellsIf path o n m) first
+    c.in_ok-tell_if.ensures.told in (
       m,
       subst (λ (s : Seen). TellsIf path (folder_trouble c.args.within what path) s m) counts tells,
       subst (λ (o : Option Trouble). TellsIf path o m b) second c.in_ok-tell_if-2.ensures.told,

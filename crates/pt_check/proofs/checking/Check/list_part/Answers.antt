@@ -8,19 +8,22 @@ explain_listing-requires g c = may_list (g.S.Source.told c.args.self.now.source)
 
 pub returns-in_err-tell_each-clause-keeps : goal.returns-in_err-tell_each-clause-keeps
 returns-in_err-tell_each-clause-keeps g c =
-    let first = sources_on g.S.Source.told g.S.Source.keeps g.L.Log.told c.args.self.now c.explain_listing.new.source c.explain_listing.ensures.same c.explain_listing.ensures.keeps in
+    let first = sources_on g.S.Source.told g.S.Source.keeps g.L.Log.told c.args.self.now c.explain_listing.new.source c.explain_listing.ensures.same
+    c.explain_listing.ensures.keeps in
     let on = keeps_on g.S.Source.told g.S.Source.keeps g.L.Log.told g.met.S.Source.keeps_on in
     on _ _ _ (on _ _ _ first c.tell_reason.ensures.keeps) c.tell_each.ensures.keeps
 
 pub returns-in-Some-clause-keeps : goal.returns-in-Some-clause-keeps
 returns-in-Some-clause-keeps g c =
-    let first = sources_on g.S.Source.told g.S.Source.keeps g.L.Log.told c.args.self.now c.explain_listing.new.source c.explain_listing.ensures.same c.explain_listing.ensures.keeps in
+    let first = sources_on g.S.Source.told g.S.Source.keeps g.L.Log.told c.args.self.now c.explain_listing.new.source c.explain_listing.ensures.same
+    c.explain_listing.ensures.keeps in
     let on = keeps_on g.S.Source.told g.S.Source.keeps g.L.Log.told g.met.S.Source.keeps_on in
     on _ _ _ (on _ _ _ first c.tell_reason.ensures.keeps) c.tell_each.ensures.keeps
 
 pub returns-clause-keeps : goal.returns-clause-keeps
 returns-clause-keeps g c =
-    let first = sources_on g.S.Source.told g.S.Source.keeps g.L.Log.told c.args.self.now c.explain_listing.new.source c.explain_listing.ensures.same c.explain_listing.ensures.keeps in
+    let first = sources_on g.S.Source.told g.S.Source.keeps g.L.Log.told c.args.self.now c.explain_listing.new.source c.explain_listing.ensures.same
+    c.explain_listing.ensures.keeps in
     let on = keeps_on g.S.Source.told g.S.Source.keeps g.L.Log.told g.met.S.Source.keeps_on in
     on _ _ _ (on _ _ _ first c.tell_reason.ensures.keeps) c.tell_each.ensures.keeps
 

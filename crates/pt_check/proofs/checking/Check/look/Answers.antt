@@ -19,7 +19,8 @@ visit-requires g c =
     ap (λ (n : List ℕ). kind_in c.args.listing.now n) (c.as_bytes-2.ensures.value ∙ c.text-2.ensures) in
     let is : is_dir_kind (kind_in c.args.listing.now pairtree_root) ≡ true = sym (c.if-is_dir.ensures ∙ ap is_dir_kind (c.kind_in-2.ensures ∙ named)) in
     subst (λ (p : Path). ForSome (tree_by g.S.Source.told c.tell_if.new.self) (λ tree. IsSome (dir_at tree p))) (sym c.in_ok-root.ensures)
-    (root_stands (tree_by g.S.Source.told c.args.self.now) (tree_by g.S.Source.told c.tell_if.new.self) c.args.listing.now pairtree_root c.requires is c.tell_if.ensures.keeps.tree)
+    (root_stands (tree_by g.S.Source.told c.args.self.now) (tree_by g.S.Source.told c.tell_if.new.self) c.args.listing.now pairtree_root c.requires is
+    c.tell_if.ensures.keeps.tree)
 
 pub returns-then-is_dir-clause-looked : goal.returns-then-is_dir-clause-looked
 returns-then-is_dir-clause-looked g c =
@@ -28,7 +29,8 @@ returns-then-is_dir-clause-looked g c =
     let is : is_dir_kind (kind_in c.args.listing.now pairtree_root) ≡ true = sym (c.if-is_dir.ensures ∙ ap is_dir_kind (c.kind_in-2.ensures ∙ named)) in
     let marks : kind_in c.args.listing.now c.as_bytes.result.now ≡ kind_in c.args.listing.now version_file =
     ap (λ (n : List ℕ). kind_in c.args.listing.now n) (c.as_bytes.ensures.value ∙ c.text.ensures) in
-    let marked : c.is_file-marked.result ≡ is_file_kind (kind_in c.args.listing.now version_file) = c.is_file-marked.ensures ∙ ap is_file_kind (c.kind_in.ensures ∙ marks) in
+    let marked : c.is_file-marked.result ≡ is_file_kind (kind_in c.args.listing.now version_file) = c.is_file-marked.ensures
+    ∙ ap is_file_kind (c.kind_in.ensures ∙ marks) in
     let lacks : c.missing.result ≡ missing (is_file_kind (kind_in c.args.listing.now version_file)) = c.missing.ensures ∙ ap missing marked in
     let left : c.depth.result + 1 ≡ 601 = ap (λ (n : ℕ). n + 1) (c.depth.ensures.value ∙ ap (λ l. l.depth) c.greatest.ensures) in
     let a = seen_by g.S.Source g.L.Log c.args.self.now in
@@ -37,11 +39,14 @@ returns-then-is_dir-clause-looked g c =
     let tells : TellsIf c.in_ok-version.version (missing (is_file_kind (kind_in c.args.listing.now version_file))) a m =
     subst (λ (o : Option Trouble). TellsIf c.in_ok-version.version o a m) lacks c.in_ok-tell_if.ensures.told in
     on_ok_weaker c.visit.result
-    (looked g.E.Explains.says (tree_by g.S.Source.told c.args.self.now) (tree_by g.S.Source.told c.tell_if.new.self) c.args.self.now.wants c.tell_if.new.self.wants c.args.prefix.now c.args.listing.now c.in_ok-version.version
-    c.in_ok-root.root (c.depth.result + 1) a m b c.requires c.in_ok-version.ensures c.in_ok-root.ensures left tells is c.tell_if.ensures.keeps.tree c.tell_if.ensures.keeps.wants) c.visit.ensures.visited
+    (looked g.E.Explains.says (tree_by g.S.Source.told c.args.self.now) (tree_by g.S.Source.told c.tell_if.new.self) c.args.self.now.wants
+    c.tell_if.new.self.wants c.args.prefix.now c.args.listing.now c.in_ok-version.version
+    c.in_ok-root.root (c.depth.result + 1) a m b c.requires c.in_ok-version.ensures c.in_ok-root.ensures left tells is c.tell_if.ensures.keeps.tree
+    c.tell_if.ensures.keeps.wants) c.visit.ensures.visited
 
 pub returns-then-is_dir-clause-keeps : goal.returns-then-is_dir-clause-keeps
-returns-then-is_dir-clause-keeps g c = keeps_on g.S.Source.told g.S.Source.keeps g.L.Log.told g.met.S.Source.keeps_on _ _ _ c.tell_if.ensures.keeps c.visit.ensures.keeps
+returns-then-is_dir-clause-keeps g c = keeps_on g.S.Source.told g.S.Source.keeps g.L.Log.told g.met.S.Source.keeps_on _ _ _ c.tell_if.ensures.keeps
+    c.visit.ensures.keeps
 
 pub returns-clause-keeps : goal.returns-clause-keeps
 returns-clause-keeps g c = keeps_on g.S.Source.told g.S.Source.keeps g.L.Log.told g.met.S.Source.keeps_on _ _ _ c.tell_if.ensures.keeps c.tell.ensures.keeps

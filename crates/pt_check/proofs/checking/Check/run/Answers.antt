@@ -20,18 +20,21 @@ look_at_prefix-requires g c =
     let there = rw c.in-Some.is at c.in_ok-found.ensures.listed in
     let listed : ForSome (tree_by g.S.Source.told c.args.self.now) (λ t. listing_at t [] ≡ Some c.in-Some.found.listing) =
     subst (λ (p : Path). ForSome (tree_by g.S.Source.told c.args.self.now) (λ t. listing_at t p ≡ Some c.in-Some.found.listing)) c.new-top.ensures there in
-    in_same (λ (t : Forest). listing_at t [] ≡ Some c.in-Some.found.listing) (tree_by g.S.Source.told c.args.self.now) (tree_by g.S.Source.told c.list.new.self) c.list.ensures.keeps.tree listed
+    in_same (λ (t : Forest). listing_at t [] ≡ Some c.in-Some.found.listing) (tree_by g.S.Source.told c.args.self.now) (tree_by g.S.Source.told c.list.new.self)
+    c.list.ensures.keeps.tree listed
 
 pub look-requires : goal.look-requires
 look-requires g c =
     let there = rw c.in-Some.is at c.in_ok-found.ensures.listed in
     let listed : ForSome (tree_by g.S.Source.told c.args.self.now) (λ t. listing_at t [] ≡ Some c.in-Some.found.listing) =
     subst (λ (p : Path). ForSome (tree_by g.S.Source.told c.args.self.now) (λ t. listing_at t p ≡ Some c.in-Some.found.listing)) c.new-top.ensures there in
-    in_same (λ (t : Forest). listing_at t [] ≡ Some c.in-Some.found.listing) (tree_by g.S.Source.told c.args.self.now) (tree_by g.S.Source.told c.look_at_prefix.new.self)
+    in_same (λ (t : Forest). listing_at t [] ≡ Some c.in-Some.found.listing) (tree_by g.S.Source.told c.args.self.now)
+    (tree_by g.S.Source.told c.look_at_prefix.new.self)
     (c.look_at_prefix.ensures.keeps.tree ∙ c.list.ensures.keeps.tree) listed
 
 pub returns-in_err-prefix-in-Some-clause-keeps : goal.returns-in_err-prefix-in-Some-clause-keeps
-returns-in_err-prefix-in-Some-clause-keeps g c = keeps_on g.S.Source.told g.S.Source.keeps g.L.Log.told g.met.S.Source.keeps_on _ _ _ c.list.ensures.keeps c.look_at_prefix.ensures.keeps
+returns-in_err-prefix-in-Some-clause-keeps g c = keeps_on g.S.Source.told g.S.Source.keeps g.L.Log.told g.met.S.Source.keeps_on _ _ _ c.list.ensures.keeps
+    c.look_at_prefix.ensures.keeps
 
 pub returns-in_err-look-in-Some-clause-keeps : goal.returns-in_err-look-in-Some-clause-keeps
 returns-in_err-look-in-Some-clause-keeps g c =
@@ -43,22 +46,29 @@ returns-in-Some-clause-checked g c =
     let there = rw c.in-Some.is at c.in_ok-found.ensures.listed in
     let first : ForSome (tree_by g.S.Source.told c.args.self.now) (λ t. listing_at t [] ≡ Some c.in-Some.found.listing) =
     subst (λ (p : Path). ForSome (tree_by g.S.Source.told c.args.self.now) (λ t. listing_at t p ≡ Some c.in-Some.found.listing)) c.new-top.ensures there in
-    let listed = in_same (λ (t : Forest). listing_at t [] ≡ Some c.in-Some.found.listing) (tree_by g.S.Source.told c.args.self.now) (tree_by g.S.Source.told c.list.new.self) c.list.ensures.keeps.tree first in
-    let looks = subst (λ (p : List ℕ). ForSome (tree_by g.S.Source.told c.look_at_prefix.new.self) (λ t. Looks g.E.Explains.says c.look_at_prefix.new.self.wants p t
-    (seen_by g.S.Source g.L.Log c.look_at_prefix.new.self) (seen_by g.S.Source g.L.Log c.look.new.self))) c.as_str.ensures.value c.in_ok-look-in-Some.ensures.looked in
+    let listed = in_same (λ (t : Forest). listing_at t [] ≡ Some c.in-Some.found.listing) (tree_by g.S.Source.told c.args.self.now)
+    (tree_by g.S.Source.told c.list.new.self) c.list.ensures.keeps.tree first in
+    let looks = subst (λ (p : List ℕ). ForSome (tree_by g.S.Source.told c.look_at_prefix.new.self)
+    (λ t. Looks g.E.Explains.says c.look_at_prefix.new.self.wants p t
+    (seen_by g.S.Source g.L.Log c.look_at_prefix.new.self) (seen_by g.S.Source g.L.Log c.look.new.self))) c.as_str.ensures.value
+    c.in_ok-look-in-Some.ensures.looked in
     let finds : Finds g.E.Explains.says [] c.in-Some.found.is_whole (seen_by g.S.Source g.L.Log c.args.self.now) (seen_by g.S.Source g.L.Log c.list.new.self) =
-    subst (λ (p : Path). Finds g.E.Explains.says p c.in-Some.found.is_whole (seen_by g.S.Source g.L.Log c.args.self.now) (seen_by g.S.Source g.L.Log c.list.new.self)) c.new-top.ensures (rw c.in-Some.is at c.in_ok-found.ensures.found) in
+    subst (λ (p : Path). Finds g.E.Explains.says p c.in-Some.found.is_whole (seen_by g.S.Source g.L.Log c.args.self.now)
+    (seen_by g.S.Source g.L.Log c.list.new.self)) c.new-top.ensures (rw c.in-Some.is at c.in_ok-found.ensures.found) in
     of_answer c.tell_numbers.result _ _ _ c.tell_numbers.ensures.numbers c.tell_numbers.ensures.told
-    (λ numbers is held. checked g.E.Explains.says (tree_by g.S.Source.told c.args.self.now) (tree_by g.S.Source.told c.list.new.self) c.args.self.now.wants c.list.new.self.wants numbers c.in-Some.found.is_whole
+    (λ numbers is held. checked g.E.Explains.says (tree_by g.S.Source.told c.args.self.now) (tree_by g.S.Source.told c.list.new.self) c.args.self.now.wants
+    c.list.new.self.wants numbers c.in-Some.found.is_whole
     (seen_by g.S.Source g.L.Log c.args.self.now) (seen_by g.S.Source g.L.Log c.list.new.self)
     (seen_by g.S.Source g.L.Log c.look.new.self) (seen_by g.S.Source g.L.Log c.tell_numbers.new.self)
     c.list.ensures.keeps.tree c.list.ensures.keeps.wants
     finds
-    (looked_all g.E.Explains.says (tree_by g.S.Source.told c.list.new.self) (tree_by g.S.Source.told c.look_at_prefix.new.self) c.list.new.self.wants c.look_at_prefix.new.self.wants (string_bytes c.in_ok-prefix-in-Some.prefix) c.in-Some.found.listing
+    (looked_all g.E.Explains.says (tree_by g.S.Source.told c.list.new.self) (tree_by g.S.Source.told c.look_at_prefix.new.self) c.list.new.self.wants
+    c.look_at_prefix.new.self.wants (string_bytes c.in_ok-prefix-in-Some.prefix) c.in-Some.found.listing
     (seen_by g.S.Source g.L.Log c.list.new.self) (seen_by g.S.Source g.L.Log c.look_at_prefix.new.self)
     (seen_by g.S.Source g.L.Log c.look.new.self) listed
     c.look_at_prefix.ensures.keeps.tree c.look_at_prefix.ensures.keeps.wants c.in_ok-prefix-in-Some.ensures.looked looks) is
-    (ap (λ s. failing_paths (g.S.Source.failing s)) c.tell_numbers.ensures.source) (ap g.S.Source.failed c.tell_numbers.ensures.source) c.tell_numbers.ensures.counted held)
+    (ap (λ s. failing_paths (g.S.Source.failing s)) c.tell_numbers.ensures.source) (ap g.S.Source.failed c.tell_numbers.ensures.source)
+    c.tell_numbers.ensures.counted held)
 
 pub returns-in-Some-clause-keeps : goal.returns-in-Some-clause-keeps
 returns-in-Some-clause-keeps g c =
@@ -70,11 +80,14 @@ returns-clause-checked g c =
     let a = seen_by g.S.Source g.L.Log c.args.self.now in
     let last = seen_by g.S.Source g.L.Log c.list.new.self in
     let there = rw c.in-None.is at c.in_ok-found.ensures.listed in
-    let fails : TellsUnlisted g.E.Explains.says [] false a last = subst (λ (p : Path). TellsUnlisted g.E.Explains.says p false a last) c.new-top.ensures there in
+    let fails : TellsUnlisted g.E.Explains.says [] false a last = subst (λ (p : Path). TellsUnlisted g.E.Explains.says p false a last) c.new-top.ensures there
+    in
     of_answer c.tell_numbers-in-None.result _ _ _ c.tell_numbers-in-None.ensures.numbers c.tell_numbers-in-None.ensures.told
     (λ numbers is held. checked_nothing g.E.Explains.says (tree_by g.S.Source.told c.args.self.now) c.args.self.now.wants numbers a last
     (seen_by g.S.Source g.L.Log c.tell_numbers-in-None.new.self) fails is
-    (ap (λ s. failing_paths (g.S.Source.failing s)) c.tell_numbers-in-None.ensures.source) (ap g.S.Source.failed c.tell_numbers-in-None.ensures.source) c.tell_numbers-in-None.ensures.counted held)
+    (ap (λ s. failing_paths (g.S.Source.failing s)) c.tell_numbers-in-None.ensures.source) (ap g.S.Source.failed c.tell_numbers-in-None.ensures.source)
+    c.tell_numbers-in-None.ensures.counted held)
 
 pub returns-clause-keeps : goal.returns-clause-keeps
-returns-clause-keeps g c = keeps_on g.S.Source.told g.S.Source.keeps g.L.Log.told g.met.S.Source.keeps_on _ _ _ c.list.ensures.keeps c.tell_numbers-in-None.ensures.keeps
+returns-clause-keeps g c = keeps_on g.S.Source.told g.S.Source.keeps g.L.Log.told g.met.S.Source.keeps_on _ _ _ c.list.ensures.keeps
+    c.tell_numbers-in-None.ensures.keeps

@@ -5,7 +5,8 @@ use Rattle.pt_check.proofs.Parts.{each_step}
 use Rattle.pt_check.proofs.checking.Check.tell_each.Goals as goal
 
 pub returns-in_err-tell_reason-clause-keeps : goal.returns-in_err-tell_reason-clause-keeps
-returns-in_err-tell_reason-clause-keeps g c = keeps_on g.S.Source.told g.S.Source.keeps g.L.Log.told g.met.S.Source.keeps_on _ _ _ c.loop-reason.invariant.keeps c.tell_reason.ensures.keeps
+returns-in_err-tell_reason-clause-keeps g c = keeps_on g.S.Source.told g.S.Source.keeps g.L.Log.told g.met.S.Source.keeps_on _ _ _ c.loop-reason.invariant.keeps
+    c.tell_reason.ensures.keeps
 
 pub loop-reason-preserved : goal.loop-reason-preserved
 loop-reason-preserved g c =
@@ -14,7 +15,9 @@ loop-reason-preserved g c =
       keeps = keeps_on g.S.Source.told g.S.Source.keeps g.L.Log.told g.met.S.Source.keeps_on _ _ _ so_far.keeps c.tell_reason.ensures.keeps;
       source = c.tell_reason.ensures.source ∙ so_far.source;
       unfailed = c.in_ok-tell_reason.ensures.fault ∙ so_far.unfailed;
-      told = each_step c.args.path.now c.args.reasons.now c.loop-reason.reason-index c.reason-item.result _ c.as_str.result.now (seen_by g.S.Source g.L.Log c.args.self.now)
-          (seen_by g.S.Source g.L.Log c.loop-reason.self) (seen_by g.S.Source g.L.Log c.tell_reason.new.self) c.loop-reason-test.true c.reason-item.is c.as_str.ensures.value
+      told = each_step c.args.path.now c.args.reasons.now c.loop-reason.reason-index c.reason-item.result _ c.as_str.result.now
+          (seen_by g.S.Source g.L.Log c.args.self.now)
+          (seen_by g.S.Source g.L.Log c.loop-reason.self) (seen_by g.S.Source g.L.Log c.tell_reason.new.self) c.loop-reason-test.true c.reason-item.is
+          c.as_str.ensures.value
           so_far.told c.in_ok-tell_reason.ensures.told;
     }

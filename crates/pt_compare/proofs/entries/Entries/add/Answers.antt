@@ -12,10 +12,12 @@ returns-clause-noted c =
     let names = ap names_in c.in_ok-text.ensures.names ∙ names_back c.args.path.now c.in_ok-text.ensures.named in (
       c.in_ok-text.text,
       c.in_ok-text.ensures.names,
-      ap noted_of c.in-Ok.ensures.entries ∙ added_noted c.in_ok-text.text c.args.path.now c.args.kind c.self.inside.by_text.entries names ∙ ap (with_entry c.in_ok-text.text (c.args.path.now, c.args.kind)) c.self.view_is,
+      ap noted_of c.in-Ok.ensures.entries ∙ added_noted c.in_ok-text.text c.args.path.now c.args.kind c.self.inside.by_text.entries names
+          ∙ ap (with_entry c.in_ok-text.text (c.args.path.now, c.args.kind)) c.self.view_is,
     )
 
 pub returns-clause-marks : goal.returns-clause-marks
 returns-clause-marks c =
-    marks_changed c.args.path.now c.in_ok-text.ensures.named (Some c.args.kind) c.in_ok-text.text.items c.in_ok-text.ensures.names c.self.inside.by_text.entries _ c.in-Ok.ensures.updates.1 c.in-Ok.ensures.updates.3
+    marks_changed c.args.path.now c.in_ok-text.ensures.named (Some c.args.kind) c.in_ok-text.text.items c.in_ok-text.ensures.names c.self.inside.by_text.entries
+    _ c.in-Ok.ensures.updates.1 c.in-Ok.ensures.updates.3
     ∙ ap (λ es. with_mark c.args.path.now c.args.kind (marks_of es)) c.self.view_is

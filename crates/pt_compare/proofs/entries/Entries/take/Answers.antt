@@ -10,15 +10,18 @@ use Rattle.pt_compare.proofs.entries.Entries.take.Goals as goal
 
 pub returns-clause-kind : goal.returns-clause-kind
 returns-clause-kind c =
-    c.remove.ensures.value ∙ ap (λ (t : List ℕ). lookup (λ k. is_eq (slice_cmp nat_cmp t k.items)) c.self.inside.by_text.entries) (c.as_slice.ensures.value ∙ c.in_ok-text.ensures.names)
+    c.remove.ensures.value ∙ ap (λ (t : List ℕ). lookup (λ k. is_eq (slice_cmp nat_cmp t k.items)) c.self.inside.by_text.entries) (c.as_slice.ensures.value
+    ∙ c.in_ok-text.ensures.names)
     ∙ sym (found_noted c.args.path.now c.in_ok-text.ensures.named c.self.inside.by_text.entries) ∙ ap (kind_noted c.args.path.now) c.self.view_is
 
 pub returns-clause-left : goal.returns-clause-left
 returns-clause-left c =
     ap noted_of c.remove.ensures.entries ∙ removed_noted (λ k. is_eq (slice_cmp nat_cmp c.as_slice.result.now k.items)) c.self.inside.by_text.entries
-    ∙ ap (λ (t : List ℕ). remove_entry (λ k. is_eq (slice_cmp nat_cmp t k.items)) (noted_of c.self.inside.by_text.entries)) (c.as_slice.ensures.value ∙ c.in_ok-text.ensures.names) ∙ ap (without c.args.path.now) c.self.view_is
+    ∙ ap (λ (t : List ℕ). remove_entry (λ k. is_eq (slice_cmp nat_cmp t k.items)) (noted_of c.self.inside.by_text.entries)) (c.as_slice.ensures.value
+    ∙ c.in_ok-text.ensures.names) ∙ ap (without c.args.path.now) c.self.view_is
 
 pub returns-clause-marks : goal.returns-clause-marks
 returns-clause-marks c =
-    marks_changed c.args.path.now c.in_ok-text.ensures.named None c.as_slice.result.now (c.as_slice.ensures.value ∙ c.in_ok-text.ensures.names) c.self.inside.by_text.entries _ c.remove.ensures.updates.1 c.remove.ensures.updates.3
+    marks_changed c.args.path.now c.in_ok-text.ensures.named None c.as_slice.result.now (c.as_slice.ensures.value ∙ c.in_ok-text.ensures.names)
+    c.self.inside.by_text.entries _ c.remove.ensures.updates.1 c.remove.ensures.updates.3
     ∙ ap (λ es. without_mark c.args.path.now (marks_of es)) c.self.view_is

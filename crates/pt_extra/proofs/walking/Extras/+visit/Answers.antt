@@ -5,7 +5,24 @@ use Rattle.std.specs.Option.{ForSome}
 use Rattle.std.specs.Prelude.{IsSome, Option}
 use Rattle.pt_tree.specs.Source.{tree_in}
 use Rattle.pt_extra.proofs.Keeping.{at_err, front_from, keeps_on, stops_still, told_from}
-use Rattle.pt_extra.proofs.Visiting.{FoundTo, found_bare, found_dir, found_folder, found_leaf, found_none, found_object, found_part, next_stands, bare_deep, bare_empty, is_walked, some_entry, stops_before, stops_dir, stops_leaf}
+use Rattle.pt_extra.proofs.Visiting.{
+  FoundTo,
+  found_bare,
+  found_dir,
+  found_folder,
+  found_leaf,
+  found_none,
+  found_object,
+  found_part,
+  next_stands,
+  bare_deep,
+  bare_empty,
+  is_walked,
+  some_entry,
+  stops_before,
+  stops_dir,
+  stops_leaf,
+}
 use Rattle.pt_tree.proofs.Told.{proper_in}
 use Rattle.pt_extra.specs.Findings.{found_at, of_object, of_unnamed}
 use Rattle.pt_extra.specs.Inventories.{id_of}
@@ -53,7 +70,8 @@ loop-i-preserved-then-is_part g t c =
       keeps = c.loop-i.invariant.keeps;
       failed = c.loop-i.invariant.failed;
       found = λ s is r there.
-          found_part (against c.args.self.now s) r c.args.path.now c.args.left items c.loop-i.i c.in-Some.name.now c.in-Some.kind (seen_by g.L.Log c.args.self.now) (seen_by g.L.Log c.loop-i.self)
+          found_part (against c.args.self.now s) r c.args.path.now c.args.left items c.loop-i.i c.in-Some.name.now c.in-Some.kind
+          (seen_by g.L.Log c.args.self.now) (seen_by g.L.Log c.loop-i.self)
           (proper_in here (g.met.R.Source.proper c.args.self.now.root) r there) (listed r there) (sym c.in-Some.ensures) (sym c.if-is_part.ensures)
           (c.loop-i.invariant.found s is r there);
     }
@@ -64,7 +82,8 @@ visit-requires g t c κs within =
     let items = c.in_ok-listing.listing in
     let listed : ForSome (tree_in here) (λ t. listing_at t (in_root c.args.path.now) ≡ Some items) =
     subst (λ (p : Path). ForSome (tree_in here) (λ t. listing_at t p ≡ Some items)) c.in_ok-folder.ensures c.in_ok-listing.ensures.listed in
-    let stands = next_stands here c.args.path.now c.in_ok-entry.entry items c.loop-i.i c.in-Some.name.now c.in-Some.kind (tree_in (g.R.Source.told c.loop-i.self.root)) (g.met.R.Source.proper c.args.self.now.root)
+    let stands = next_stands here c.args.path.now c.in_ok-entry.entry items c.loop-i.i c.in-Some.name.now c.in-Some.kind
+    (tree_in (g.R.Source.told c.loop-i.self.root)) (g.met.R.Source.proper c.args.self.now.root)
     listed (sym c.in-Some.ensures) c.in-Dir.is c.in_ok-entry.ensures c.loop-i.invariant.keeps.root_stays.1 in
     (omega (arith, c.if-left-eq0.false, c.decreases), (within.0, (within.1.0, (within.1.1, stands))))
 
@@ -77,13 +96,17 @@ loop-i-preserved-in-Dir g t c =
     let listed : ForSome (tree_in here) (λ t. listing_at t (in_root c.args.path.now) ≡ Some items) =
     subst (λ (p : Path). ForSome (tree_in here) (λ t. listing_at t p ≡ Some items)) c.in_ok-folder.ensures c.in_ok-listing.ensures.listed in
     record {
-      keeps = keeps_on g.S.Source g.R.Source g.L.Log g.met.S.Source.keeps_on g.met.R.Source.keeps_on g.met.L.Log.keeps_on old c.loop-i.self c.visit.new.self c.loop-i.invariant.keeps c.visit.ensures.keeps;
+      keeps = keeps_on g.S.Source g.R.Source g.L.Log g.met.S.Source.keeps_on g.met.R.Source.keeps_on g.met.L.Log.keeps_on old c.loop-i.self c.visit.new.self
+          c.loop-i.invariant.keeps c.visit.ensures.keeps;
       failed = c.in_ok-visit.ensures.fails ∙ c.loop-i.invariant.failed;
       found = λ s is r there.
-          found_dir (against old s) r c.args.path.now c.args.left items c.loop-i.i c.in-Some.name.now c.in-Some.kind entry (seen_by g.L.Log old) (seen_by g.L.Log c.loop-i.self) (seen_by g.L.Log c.visit.new.self)
-          (proper_in here (g.met.R.Source.proper old.root) r there) (listed r there) (sym c.in-Some.ensures) c.in-Dir.is (sym c.if-is_part.ensures) c.in_ok-entry.ensures
+          found_dir (against old s) r c.args.path.now c.args.left items c.loop-i.i c.in-Some.name.now c.in-Some.kind entry (seen_by g.L.Log old)
+          (seen_by g.L.Log c.loop-i.self) (seen_by g.L.Log c.visit.new.self)
+          (proper_in here (g.met.R.Source.proper old.root) r there) (listed r there) (sym c.in-Some.ensures) c.in-Dir.is (sym c.if-is_part.ensures)
+          c.in_ok-entry.ensures
           (c.loop-i.invariant.found s is r there)
-          (told_from g.S.Source g.R.Source g.L.Log (λ x f. found_at x entry (c.args.left - 1) (inside_at f (in_root entry))) old c.loop-i.self c.visit.new.self c.loop-i.invariant.keeps c.in_ok-visit.ensures.told s is r there);
+          (told_from g.S.Source g.R.Source g.L.Log (λ x f. found_at x entry (c.args.left - 1) (inside_at f (in_root entry))) old c.loop-i.self c.visit.new.self
+          c.loop-i.invariant.keeps c.in_ok-visit.ensures.told s is r there);
     }
 
 pub loop-i-preserved : goal.loop-i-preserved
@@ -95,13 +118,17 @@ loop-i-preserved g t c =
     let listed : ForSome (tree_in here) (λ t. listing_at t (in_root c.args.path.now) ≡ Some items) =
     subst (λ (p : Path). ForSome (tree_in here) (λ t. listing_at t p ≡ Some items)) c.in_ok-folder.ensures c.in_ok-listing.ensures.listed in
     record {
-      keeps = keeps_on g.S.Source g.R.Source g.L.Log g.met.S.Source.keeps_on g.met.R.Source.keeps_on g.met.L.Log.keeps_on old c.loop-i.self c.meet_stray-in-loop-i.new.self c.loop-i.invariant.keeps c.meet_stray-in-loop-i.ensures.keeps;
+      keeps = keeps_on g.S.Source g.R.Source g.L.Log g.met.S.Source.keeps_on g.met.R.Source.keeps_on g.met.L.Log.keeps_on old c.loop-i.self
+          c.meet_stray-in-loop-i.new.self c.loop-i.invariant.keeps c.meet_stray-in-loop-i.ensures.keeps;
       failed = c.in_ok-meet_stray.ensures.fails ∙ c.loop-i.invariant.failed;
       found = λ s is r there.
-          found_leaf (against old s) r c.args.path.now c.args.left items c.loop-i.i c.in-Some.name.now c.in-Some.kind entry (seen_by g.L.Log old) (seen_by g.L.Log c.loop-i.self) (seen_by g.L.Log c.meet_stray-in-loop-i.new.self)
-          (proper_in here (g.met.R.Source.proper old.root) r there) (listed r there) (sym c.in-Some.ensures) c.in_default-kind.not-Dir (sym c.if-is_part.ensures) c.in_ok-entry.ensures
+          found_leaf (against old s) r c.args.path.now c.args.left items c.loop-i.i c.in-Some.name.now c.in-Some.kind entry (seen_by g.L.Log old)
+          (seen_by g.L.Log c.loop-i.self) (seen_by g.L.Log c.meet_stray-in-loop-i.new.self)
+          (proper_in here (g.met.R.Source.proper old.root) r there) (listed r there) (sym c.in-Some.ensures) c.in_default-kind.not-Dir
+          (sym c.if-is_part.ensures) c.in_ok-entry.ensures
           (c.loop-i.invariant.found s is r there)
-          (told_from g.S.Source g.R.Source g.L.Log (λ x f. of_unnamed x entry) old c.loop-i.self c.meet_stray-in-loop-i.new.self c.loop-i.invariant.keeps c.in_ok-meet_stray.ensures.told s is r there);
+          (told_from g.S.Source g.R.Source g.L.Log (λ x f. of_unnamed x entry) old c.loop-i.self c.meet_stray-in-loop-i.new.self c.loop-i.invariant.keeps
+          c.in_ok-meet_stray.ensures.told s is r there);
     }
 
 pub returns-then-is_object-clause-told : goal.returns-then-is_object-clause-told
@@ -118,14 +145,17 @@ returns-then-is_object-clause-told g t c =
     (λ tells s is r there.
     subst (λ (fs : List ExtraFinding). Puts fs (seen_by g.L.Log old) (seen_by g.L.Log c.judge.new.self))
     (sym (found_object (against old s) r path c.args.left items (listed r there) (sym c.if-is_object.ensures)))
-    (subst (λ (p : Path). Puts (of_object (against old s) path (id_of (inside_at r p))) (seen_by g.L.Log old) (seen_by g.L.Log c.judge.new.self)) c.in_ok-folder.ensures
+    (subst (λ (p : Path). Puts (of_object (against old s) path (id_of (inside_at r p))) (seen_by g.L.Log old) (seen_by g.L.Log c.judge.new.self))
+    c.in_ok-folder.ensures
     (subst (λ (a : Seen). Puts (of_object (against old s) path (id_of (inside_at r c.in_ok-folder.folder))) a (seen_by g.L.Log c.judge.new.self)) still
-    (told_from g.S.Source g.R.Source g.L.Log (λ x f. of_object x path (id_of (inside_at f c.in_ok-folder.folder))) old mid c.judge.new.self c.list.ensures.keeps tells s is r there))))
+    (told_from g.S.Source g.R.Source g.L.Log (λ x f. of_object x path (id_of (inside_at f c.in_ok-folder.folder))) old mid c.judge.new.self c.list.ensures.keeps
+    tells s is r there))))
     c.judge.ensures.told
 
 pub returns-then-is_object-clause-keeps : goal.returns-then-is_object-clause-keeps
 returns-then-is_object-clause-keeps g t c =
-    keeps_on g.S.Source g.R.Source g.L.Log g.met.S.Source.keeps_on g.met.R.Source.keeps_on g.met.L.Log.keeps_on c.args.self.now c.list.new.self c.judge.new.self c.list.ensures.keeps c.judge.ensures.keeps
+    keeps_on g.S.Source g.R.Source g.L.Log g.met.S.Source.keeps_on g.met.R.Source.keeps_on g.met.L.Log.keeps_on c.args.self.now c.list.new.self c.judge.new.self
+    c.list.ensures.keeps c.judge.ensures.keeps
 
 pub returns-then-left-eq0-clause-told : goal.returns-then-left-eq0-clause-told
 returns-then-left-eq0-clause-told g t c =
@@ -140,14 +170,16 @@ returns-then-left-eq0-clause-told g t c =
     on_ok_weaker c.meet_stray.result
     (λ tells s is r there.
     subst (λ (fs : List ExtraFinding). Puts fs (seen_by g.L.Log old) (seen_by g.L.Log c.meet_stray.new.self))
-    (sym (found_bare (against old s) r path c.args.left items (listed r there) (sym c.if-is_object.ensures) (bare_deep c.args.left (length items) c.if-left-eq0.true)))
+    (sym (found_bare (against old s) r path c.args.left items (listed r there) (sym c.if-is_object.ensures)
+    (bare_deep c.args.left (length items) c.if-left-eq0.true)))
     (subst (λ (a : Seen). Puts (of_unnamed (against old s) path) a (seen_by g.L.Log c.meet_stray.new.self)) still
     (told_from g.S.Source g.R.Source g.L.Log (λ x f. of_unnamed x path) old mid c.meet_stray.new.self c.list.ensures.keeps tells s is r there)))
     c.meet_stray.ensures.told
 
 pub returns-then-left-eq0-clause-keeps : goal.returns-then-left-eq0-clause-keeps
 returns-then-left-eq0-clause-keeps g t c =
-    keeps_on g.S.Source g.R.Source g.L.Log g.met.S.Source.keeps_on g.met.R.Source.keeps_on g.met.L.Log.keeps_on c.args.self.now c.list.new.self c.meet_stray.new.self c.list.ensures.keeps c.meet_stray.ensures.keeps
+    keeps_on g.S.Source g.R.Source g.L.Log g.met.S.Source.keeps_on g.met.R.Source.keeps_on g.met.L.Log.keeps_on c.args.self.now c.list.new.self
+    c.meet_stray.new.self c.list.ensures.keeps c.meet_stray.ensures.keeps
 
 pub returns-then-is_empty-clause-told : goal.returns-then-is_empty-clause-told
 returns-then-is_empty-clause-told g t c =
@@ -163,14 +195,16 @@ returns-then-is_empty-clause-told g t c =
     on_ok_weaker it.result
     (λ tells s is r there.
     subst (λ (fs : List ExtraFinding). Puts fs (seen_by g.L.Log old) (seen_by g.L.Log it.new.self))
-    (sym (found_bare (against old s) r path c.args.left items (listed r there) (sym c.if-is_object.ensures) (bare_empty c.args.left (length items) c.if-is_empty.ensures)))
+    (sym (found_bare (against old s) r path c.args.left items (listed r there) (sym c.if-is_object.ensures)
+    (bare_empty c.args.left (length items) c.if-is_empty.ensures)))
     (subst (λ (a : Seen). Puts (of_unnamed (against old s) path) a (seen_by g.L.Log it.new.self)) still
     (told_from g.S.Source g.R.Source g.L.Log (λ x f. of_unnamed x path) old mid it.new.self c.list.ensures.keeps tells s is r there)))
     it.ensures.told
 
 pub returns-in_err-visit-clause-keeps : goal.returns-in_err-visit-clause-keeps
 returns-in_err-visit-clause-keeps g t c =
-    keeps_on g.S.Source g.R.Source g.L.Log g.met.S.Source.keeps_on g.met.R.Source.keeps_on g.met.L.Log.keeps_on c.args.self.now c.loop-i.self c.visit.new.self c.loop-i.invariant.keeps c.visit.ensures.keeps
+    keeps_on g.S.Source g.R.Source g.L.Log g.met.S.Source.keeps_on g.met.R.Source.keeps_on g.met.L.Log.keeps_on c.args.self.now c.loop-i.self c.visit.new.self
+    c.loop-i.invariant.keeps c.visit.ensures.keeps
 
 pub returns-clause-told : goal.returns-clause-told
 returns-clause-told g t c =
@@ -184,7 +218,8 @@ returns-clause-told g t c =
     let still : seen_by g.L.Log mid ≡ seen_by g.L.Log old = ap (seen_by g.L.Log) c.list.ensures.rest in
     λ s is r there.
     found_folder (against old s) r path c.args.left items c.loop-i.i (seen_by g.L.Log old) (seen_by g.L.Log c.loop-i.self) (listed r there)
-    (is_walked c.args.left items (sym c.if-is_object.ensures) (ne_eqb c.args.left 0 c.if-left-eq0.false) (sym c.if-is_empty.ensures)) (omega (arith, c.len-i-end.ensures.len, c.loop-i-test.false)) (c.loop-i.invariant.found s is r there)
+    (is_walked c.args.left items (sym c.if-is_object.ensures) (ne_eqb c.args.left 0 c.if-left-eq0.false) (sym c.if-is_empty.ensures))
+    (omega (arith, c.len-i-end.ensures.len, c.loop-i-test.false)) (c.loop-i.invariant.found s is r there)
 
 pub loop-i-preserved-in_default : goal.loop-i-preserved-in_default
 loop-i-preserved-in_default g t c =
@@ -192,7 +227,8 @@ loop-i-preserved-in_default g t c =
 
 pub returns-in_err-meet_stray-clause-keeps : goal.returns-in_err-meet_stray-clause-keeps
 returns-in_err-meet_stray-clause-keeps g t c =
-    keeps_on g.S.Source g.R.Source g.L.Log g.met.S.Source.keeps_on g.met.R.Source.keeps_on g.met.L.Log.keeps_on c.args.self.now c.loop-i.self c.meet_stray-in-loop-i.new.self c.loop-i.invariant.keeps c.meet_stray-in-loop-i.ensures.keeps
+    keeps_on g.S.Source g.R.Source g.L.Log g.met.S.Source.keeps_on g.met.R.Source.keeps_on g.met.L.Log.keeps_on c.args.self.now c.loop-i.self
+    c.meet_stray-in-loop-i.new.self c.loop-i.invariant.keeps c.meet_stray-in-loop-i.ensures.keeps
 
 pub returns-in_err-folder-clause-stops : goal.returns-in_err-folder-clause-stops
 returns-in_err-folder-clause-stops g t c =
@@ -200,7 +236,8 @@ returns-in_err-folder-clause-stops g t c =
 
 pub returns-in_err-listing-clause-stops : goal.returns-in_err-listing-clause-stops
 returns-in_err-listing-clause-stops g t c =
-    stops_still g.S.Source g.R.Source g.L.Log (found_below c.args.path.now c.args.left) c.args.self.now c.list.new.self c.from_residual-in_err-listing.result (ap (λ w. g.L.Log.told w.log) c.list.ensures.rest)
+    stops_still g.S.Source g.R.Source g.L.Log (found_below c.args.path.now c.args.left) c.args.self.now c.list.new.self c.from_residual-in_err-listing.result
+    (ap (λ w. g.L.Log.told w.log) c.list.ensures.rest)
 
 pub returns-then-is_object-clause-stops : goal.returns-then-is_object-clause-stops
 returns-then-is_object-clause-stops g t c =
@@ -217,8 +254,10 @@ returns-then-is_object-clause-stops g t c =
     (λ front s is r there.
     subst (λ (fs : List ExtraFinding). AppendsFront (g.L.Log.told old.log) (g.L.Log.told it.new.self.log) (texts fs))
     (sym (found_object (against old s) r path c.args.left items (listed r there) (sym c.if-is_object.ensures)))
-    (subst (λ (p : Path). AppendsFront (g.L.Log.told old.log) (g.L.Log.told it.new.self.log) (texts (of_object (against old s) path (id_of (inside_at r p))))) c.in_ok-folder.ensures
-    (subst (λ (l : Option (List ℕ)). AppendsFront l (g.L.Log.told it.new.self.log) (texts (of_object (against old s) path (id_of (inside_at r c.in_ok-folder.folder))))) still
+    (subst (λ (p : Path). AppendsFront (g.L.Log.told old.log) (g.L.Log.told it.new.self.log) (texts (of_object (against old s) path (id_of (inside_at r p)))))
+    c.in_ok-folder.ensures
+    (subst (λ (l : Option (List ℕ)). AppendsFront l (g.L.Log.told it.new.self.log)
+    (texts (of_object (against old s) path (id_of (inside_at r c.in_ok-folder.folder))))) still
     (front_from g.S.Source g.R.Source g.L.Log (found_there path c.in_ok-folder.folder) old mid it.new.self c.list.ensures.keeps front s is r there))))
     it.ensures.stops
 
@@ -236,7 +275,8 @@ returns-then-left-eq0-clause-stops g t c =
     on_err_weaker it.result
     (λ front s is r there.
     subst (λ (fs : List ExtraFinding). AppendsFront (g.L.Log.told old.log) (g.L.Log.told it.new.self.log) (texts fs))
-    (sym (found_bare (against old s) r path c.args.left items (listed r there) (sym c.if-is_object.ensures) (bare_deep c.args.left (length items) c.if-left-eq0.true)))
+    (sym (found_bare (against old s) r path c.args.left items (listed r there) (sym c.if-is_object.ensures)
+    (bare_deep c.args.left (length items) c.if-left-eq0.true)))
     (subst (λ (l : Option (List ℕ)). AppendsFront l (g.L.Log.told it.new.self.log) (texts (of_unnamed (against old s) path))) still
     (front_from g.S.Source g.R.Source g.L.Log (found_unnamed path) old mid it.new.self c.list.ensures.keeps front s is r there)))
     it.ensures.stops
@@ -255,7 +295,8 @@ returns-then-is_empty-clause-stops g t c =
     on_err_weaker it.result
     (λ front s is r there.
     subst (λ (fs : List ExtraFinding). AppendsFront (g.L.Log.told old.log) (g.L.Log.told it.new.self.log) (texts fs))
-    (sym (found_bare (against old s) r path c.args.left items (listed r there) (sym c.if-is_object.ensures) (bare_empty c.args.left (length items) c.if-is_empty.ensures)))
+    (sym (found_bare (against old s) r path c.args.left items (listed r there) (sym c.if-is_object.ensures)
+    (bare_empty c.args.left (length items) c.if-is_empty.ensures)))
     (subst (λ (l : Option (List ℕ)). AppendsFront l (g.L.Log.told it.new.self.log) (texts (of_unnamed (against old s) path))) still
     (front_from g.S.Source g.R.Source g.L.Log (found_unnamed path) old mid it.new.self c.list.ensures.keeps front s is r there)))
     it.ensures.stops
@@ -270,7 +311,8 @@ returns-in_err-entry-clause-stops g t c =
     subst (λ (p : Path). ForSome (tree_in here) (λ t. listing_at t p ≡ Some items)) c.in_ok-folder.ensures c.in_ok-listing.ensures.listed in
     let walked = is_walked c.args.left items (sym c.if-is_object.ensures) (ne_eqb c.args.left 0 c.if-left-eq0.false) (sym c.if-is_empty.ensures) in
     at_err c.from_residual-in_err-entry.result
-    (λ s is r there. stops_before (against old s) r path c.args.left items c.loop-i.i (seen_by g.L.Log old) (seen_by g.L.Log c.loop-i.self) (listed r there) walked (c.loop-i.invariant.found s is r there))
+    (λ s is r there. stops_before (against old s) r path c.args.left items c.loop-i.i (seen_by g.L.Log old) (seen_by g.L.Log c.loop-i.self) (listed r there)
+    walked (c.loop-i.invariant.found s is r there))
 
 pub returns-in_err-visit-clause-stops : goal.returns-in_err-visit-clause-stops
 returns-in_err-visit-clause-stops g t c =
@@ -284,10 +326,13 @@ returns-in_err-visit-clause-stops g t c =
     let entry = c.in_ok-entry.entry in
     at_err c.from_residual-in_err-visit.result
     (λ s is r there.
-    stops_dir (against old s) r path c.args.left items c.loop-i.i c.in-Some.name.now c.in-Some.kind entry (seen_by g.L.Log old) (seen_by g.L.Log c.loop-i.self) (g.L.Log.told c.visit.new.self.log)
-    (proper_in here (g.met.R.Source.proper old.root) r there) (listed r there) (sym c.in-Some.ensures) c.in-Dir.is (sym c.if-is_part.ensures) c.in_ok-entry.ensures walked
+    stops_dir (against old s) r path c.args.left items c.loop-i.i c.in-Some.name.now c.in-Some.kind entry (seen_by g.L.Log old) (seen_by g.L.Log c.loop-i.self)
+    (g.L.Log.told c.visit.new.self.log)
+    (proper_in here (g.met.R.Source.proper old.root) r there) (listed r there) (sym c.in-Some.ensures) c.in-Dir.is (sym c.if-is_part.ensures)
+    c.in_ok-entry.ensures walked
     (c.loop-i.invariant.found s is r there)
-    (front_from g.S.Source g.R.Source g.L.Log (found_below entry (c.args.left - 1)) old c.loop-i.self c.visit.new.self c.loop-i.invariant.keeps c.in_err-visit.ensures.stops s is r there))
+    (front_from g.S.Source g.R.Source g.L.Log (found_below entry (c.args.left - 1)) old c.loop-i.self c.visit.new.self c.loop-i.invariant.keeps
+    c.in_err-visit.ensures.stops s is r there))
 
 pub returns-in_err-meet_stray-clause-stops : goal.returns-in_err-meet_stray-clause-stops
 returns-in_err-meet_stray-clause-stops g t c =
@@ -301,7 +346,10 @@ returns-in_err-meet_stray-clause-stops g t c =
     let entry = c.in_ok-entry.entry in
     at_err c.from_residual-in_err-meet_stray.result
     (λ s is r there.
-    stops_leaf (against old s) r path c.args.left items c.loop-i.i c.in-Some.name.now c.in-Some.kind entry (seen_by g.L.Log old) (seen_by g.L.Log c.loop-i.self) (g.L.Log.told c.meet_stray-in-loop-i.new.self.log)
-    (proper_in here (g.met.R.Source.proper old.root) r there) (listed r there) (sym c.in-Some.ensures) c.in_default-kind.not-Dir (sym c.if-is_part.ensures) c.in_ok-entry.ensures walked
+    stops_leaf (against old s) r path c.args.left items c.loop-i.i c.in-Some.name.now c.in-Some.kind entry (seen_by g.L.Log old) (seen_by g.L.Log c.loop-i.self)
+    (g.L.Log.told c.meet_stray-in-loop-i.new.self.log)
+    (proper_in here (g.met.R.Source.proper old.root) r there) (listed r there) (sym c.in-Some.ensures) c.in_default-kind.not-Dir (sym c.if-is_part.ensures)
+    c.in_ok-entry.ensures walked
     (c.loop-i.invariant.found s is r there)
-    (front_from g.S.Source g.R.Source g.L.Log (found_unnamed entry) old c.loop-i.self c.meet_stray-in-loop-i.new.self c.loop-i.invariant.keeps c.in_err-meet_stray.ensures.stops s is r there))
+    (front_from g.S.Source g.R.Source g.L.Log (found_unnamed entry) old c.loop-i.self c.meet_stray-in-loop-i.new.self c.loop-i.invariant.keeps
+    c.in_err-meet_stray.ensures.stops s is r there))

@@ -18,14 +18,17 @@ returns-in-Some-clause-told g c =
     let old = c.args.self.now in
     let path = c.args.path.now in
     let root = c.identifier_at.new.root in
-    let kept = keeps_root g.S.Source g.R.Source g.L.Log g.met.S.Source.is_kept g.met.L.Log.is_kept old root c.identifier_at.ensures.keeps c.identifier_at.ensures.tree in
-    let id_all : ForSome (tree_in (g.R.Source.told old.root)) (λ tree. option_map string_bytes c.in_ok-id.id ≡ id_of (inside_at tree c.args.folder.now)) = search rules in
+    let kept = keeps_root g.S.Source g.R.Source g.L.Log g.met.S.Source.is_kept g.met.L.Log.is_kept old root c.identifier_at.ensures.keeps
+    c.identifier_at.ensures.tree in
+    let id_all : ForSome (tree_in (g.R.Source.told old.root)) (λ tree. option_map string_bytes c.in_ok-id.id
+    ≡ id_of (inside_at tree c.args.folder.now)) = search rules in
     on_ok_weaker c.judge_named.result
     (λ tells s is r there.
     let id_is : Some c.as_str.result.now ≡ id_of (inside_at r c.args.folder.now) =
     ap (λ (b : List ℕ). Some b) c.as_str.ensures.value ∙ ap (option_map string_bytes) (sym c.in-Some.is) ∙ id_all r there in
     subst (λ (o : Option (List ℕ)). Puts (of_object (against old s) path o) (seen_by g.L.Log old) (seen_by g.L.Log c.judge_named.new.self)) id_is
-    (told_from g.S.Source g.R.Source g.L.Log (λ x t. of_object x path (Some c.as_str.result.now)) old (record old { root = root }) c.judge_named.new.self kept tells s is r there))
+    (told_from g.S.Source g.R.Source g.L.Log (λ x t. of_object x path (Some c.as_str.result.now)) old (record old { root = root }) c.judge_named.new.self kept
+    tells s is r there))
     c.judge_named.ensures.told
 
 pub returns-in-None-clause-told : goal.returns-in-None-clause-told
@@ -33,8 +36,10 @@ returns-in-None-clause-told g c =
     let old = c.args.self.now in
     let path = c.args.path.now in
     let root = c.identifier_at.new.root in
-    let kept = keeps_root g.S.Source g.R.Source g.L.Log g.met.S.Source.is_kept g.met.L.Log.is_kept old root c.identifier_at.ensures.keeps c.identifier_at.ensures.tree in
-    let id_all : ForSome (tree_in (g.R.Source.told old.root)) (λ tree. option_map string_bytes c.in_ok-id.id ≡ id_of (inside_at tree c.args.folder.now)) = search rules in
+    let kept = keeps_root g.S.Source g.R.Source g.L.Log g.met.S.Source.is_kept g.met.L.Log.is_kept old root c.identifier_at.ensures.keeps
+    c.identifier_at.ensures.tree in
+    let id_all : ForSome (tree_in (g.R.Source.told old.root)) (λ tree. option_map string_bytes c.in_ok-id.id
+    ≡ id_of (inside_at tree c.args.folder.now)) = search rules in
     on_ok_weaker c.meet_stray.result
     (λ tells s is r there.
     let id_is : None ≡ id_of (inside_at r c.args.folder.now) = ap (option_map string_bytes) (sym c.in-None.is) ∙ id_all r there in
@@ -44,21 +49,26 @@ returns-in-None-clause-told g c =
 
 pub returns-in_err-id-clause-stops : goal.returns-in_err-id-clause-stops
 returns-in_err-id-clause-stops g c =
-    stops_still g.S.Source g.R.Source g.L.Log (found_there c.args.path.now c.args.folder.now) c.args.self.now (record c.args.self.now { root = c.identifier_at.new.root }) c.from_residual.result refl
+    stops_still g.S.Source g.R.Source g.L.Log (found_there c.args.path.now c.args.folder.now) c.args.self.now
+    (record c.args.self.now { root = c.identifier_at.new.root }) c.from_residual.result refl
 
 pub returns-in-Some-clause-stops : goal.returns-in-Some-clause-stops
 returns-in-Some-clause-stops g c =
     let old = c.args.self.now in
     let path = c.args.path.now in
     let root = c.identifier_at.new.root in
-    let kept = keeps_root g.S.Source g.R.Source g.L.Log g.met.S.Source.is_kept g.met.L.Log.is_kept old root c.identifier_at.ensures.keeps c.identifier_at.ensures.tree in
-    let id_all : ForSome (tree_in (g.R.Source.told old.root)) (λ tree. option_map string_bytes c.in_ok-id.id ≡ id_of (inside_at tree c.args.folder.now)) = search rules in
+    let kept = keeps_root g.S.Source g.R.Source g.L.Log g.met.S.Source.is_kept g.met.L.Log.is_kept old root c.identifier_at.ensures.keeps
+    c.identifier_at.ensures.tree in
+    let id_all : ForSome (tree_in (g.R.Source.told old.root)) (λ tree. option_map string_bytes c.in_ok-id.id
+    ≡ id_of (inside_at tree c.args.folder.now)) = search rules in
     on_err_weaker c.judge_named.result
     (λ front s is r there.
     let id_is : Some c.as_str.result.now ≡ id_of (inside_at r c.args.folder.now) =
     ap (λ (b : List ℕ). Some b) c.as_str.ensures.value ∙ ap (option_map string_bytes) (sym c.in-Some.is) ∙ id_all r there in
-    subst (λ (o : Option (List ℕ)). AppendsFront (g.L.Log.told old.log) (g.L.Log.told c.judge_named.new.self.log) (texts (of_object (against old s) path o))) id_is
-    (front_from g.S.Source g.R.Source g.L.Log (found_named path c.as_str.result.now) old (record old { root = root }) c.judge_named.new.self kept front s is r there))
+    subst (λ (o : Option (List ℕ)). AppendsFront (g.L.Log.told old.log) (g.L.Log.told c.judge_named.new.self.log) (texts (of_object (against old s) path o)))
+    id_is
+    (front_from g.S.Source g.R.Source g.L.Log (found_named path c.as_str.result.now) old (record old { root = root }) c.judge_named.new.self kept front s is r
+    there))
     c.judge_named.ensures.stops
 
 pub returns-in-None-clause-stops : goal.returns-in-None-clause-stops
@@ -66,11 +76,14 @@ returns-in-None-clause-stops g c =
     let old = c.args.self.now in
     let path = c.args.path.now in
     let root = c.identifier_at.new.root in
-    let kept = keeps_root g.S.Source g.R.Source g.L.Log g.met.S.Source.is_kept g.met.L.Log.is_kept old root c.identifier_at.ensures.keeps c.identifier_at.ensures.tree in
-    let id_all : ForSome (tree_in (g.R.Source.told old.root)) (λ tree. option_map string_bytes c.in_ok-id.id ≡ id_of (inside_at tree c.args.folder.now)) = search rules in
+    let kept = keeps_root g.S.Source g.R.Source g.L.Log g.met.S.Source.is_kept g.met.L.Log.is_kept old root c.identifier_at.ensures.keeps
+    c.identifier_at.ensures.tree in
+    let id_all : ForSome (tree_in (g.R.Source.told old.root)) (λ tree. option_map string_bytes c.in_ok-id.id
+    ≡ id_of (inside_at tree c.args.folder.now)) = search rules in
     on_err_weaker c.meet_stray.result
     (λ front s is r there.
     let id_is : None ≡ id_of (inside_at r c.args.folder.now) = ap (option_map string_bytes) (sym c.in-None.is) ∙ id_all r there in
-    subst (λ (o : Option (List ℕ)). AppendsFront (g.L.Log.told old.log) (g.L.Log.told c.meet_stray.new.self.log) (texts (of_object (against old s) path o))) id_is
+    subst (λ (o : Option (List ℕ)). AppendsFront (g.L.Log.told old.log) (g.L.Log.told c.meet_stray.new.self.log) (texts (of_object (against old s) path o)))
+    id_is
     (front_from g.S.Source g.R.Source g.L.Log (found_unnamed path) old (record old { root = root }) c.meet_stray.new.self kept front s is r there))
     c.meet_stray.ensures.stops

@@ -42,7 +42,8 @@ returns-clause-told g c =
     subst (λ (fs : List ExtraFinding). Puts fs (seen_by g.L.Log old) (seen_by g.L.Log c.tell_extra.new.self))
     (sym (of_unheld (against old s) c.args.path.now id chosen placed (sym c.if-branch.false ∙ c.in_ok-store_has.ensures.has s is)))
     (subst (λ (a : Seen). Puts (Extra id c.args.path.now ∷ []) a (seen_by g.L.Log c.tell_extra.new.self)) still
-    (told_from g.S.Source g.R.Source g.L.Log (λ x t. Extra id c.args.path.now ∷ []) old c.store_has.new.self c.tell_extra.new.self c.store_has.ensures.keeps tells s is r there)))
+    (told_from g.S.Source g.R.Source g.L.Log (λ x t. Extra id c.args.path.now ∷ []) old c.store_has.new.self c.tell_extra.new.self c.store_has.ensures.keeps
+    tells s is r there)))
     c.tell_extra.ensures.told
 
 pub returns-clause-stops : goal.returns-clause-stops
@@ -57,7 +58,8 @@ returns-clause-stops g c =
     subst (λ (fs : List ExtraFinding). AppendsFront (g.L.Log.told old.log) (g.L.Log.told c.tell_extra.new.self.log) (texts fs))
     (sym (of_unheld (against old s) c.args.path.now id chosen placed (sym c.if-branch.false ∙ c.in_ok-store_has.ensures.has s is)))
     (subst (λ (l : Option (List ℕ)). AppendsFront l (g.L.Log.told c.tell_extra.new.self.log) (texts (Extra id c.args.path.now ∷ []))) still
-    (front_from g.S.Source g.R.Source g.L.Log (found_one (Extra id c.args.path.now)) old c.store_has.new.self c.tell_extra.new.self c.store_has.ensures.keeps front s is r there)))
+    (front_from g.S.Source g.R.Source g.L.Log (found_one (Extra id c.args.path.now)) old c.store_has.new.self c.tell_extra.new.self c.store_has.ensures.keeps
+    front s is r there)))
     c.tell_extra.ensures.stops
 
 pub returns-in_err-place-clause-stops : goal.returns-in_err-place-clause-stops
@@ -66,4 +68,5 @@ returns-in_err-place-clause-stops g c =
 
 pub returns-in_err-store_has-clause-stops : goal.returns-in_err-store_has-clause-stops
 returns-in_err-store_has-clause-stops g c =
-    stops_still g.S.Source g.R.Source g.L.Log (found_named c.args.path.now c.args.id.now) c.args.self.now c.store_has.new.self c.from_residual-in_err-store_has.result (ap (λ w. g.L.Log.told w.log) c.store_has.ensures.rest)
+    stops_still g.S.Source g.R.Source g.L.Log (found_named c.args.path.now c.args.id.now) c.args.self.now c.store_has.new.self
+    c.from_residual-in_err-store_has.result (ap (λ w. g.L.Log.told w.log) c.store_has.ensures.rest)

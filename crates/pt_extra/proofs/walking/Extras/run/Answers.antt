@@ -29,7 +29,8 @@ returns-then-not-branch-clause-told g c = λ s is r there.
 pub visit-requires : goal.visit-requires
 visit-requires g c = λ tree told.
     subst (λ (p : Path). IsSome (dir_at tree (in_root p))) (sym c.new-top.ensures)
-    (dir_top tree (known_text known.StorageRoot) (sym (c.in_ok-has_root.ensures.has tree (sym c.has_root.ensures.keeps.root_stays.1 ∙ told)) ∙ c.if-not-branch.false))
+    (dir_top tree (known_text known.StorageRoot) (sym (c.in_ok-has_root.ensures.has tree (sym c.has_root.ensures.keeps.root_stays.1 ∙ told))
+    ∙ c.if-not-branch.false))
 
 pub returns-clause-told : goal.returns-clause-told
 returns-clause-told g c = λ s is r there.
@@ -39,14 +40,16 @@ returns-clause-told g c = λ s is r there.
     let stands = sym (c.in_ok-has_root.ensures.has r there) ∙ c.if-not-branch.false in
     let left_is : c.count.result + 1 ≡ old.job.layout.count + 1 =
     ap (λ (n : ℕ). n + 1) (c.count.ensures.count ∙ ap (λ (j : Job). j.layout.count) c.has_root.ensures.keeps.job) in
-    let told = told_from g.S.Source g.R.Source g.L.Log (λ x t. found_at x top (c.count.result + 1) (inside_at t (in_root top))) old c.has_root.new.self c.visit.new.self c.has_root.ensures.keeps c.in_ok-visit.ensures.told s is r there in
+    let told = told_from g.S.Source g.R.Source g.L.Log (λ x t. found_at x top (c.count.result + 1) (inside_at t (in_root top))) old c.has_root.new.self
+    c.visit.new.self c.has_root.ensures.keeps c.in_ok-visit.ensures.told s is r there in
     subst (λ (fs : List ExtraFinding). Puts fs (seen_by g.L.Log old) (seen_by g.L.Log c.visit.new.self))
     (sym (of_root (against old s) r top (c.count.result + 1) stands c.new-top.ensures left_is))
     (subst (λ (a : Seen). Puts (found_at (against old s) top (c.count.result + 1) (inside_at r (in_root top))) a (seen_by g.L.Log c.visit.new.self)) still told)
 
 pub returns-in_err-has_root-clause-stops : goal.returns-in_err-has_root-clause-stops
 returns-in_err-has_root-clause-stops g c =
-    stops_still g.S.Source g.R.Source g.L.Log found_in c.args.self.now c.has_root.new.self c.from_residual.result (ap (λ w. g.L.Log.told w.log) c.has_root.ensures.rest)
+    stops_still g.S.Source g.R.Source g.L.Log found_in c.args.self.now c.has_root.new.self c.from_residual.result
+    (ap (λ w. g.L.Log.told w.log) c.has_root.ensures.rest)
 
 pub returns-in_err-visit-clause-stops : goal.returns-in_err-visit-clause-stops
 returns-in_err-visit-clause-stops g c =
@@ -59,5 +62,7 @@ returns-in_err-visit-clause-stops g c =
     let stands = sym (c.in_ok-has_root.ensures.has r there) ∙ c.if-not-branch.false in
     subst (λ (fs : List ExtraFinding). AppendsFront (g.L.Log.told old.log) (g.L.Log.told c.visit.new.self.log) (texts fs))
     (sym (of_root (against old s) r top (c.count.result + 1) stands c.new-top.ensures left_is))
-    (subst (λ (l : Option (List ℕ)). AppendsFront l (g.L.Log.told c.visit.new.self.log) (texts (found_at (against old s) top (c.count.result + 1) (inside_at r (in_root top))))) (ap (λ w. g.L.Log.told w.log) c.has_root.ensures.rest)
-    (front_from g.S.Source g.R.Source g.L.Log (found_below top (c.count.result + 1)) old c.has_root.new.self c.visit.new.self c.has_root.ensures.keeps c.in_err-visit.ensures.stops s is r there)))
+    (subst (λ (l : Option (List ℕ)). AppendsFront l (g.L.Log.told c.visit.new.self.log)
+    (texts (found_at (against old s) top (c.count.result + 1) (inside_at r (in_root top))))) (ap (λ w. g.L.Log.told w.log) c.has_root.ensures.rest)
+    (front_from g.S.Source g.R.Source g.L.Log (found_below top (c.count.result + 1)) old c.has_root.new.self c.visit.new.self c.has_root.ensures.keeps
+    c.in_err-visit.ensures.stops s is r there)))

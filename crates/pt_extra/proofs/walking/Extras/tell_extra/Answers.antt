@@ -6,10 +6,12 @@ use Rattle.pt_extra.specs.Walk.{found_one}
 use Rattle.pt_extra.proofs.walking.Extras.tell_extra.Goals as goal
 
 pub returns-clause-told : goal.returns-clause-told
-returns-clause-told g c = on_ok_weaker c.put.result (λ puts s is r there. puts) (c.put.ensures.put (Extra c.args.id.now c.args.path.now) (c.as_str.ensures.value ∙ c.in_ok-line.ensures) c.with_extra.ensures)
+returns-clause-told g c = on_ok_weaker c.put.result (λ puts s is r there. puts)
+    (c.put.ensures.put (Extra c.args.id.now c.args.path.now) (c.as_str.ensures.value ∙ c.in_ok-line.ensures) c.with_extra.ensures)
 
 pub returns-clause-stops : goal.returns-clause-stops
-returns-clause-stops g c = on_err_weaker c.put.result (λ part s is r there. part) (c.put.ensures.part (Extra c.args.id.now c.args.path.now) (c.as_str.ensures.value ∙ c.in_ok-line.ensures))
+returns-clause-stops g c = on_err_weaker c.put.result (λ part s is r there. part)
+    (c.put.ensures.part (Extra c.args.id.now c.args.path.now) (c.as_str.ensures.value ∙ c.in_ok-line.ensures))
 
 pub returns-in_err-line-clause-stops : goal.returns-in_err-line-clause-stops
 returns-in_err-line-clause-stops g c =

@@ -11,7 +11,8 @@ invariant_of-self g c =
     let folder = self.folder.path.now in
     let none = none_unsynced self.unsynced (sym c.is_some.ensures ∙ c.if-is_some.false) in
     let peeked = c.peek-peeked in
-    let same = peek_keeps kept folder g.S.File.Input.left g.S.File.Input.reads g.S.System.opens g.met.S.System.peek_law self.syscalls.system peeked.new.self.system c.args.path.now peeked.new.block.items peeked.result peeked.ensures.asked in
+    let same = peek_keeps kept folder g.S.File.Input.left g.S.File.Input.reads g.S.System.opens g.met.S.System.peek_law self.syscalls.system
+    peeked.new.self.system c.args.path.now peeked.new.block.items peeked.result peeked.ensures.asked in
     record {
       placed = λ free. subst (λ k. IsPlaced k self.writing) (sym same) (self.placed none);
       wanted = self.wanted;

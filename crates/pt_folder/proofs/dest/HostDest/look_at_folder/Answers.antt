@@ -15,7 +15,8 @@ invariant_of-self g c =
     let folder = self.folder.path.now in
     let none = none_unsynced self.unsynced (sym c.is_some.ensures ∙ c.if-is_some.false) in
     let there = c.is_there-there in
-    let same = kind_keeps kept folder g.S.System.looks g.met.S.System.kind_law IsThere self.syscalls.system there.new.self.system c.new-top.result there.result there.ensures.asked in
+    let same = kind_keeps kept folder g.S.System.looks g.met.S.System.kind_law IsThere self.syscalls.system there.new.self.system c.new-top.result there.result
+    there.ensures.asked in
     record {
       placed = λ free. subst (λ k. IsPlaced k self.writing) (sym same) (self.placed none);
       wanted = self.wanted;
@@ -28,7 +29,11 @@ returns-clause-asked g c =
     let self = c.args.self.now in
     let there = c.is_there-there in
     let none = none_unsynced self.unsynced (sym c.is_some.ensures ∙ c.if-is_some.false) in
-    rw c.count_failure.ensures.same (inr (none, subst (λ p. AsksOnce g.S.System.looks IsThere (entry_in self.folder.path.now p) (change_of self.syscalls.system there.new.self.system) there.result) c.new-top.ensures there.ensures.asked))
+    rw c.count_failure.ensures.same (inr (
+      none,
+      subst (λ p. AsksOnce g.S.System.looks IsThere (entry_in self.folder.path.now p)
+          (change_of self.syscalls.system there.new.self.system) there.result) c.new-top.ensures there.ensures.asked,
+    ))
 
 pub returns-clause-kept : goal.returns-clause-kept
 returns-clause-kept g c =
@@ -39,4 +44,5 @@ returns-clause-kept g c =
     let none = none_unsynced self.unsynced (sym c.is_some.ensures ∙ c.if-is_some.false) in
     rw c.count_failure.ensures.same
     (kept_free there.result self.unsynced _ _ none
-    (subst (λ p. OnDevice there.result (KeepsCall folder p (λ e. g.S.System.looks self.syscalls.system (entry_text folder p) (Err e) there.new.self.system) last)) c.new-top.ensures there.ensures.kept))
+    (subst (λ p. OnDevice there.result (KeepsCall folder p (λ e. g.S.System.looks self.syscalls.system (entry_text folder p) (Err e) there.new.self.system)
+    last)) c.new-top.ensures there.ensures.kept))

@@ -18,7 +18,8 @@ invariant_of-self g c =
     let none = none_unsynced self.unsynced (sym c.is_some.ensures ∙ c.if-is_some.false) in
     let added = c.add-added in
     record {
-      placed = λ free. append_placed kept folder g.S.System.writes g.met.S.System.write_law self.syscalls.system added.new.syscalls.system c.args.piece.now self.writing added.new.writing added.result added.ensures.writes (self.placed none);
+      placed = λ free. append_placed kept folder g.S.System.writes g.met.S.System.write_law self.syscalls.system added.new.syscalls.system c.args.piece.now
+          self.writing added.new.writing added.result added.ensures.writes (self.placed none);
       wanted = self.wanted;
       back = ∣ none_back (kept added.new.syscalls.system folder) self.unsynced none ∣₁;
       risen = none_risen c.count_failure.new.failures self.unsynced none;
@@ -31,7 +32,8 @@ returns-clause-added g c =
     let folder = self.folder.path.now in
     let none = none_unsynced self.unsynced (sym c.is_some.ensures ∙ c.if-is_some.false) in
     let added = c.add-added in
-    rw (c.count_failure.ensures.same, none) (at_ok added.result _ _ (append_tells kept folder g.S.System.writes g.met.S.System.write_law self.syscalls.system added.new.syscalls.system c.args.piece.now self.writing added.new.writing added.result added.ensures.writes (self.placed none)))
+    rw (c.count_failure.ensures.same, none) (at_ok added.result _ _ (append_tells kept folder g.S.System.writes g.met.S.System.write_law self.syscalls.system
+    added.new.syscalls.system c.args.piece.now self.writing added.new.writing added.result added.ensures.writes (self.placed none)))
 
 pub returns-clause-part : goal.returns-clause-part
 returns-clause-part g c =
@@ -40,7 +42,8 @@ returns-clause-part g c =
     let folder = self.folder.path.now in
     let none = none_unsynced self.unsynced (sym c.is_some.ensures ∙ c.if-is_some.false) in
     let added = c.add-added in
-    rw (c.count_failure.ensures.same, none) (at_err added.result _ _ (append_tells kept folder g.S.System.writes g.met.S.System.write_law self.syscalls.system added.new.syscalls.system c.args.piece.now self.writing added.new.writing added.result added.ensures.writes (self.placed none)))
+    rw (c.count_failure.ensures.same, none) (at_err added.result _ _ (append_tells kept folder g.S.System.writes g.met.S.System.write_law self.syscalls.system
+    added.new.syscalls.system c.args.piece.now self.writing added.new.writing added.result added.ensures.writes (self.placed none)))
 
 pub returns-clause-closed : goal.returns-clause-closed
 returns-clause-closed g c = rw c.count_failure.ensures.same c.add-added.ensures.closed

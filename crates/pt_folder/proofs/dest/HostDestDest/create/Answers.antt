@@ -11,9 +11,11 @@ invariant_of-self g c =
     let none = none_unsynced self.unsynced (sym c.is_some.ensures ∙ c.if-is_some.false) in
     let made = c.create-made in
     let can = may_make_free (kept self.syscalls.system folder) self.unsynced self.writing none c.args.path.now c.requires in
-    let gives = create_gives kept folder self.syscalls.system made.new.syscalls.system c.args.path.now self.writing made.new.writing g.S.System.makes_file g.met.S.System.file_law self.longest made.result can made.ensures.asked made.ensures.same in
+    let gives = create_gives kept folder self.syscalls.system made.new.syscalls.system c.args.path.now self.writing made.new.writing g.S.System.makes_file
+    g.met.S.System.file_law self.longest made.result can made.ensures.asked made.ensures.same in
     record {
-      placed = λ free. create_placed kept folder self.syscalls.system made.new.syscalls.system c.args.path.now self.writing made.new.writing made.result gives (self.placed none);
+      placed = λ free. create_placed kept folder self.syscalls.system made.new.syscalls.system c.args.path.now self.writing made.new.writing made.result gives
+          (self.placed none);
       wanted = self.wanted;
       back = ∣ none_back (kept made.new.syscalls.system folder) self.unsynced none ∣₁;
       risen = none_risen c.count_failure.new.failures self.unsynced none;
@@ -27,8 +29,10 @@ returns-clause-made g c =
     let none = none_unsynced self.unsynced (sym c.is_some.ensures ∙ c.if-is_some.false) in
     let made = c.create-made in
     let can = may_make_free (kept self.syscalls.system folder) self.unsynced self.writing none c.args.path.now c.requires in
-    let gives = create_gives kept folder self.syscalls.system made.new.syscalls.system c.args.path.now self.writing made.new.writing g.S.System.makes_file g.met.S.System.file_law self.longest made.result can made.ensures.asked made.ensures.same in
-    rw (c.count_failure.ensures.same, none) (create_made kept folder self.syscalls.system made.new.syscalls.system c.args.path.now self.writing made.new.writing made.result gives)
+    let gives = create_gives kept folder self.syscalls.system made.new.syscalls.system c.args.path.now self.writing made.new.writing g.S.System.makes_file
+    g.met.S.System.file_law self.longest made.result can made.ensures.asked made.ensures.same in
+    rw (c.count_failure.ensures.same, none) (create_made kept folder self.syscalls.system made.new.syscalls.system c.args.path.now self.writing made.new.writing
+    made.result gives)
 
 pub returns-clause-same : goal.returns-clause-same
 returns-clause-same g c =
@@ -38,8 +42,10 @@ returns-clause-same g c =
     let none = none_unsynced self.unsynced (sym c.is_some.ensures ∙ c.if-is_some.false) in
     let made = c.create-made in
     let can = may_make_free (kept self.syscalls.system folder) self.unsynced self.writing none c.args.path.now c.requires in
-    let gives = create_gives kept folder self.syscalls.system made.new.syscalls.system c.args.path.now self.writing made.new.writing g.S.System.makes_file g.met.S.System.file_law self.longest made.result can made.ensures.asked made.ensures.same in
-    rw (c.count_failure.ensures.same, none) (create_same kept folder self.syscalls.system made.new.syscalls.system c.args.path.now self.writing made.new.writing made.result gives)
+    let gives = create_gives kept folder self.syscalls.system made.new.syscalls.system c.args.path.now self.writing made.new.writing g.S.System.makes_file
+    g.met.S.System.file_law self.longest made.result can made.ensures.asked made.ensures.same in
+    rw (c.count_failure.ensures.same, none) (create_same kept folder self.syscalls.system made.new.syscalls.system c.args.path.now self.writing made.new.writing
+    made.result gives)
 
 pub returns-clause-opened : goal.returns-clause-opened
 returns-clause-opened g c = rw c.count_failure.ensures.same c.create-made.ensures.opened

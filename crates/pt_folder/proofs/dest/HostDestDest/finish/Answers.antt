@@ -7,7 +7,8 @@ invariant_of-self-clause-wanted g c =
     let self = c.args.self.now in
     let none = none_unsynced self.unsynced (sym c.is_some.ensures ∙ c.if-is_some.false) in
     let closed = c.close-closed in
-    finish_wanted g.S.File.Handle.syncs self.synced self.writing closed.result self.unsynced closed.new.unsynced none closed.ensures.unsynced closed.ensures.closed
+    finish_wanted g.S.File.Handle.syncs self.synced self.writing closed.result self.unsynced closed.new.unsynced none closed.ensures.unsynced
+    closed.ensures.closed
 
 pub returns-clause-closed : goal.returns-clause-closed
 returns-clause-closed g c =

@@ -12,7 +12,8 @@ invariant_of-self g c =
     let folder = self.folder.path.now in
     let none = none_unsynced self.unsynced (sym c.is_some.ensures ∙ c.if-is_some.false) in
     let kind = c.kind_at-kind in
-    let same = kind_keeps kept folder g.S.System.looks g.met.S.System.kind_law LeadsToKind self.syscalls.system kind.new.self.system c.args.path.now kind.result kind.ensures.asked in
+    let same = kind_keeps kept folder g.S.System.looks g.met.S.System.kind_law LeadsToKind self.syscalls.system kind.new.self.system c.args.path.now kind.result
+    kind.ensures.asked in
     record {
       placed = λ free. subst (λ k. IsPlaced k self.writing) (sym same) (self.placed none);
       wanted = self.wanted;
@@ -26,7 +27,8 @@ returns-clause-kind g c =
     let kept = g.S.System.kept in
     let folder = self.folder.path.now in
     let none = none_unsynced self.unsynced (sym c.is_some.ensures ∙ c.if-is_some.false) in
-    rw (c.count_failure.ensures.same, none) (kind_tells kept folder g.S.System.looks g.met.S.System.kind_law self.syscalls.system c.kind_at-kind.new.self.system c.args.path.now c.kind_at-kind.result self.writing c.kind_at-kind.ensures.asked)
+    rw (c.count_failure.ensures.same, none) (kind_tells kept folder g.S.System.looks g.met.S.System.kind_law self.syscalls.system c.kind_at-kind.new.self.system
+    c.args.path.now c.kind_at-kind.result self.writing c.kind_at-kind.ensures.asked)
 
 pub returns-clause-same : goal.returns-clause-same
 returns-clause-same g c =
@@ -34,7 +36,8 @@ returns-clause-same g c =
     let kept = g.S.System.kept in
     let folder = self.folder.path.now in
     let kind = c.kind_at-kind in
-    ap (λ k. told_with k self.unsynced self.writing) (kind_keeps kept folder g.S.System.looks g.met.S.System.kind_law LeadsToKind self.syscalls.system kind.new.self.system c.args.path.now kind.result kind.ensures.asked)
+    ap (λ k. told_with k self.unsynced self.writing) (kind_keeps kept folder g.S.System.looks g.met.S.System.kind_law LeadsToKind self.syscalls.system
+    kind.new.self.system c.args.path.now kind.result kind.ensures.asked)
 
 pub returns-clause-asked : goal.returns-clause-asked
 returns-clause-asked g c =

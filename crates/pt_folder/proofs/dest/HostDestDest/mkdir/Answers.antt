@@ -11,7 +11,8 @@ invariant_of-self g c =
     let none = none_unsynced self.unsynced (sym c.is_some.ensures ∙ c.if-is_some.false) in
     let made = c.make_dir-made in
     let can = may_make_free (kept self.syscalls.system folder) self.unsynced self.writing none c.args.path.now c.requires in
-    let gives = mkdir_gives kept folder g.S.System.makes_dir g.met.S.System.dir_law self.syscalls.system made.new.self.system c.args.path.now self.longest made.result can made.ensures.asked in
+    let gives = mkdir_gives kept folder g.S.System.makes_dir g.met.S.System.dir_law self.syscalls.system made.new.self.system c.args.path.now self.longest
+    made.result can made.ensures.asked in
     record {
       placed = λ free. mkdir_placed kept folder self.writing self.syscalls.system made.new.self.system c.args.path.now made.result gives (self.placed none);
       wanted = self.wanted;
@@ -27,7 +28,8 @@ returns-clause-made g c =
     let none = none_unsynced self.unsynced (sym c.is_some.ensures ∙ c.if-is_some.false) in
     let made = c.make_dir-made in
     let can = may_make_free (kept self.syscalls.system folder) self.unsynced self.writing none c.args.path.now c.requires in
-    let gives = mkdir_gives kept folder g.S.System.makes_dir g.met.S.System.dir_law self.syscalls.system made.new.self.system c.args.path.now self.longest made.result can made.ensures.asked in
+    let gives = mkdir_gives kept folder g.S.System.makes_dir g.met.S.System.dir_law self.syscalls.system made.new.self.system c.args.path.now self.longest
+    made.result can made.ensures.asked in
     rw (c.count_failure.ensures.same, none) (mkdir_made kept folder self.writing self.syscalls.system made.new.self.system c.args.path.now made.result gives)
 
 pub returns-clause-same : goal.returns-clause-same
@@ -38,7 +40,8 @@ returns-clause-same g c =
     let none = none_unsynced self.unsynced (sym c.is_some.ensures ∙ c.if-is_some.false) in
     let made = c.make_dir-made in
     let can = may_make_free (kept self.syscalls.system folder) self.unsynced self.writing none c.args.path.now c.requires in
-    let gives = mkdir_gives kept folder g.S.System.makes_dir g.met.S.System.dir_law self.syscalls.system made.new.self.system c.args.path.now self.longest made.result can made.ensures.asked in
+    let gives = mkdir_gives kept folder g.S.System.makes_dir g.met.S.System.dir_law self.syscalls.system made.new.self.system c.args.path.now self.longest
+    made.result can made.ensures.asked in
     rw (c.count_failure.ensures.same, none) (mkdir_same kept folder self.writing self.syscalls.system made.new.self.system c.args.path.now made.result gives)
 
 pub returns-clause-asked : goal.returns-clause-asked

@@ -13,12 +13,18 @@ invariant_of-self g c =
     let closed = c.close_moved in
     let can = may_move_free (kept self.syscalls.system folder) self.unsynced self.writing none c.args.from.now c.args.to.now c.requires in
     let law = g.met.S.System.tree_law self.syscalls.system folder in
-    let gives = rename_gives kept folder self.syscalls.system moved.new.syscalls.system c.args.from.now c.args.to.now self.synced g.S.System g.S.File.Handle.syncs g.met.S.System.move_law g.met.S.System.still_law moved.new.unsynced moved.result can moved.ensures.asked in
+    let gives = rename_gives kept folder self.syscalls.system moved.new.syscalls.system c.args.from.now c.args.to.now self.synced g.S.System
+    g.S.File.Handle.syncs g.met.S.System.move_law g.met.S.System.still_law moved.new.unsynced moved.result can moved.ensures.asked in
     record {
-      placed = rename_placed kept folder self.syscalls.system moved.new.syscalls.system c.args.from.now c.args.to.now self.writing closed.new.writing moved.new.unsynced moved.result gives closed.ensures.left closed.ensures.same (self.placed none);
-      wanted = rename_wanted kept folder self.syscalls.system moved.new.syscalls.system c.args.from.now c.args.to.now g.S.System g.S.File.Handle.syncs self.synced moved.new.unsynced moved.result moved.ensures.asked;
-      back = ∣ rename_back kept folder self.syscalls.system moved.new.syscalls.system c.args.from.now c.args.to.now self.writing closed.new.writing moved.new.unsynced law can moved.result gives ∣₁;
-      risen = device_risen self.failures c.count_failure.new.failures moved.new.unsynced moved.result c.count_failure.ensures.counted (rename_device kept folder self.syscalls.system moved.new.syscalls.system c.args.from.now c.args.to.now g.S.System g.S.File.Handle.syncs self.synced moved.new.unsynced moved.result moved.ensures.asked);
+      placed = rename_placed kept folder self.syscalls.system moved.new.syscalls.system c.args.from.now c.args.to.now self.writing closed.new.writing
+          moved.new.unsynced moved.result gives closed.ensures.left closed.ensures.same (self.placed none);
+      wanted = rename_wanted kept folder self.syscalls.system moved.new.syscalls.system c.args.from.now c.args.to.now g.S.System g.S.File.Handle.syncs
+          self.synced moved.new.unsynced moved.result moved.ensures.asked;
+      back = ∣ rename_back kept folder self.syscalls.system moved.new.syscalls.system c.args.from.now c.args.to.now self.writing closed.new.writing
+          moved.new.unsynced law can moved.result gives ∣₁;
+      risen = device_risen self.failures c.count_failure.new.failures moved.new.unsynced moved.result c.count_failure.ensures.counted
+          (rename_device kept folder self.syscalls.system moved.new.syscalls.system c.args.from.now c.args.to.now g.S.System g.S.File.Handle.syncs self.synced
+          moved.new.unsynced moved.result moved.ensures.asked);
     }
 
 pub returns-clause-moved : goal.returns-clause-moved
@@ -31,8 +37,10 @@ returns-clause-moved g c =
     let closed = c.close_moved in
     let can = may_move_free (kept self.syscalls.system folder) self.unsynced self.writing none c.args.from.now c.args.to.now c.requires in
     let law = g.met.S.System.tree_law self.syscalls.system folder in
-    let gives = rename_gives kept folder self.syscalls.system moved.new.syscalls.system c.args.from.now c.args.to.now self.synced g.S.System g.S.File.Handle.syncs g.met.S.System.move_law g.met.S.System.still_law moved.new.unsynced moved.result can moved.ensures.asked in
-    rw (c.count_failure.ensures.same, none) (rename_moved kept folder self.syscalls.system moved.new.syscalls.system c.args.from.now c.args.to.now self.writing closed.new.writing moved.new.unsynced moved.result gives closed.ensures.left)
+    let gives = rename_gives kept folder self.syscalls.system moved.new.syscalls.system c.args.from.now c.args.to.now self.synced g.S.System
+    g.S.File.Handle.syncs g.met.S.System.move_law g.met.S.System.still_law moved.new.unsynced moved.result can moved.ensures.asked in
+    rw (c.count_failure.ensures.same, none) (rename_moved kept folder self.syscalls.system moved.new.syscalls.system c.args.from.now c.args.to.now self.writing
+    closed.new.writing moved.new.unsynced moved.result gives closed.ensures.left)
 
 pub returns-clause-same : goal.returns-clause-same
 returns-clause-same g c =
@@ -44,8 +52,10 @@ returns-clause-same g c =
     let closed = c.close_moved in
     let can = may_move_free (kept self.syscalls.system folder) self.unsynced self.writing none c.args.from.now c.args.to.now c.requires in
     let law = g.met.S.System.tree_law self.syscalls.system folder in
-    let gives = rename_gives kept folder self.syscalls.system moved.new.syscalls.system c.args.from.now c.args.to.now self.synced g.S.System g.S.File.Handle.syncs g.met.S.System.move_law g.met.S.System.still_law moved.new.unsynced moved.result can moved.ensures.asked in
-    rw (c.count_failure.ensures.same, none) (rename_same kept folder self.syscalls.system moved.new.syscalls.system c.args.from.now c.args.to.now self.writing closed.new.writing moved.new.unsynced law can moved.result gives closed.ensures.same)
+    let gives = rename_gives kept folder self.syscalls.system moved.new.syscalls.system c.args.from.now c.args.to.now self.synced g.S.System
+    g.S.File.Handle.syncs g.met.S.System.move_law g.met.S.System.still_law moved.new.unsynced moved.result can moved.ensures.asked in
+    rw (c.count_failure.ensures.same, none) (rename_same kept folder self.syscalls.system moved.new.syscalls.system c.args.from.now c.args.to.now self.writing
+    closed.new.writing moved.new.unsynced law can moved.result gives closed.ensures.same)
 
 pub returns-clause-asked : goal.returns-clause-asked
 returns-clause-asked g c =

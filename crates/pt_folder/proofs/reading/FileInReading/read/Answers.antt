@@ -11,7 +11,8 @@ returns-in-Ok-clause-stands g c =
     let mid = c.go_back.new.self in
     let bytes = g.F.Input.bytes in
     let left = g.F.Input.left in
-    read_stands bytes left mid c.read_block.new.file c.read_block.new.block.items c.go_back.ensures.stands c.in_default.ensures.there c.read_block.ensures.same c.in-Ok.ensures.block c.is_full.result c.is_full.ensures.value (mid.place + c.len.result) (ap (λ n. mid.place + n) c.len.ensures.value) mid.lost
+    read_stands bytes left mid c.read_block.new.file c.read_block.new.block.items c.go_back.ensures.stands c.in_default.ensures.there c.read_block.ensures.same
+    c.in-Ok.ensures.block c.is_full.result c.is_full.ensures.value (mid.place + c.len.result) (ap (λ n. mid.place + n) c.len.ensures.value) mid.lost
 
 pub returns-in-Ok-clause-block : goal.returns-in-Ok-clause-block
 returns-in-Ok-clause-block g c =
@@ -20,7 +21,9 @@ returns-in-Ok-clause-block g c =
     let bytes = g.F.Input.bytes in
     let left = g.F.Input.left in
     let back = unread_same bytes old mid c.go_back.ensures.still c.go_back.ensures.same in
-    subst (λ (o : Option (List ℕ)). IsNext o c.read_block.new.block.items) back (read_next bytes left mid c.read_block.new.file c.read_block.new.block.items c.go_back.ensures.stands c.in_default.ensures.there c.read_block.ensures.same c.in-Ok.ensures.block)
+    subst (λ (o : Option (List ℕ)). IsNext o c.read_block.new.block.items) back
+    (read_next bytes left mid c.read_block.new.file c.read_block.new.block.items c.go_back.ensures.stands c.in_default.ensures.there
+    c.read_block.ensures.same c.in-Ok.ensures.block)
 
 pub returns-in-Ok-clause-moved : goal.returns-in-Ok-clause-moved
 returns-in-Ok-clause-moved g c =
@@ -29,7 +32,9 @@ returns-in-Ok-clause-moved g c =
     let bytes = g.F.Input.bytes in
     let left = g.F.Input.left in
     let back = unread_same bytes old mid c.go_back.ensures.still c.go_back.ensures.same in
-    read_moved bytes left mid c.read_block.new.file c.read_block.new.block.items c.go_back.ensures.stands c.in_default.ensures.there c.read_block.ensures.same c.in-Ok.ensures.block (not c.is_full.result) (mid.place + c.len.result) (ap (λ n. mid.place + n) c.len.ensures.value) mid.lost ∙ ap (option_map (drop 8192)) back
+    read_moved bytes left mid c.read_block.new.file c.read_block.new.block.items c.go_back.ensures.stands c.in_default.ensures.there c.read_block.ensures.same
+    c.in-Ok.ensures.block (not c.is_full.result) (mid.place + c.len.result) (ap (λ n. mid.place + n) c.len.ensures.value) mid.lost
+    ∙ ap (option_map (drop 8192)) back
 
 pub returns-in-Ok-clause-reads : goal.returns-in-Ok-clause-reads
 returns-in-Ok-clause-reads g c =

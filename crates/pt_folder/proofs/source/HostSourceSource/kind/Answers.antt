@@ -11,7 +11,9 @@ returns-clause-kind g c =
     let unread = unread_open g.S.File.Input.bytes self.reading in
     let kept = g.S.System.forest self.syscalls.system self.folder.path.now in
     let call = c.kind_at-kind in
-    rw c.count_failure.ensures.same (is_seen unread kept c.args.path.now call.result (look_tells g.S.System.forest g.S.System.looks g.met.S.System.look_law self.folder.path.now self.syscalls.system call.new.self.system c.args.path.now call.result (can_look unread kept c.args.path.now c.requires) call.ensures.asked))
+    rw c.count_failure.ensures.same (is_seen unread kept c.args.path.now call.result
+    (look_tells g.S.System.forest g.S.System.looks g.met.S.System.look_law self.folder.path.now self.syscalls.system call.new.self.system c.args.path.now
+    call.result (can_look unread kept c.args.path.now c.requires) call.ensures.asked))
 
 pub returns-clause-same : goal.returns-clause-same
 returns-clause-same g c =
@@ -19,4 +21,5 @@ returns-clause-same g c =
     let unread = unread_open g.S.File.Input.bytes self.reading in
     let kept = g.S.System.forest self.syscalls.system self.folder.path.now in
     let call = c.kind_at-kind in
-    ap (λ kept. told_of kept unread) (look_same g.S.System.forest g.S.System.looks g.met.S.System.look_law self.folder.path.now self.syscalls.system call.new.self.system c.args.path.now call.result (can_look unread kept c.args.path.now c.requires) call.ensures.asked)
+    ap (λ kept. told_of kept unread) (look_same g.S.System.forest g.S.System.looks g.met.S.System.look_law self.folder.path.now self.syscalls.system
+    call.new.self.system c.args.path.now call.result (can_look unread kept c.args.path.now c.requires) call.ensures.asked)

@@ -7,4 +7,5 @@ pub returns-clause-block : goal.returns-clause-block
 returns-clause-block g c =
     let self = c.args.self.now in
     let unread = unread_open g.S.File.Input.bytes self.reading in
-    rw c.count_failure.ensures.same (on_ok_weaker c.read_on-read.result (is_read unread (g.S.System.forest self.syscalls.system self.folder.path.now) c.read_on-read.new.block.items c.requires) c.read_on-read.ensures.block)
+    rw c.count_failure.ensures.same (on_ok_weaker c.read_on-read.result
+    (is_read unread (g.S.System.forest self.syscalls.system self.folder.path.now) c.read_on-read.new.block.items c.requires) c.read_on-read.ensures.block)

@@ -13,9 +13,11 @@ blown f n is zero = ap (λ (left : Option ℕ). option_map_or (λ n. n == 0) lef
 pub returns-in-Some-eq0-clause-state : goal.returns-in-Some-eq0-clause-state
 returns-in-Some-eq0-clause-state c =
     let old = c.args.self.now in
-    c.fail.ensures.state ∙ sym (cond-true (is_blown old) (after_failure old) _ (blown old _ c.in-Some-eq0.is (sym c.in-Some-eq0.field-0-is ∙ c.in-Some-eq0.field-0-test)))
+    c.fail.ensures.state ∙ sym (cond-true (is_blown old) (after_failure old) _
+    (blown old _ c.in-Some-eq0.is (sym c.in-Some-eq0.field-0-is ∙ c.in-Some-eq0.field-0-test)))
 
 pub returns-in-Some-eq0-clause-answer : goal.returns-in-Some-eq0-clause-answer
 returns-in-Some-eq0-clause-answer c =
     let old = c.args.self.now in
-    ap (λ fault. Err fault) c.fail.ensures.answer ∙ sym (cond-true (is_blown old) _ _ (blown old _ c.in-Some-eq0.is (sym c.in-Some-eq0.field-0-is ∙ c.in-Some-eq0.field-0-test)))
+    ap (λ fault. Err fault) c.fail.ensures.answer ∙ sym (cond-true (is_blown old) _ _
+    (blown old _ c.in-Some-eq0.is (sym c.in-Some-eq0.field-0-is ∙ c.in-Some-eq0.field-0-test)))

@@ -7,4 +7,5 @@ unreachable-requires c = file_told (forest_of c.args.self.now.entries) c.args.se
 
 pub returns-clause-block : goal.returns-clause-block
 returns-clause-block c =
-    peek_told (forest_of c.args.self.now.entries) c.args.self.now.writing c.args.path.now c.in-Some.bytes.now c.fill.new.block.items c.in-Some.ensures c.fill.ensures
+    peek_told (forest_of c.args.self.now.entries) c.args.self.now.writing c.args.path.now c.in-Some.bytes.now c.fill.new.block.items c.in-Some.ensures
+    c.fill.ensures

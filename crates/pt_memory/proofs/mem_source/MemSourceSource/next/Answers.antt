@@ -18,4 +18,5 @@ returns-clause-moved c =
 
 pub returns-clause-fails : goal.returns-clause-fails
 returns-clause-fails c =
-    reads never_failing (source_state c.args.self.now) (source_state c.next_of.new.self) c.next_of.new.block.items c.next_of.result refl c.requires c.next_of.ensures.gives
+    reads never_failing (source_state c.args.self.now) (source_state c.next_of.new.self) c.next_of.new.block.items c.next_of.result refl c.requires
+    c.next_of.ensures.gives

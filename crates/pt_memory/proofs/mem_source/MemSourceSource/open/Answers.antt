@@ -6,4 +6,5 @@ use Rattle.pt_memory.proofs.mem_source.MemSourceSource.open.Goals as goal
 
 pub returns-clause-fails : goal.returns-clause-fails
 returns-clause-fails c =
-    opens never_failing never_failing (source_state c.args.self.now) (source_state c.open_at.new.self) c.args.path.now c.open_at.result refl c.requires c.open_at.ensures
+    opens never_failing never_failing (source_state c.args.self.now) (source_state c.open_at.new.self) c.args.path.now c.open_at.result refl c.requires
+    c.open_at.ensures

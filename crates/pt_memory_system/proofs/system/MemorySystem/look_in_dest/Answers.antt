@@ -8,8 +8,10 @@ use Rattle.pt_memory_system.proofs.system.MemorySystem.look_in_dest.Goals as goa
 
 pub returns-in-Ok : goal.returns-in-Ok
 returns-in-Ok c =
-    look_shows c.args.self.now.written.now c.args.text.now (λ p. option_map kind_of_entry (dest_tree c.args.self.now.dest p)) c.in-Ok.path c.answer_look.result c.in-Ok.ensures.path
+    look_shows c.args.self.now.written.now c.args.text.now (λ p. option_map kind_of_entry (dest_tree c.args.self.now.dest p)) c.in-Ok.path c.answer_look.result
+    c.in-Ok.ensures.path
     (subst (λ k. LooksRight k c.answer_look.result) c.kind_at.ensures c.answer_look.ensures)
 
 pub returns-in-Err : goal.returns-in-Err
-returns-in-Err c = look_fails c.args.self.now.written.now c.args.text.now (λ p. option_map kind_of_entry (dest_tree c.args.self.now.dest p)) c.in-Err.error c.in-Err.ensures.none
+returns-in-Err c = look_fails c.args.self.now.written.now c.args.text.now (λ p. option_map kind_of_entry (dest_tree c.args.self.now.dest p)) c.in-Err.error
+    c.in-Err.ensures.none

@@ -8,5 +8,6 @@ use Rattle.pt_memory_system.proofs.system.MemorySystem.open_in_dest.Goals as goa
 
 pub returns-in-Ok-clause-bytes : goal.returns-in-Ok-clause-bytes
 returns-in-Ok-clause-bytes c =
-    opens_file c.args.self.now.written.now c.args.text.now (λ p. bytes_of (dest_tree c.args.self.now.dest p)) c.in-Ok.path c.open_mem_file.result c.in-Ok.ensures.path
+    opens_file c.args.self.now.written.now c.args.text.now (λ p. bytes_of (dest_tree c.args.self.now.dest p)) c.in-Ok.path c.open_mem_file.result
+    c.in-Ok.ensures.path
     (subst (λ o. IfOk c.open_mem_file.result (λ f. bytes_in f ≡ o)) c.file.ensures c.open_mem_file.ensures.bytes)

@@ -13,7 +13,8 @@ pub returns-then-is_below : goal.returns-then-is_below
 returns-then-is_below c = record {
   same = refl;
   source = c.look_in_source.ensures;
-  dest = λ p named is. absurd (not_both c.args.self.now.read.now c.args.self.now.written.now c.args.path.now p c.args.self.now.apart (c.is_below.ensures.0 c.if-is_below.true) is);
+  dest = λ p named is. absurd (not_both c.args.self.now.read.now c.args.self.now.written.now c.args.path.now p c.args.self.now.apart
+      (c.is_below.ensures.0 c.if-is_below.true) is);
 }
 
 pub returns-else-is_below : goal.returns-else-is_below

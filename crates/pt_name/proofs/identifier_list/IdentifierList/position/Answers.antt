@@ -12,5 +12,6 @@ pub returns : goal.returns
 returns c =
     let id = c.args.id.now in
     is_found id c.deref.result.now c.binary_search_by.result (subst (IsSorted string_cmp) (sym c.deref.ensures.value) c.self.invariant)
-    c.binary_search_by.ensures.bound (c.binary_search_by.ensures.position (λ text. slice_cmp nat_cmp (string_bytes text) id) (answers_by _ _ (λ f. f.0.now.now ≡ id) (λ f a r after called is. search rules) _ refl))
+    c.binary_search_by.ensures.bound (c.binary_search_by.ensures.position (λ text. slice_cmp nat_cmp (string_bytes text) id)
+    (answers_by _ _ (λ f. f.0.now.now ≡ id) (λ f a r after called is. search rules) _ refl))
     ∙ ap (λ (ids : List (List ℕ)). is_listed ids id) (ap (map string_bytes) c.deref.ensures.value ∙ c.self.view_is)

@@ -18,5 +18,6 @@ returns c =
     let puts : Puts is_before_end parts here next (bracket (is_behind here) ∷ []) c.put_next.new.out =
     subst (λ (o : List Token). Puts is_before_end parts here next o c.put_next.new.out) begun c.in_ok-self-inside.ensures in
     piece_taken parts here next c.put_next.new.out c.into_text.result.items c.args.self.now
-    (record { piece = drop 1 c.into_text.result.items; rest = text_left parts next }) puts (goes_on here c.in_default.not-End) c.into_text.ensures.text c.into_text.ensures.utf8
+    (record { piece = drop 1 c.into_text.result.items; rest = text_left parts next }) puts (goes_on here c.in_default.not-End) c.into_text.ensures.text
+    c.into_text.ensures.utf8
     (sym (ap (λ (p : InPieces). p.rest) c.self.view_is)) refl refl

@@ -18,11 +18,13 @@ pub loop-row-preserved : goal.loop-row-preserved
 loop-row-preserved c = elim c.match-position_near.branch [
   | in-Some+in_ok-add w ↦
       ap (λ (g : Vec Group Global). map group_lent g.items) w.groups-is
-      ∙ grouped_more c.loop-row.groups.items c.args.contents.now c.args.rows.now c.loop-row.row-index w.in-Some.position c.row-item.result _ w.index_mut.result.now w.add.new.self
+      ∙ grouped_more c.loop-row.groups.items c.args.contents.now c.args.rows.now c.loop-row.row-index w.in-Some.position c.row-item.result _
+      w.index_mut.result.now w.add.new.self
       c.len.ensures.differ w.in-Some.ensures c.loop-row-test.true c.row-item.is refl c.loop-row.invariant w.index_mut.ensures.value w.in_ok-add.ensures
   | in_default w ↦
       ap (λ (g : Vec Group Global). map group_lent g.items) w.groups-is
-      ∙ grouped_other c.loop-row.groups.items c.args.contents.now c.args.rows.now c.loop-row.row-index c.row-item.result w.in_default.ensures c.loop-row-test.true c.row-item.is c.loop-row.invariant
+      ∙ grouped_other c.loop-row.groups.items c.args.contents.now c.args.rows.now c.loop-row.row-index c.row-item.result w.in_default.ensures
+      c.loop-row-test.true c.row-item.is c.loop-row.invariant
 ]
 
 pub returns : goal.returns

@@ -21,9 +21,11 @@ loop-i-preserved c =
     let early : c.args.from + c.loop-i.i < length items = omega (arith, c.loop-i-test.true, c.requires.within, length-drop c.args.from items) in
     let list =
     content_texts c.args.parts.now.groups.items rows rows items items index position x c.index.result.now c.deref.result.now refl refl
-    c.requires.parts.contents c.requires.parts.ordered c.requires.parts.grouped_are (in_items items index (c.args.from + c.loop-i.i) position c.requires.parts.ordered early c.get-position.ensures)
+    c.requires.parts.contents c.requires.parts.ordered c.requires.parts.grouped_are
+    (in_items items index (c.args.from + c.loop-i.i) position c.requires.parts.ordered early c.get-position.ensures)
     c.index-items-position.is c.index.ensures c.deref.ensures.value
     in
-    one_more (grouped rows) items index c.args.from c.loop-i.i c.args.count position x _ _ _ c.requires.parts.ordered c.loop-i-test.true c.requires.within c.get-position.ensures
+    one_more (grouped rows) items index c.args.from c.loop-i.i c.args.count position x _ _ _ c.requires.parts.ordered c.loop-i-test.true c.requires.within
+    c.get-position.ensures
     c.index-items-position.is (c.in_ok-read_later_ahead.ensures ∙ c.in_ok-read_ahead.ensures ∙ c.loop-i.invariant)
     (c.in_ok-put_paths.ensures ∙ ap (λ (l : List (List ℕ)). c.read_later_ahead.new.out ++ key (encode_lower x.digest) ∷ tokens_of (array (texts l))) list)

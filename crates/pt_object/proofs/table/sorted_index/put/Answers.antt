@@ -13,4 +13,5 @@ returns-clause-items c = passed_last _ _ _ _ _ _ _ _ _ c.index-rows-last.result 
 
 pub returns-clause-rows : goal.returns-clause-rows
 returns-clause-rows c =
-    rows_last _ _ _ _ _ _ _ _ _ c.index-rows-last.result c.requires.rows c.requires.room c.loop-i.invariant (omega (arith, c.loop-i.invariant.within)) refl c.insert.ensures
+    rows_last _ _ _ _ _ _ _ _ _ c.index-rows-last.result c.requires.rows c.requires.room c.loop-i.invariant (omega (arith, c.loop-i.invariant.within)) refl
+    c.insert.ensures

@@ -14,15 +14,20 @@ invariant_of-self g c =
 pub invariant_of-self-in-Standing : goal.invariant_of-self-in-Standing
 invariant_of-self-in-Standing g c =
     let old = c.args.self.now in
-    record { fits = fits_still (told_by old.dest) (told_by c.kind.new.self) (view old.remembered) (view old.remembered) old.played.steps c.kind.ensures.same refl old.fits }
+    record {
+      fits = fits_still (told_by old.dest) (told_by c.kind.new.self) (view old.remembered) (view old.remembered) old.played.steps c.kind.ensures.same
+          refl old.fits;
+    }
 
 pub returns-in-Folder-clause-kind : goal.returns-in-Folder-clause-kind
 returns-in-Folder-clause-kind g c =
     let old = c.args.self.now in
-    kind_of_folder (told_by old.dest) (view old.remembered) old.played.steps c.args.path.now c.in_ok-look_up.ensures.named old.fits (sym c.in_ok-look_up.ensures.seen ∙ c.in-Folder.is)
+    kind_of_folder (told_by old.dest) (view old.remembered) old.played.steps c.args.path.now c.in_ok-look_up.ensures.named old.fits
+    (sym c.in_ok-look_up.ensures.seen ∙ c.in-Folder.is)
 
 pub returns-in-Standing-clause-kind : goal.returns-in-Standing-clause-kind
 returns-in-Standing-clause-kind g c =
     let old = c.args.self.now in
-    kinds_still (told_by old.dest) (view old.remembered) old.played.steps c.args.path.now c.in_ok-look_up.ensures.named old.fits (sym c.in_ok-look_up.ensures.seen ∙ c.in-Standing.is)
+    kinds_still (told_by old.dest) (view old.remembered) old.played.steps c.args.path.now c.in_ok-look_up.ensures.named old.fits
+    (sym c.in_ok-look_up.ensures.seen ∙ c.in-Standing.is)
     c.kind.result c.kind.ensures.kind

@@ -8,13 +8,19 @@ pub invariant_of-self : goal.invariant_of-self
 invariant_of-self g c =
     let old = c.args.self.now in
     let mid = c.may_make_dir.new.dest in
-    record { fits = fits_still (told_by old.dest) (told_by mid) (view old.remembered) (view old.remembered) old.played.steps (told_still old.dest mid c.may_make_dir.ensures.stays) refl old.fits }
+    record {
+      fits = fits_still (told_by old.dest) (told_by mid) (view old.remembered) (view old.remembered) old.played.steps
+          (told_still old.dest mid c.may_make_dir.ensures.stays) refl old.fits;
+    }
 
 pub invariant_of-self-in-Break-branch-2 : goal.invariant_of-self-in-Break-branch-2
 invariant_of-self-in-Break-branch-2 g c =
     let old = c.args.self.now in
     let mid = c.may_make_dir.new.dest in
-    record { fits = fits_still (told_by old.dest) (told_by mid) (view old.remembered) (view c.make_dir.new.self) old.played.steps (told_still old.dest mid c.may_make_dir.ensures.stays) c.in_err-make_dir.ensures.err old.fits }
+    record {
+      fits = fits_still (told_by old.dest) (told_by mid) (view old.remembered) (view c.make_dir.new.self) old.played.steps
+          (told_still old.dest mid c.may_make_dir.ensures.stays) c.in_err-make_dir.ensures.err old.fits;
+    }
 
 pub invariant_of-self-then-not-branch : goal.invariant_of-self-then-not-branch
 invariant_of-self-then-not-branch g c =
@@ -23,17 +29,23 @@ invariant_of-self-then-not-branch g c =
     let new = c.refuse.new.self in
     let told = c.refuse.ensures in
     let stays = stays_on old.dest mid new c.may_make_dir.ensures.stays (unasked mid new told.call.keeps told.call.writing told.call.unsynced told.system) in
-    let same = becomes_same (made_dir (view old.remembered) c.args.path.now) c.in_ok-make_dir.field-0 (view old.remembered) (view c.make_dir.new.self) c.if-not-branch.true c.in_ok-make_dir.ensures.ok in
-    record { fits = fits_still (told_by old.dest) (told_by new) (view old.remembered) (view c.make_dir.new.self) old.played.steps (told_still old.dest new stays) same.1 old.fits }
+    let same = becomes_same (made_dir (view old.remembered) c.args.path.now) c.in_ok-make_dir.field-0 (view old.remembered) (view c.make_dir.new.self)
+    c.if-not-branch.true c.in_ok-make_dir.ensures.ok in
+    record {
+      fits = fits_still (told_by old.dest) (told_by new) (view old.remembered) (view c.make_dir.new.self) old.played.steps
+          (told_still old.dest new stays) same.1 old.fits;
+    }
 
 pub invariant_of-self-2 : goal.invariant_of-self-2
 invariant_of-self-2 g c =
     let old = c.args.self.now in
     let mid = c.may_make_dir.new.dest in
-    let next = becomes_next (made_dir (view old.remembered) c.args.path.now) c.in_ok-make_dir.field-0 (view old.remembered) (view c.make_dir.new.self) c.if-not-branch.false c.in_ok-make_dir.ensures.ok in
+    let next = becomes_next (made_dir (view old.remembered) c.args.path.now) c.in_ok-make_dir.field-0 (view old.remembered) (view c.make_dir.new.self)
+    c.if-not-branch.false c.in_ok-make_dir.ensures.ok in
     record {
       fits =
-          fits_dir_made (told_by old.dest) (told_by mid) (view old.remembered) (view c.make_dir.new.self) old.played.steps c.then-self.result.steps (told_still old.dest mid c.may_make_dir.ensures.stays)
+          fits_dir_made (told_by old.dest) (told_by mid) (view old.remembered) (view c.make_dir.new.self) old.played.steps c.then-self.result.steps
+          (told_still old.dest mid c.may_make_dir.ensures.stays)
           c.args.path.now c.in_ok-make_dir.ensures.named c.requires next c.then-self.ensures old.fits;
     }
 

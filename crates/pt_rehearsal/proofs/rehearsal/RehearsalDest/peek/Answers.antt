@@ -20,12 +20,16 @@ invariant_of-self g c =
 pub peek-requires : goal.peek-requires
 peek-requires g c =
     let old = c.args.self.now in
-    can_peek_still (told_by old.dest) (view old.remembered) old.played.steps c.args.path.now c.in_ok-look_up.ensures.named old.fits (sym c.in_ok-look_up.ensures.seen ∙ c.in-Standing.is) c.requires
+    can_peek_still (told_by old.dest) (view old.remembered) old.played.steps c.args.path.now c.in_ok-look_up.ensures.named old.fits
+    (sym c.in_ok-look_up.ensures.seen ∙ c.in-Standing.is) c.requires
 
 pub invariant_of-self-in-Standing : goal.invariant_of-self-in-Standing
 invariant_of-self-in-Standing g c =
     let old = c.args.self.now in
-    record { fits = fits_still (told_by old.dest) (told_by c.peek.new.self) (view old.remembered) (view old.remembered) old.played.steps c.peek.ensures.same refl old.fits }
+    record {
+      fits = fits_still (told_by old.dest) (told_by c.peek.new.self) (view old.remembered) (view old.remembered) old.played.steps c.peek.ensures.same
+          refl old.fits;
+    }
 
 refused : (s said : Seen) → said ≡ s → (said ≡ seen.Folder) ⊎ (said ≡ seen.Hidden) → IsNotPeeked s (Err Device)
 refused seen.Folder said is how = tt
@@ -50,7 +54,8 @@ returns-in-Folder g c =
 pub returns-in-Standing-clause-block : goal.returns-in-Standing-clause-block
 returns-in-Standing-clause-block g c =
     let old = c.args.self.now in
-    peeked_still (told_by old.dest) (view old.remembered) old.played.steps c.args.path.now c.in_ok-look_up.ensures.named old.fits (sym c.in_ok-look_up.ensures.seen ∙ c.in-Standing.is)
+    peeked_still (told_by old.dest) (view old.remembered) old.played.steps c.args.path.now c.in_ok-look_up.ensures.named old.fits
+    (sym c.in_ok-look_up.ensures.seen ∙ c.in-Standing.is)
     c.peek.new.block.items c.peek.result c.peek.ensures.block
 
 pub returns-in-Standing-clause-asked : goal.returns-in-Standing-clause-asked

@@ -14,7 +14,8 @@ returns-clause-ok c =
     let set = c.args.self.now in
     let old = set.buckets.items in
     let enough : set.base ≤ length old = omega (arith, set.begun, c.requires.some) in
-    let within : c.bucket-bucket.result < length old = rw c.bucket-bucket.ensures (bucket_within set.base (length old) (hash_of c.args.text.now) set.based enough) in
+    let within : c.bucket-bucket.result < length old = rw c.bucket-bucket.ensures
+    (bucket_within set.base (length old) (hash_of c.args.text.now) set.based enough) in
     put_held set.base old _ c.args.text.now c.bucket-bucket.result c.index_mut.result.now c.append.new.bucket c.bucket-bucket.ensures within
     (slice_get_read old (length old) c.bucket-bucket.result c.index_mut.result.now refl within c.index_mut.ensures.value) refl c.in_ok-append.ensures.ok
 
@@ -23,6 +24,7 @@ returns-in_err-append-clause-err c =
     let set = c.args.self.now in
     let old = set.buckets.items in
     let enough : set.base ≤ length old = omega (arith, set.begun, c.requires.some) in
-    let within : c.bucket-bucket.result < length old = rw c.bucket-bucket.ensures (bucket_within set.base (length old) (hash_of c.args.text.now) set.based enough) in
+    let within : c.bucket-bucket.result < length old = rw c.bucket-bucket.ensures
+    (bucket_within set.base (length old) (hash_of c.args.text.now) set.based enough) in
     on_err c.from_residual.result _ (kept_held set.base old _ c.bucket-bucket.result c.index_mut.result.now c.append.new.bucket within
     (slice_get_read old (length old) c.bucket-bucket.result c.index_mut.result.now refl within c.index_mut.ensures.value) refl c.in_err-append.ensures.err)

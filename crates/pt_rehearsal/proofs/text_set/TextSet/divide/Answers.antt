@@ -17,4 +17,5 @@ returns-clause-same c =
     ap (λ (l : List (Vec ℕ)). is_held me.base (set l next stays)) c.in_ok-push.ensures.items
     ∙ divided_by me.base old c.len-count.result next c.index.result.now stays goes long me.based enough refl
     (slice_get_read old (length old) next c.index.result.now refl (omega (arith, me.based, c.requires)) c.index.ensures)
-    (subst (λ (l : List ℕ). IsHalved me.base c.len-count.result (texts_in l) (texts_in stays.items) (texts_in goes.items)) c.deref.ensures.value c.in_ok-stays.ensures)
+    (subst (λ (l : List ℕ). IsHalved me.base c.len-count.result (texts_in l) (texts_in stays.items) (texts_in goes.items)) c.deref.ensures.value
+    c.in_ok-stays.ensures)

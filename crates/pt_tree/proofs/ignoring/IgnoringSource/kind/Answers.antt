@@ -11,4 +11,5 @@ returns-then-leads_past-clause-fails g c = looks_as _ _ _ _ _ c.in_ok-here.ensur
 
 pub returns-clause-kind : goal.returns-clause-kind
 returns-clause-kind g c =
-    seen_left c.args.self.now.names (g.S.Source.told c.args.self.now.source) c.args.path.now c.in_ok-here.here (sym c.leads_past.ensures ∙ c.if-leads_past.false) c.in_ok-here.ensures.kind
+    seen_left c.args.self.now.names (g.S.Source.told c.args.self.now.source) c.args.path.now c.in_ok-here.here (sym c.leads_past.ensures
+    ∙ c.if-leads_past.false) c.in_ok-here.ensures.kind

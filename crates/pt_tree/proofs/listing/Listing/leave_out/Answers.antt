@@ -11,4 +11,5 @@ invariant_of-self c =
     (left_in-rises c.args.names.now _ c.self.invariant)
 
 pub returns : goal.returns
-returns c = rw (← c.self.view_is) (filter_same _ (λ (item : Item). not (is_among c.args.names.now item.0)) _ (λ x b f' k. search rules) _ _ c.retain.ensures.filtered)
+returns c = rw (← c.self.view_is) (filter_same _ (λ (item : Item). not (is_among c.args.names.now item.0)) _ (λ x b f' k. search rules) _ _
+    c.retain.ensures.filtered)

@@ -37,12 +37,14 @@ loop-i-preserved c =
     let within : i + 1 < length names = search rules in
     let same : c.names.result.now ≡ names = search rules in
     let is : name ≡ get_or names (i + 1) name =
-    c.index-others-i.is ∙ ap (λ l. get_or l i name) (take_rest c.names.result.now 1 ∙ ap (drop 1) same) ∙ get_or-drop 1 names i name ∙ ap (λ k. get_or names k name) (omega arith) in
+    c.index-others-i.is ∙ ap (λ l. get_or l i name) (take_rest c.names.result.now 1 ∙ ap (drop 1) same) ∙ get_or-drop 1 names i name
+    ∙ ap (λ k. get_or names k name) (omega arith) in
     let more : (so_far ++ 47 ∷ []) ++ name ≡ joined (take (i + 1 + 1) names)
     = joined_more names (i + 1) name so_far (so_far ++ 47 ∷ []) within is refl (inl (omega arith, refl)) in (
       c.in_ok-end-2.ensures.bytes ∙ ap (λ l. l ++ 47 ∷ name) c.loop-i.invariant.0 ∙ append_assoc front so_far (47 ∷ name)
           ∙ ap (λ l. front ++ l) (sym (append_assoc so_far (47 ∷ []) name) ∙ more),
       c.in_ok-end-2.ensures.within,
-      ap is_utf8 (sym more) ∙ is_utf8-append (so_far ++ 47 ∷ []) name (is_utf8-append so_far (47 ∷ []) c.loop-i.invariant.2 is_utf8-slash) (is_utf8-name name c.in_ok-end-2.ensures.name),
+      ap is_utf8 (sym more) ∙ is_utf8-append (so_far ++ 47 ∷ []) name (is_utf8-append so_far (47 ∷ []) c.loop-i.invariant.2 is_utf8-slash)
+          (is_utf8-name name c.in_ok-end-2.ensures.name),
       All-more (λ n. is_name n ≡ true) names (i + 1) name within c.loop-i.invariant.3 (ap is_name (sym is) ∙ c.in_ok-end-2.ensures.name),
     )

@@ -18,4 +18,5 @@ returns c =
     let long : c.len.result ≡ length c.extend_from_slice.new.self.items = search rules in
     let place : c.len.result - (21 - held) ≡ length old + (1 + held - start) =
     omega (arith, long, ap length items, length-append old added, tail, within, c.requires) in
-    c.truncate.ensures.items ∙ ap (λ n. take n c.extend_from_slice.new.self.items) place ∙ ap (λ l. take (length old + (1 + held - start)) l) items ∙ take-append-add old added (1 + held - start)
+    c.truncate.ensures.items ∙ ap (λ n. take n c.extend_from_slice.new.self.items) place ∙ ap (λ l. take (length old + (1 + held - start)) l) items
+    ∙ take-append-add old added (1 + held - start)

@@ -10,7 +10,8 @@ returns-in-Some c =
     let around = c.index-around.result.now in
     let len : c.len-count.result ≡ length frames = search rules in
     let stands : at_entry (entry_at around) ≡ at_of (trail_path c.args.self.now)
-    = at_around c.len-count.result frames c.args.self.now around len c.self.view_is (rw c.self.view_is at c.self.invariant) c.if-count-lt2.false c.index-around.ensures in
+    = at_around c.len-count.result frames c.args.self.now around len c.self.view_is (rw c.self.view_is at c.self.invariant) c.if-count-lt2.false
+    c.index-around.ensures in
     c.at_name.ensures ∙ ap at_entry c.in-Some.ensures ∙ stands
 
 pub returns-in-None : goal.returns-in-None
@@ -19,5 +20,6 @@ returns-in-None c =
     let around = c.index-around.result.now in
     let len : c.len-count.result ≡ length frames = search rules in
     let stands : at_entry (entry_at around) ≡ at_of (trail_path c.args.self.now)
-    = at_around c.len-count.result frames c.args.self.now around len c.self.view_is (rw c.self.view_is at c.self.invariant) c.if-count-lt2.false c.index-around.ensures in
+    = at_around c.len-count.result frames c.args.self.now around len c.self.view_is (rw c.self.view_is at c.self.invariant) c.if-count-lt2.false
+    c.index-around.ensures in
     ap at_entry c.in-None.ensures ∙ stands

@@ -15,5 +15,6 @@ invariant-loop g l =
     let job = l.fn.self.mover.state.job in record {
       begun : HasBegun now l.self.mover;
       held :
-          (start : Start) (s : Forest) → GoesOn start s job first l.fn.self.mover → GoesOn start s job now l.self.mover × IsMost job start s l.most.records l.most.turns;
+          (start : Start) (s : Forest) → GoesOn start s job first l.fn.self.mover
+          → GoesOn start s job now l.self.mover × IsMost job start s l.most.records l.most.turns;
     }

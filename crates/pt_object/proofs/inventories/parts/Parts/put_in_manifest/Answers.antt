@@ -12,4 +12,5 @@ returns-then-count-left c =
 pub returns : goal.returns
 returns c =
     manifest_ended c.args.self.now c.args.here c.in-Manifest.place c.min-count.result _ _ _ c.in-Manifest.is c.requires.ordered.as_long
-    (omega (arith, c.if-count-left.false, c.saturating_sub-left.ensures, length-drop c.in-Manifest.place c.args.self.now.items.now)) c.in_ok-put_stored.ensures c.in_ok-put_middle.ensures
+    (omega (arith, c.if-count-left.false, c.saturating_sub-left.ensures, length-drop c.in-Manifest.place c.args.self.now.items.now)) c.in_ok-put_stored.ensures
+    c.in_ok-put_middle.ensures

@@ -6,4 +6,5 @@ pub returns : goal.returns
 returns c =
     ok_more (λ next. Puts is_in_state c.args.self.now c.in_ok-here-2.here next c.put_in_manifest.new.out c.put_in_state.new.out)
     (λ next. Puts is_before_end c.args.self.now c.args.here next c.args.out.now c.put_in_state.new.out) c.put_in_state.result
-    (λ next third. all_put c.args.self.now c.args.here c.in_ok-here.here c.in_ok-here-2.here next _ _ _ _ c.in_ok-here.ensures c.in_ok-here-2.ensures third) c.put_in_state.ensures
+    (λ next third. all_put c.args.self.now c.args.here c.in_ok-here.here c.in_ok-here-2.here next _ _ _ _ c.in_ok-here.ensures c.in_ok-here-2.ensures third)
+    c.put_in_state.ensures

@@ -9,6 +9,7 @@ pub invariant_of-self : goal.invariant_of-self
 invariant_of-self c =
     let index = c.clear-3.new.self in
     record {
-      ordered = subst (λ (items : List Content). IsIndex items index) (sym c.clear.ensures.items) (subst (λ (l : List ℕ). IsIndex [] l) (sym c.clear-3.ensures) IsIndex-none);
+      ordered = subst (λ (items : List Content). IsIndex items index) (sym c.clear.ensures.items)
+          (subst (λ (l : List ℕ). IsIndex [] l) (sym c.clear-3.ensures) IsIndex-none);
       keyed = c.clear-2.ensures.items ∙ sym (ap keys_of c.clear.ensures.items);
     }

@@ -8,7 +8,8 @@ use Rattle.pt_object.proofs.Keys.{keys-push}
 use Rattle.pt_object.proofs.table.contents.Contents.note.Goals as goal
 
 -- what the search found is what is noted
-tells : (found : Result ℕ ℕ) (answer : Bool) (lent items own : List Content) (digest : List ℕ) → is_ok found ≡ is_noted lent digest → lent ≡ items → items ≡ own → is_ok found ≡ answer → is_noted own digest ≡ answer
+tells : (found : Result ℕ ℕ) (answer : Bool) (lent items own : List Content) (digest : List ℕ) → is_ok found ≡ is_noted lent digest → lent ≡ items → items ≡ own
+    → is_ok found ≡ answer → is_noted own digest ≡ answer
 tells found answer lent items own digest known lent_is own_is is = sym (ap (λ (l : List Content). is_noted l digest) (lent_is ∙ own_is)) ∙ sym known ∙ is
 
 pub invariant_of-self-2 : goal.invariant_of-self-2
@@ -56,4 +57,5 @@ returns-in-Ok-clause-answer c = sym (ap not (tells _ true _ _ _ _ c.search.ensur
 
 pub returns-in-Ok-clause-ok : goal.returns-in-Ok-clause-ok
 returns-in-Ok-clause-ok c =
-    sym (cond-true (is_noted c.args.self.now c.args.digest.now) c.args.self.now _ (tells _ true _ _ _ _ c.search.ensures.known c.deref.ensures.value c.self.view_is (ap is_ok c.in-Ok.is)))
+    sym (cond-true (is_noted c.args.self.now c.args.digest.now) c.args.self.now _
+    (tells _ true _ _ _ _ c.search.ensures.known c.deref.ensures.value c.self.view_is (ap is_ok c.in-Ok.is)))
