@@ -170,7 +170,8 @@ def said(crate, definitions):
         for clauses in re.findall(r"^ *pub fn .*?\n((?: +(?:requires|ensures).*\n(?: {8}.*\n)*)+)", text, re.MULTILINE):
             found = {taken[word] for word in WORD.findall(clauses) if word in taken}
             counts.update(one for one in found if one[:2] in definitions.local and one[0] != crate)
-    return [f"{name} of {of}" for (of, _, name), _ in counts.most_common(4)]
+    most = sorted(counts, key=lambda one: (-counts[one], one))
+    return [f"{name} of {of}" for of, _, name in most[:4]]
 
 
 def resting(of_crate):
