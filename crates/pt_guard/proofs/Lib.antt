@@ -1,2 +1,3 @@
+mod GoingOn
 mod Marks
 mod ReadThrough

@@ -182,44 +182,36 @@ struct RunPaths<'a> {
 
 impl<'a> RunPaths<'a> {
     // How they lie to one another.
+    #[tactic(auto, using(crate::proofs::GoingOn::stays))]
     fn first_found<S: Places>(&self, system: &mut S, alloc: Global) -> Nesting
         ensures { Finds S.does (folders_in self.now) system.old system.new result }
     {
         let store = (self.source, self.tree);
         let held = (self.root, self.staging);
         match in_either(system, alloc, self.dest, store) {
-            Nesting::Apart => match in_either(system, alloc, self.source, held) {
-                Nesting::Apart => in_either(system, alloc, self.tree, held),
-                Nesting::Inside => Nesting::Inside,
-                Nesting::Unknown => Nesting::Unknown,
-                Nesting::Wanting => Nesting::Wanting,
-            },
-            Nesting::Inside => Nesting::Inside,
-            Nesting::Unknown => Nesting::Unknown,
-            Nesting::Wanting => Nesting::Wanting,
+            Nesting::Apart => {}
+            found => return found,
+        }
+        match in_either(system, alloc, self.source, held) {
+            Nesting::Apart => in_either(system, alloc, self.tree, held),
+            found => found,
         }
     }
 
     // How the folder of a file lies to them.
+    #[tactic(auto, using(crate::proofs::GoingOn::stays))]
     fn first_around<S: Places>(&self, system: &mut S, alloc: Global, file: FilePlace<'_>) -> Nesting
         ensures { FindsFile S.does (folders_in self.now) (place_of file.entry)
             system.old system.new result }
     {
+        let held = (self.root, self.staging);
         match in_either(system, alloc, file.folder, (self.source, self.tree)) {
-            Nesting::Apart => match in_either(
-                system,
-                alloc,
-                file.folder,
-                (self.root, self.staging),
-            ) {
-                Nesting::Apart => nesting_by_name(system, alloc, file, self.dest),
-                Nesting::Inside => Nesting::Inside,
-                Nesting::Unknown => Nesting::Unknown,
-                Nesting::Wanting => Nesting::Wanting,
-            },
-            Nesting::Inside => Nesting::Inside,
-            Nesting::Unknown => Nesting::Unknown,
-            Nesting::Wanting => Nesting::Wanting,
+            Nesting::Apart => {}
+            found => return found,
+        }
+        match in_either(system, alloc, file.folder, held) {
+            Nesting::Apart => nesting_by_name(system, alloc, file, self.dest),
+            found => found,
         }
     }
 }
@@ -232,9 +224,7 @@ fn in_either<S: Places>(system: &mut S, alloc: Global, inner: &str, outers: (&st
 {
     match lies_in(system, alloc, inner, outers.0) {
         Nesting::Apart => lies_in(system, alloc, inner, outers.1),
-        Nesting::Inside => Nesting::Inside,
-        Nesting::Unknown => Nesting::Unknown,
-        Nesting::Wanting => Nesting::Wanting,
+        found => found,
     }
 }
 
