@@ -122,6 +122,7 @@ fn path_text(
     text.push(b'/')?;
     path.join_behind(&mut text)?;
     text.reserve(room)?;
+    // SAFETY: the folder is a text, and names are UTF-8 (`is_name`), also with `/` between them.
     Ok(unsafe { String::from_utf8_unchecked(text) })
 }
 
@@ -162,6 +163,7 @@ pub fn name_text(name: &Name) -> &str
     ensures named { is_name name.now ≡ true }
 {
     let bytes = name.bytes();
+    // SAFETY: a name's bytes are UTF-8 (`is_name`).
     unsafe { str::from_utf8_unchecked(bytes) }
 }
 

@@ -59,6 +59,7 @@ pub fn inventory(
     while pieces.next()? {
         text.extend_from_slice(pieces.piece())?;
     }
+    // SAFETY: the pieces are what the writer of JSON wrote of texts, and that is UTF-8.
     Ok(unsafe { String::from_utf8_unchecked(text) })
 }
 

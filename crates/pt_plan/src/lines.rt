@@ -236,6 +236,7 @@ pub fn end_line(alloc: Global, done: u64, present: u64, skipped: u64) -> Result<
 pub fn text_of(path: &NamePath) -> Result<String, MemoryFault>
     ensures { IfOk result (λ text. string_bytes text ≡ joined path.now) }
 {
+    // SAFETY: names are UTF-8 (`is_name`), also with `/` between them.
     Ok(unsafe { String::from_utf8_unchecked(path.join()?) })
 }
 

@@ -107,6 +107,7 @@ impl Output {
     {
         let mut room = [0; MOST];
         let digits = write_hex(digest.bytes(), &mut room);
+        // SAFETY: digits in hex are ASCII.
         let text = unsafe { str::from_utf8_unchecked(digits) };
         Ok(self.writer.key(text)?)
     }
@@ -133,6 +134,7 @@ impl Output {
     {
         self.path.clear();
         path.join_behind(&mut self.path)?;
+        // SAFETY: names are UTF-8 (`is_name`), also with `/` between them.
         let text = unsafe { str::from_utf8_unchecked(self.path.as_slice()) };
         Ok(self.writer.string(text)?)
     }
@@ -144,6 +146,7 @@ impl Output {
         self.path.clear();
         self.path.extend_from_slice(b"v1/content/")?;
         path.join_behind(&mut self.path)?;
+        // SAFETY: names are UTF-8 (`is_name`), also with `/` between them.
         let text = unsafe { str::from_utf8_unchecked(self.path.as_slice()) };
         Ok(self.writer.string(text)?)
     }
