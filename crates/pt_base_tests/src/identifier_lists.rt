@@ -8,8 +8,8 @@ use std::alloc::{AllocError, Global};
 enum Row {
     // The identifiers of a list, one, and whether the whole holds it of which only these are taken.
     Stands(&'static [&'static str], &'static [u8], bool),
-    // The identifiers of a list, one that was met, and those of which no object was met, by their places
-    // in the list.
+    // The identifiers of a list, one that was met, and those of which no object was met, by their
+    // places in the list.
     Unmet(&'static [&'static str], &'static [u8], &'static [Option<&'static str>]),
 }
 

@@ -1,6 +1,10 @@
 //! Tests of the libraries below a run by their public calls: names and paths, trees and logs in
 //! memory, sites and trails, identifiers and places, digests, inventories and the other texts of an
 //! object. No code of the program stands on this crate.
+//!
+//! Read `all_hold` first, and then the rows of identifiers.rt: a test is a table, whose rows are of
+//! an enum that says what each means. A row holds or doesn't (`Holds`), and what fails is told by
+//! the table and the number of the row.
 #![tactic(auto)]
 
 #[cfg(test)]

@@ -1,5 +1,27 @@
+//! A folder of the system as a destination.
+//!
+//! It meets `Dest`: what is made, moved and written is what the tree becomes, and a failed call
+//! changes nothing but for the part of a piece that a failed `append` leaves. Which calls of the
+//! system each call makes:
+//!
+//! - `kind`, `mkdir`, `create`, `rename`: one each, on the folder's path with the names behind it,
+//!   and its answer (`AsksOnce`, `MakesOnce`, `MovesOnce`). Nothing is asked where the folder's
+//!   path is empty, an entry's would be longer than `with_longest` allows, or memory is wanting
+//!   (`CannotMake`). `create` asks for a file to be made. A file that is open at or below what was
+//!   renamed is closed, and no other (`open_unless_within`).
+//! - `peek`: the opening, on that path too, and then reads one after another into the room that is
+//!   left, until there is none or a read gives nothing (`ReadsBlock`). It fails exactly as one of
+//!   these did, and none follows that (`FailsToRead`).
+//! - `append`: writes of all that is left, until nothing is (`WritesAll`). It fails exactly as one
+//!   write did, and none follows that (`FailsToWrite`).
+//! - `finish`, set so by `with_sync`, asks for the file to be put onto the disk before it is closed
+//!   (`FinishesBy`), and `rename` for the directory that holds what was moved (`IsMovedBy`). A
+//!   failed sync is always the device's failure (`IsSyncAnswer`). What is closed or moved all the
+//!   same is unsynced (`UnsyncedChange`): it tells what was told before (`told_with`), and each
+//!   further call is refused.
 ghost use Rattle.std.proofs.Common.{◌∙◌, refl};
-ghost use Rattle.std.specs.Prelude.{◌≡◌, ◌≤◌, length, [], None, Err, IfOk, IfNone, OnOk, OnErr, false, string_bytes, true};
+ghost use Rattle.std.specs.Prelude.{◌≡◌, ◌≤◌, length, [], None, Err, IfOk, IfNone, OnOk, OnErr};
+ghost use Rattle.std.specs.Prelude.{false, string_bytes, true};
 ghost use Rattle.std.specs.Option.{ForNone, ForSome, option_map};
 ghost use Rattle.pt_tree.specs.declared.faults.TreeFault.TheVariants.{Device};
 ghost use Rattle.pt_folder.specs.Syscalls.{new_syscalls};
@@ -43,7 +65,8 @@ pub struct HostDest<'a, S: System> {
 }
 
 impl<'a, S: System> HostDest<'a, S> {
-    ghost use Rattle.pt_folder.specs.HostDest.{IsOtherCall, failure_of, folder_path, lasting, system_of};
+    ghost use Rattle.pt_folder.specs.HostDest.{IsOtherCall, failure_of, folder_path, lasting};
+    ghost use Rattle.pt_folder.specs.HostDest.{system_of};
 
     /// A destination over the folder at a path of a system, as the runtime's. It calls nothing and
     /// takes no memory.
@@ -98,8 +121,10 @@ impl<'a, S: System> HostDest<'a, S> {
         self
     }
 
-    /// The last failure, if there was one, and where it was a write's or a sync's at closing,
-    /// memory for its path.
+    /// The last failure: after each call that answers `Device` just that one, its path and its
+    /// cause (`KeepsCall`, `KeepsMaking`). Of `append` and `finish`, which copy or make the path's
+    /// text then, none is kept where memory for it was refused, and no earlier one stays; a call
+    /// that is refused since something is unsynced keeps none.
     pub fn last_failure(&self) -> Option<&Failure>
         ensures { option_map (λ f. f.now) result ≡ failure_of self.now }
     {
@@ -193,14 +218,19 @@ impl<'a, S: System> HostDest<'a, S> {
 }
 
 impl<'a, S: System> Dest for HostDest<'a, S> {
-    ghost use Rattle.pt_tree.specs.Dest.{CanPeek, CanWrite, IsKindAt, IsPeeked, LeavesPart, MayMake, MayMove};
-    ghost use Rattle.pt_tree.specs.Dest.{after_mkdir, after_create, after_append, after_finish, after_rename};
+    ghost use Rattle.pt_tree.specs.Dest.{CanPeek, CanWrite, IsKindAt, IsPeeked, LeavesPart};
+    ghost use Rattle.pt_tree.specs.Dest.{MayMake, MayMove};
+    ghost use Rattle.pt_tree.specs.Dest.{after_mkdir, after_create, after_append, after_finish};
+    ghost use Rattle.pt_tree.specs.Dest.{after_rename};
     ghost use Rattle.pt_folder.specs.DestHeld.{tree_with};
     ghost use Rattle.pt_folder.specs.Steps.{Serves, none, steps_on};
     ghost use Rattle.pt_folder.specs.UnsyncedChange.{open_if_unsynced, unsynced_by_finish};
-    ghost use Rattle.pt_folder.specs.HostDest.{Closes, IsCall, IsLook, IsOtherCall, KeepsClose, KeepsDir};
-    ghost use Rattle.pt_folder.specs.HostDest.{KeepsFile, KeepsLook, KeepsMove, KeepsPeek, KeepsWrite, Looks, MakesDir};
-    ghost use Rattle.pt_folder.specs.HostDest.{MakesFile, Moves, Peeks, Writes, folder_path, system_of, told};
+    ghost use Rattle.pt_folder.specs.HostDest.{Closes, IsCall, IsLook, IsOtherCall, KeepsClose};
+    ghost use Rattle.pt_folder.specs.HostDest.{KeepsDir};
+    ghost use Rattle.pt_folder.specs.HostDest.{KeepsFile, KeepsLook, KeepsMove, KeepsPeek};
+    ghost use Rattle.pt_folder.specs.HostDest.{KeepsWrite, Looks, MakesDir};
+    ghost use Rattle.pt_folder.specs.HostDest.{MakesFile, Moves, Peeks, Writes, folder_path};
+    ghost use Rattle.pt_folder.specs.HostDest.{system_of, told};
 
     ghost told = { told };
 

@@ -1,7 +1,9 @@
 //! What the folders of a run share: texts of paths, and how the system's errors are answered and
 //! counted.
-ghost use Rattle.std.specs.Prelude.{◌≡◌, ◌≢◌, ◌↔◌, ◌+◌, ◌≤◌, Err, IfOk, IfSome, IsSomeAnd, OnOk, IsErrOf};
-ghost use Rattle.std.specs.Prelude.{IsTrue, length, min, string_bytes, string_capacity, string_len, true};
+ghost use Rattle.std.specs.Prelude.{◌≡◌, ◌≢◌, ◌↔◌, ◌+◌, ◌≤◌, Err, IfOk, IfSome, IsSomeAnd, OnOk};
+ghost use Rattle.std.specs.Prelude.{IsErrOf};
+ghost use Rattle.std.specs.Prelude.{IsTrue, length, min, string_bytes, string_capacity, string_len};
+ghost use Rattle.std.specs.Prelude.{true};
 ghost use Rattle.pt_tree.specs.Name.{is_name};
 ghost use Rattle.pt_folder.specs.Laws.{IsPath};
 ghost use Rattle.std.specs.IoError.{error_kind};

@@ -1,5 +1,6 @@
 //! Listing a directory of a folder.
-ghost use Rattle.std.specs.Prelude.{◌≡◌, ◌≤◌, ◌++◌, ◌∷◌, [], true, false, if◌then◌else◌, map, length, string_bytes};
+ghost use Rattle.std.specs.Prelude.{◌≡◌, ◌≤◌, ◌++◌, ◌∷◌, [], true, false, if◌then◌else◌, map};
+ghost use Rattle.std.specs.Prelude.{length, string_bytes};
 ghost use Rattle.std.specs.Prelude.{IfErr, IfOk, IfSome, IsSome, IsTrue, OnErr, OnOk, Some};
 ghost use Rattle.std.specs.Option.{ForSome};
 ghost use Rattle.pt_tree.specs.Forest.{dir_at, listing_at};
@@ -7,11 +8,13 @@ ghost use Rattle.pt_tree.specs.Listing.{names_rise};
 ghost use Rattle.pt_tree.specs.Name.{is_name};
 ghost use Rattle.pt_folder.specs.Seeing.{SeesAt};
 ghost use Rattle.std.specs.List.{FoldsTo};
-ghost use Rattle.pt_folder.specs.Failure.{IsAt, IsOfEntry, IsOfName, IsOfNames, KeepsListing, OnDevice};
+ghost use Rattle.pt_folder.specs.Failure.{IsAt, IsOfEntry, IsOfName, IsOfNames, KeepsListing};
+ghost use Rattle.pt_folder.specs.Failure.{OnDevice};
 ghost use Rattle.pt_folder.specs.Folder.{entry_in};
 ghost use Rattle.pt_tree.specs.Listing.{can_follow};
 ghost use Rattle.pt_folder.specs.Calls.{IsDueTo, change_of};
-ghost use Rattle.pt_folder.specs.Listing.{AreAll, FailsToList, FailsToLook, IsListedBy, LooksAt, LooksIn, most_entries};
+ghost use Rattle.pt_folder.specs.Listing.{AreAll, FailsToList, FailsToLook, IsListedBy, LooksAt};
+ghost use Rattle.pt_folder.specs.Listing.{LooksIn, most_entries};
 ghost use Rattle.pt_folder.specs.Names.{IsRefusedName, is_entry};
 
 use crate::bytes::ReadBuffer;

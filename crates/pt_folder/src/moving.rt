@@ -3,7 +3,8 @@
 ghost use Rattle.std.specs.Prelude.{◌≡◌, None, IfErr, IfOk, IsSomeAnd, length, string_bytes};
 ghost use Rattle.pt_folder.specs.Calls.{IsDueTo, change_of};
 ghost use Rattle.pt_folder.specs.Failure.{IsUnasked, OnDevice};
-ghost use Rattle.pt_folder.specs.Moving.{IsGone, IsOfGoing, IsOfMove, IsReady, MovesOnce, holder_text, move_in};
+ghost use Rattle.pt_folder.specs.Moving.{IsGone, IsOfGoing, IsOfMove, IsReady, MovesOnce};
+ghost use Rattle.pt_folder.specs.Moving.{holder_text, move_in};
 ghost use Rattle.pt_folder.specs.UnsyncedChange.{move_to_sync};
 
 use crate::failure::Last;

@@ -1,5 +1,6 @@
 //! Listing a directory past what there has none of the names that an entry may have.
-ghost use Rattle.std.specs.Prelude.{◌≡◌, ◌≤◌, ◌++◌, ◌∷◌, ◌&&◌, [], if◌then◌else◌, length, IfErr, IfOk, IfSome, IsSome, OnOk, Some};
+ghost use Rattle.std.specs.Prelude.{◌≡◌, ◌≤◌, ◌++◌, ◌∷◌, ◌&&◌, [], if◌then◌else◌, length, IfErr};
+ghost use Rattle.std.specs.Prelude.{IfOk, IfSome, IsSome, OnOk, Some};
 ghost use Rattle.std.specs.Option.{ForSome};
 ghost use Rattle.pt_tree.specs.Forest.{dir_at, listing_at};
 ghost use Rattle.pt_tree.specs.Name.{is_name};
@@ -8,7 +9,8 @@ ghost use Rattle.pt_folder.specs.Failure.{IsOfNames, KeepsListing, OnDevice};
 ghost use Rattle.pt_folder.specs.Folder.{entry_in};
 ghost use Rattle.pt_folder.specs.Listing.{most_entries};
 ghost use Rattle.pt_folder.specs.Names.{is_entry};
-ghost use Rattle.pt_folder.specs.Parting.{FailsToListPast, HasParts, IsBeyond, IsFew, IsListedPast, IsOneTooMany, bytes_in, is_no_name};
+ghost use Rattle.pt_folder.specs.Parting.{FailsToListPast, HasParts, IsBeyond, IsFew, IsListedPast};
+ghost use Rattle.pt_folder.specs.Parting.{IsOneTooMany, bytes_in, is_no_name};
 
 use crate::bytes::ReadBuffer;
 use crate::failure::{FailureReason, Last};

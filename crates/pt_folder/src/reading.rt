@@ -2,7 +2,8 @@
 ghost use Rattle.std.specs.Prelude.{◌≡◌, [], false, IfErr, OnOk, OnErr};
 ghost use Rattle.std.specs.Prelude.{drop as drop_items};
 ghost use Rattle.std.specs.Option.{option_map};
-ghost use Rattle.pt_folder.specs.Reading.{FailsToGoBack, FailsToReadOn, GoesFirst, IsNext, ReadsNext, Stands, unread_of};
+ghost use Rattle.pt_folder.specs.Reading.{FailsToGoBack, FailsToReadOn, GoesFirst, IsNext};
+ghost use Rattle.pt_folder.specs.Reading.{ReadsNext, Stands, unread_of};
 
 use crate::bytes::{ReadBuffer, read_block};
 use crate::system::{Handle, Input};

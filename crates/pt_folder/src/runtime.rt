@@ -1,10 +1,16 @@
 //! The runtime's own files as a system. It keeps nothing: what becomes of the folders isn't told.
+//!
+//! The kind that a look tells is exactly that of the metadata (`IsKind`). A file is opened for
+//! reading by options that say just that (`for_reading`), and made by options that append and want
+//! that nothing stands there (`for_making`). That its calls take these is said by no clause.
 ghost use Rattle.std.specs.Prelude.{⊤, ◌≡◌, refl};
 ghost use Rattle.std.specs.Fs.{file_type as type_of};
 ghost use Rattle.pt_folder.specs.Calls.{for_making, for_reading};
 ghost use Rattle.pt_folder.specs.Folder.{IsKind};
-ghost use Rattle.pt_folder.specs.Untold.{no_forest, no_kept, unknown, untold_dir, untold_file, untold_kind, untold_look, untold_move};
-ghost use Rattle.pt_folder.specs.Untold.{untold_names, untold_open, untold_peek, untold_proper, untold_tree, untold_write};
+ghost use Rattle.pt_folder.specs.Untold.{no_forest, no_kept, unknown, untold_dir, untold_file};
+ghost use Rattle.pt_folder.specs.Untold.{untold_kind, untold_look, untold_move};
+ghost use Rattle.pt_folder.specs.Untold.{untold_names, untold_open, untold_peek, untold_proper};
+ghost use Rattle.pt_folder.specs.Untold.{untold_tree, untold_write};
 
 use crate::system::{Handle, Input, System};
 use pt_tree::Kind;

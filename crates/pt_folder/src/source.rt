@@ -1,5 +1,26 @@
+//! A folder of the system as a source.
+//!
+//! It meets `Source`: a listing is what stands there, in order; a file is read as it was at its
+//! opening; a failed call changes nothing of it. Which calls of the system each call makes:
+//!
+//! - `kind`: one, on the folder's path with the names behind it, and its answer (`AsksOnce`).
+//!   Nothing is asked where the folder's path is empty or memory is wanting.
+//! - `open`: a look, and where a file stands, links not followed, the opening (`OpensOnce`); what
+//!   is no file is a failure, and isn't opened.
+//! - `next`: reads one after another into the room that is left, until there is none or a read
+//!   gives nothing (`ReadsBlock`). It fails exactly as one read did, and none follows that
+//!   (`FailsToRead`). After a failed read the next call goes back to the place first, and where
+//!   that fails, the one after it (`FailsToReadOn`).
+//! - `list`: opens the directory once, reads it (`GetsNames`), and looks at each entry once, in the
+//!   listing's order; it gives at most 16,777,216. It answers `Device` only with a cause
+//!   (`FailsToList`). What is behind a `Memory` of `list` isn't said.
+//! - `list_named`: the same past bytes that are no name (`IsListedPast`): those are given apart,
+//!   each once for each time that the directory gives them, in their order, and at most 16,777,216
+//!   (`GivesApart`). Where it isn't read to its end, what was given apart before stays; `Device`
+//!   comes only with a cause (`FailsToListPast`). What is behind a `Memory` isn't said.
 ghost use Rattle.std.proofs.Common.{◌∙◌, refl};
-ghost use Rattle.std.specs.Prelude.{◌≡◌, [], Some, None, Err, IfErr, IfOk, IfSome, OnOk, OnErr, string_bytes};
+ghost use Rattle.std.specs.Prelude.{◌≡◌, [], Some, None, Err, IfErr, IfOk, IfSome, OnOk, OnErr};
+ghost use Rattle.std.specs.Prelude.{string_bytes};
 ghost use Rattle.std.specs.Prelude.{drop as drop_items};
 ghost use Rattle.std.specs.Option.{option_map};
 ghost use Rattle.pt_tree.specs.declared.faults.TreeFault.TheVariants.{Device};
@@ -62,8 +83,9 @@ impl<'a, S: System> HostSource<'a, S> {
         }
     }
 
-    /// The last failure, if there was one, and where it was a listing's or a read's, memory for its
-    /// path.
+    /// The last failure: after each call that answers `Device` just that one, its path and its
+    /// cause (`KeepsCall`, `KeepsListing`). Of `list` and `next`, which copy or make the path's
+    /// text then, none is kept where memory for it was refused, and no earlier one stays.
     pub fn last_failure(&self) -> Option<&Failure>
         ensures { option_map (λ f. f.now) result ≡ failure_of self.now }
     {
@@ -94,10 +116,12 @@ impl<'a, S: System> HostSource<'a, S> {
 
 impl<'a, S: System> Source for HostSource<'a, S> {
     ghost use Rattle.std.specs.Prelude.{Option};
-    ghost use Rattle.pt_tree.specs.Source.{CanList, IsListed, CanLook, IsSeen, CanOpen, CanRead, IsRead};
+    ghost use Rattle.pt_tree.specs.Source.{CanList, IsListed, CanLook, IsSeen, CanOpen, CanRead};
+    ghost use Rattle.pt_tree.specs.Source.{IsRead};
     ghost use Rattle.pt_tree.specs.Source.{after_open, after_next, tree_in};
     ghost use Rattle.pt_folder.specs.Devices.{was_called};
-    ghost use Rattle.pt_folder.specs.HostSource.{CannotList, IsCall, IsLookedAt, IsReading, KeepsList, KeepsLook};
+    ghost use Rattle.pt_folder.specs.HostSource.{CannotList, IsCall, IsLookedAt, IsReading};
+    ghost use Rattle.pt_folder.specs.HostSource.{KeepsList, KeepsLook};
     ghost use Rattle.pt_folder.specs.HostSource.{KeepsOpen, KeepsRead, Lists, Looks, Opens, Reads};
     ghost use Rattle.pt_folder.specs.HostSource.{folder_path, open_file, told};
     ghost use Rattle.pt_folder.specs.SourceHeld.{proper_held};
@@ -203,7 +227,8 @@ impl<'a, S: System> Source for HostSource<'a, S> {
 
 impl<'a, S: System> ListsNamed for HostSource<'a, S> {
     ghost use Rattle.pt_tree.specs.Source.{CanList, IsListed};
-    ghost use Rattle.pt_folder.specs.HostSource.{CannotListPast, IsCall, KeepsList, ListsPast, open_file, told};
+    ghost use Rattle.pt_folder.specs.HostSource.{CannotListPast, IsCall, KeepsList, ListsPast};
+    ghost use Rattle.pt_folder.specs.HostSource.{open_file, told};
 
     fn list_named(
         &mut self,

@@ -1,8 +1,11 @@
 //! How a folder calls the system: what it asks, and what is kept of an answer that is a failure.
-ghost use Rattle.std.specs.Prelude.{◌≡◌, [], Err, IfOk, IfSome, IsSomeAnd, OnErr, OnOk, string_bytes};
+ghost use Rattle.std.specs.Prelude.{◌≡◌, [], Err, IfOk, IfSome, IsSomeAnd, OnErr, OnOk};
+ghost use Rattle.std.specs.Prelude.{string_bytes};
 ghost use Rattle.pt_folder.specs.Syscalls.{new_syscalls};
-ghost use Rattle.pt_folder.specs.Calls.{AsksOnce, IsAnswer, IsThere, LeadsToKind, MakesOnce, change_of};
-ghost use Rattle.pt_folder.specs.Failure.{FailsLook, FailsToPeek, IsOfCall, KeepsCall, KeepsMaking, OnDevice};
+ghost use Rattle.pt_folder.specs.Calls.{AsksOnce, IsAnswer, IsThere, LeadsToKind, MakesOnce};
+ghost use Rattle.pt_folder.specs.Calls.{change_of};
+ghost use Rattle.pt_folder.specs.Failure.{FailsLook, FailsToPeek, IsOfCall, KeepsCall, KeepsMaking};
+ghost use Rattle.pt_folder.specs.Failure.{OnDevice};
 ghost use Rattle.pt_folder.specs.Folder.{entry_in, entry_text};
 ghost use Rattle.pt_folder.specs.Listing.{LeadsToOwnKind};
 ghost use Rattle.pt_folder.specs.Moving.{FailsToSync, IsSynced};

@@ -9,7 +9,8 @@ ghost use Rattle.std.specs.Io.{ReadsAtMost, WritesAtMost};
 ghost use Rattle.pt_tree.specs.Forest.{Forest};
 ghost use Rattle.pt_tree.specs.declared.kind.Kind.{Kind};
 ghost use Rattle.pt_folder.specs.Laws.{Gives, GoesRight};
-ghost use Rattle.pt_folder.specs.DestLaws.{DirLaw, FileLaw, Kept, KindLaw, MoveLaw, PeekLaw, StillLaw, TreeLaw, WriteLaw};
+ghost use Rattle.pt_folder.specs.DestLaws.{DirLaw, FileLaw, Kept, KindLaw, MoveLaw, PeekLaw};
+ghost use Rattle.pt_folder.specs.DestLaws.{StillLaw, TreeLaw, WriteLaw};
 ghost use Rattle.pt_folder.specs.SourceLaws.{LookLaw, NamesLaw, OpenLaw, ProperLaw};
 
 use pt_tree::Kind;

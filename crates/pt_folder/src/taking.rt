@@ -1,5 +1,6 @@
 //! Taking what a directory gives.
-ghost use Rattle.std.specs.Prelude.{◌≡◌, ℕ, List, [], ◌==◌, position, IfErr, IfSome, OnOk, Err, MatchResult};
+ghost use Rattle.std.specs.Prelude.{◌≡◌, ℕ, List, [], ◌==◌, position, IfErr, IfSome, OnOk, Err};
+ghost use Rattle.std.specs.Prelude.{MatchResult};
 ghost use Rattle.pt_folder.specs.Calls.{IsDueTo, fault_of as fault_for};
 ghost use Rattle.pt_folder.specs.Failure.{IsOfNames, OnDevice};
 ghost use Rattle.pt_folder.specs.Listing.{FailsToGet};
@@ -66,6 +67,8 @@ fn take_all<D: Input, T: Takes>(
         (λ fault. IsDueTo fault (FailsToGet D.reads T.refuses dir.old dir.new)) }
     ensures kept { OnDevice result (IfSome last.new.failure (IsOfNames text.now)) }
 {
+    // Each loop is proved to end, and no contract can say that what a system gives does: so the
+    // reads are counted, up to a number that none comes to (at one a nanosecond in 584 years).
     for _ in 0..u64::MAX {
         match dir.read_piece(piece) {
             Ok(0) => return Ok(()),

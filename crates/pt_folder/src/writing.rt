@@ -5,7 +5,8 @@ ghost use Rattle.pt_folder.specs.Folder.{entry_in, entry_text};
 ghost use Rattle.pt_folder.specs.Calls.{MakesOnce, change_of};
 ghost use Rattle.pt_folder.specs.Failure.{KeepsMaking, OnDevice};
 ghost use Rattle.pt_folder.specs.UnsyncedChange.{unsynced_by_close};
-ghost use Rattle.pt_folder.specs.Writing.{ClosesBy, FailsToAdd, IsMadeAt, IsOfWriting, MakesAt, WritesTo, open_unless_within};
+ghost use Rattle.pt_folder.specs.Writing.{ClosesBy, FailsToAdd, IsMadeAt, IsOfWriting, MakesAt};
+ghost use Rattle.pt_folder.specs.Writing.{WritesTo, open_unless_within};
 
 use crate::bytes::write_pieces;
 use crate::failure::{FailureReason, Last};

@@ -1,9 +1,13 @@
 //! Whether one folder lies in another: by where their paths lead, links resolved, and by what the
 //! folders are, whatever leads to them.
+//!
+//! The paths are resolved, in a fixed order, and the system is asked for the device and inode of
+//! each folder and of each above it until one is the other's (`Overlaps`).
 ghost use Rattle.std.specs.Prelude.{◌≡◌, ◌++◌, IfErr, IfOk, string_bytes};
 ghost use Rattle.std.specs.IoError.{error_kind};
 ghost use Rattle.std.specs.Path.{path_buf_bytes};
-ghost use Rattle.pt_guard.specs.Apart.{AreInnerPaths, Finds, InEither, IsHeld, IsUnresolved, LiesIn, Overlaps};
+ghost use Rattle.pt_guard.specs.Apart.{AreInnerPaths, Finds, InEither, IsHeld, IsUnresolved};
+ghost use Rattle.pt_guard.specs.Apart.{LiesIn, Overlaps};
 ghost use Rattle.pt_guard.specs.Apart.{SearchesAncestors, folders_in, folders_of, lie_of};
 ghost use Rattle.pt_guard.specs.FilePlace.{FindsFile, FindsNamed, place_of};
 
@@ -18,7 +22,7 @@ const ROOT: &str = "/ocfl";
 
 const STAGING: &str = "/staging";
 
-/// How one folder lies to another.
+/// Whether one folder lies in another.
 #[derive(Clone, Copy, Debug, PartialEq, Eq)]
 pub(crate) enum Nesting {
     /// It is not in it, or one of the two isn't there.
@@ -75,7 +79,9 @@ fn has_ancestor<S: Places>(system: &mut S, path: PathBuf, search: AncestorSearch
     }
 }
 
-// The same of a resolved path and the folder at another path, which was resolved too.
+// Whether a resolved path lies in a folder though its text doesn't begin with the folder's: a
+// second mount shows the same folder by another path, so that only its device and inode tell. A
+// path has at most as many folders at and above it as bytes, so that all of them are asked of.
 fn held_against<S: Places>(system: &mut S, inner: PathBuf, outer: &str) -> Nesting
     ensures { IsHeld S.does outer.now (path_buf_bytes inner) system.old system.new result }
 {
@@ -102,7 +108,7 @@ fn judge_unresolved<S: Places>(system: &mut S, path: &str, error: io::Error) -> 
     }
 }
 
-// How what a path leads to lies to what another leads to.
+// Whether what one path leads to is what another leads to, or lies in it.
 fn lies_in<S: Places>(system: &mut S, alloc: Global, inner: &str, outer: &str) -> Nesting
     ensures { LiesIn S.does inner.now outer.now system.old system.new result }
 {
@@ -121,7 +127,7 @@ fn lies_in<S: Places>(system: &mut S, alloc: Global, inner: &str, outer: &str) -
     }
 }
 
-/// How a destination lies to a store and to its `pairtree_root`, and these two to what the
+/// Whether a destination lies in a store or in its `pairtree_root`, or one of these two in what the
 /// destination is to hold; the first answer that isn't `Apart`. An error where memory for the paths
 /// was refused; then nothing was asked.
 pub(crate) fn overlap<S: Places>(
@@ -139,10 +145,10 @@ pub(crate) fn overlap<S: Places>(
     Ok(paths.first_found(system, alloc))
 }
 
-/// How the folder that a file is to be made in lies to a store, to its `pairtree_root` and to what
-/// the destination is to hold; and where the file has the name of one of these, to the destination.
-/// The first answer that isn't `Apart`. An error where memory for the paths was refused; then
-/// nothing was asked.
+/// Whether the folder that a file is to be made in lies in a store, in its `pairtree_root` or in
+/// what the destination is to hold; and where the file has the name of one of the last, in the
+/// destination. The first answer that isn't `Apart`. An error where memory for the paths was
+/// refused; then nothing was asked.
 pub(crate) fn surroundings<S: Places>(
     system: &mut S,
     alloc: Global,
@@ -181,7 +187,8 @@ struct RunPaths<'a> {
 }
 
 impl<'a> RunPaths<'a> {
-    // How they lie to one another.
+    // Whether the destination lies in the store or its tree, or one of these in what the
+    // destination is to hold.
     #[tactic(auto, using(crate::proofs::GoingOn::stays))]
     fn first_found<S: Places>(&self, system: &mut S, alloc: Global) -> Nesting
         ensures { Finds S.does (folders_in self.now) system.old system.new result }
@@ -198,7 +205,8 @@ impl<'a> RunPaths<'a> {
         }
     }
 
-    // How the folder of a file lies to them.
+    // Whether a file would lie in the store, in its tree or in what the destination is to hold, or
+    // be one of the last.
     #[tactic(auto, using(crate::proofs::GoingOn::stays))]
     fn first_around<S: Places>(&self, system: &mut S, alloc: Global, file: FilePlace<'_>) -> Nesting
         ensures { FindsFile S.does (folders_in self.now) (place_of file.entry)
@@ -216,8 +224,8 @@ impl<'a> RunPaths<'a> {
     }
 }
 
-// How what a path leads to lies to the first of two folders, and where it is apart from that, to
-// the second.
+// Whether what a path leads to is, or lies in, the first of two folders; and where it is apart from
+// that, the second.
 fn in_either<S: Places>(system: &mut S, alloc: Global, inner: &str, outers: (&str, &str)) -> Nesting
     ensures { InEither S.does inner.now (outers.entry.0.now, outers.entry.1.now)
         system.old system.new result }
@@ -228,8 +236,8 @@ fn in_either<S: Places>(system: &mut S, alloc: Global, inner: &str, outers: (&st
     }
 }
 
-// How a file that has the name of what a destination is to hold lies to the destination; another is
-// apart from it.
+// Of a file with the name of what a destination is to hold, whether its folder is the destination
+// or lies in it; a file of any other name can't be taken for what a run makes there.
 fn nesting_by_name<S: Places>(
     system: &mut S,
     alloc: Global,

@@ -1,4 +1,8 @@
 //! Whether a folder is a storage root or an object itself, by the names in it.
+//!
+//! Over any reader that tells its bytes, which are a folder's names, each ended by a NUL, the
+//! answer of `is_declared` is true exactly where `0=ocfl_` stands at the start of one
+//! (`IsDeclared`).
 ghost use Rattle.std.specs.Prelude.{◌≡◌, ◌↔◌, IsTrue};
 ghost use Rattle.pt_guard.specs.Declaration.{HasPart, TellsDeclared, TellsOfOne, mark};
 
@@ -31,6 +35,8 @@ fn is_declared<D: Read>(alloc: Global, dir: &mut D) -> io::Result<bool>
     let mut names = Vec::new(alloc);
     names.push(0)?;
     let mut piece = [0; ROOM];
+    // Counted as the reads of `take_all` of pt_folder (taking.rt), so that it ends whatever is
+    // read.
     for _ in 0..u64::MAX {
         let count = dir.read(&mut piece)?;
         if count == 0 {

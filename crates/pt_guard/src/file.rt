@@ -1,4 +1,5 @@
 //! Whether a file may be made at a path: where no run and no audit reads, and none makes anything.
+//! It is asked of the file's folder as of a run's (`FindsFile`).
 ghost use Rattle.std.specs.Prelude.{◌≡◌};
 ghost use Rattle.std.specs.Path.{path_file_name, path_parent};
 ghost use Rattle.pt_guard.specs.FilePlace.{JudgesFile, folder_in, is_named_so};

@@ -1,6 +1,12 @@
 //! The calls of the system that look where folders are and lock them. One ghost word says of each
 //! call what it may come to, so that a contract over it says which calls are made and what becomes
 //! of their answers.
+//!
+//! Of the runtime's own instance: whether the destination is a folder is asked first, and what
+//! isn't can't be locked (`AsksFolder`, `HoldsKind`); then the names of the folder are asked for,
+//! and told as they are (`HoldsBy`); where they can't be read the lock is asked for all the same.
+//! It is asked for as it is to be had (`AsksLock`), and what the question is answered is told so:
+//! held, another's, or that it can't be asked for (`hold_of`).
 ghost use Rattle.std.specs.Prelude.{◌≡◌, ◌↔◌, ⊤, Bool, IsTrue, MatchResult};
 ghost use Rattle.std.specs.declared.io.Error.{Error};
 ghost use Rattle.std.specs.declared.result.Result.{Result};

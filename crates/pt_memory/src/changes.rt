@@ -1,6 +1,7 @@
 //! Changes of a memory tree's entries. None of them takes memory, but for bytes that are appended.
 ghost use Rattle.std.specs.Prelude.{◌≡◌, None, true, IsOk, OnOk, OnErr};
-ghost use Rattle.pt_tree.specs.Forest.{changed, first_alone, first_name, in_front, inserted, picked, picked_at, removed, rewritten, without_first};
+ghost use Rattle.pt_tree.specs.Forest.{changed, first_alone, first_name, in_front, inserted};
+ghost use Rattle.pt_tree.specs.Forest.{picked, picked_at, removed, rewritten, without_first};
 ghost use Rattle.pt_tree.specs.Listing.{is_before};
 ghost use Rattle.pt_memory.specs.Entries.{edited, is_replace, forest_of, open_of};
 

@@ -1,7 +1,8 @@
 //! The entries of a memory tree: the type, and looking things up in it.
 ghost use Rattle.std.specs.Prelude.{◌≡◌, true, IfOk};
 ghost use Rattle.std.specs.Option.{option_map};
-ghost use Rattle.pt_tree.specs.Forest.{Dir, find as find_in, node_at, listing_of, is_proper, same_forest};
+ghost use Rattle.pt_tree.specs.Forest.{Dir, find as find_in, node_at, listing_of, is_proper};
+ghost use Rattle.pt_tree.specs.Forest.{same_forest};
 ghost use Rattle.pt_memory.specs.Entries.{forest_of, node_of, head_of, first_item};
 
 use pt_tree::{Kind, Listing, ListingFault, MemoryFault, Name};

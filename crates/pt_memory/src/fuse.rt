@@ -13,7 +13,8 @@ pub struct Fuse {
 }
 
 impl Fuse {
-    ghost use Rattle.pt_memory.specs.Fuse.{after_call, after_failure, fuse_answer, is_blown as is_blown_fuse};
+    ghost use Rattle.pt_memory.specs.Fuse.{after_call, after_failure, fuse_answer};
+    ghost use Rattle.pt_memory.specs.Fuse.{is_blown as is_blown_fuse};
 
     /// No fuse, and no failure yet.
     pub fn new() -> Fuse

@@ -1,7 +1,16 @@
-//! A source, a destination and a log in memory, which tell what they hold; a source whose tree
-//! changes; and one of which something can't be read.
+//! Devices in memory, for tests: a source, a destination and a log that tell what they hold, a
+//! source whose tree changes, and one of which something can't be read. No code of the program
+//! needs them.
 //!
-//! Devices in memory, which no code of the program needs.
+//! A store is made of a line of text, and its devices fail where a test wants it:
+//!
+//! ```rust
+//! let mut source = texts::store(alloc, "xt/12/t3/xt12t3/a.txt=abc xt/12/t3/xt12t3/b.txt*9000")?;
+//! let mut dest = MemDest::new(alloc);
+//! dest.fuse(Some(7)); // Seven calls of the trait pass, and each later one fails.
+//! ```
+//!
+//! What it promises:
 //!
 //! - `MemSource`, `MemDest`, `MemLog`: tell what they hold, and meet the traits. Each call's
 //!   contract gives the exact new state, by the fuse too (clauses `gives` and `puts`): which calls

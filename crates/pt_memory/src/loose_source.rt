@@ -136,7 +136,8 @@ impl Source for LooseSource {
     ghost use Rattle.pt_tree.specs.Source.{IsListed, IsRead, IsSeen};
     ghost use Rattle.pt_tree.specs.Failures.{IsCounted, IsOneMoreCall};
     ghost use Rattle.pt_memory.specs.MemSource.{KindGives, ListGives, OpenGives, NextGives};
-    ghost use Rattle.pt_memory.specs.LooseSource.{Then, loose_called, loose_failures, loose_state, untold};
+    ghost use Rattle.pt_memory.specs.LooseSource.{Then, loose_called, loose_failures, loose_state};
+    ghost use Rattle.pt_memory.specs.LooseSource.{untold};
 
     ghost told = { λ _. None };
 

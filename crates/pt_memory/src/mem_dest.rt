@@ -1,4 +1,5 @@
-ghost use Rattle.std.specs.Prelude.{◌≡◌, ◌↔◌, ◌≤◌, [], length, take, true, None, Some, IsOk, IsTrue, IfOk, OnOk, OnErr, ⊤};
+ghost use Rattle.std.specs.Prelude.{◌≡◌, ◌↔◌, ◌≤◌, [], length, take, true, None, Some, IsOk};
+ghost use Rattle.std.specs.Prelude.{IsTrue, IfOk, OnOk, OnErr, ⊤};
 ghost use Rattle.std.specs.Option.{option_copied, option_map};
 ghost use Rattle.pt_memory.specs.Entries.{forest_of};
 ghost use Rattle.pt_tree.specs.Dest.{added_to, open_unless_below};
@@ -47,7 +48,8 @@ pub struct MemDest {
 }
 
 impl MemDest {
-    ghost use Rattle.pt_memory.specs.MemDest.{dest_tree, dest_state, new_dest, after_plant, after_take, dest_fused, take_refusal, with_tree};
+    ghost use Rattle.pt_memory.specs.MemDest.{dest_tree, dest_state, new_dest, after_plant};
+    ghost use Rattle.pt_memory.specs.MemDest.{after_take, dest_fused, take_refusal, with_tree};
     ghost use Rattle.pt_memory.specs.Planting.{plant_refusal};
     ghost use Rattle.pt_tree.specs.Refusal.{Answers};
     ghost use Rattle.pt_tree.specs.Tree.{Bytes, Folder, added, bytes_of, kind_of_entry};
@@ -182,11 +184,13 @@ fn close_within(writing: &mut Option<NamePath>, path: &NamePath)
 
 impl Dest for MemDest {
     ghost use Rattle.std.specs.Prelude.{Some, Ok};
-    ghost use Rattle.pt_tree.specs.Dest.{CanPeek, CanWrite, IsKindAt, IsPeeked, LeavesPart, MayMake, MayMove, after_append, after_create};
+    ghost use Rattle.pt_tree.specs.Dest.{CanPeek, CanWrite, IsKindAt, IsPeeked, LeavesPart};
+    ghost use Rattle.pt_tree.specs.Dest.{MayMake, MayMove, after_append, after_create};
     ghost use Rattle.pt_tree.specs.Dest.{after_finish, after_mkdir, after_rename};
     ghost use Rattle.pt_tree.specs.Failures.{IsCounted};
     ghost use Rattle.pt_memory.specs.Fuse.{is_blown};
-    ghost use Rattle.pt_memory.specs.MemDest.{Appends, Makes, Passes, after_dest_call, dest_state, dest_told};
+    ghost use Rattle.pt_memory.specs.MemDest.{Appends, Makes, Passes, after_dest_call, dest_state};
+    ghost use Rattle.pt_memory.specs.MemDest.{dest_told};
     ghost use Rattle.pt_memory.specs.MemDestTells.{tree_told};
     ghost use Rattle.pt_tree.specs.Tree.{kind_of_entry, bytes_of};
 

@@ -1,5 +1,6 @@
 ghost use Rattle.std.proofs.Common.{◌∙◌, refl};
-ghost use Rattle.std.specs.Prelude.{◌≡◌, ◌↔◌, ◌<◌, [], Some, None, IsTrue, IfOk, MatchResult, OnOk, OnErr, length};
+ghost use Rattle.std.specs.Prelude.{◌≡◌, ◌↔◌, ◌<◌, [], Some, None, IsTrue, IfOk, MatchResult, OnOk};
+ghost use Rattle.std.specs.Prelude.{OnErr, length};
 ghost use Rattle.std.specs.Prelude.{true};
 ghost use Rattle.std.specs.Option.{option_copied, option_map};
 ghost use Rattle.pt_memory.specs.Entries.{forest_of};
@@ -27,7 +28,9 @@ pub struct MemSource {
 }
 
 impl MemSource {
-    ghost use Rattle.pt_memory.specs.MemSource.{source_state, source_tree, new_state, fused, after_refusal, after_source_call, swapped, IsPlanted, KindGives};
+    ghost use Rattle.pt_memory.specs.MemSource.{source_state, source_tree, new_state, fused};
+    ghost use Rattle.pt_memory.specs.MemSource.{after_refusal, after_source_call, swapped};
+    ghost use Rattle.pt_memory.specs.MemSource.{IsPlanted, KindGives};
     ghost use Rattle.pt_memory.specs.MemSource.{ListGives, OpenGives, NextGives};
     ghost use Rattle.pt_memory.specs.Fuse.{fuse_answer};
     ghost use Rattle.pt_tree.specs.Forest.{file_at, kind_at, listing_at};
@@ -216,8 +219,10 @@ impl Source for MemSource {
     ghost use Rattle.pt_tree.specs.Source.{after_open, after_next, tree_in};
     ghost use Rattle.pt_tree.specs.Failing.{ListsAs, LooksAs, OpensAs, ReadsAs};
     ghost use Rattle.pt_tree.specs.Failures.{IsCounted, IsOneMoreCall};
-    ghost use Rattle.pt_memory.specs.MemSource.{source_state, source_called, KindGives, ListGives, OpenGives, NextGives};
-    ghost use Rattle.pt_memory.specs.MemSourceTells.{KeepsFuse, source_failing, source_told, keeps_failing, proper_told};
+    ghost use Rattle.pt_memory.specs.MemSource.{source_state, source_called, KindGives, ListGives};
+    ghost use Rattle.pt_memory.specs.MemSource.{OpenGives, NextGives};
+    ghost use Rattle.pt_memory.specs.MemSourceTells.{KeepsFuse, source_failing, source_told};
+    ghost use Rattle.pt_memory.specs.MemSourceTells.{keeps_failing, proper_told};
 
     ghost told = { source_told };
 

@@ -1,7 +1,8 @@
 //! The open file of a memory tree: its entry has the place where it is read on.
 ghost use Rattle.std.specs.Prelude.{◌≡◌, ◌+◌, take, length, is_some};
 ghost use Rattle.std.specs.Option.{option_map};
-ghost use Rattle.pt_memory.specs.Opening.{below as below_name, is_just as is_just_name, opened, block_after, moved_on};
+ghost use Rattle.pt_memory.specs.Opening.{below as below_name, is_just as is_just_name, opened};
+ghost use Rattle.pt_memory.specs.Opening.{block_after, moved_on};
 ghost use Rattle.pt_memory.specs.Entries.{forest_of, open_of, marked_of, marked_file};
 
 use crate::entries::{Entries, File};

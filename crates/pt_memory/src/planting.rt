@@ -6,7 +6,8 @@ ghost use Rattle.pt_tree.specs.Path.{last_name};
 ghost use Rattle.pt_tree.specs.Forest.{file, dir, other, none, dir_at, file_at, is_proper};
 ghost use Rattle.pt_tree.specs.Tree.{entry_of, kind_of_entry, put, tree_of};
 ghost use Rattle.pt_memory.specs.Entries.{forest_of, node_of, open_of};
-ghost use Rattle.pt_memory.specs.Planting.{IsLeafOf, is_folder, leaf_entry, plant_refusal, plant_number};
+ghost use Rattle.pt_memory.specs.Planting.{IsLeafOf, is_folder, leaf_entry, plant_refusal};
+ghost use Rattle.pt_memory.specs.Planting.{plant_number};
 ghost use Rattle.pt_tree.specs.Name.{is_name};
 
 use crate::changes::insert;

@@ -72,8 +72,10 @@ impl Source for SpoiledSource {
     ghost use Rattle.pt_tree.specs.Source.{after_next, after_open, tree_in};
     ghost use Rattle.pt_memory.specs.MemSource.{source_called};
     ghost use Rattle.pt_memory.specs.MemSourceTells.{source_told, proper_told};
-    ghost use Rattle.pt_memory.specs.SpoiledSource.{KeepsSpoiled, SpoiledKindGives, SpoiledListGives, SpoiledNextGives};
-    ghost use Rattle.pt_memory.specs.SpoiledSource.{SpoiledOpenGives, keeps_failing, keeps_on, spoiled_failing, spoiled_state};
+    ghost use Rattle.pt_memory.specs.SpoiledSource.{KeepsSpoiled, SpoiledKindGives};
+    ghost use Rattle.pt_memory.specs.SpoiledSource.{SpoiledListGives, SpoiledNextGives};
+    ghost use Rattle.pt_memory.specs.SpoiledSource.{SpoiledOpenGives, keeps_failing, keeps_on};
+    ghost use Rattle.pt_memory.specs.SpoiledSource.{spoiled_failing, spoiled_state};
 
     ghost told = { λ s. source_told s.source };
 

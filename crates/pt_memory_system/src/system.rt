@@ -143,9 +143,13 @@ impl<'a> MemorySystem<'a> {
 }
 
 impl<'a> System for MemorySystem<'a> {
-    ghost use Rattle.pt_memory_system.specs.Keeping.{looks_in_dest, looks_in_source, makes_dirs, makes_files, moves, opens_and_stays, opens_dirs};
-    ghost use Rattle.pt_memory_system.specs.Keeping.{opens_in_dest, opens_in_source, propers, trees, writes};
-    ghost use Rattle.pt_memory_system.specs.System.{Looks, MakesDir, MakesFile, Moves, Opens, OpensDir, Writes, forest_in, kept_in};
+    ghost use Rattle.pt_memory_system.specs.Keeping.{looks_in_dest, looks_in_source, makes_dirs};
+    ghost use Rattle.pt_memory_system.specs.Keeping.{makes_files, moves, opens_and_stays};
+    ghost use Rattle.pt_memory_system.specs.Keeping.{opens_dirs};
+    ghost use Rattle.pt_memory_system.specs.Keeping.{opens_in_dest, opens_in_source, propers};
+    ghost use Rattle.pt_memory_system.specs.Keeping.{trees, writes};
+    ghost use Rattle.pt_memory_system.specs.System.{Looks, MakesDir, MakesFile, Moves, Opens};
+    ghost use Rattle.pt_memory_system.specs.System.{OpensDir, Writes, forest_in, kept_in};
 
     type File = MemFile<'a>;
 

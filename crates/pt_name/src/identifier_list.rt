@@ -1,4 +1,5 @@
-//! A list of identifiers, and which of them were met.
+//! A list of identifiers, and which of them were met. The latter, and what `SoughtIdentifiers` says
+//! of it, has no clause: no contract can say what a cell holds.
 #![tactic(auto, using(crate::proofs::Lists::lists_as, crate::proofs::Lists::sorted_once, crate::proofs::Lists::is_found))]
 
 ghost use Rattle.std.specs.Prelude.{◌≡◌, List, ℕ, IfOk, is_ok, map};

@@ -3,7 +3,8 @@
 
 ghost use Rattle.std.specs.Prelude.{◌≡◌, ◌<◌, ◌++◌, ◌∷◌, [], codes, length, IfOk};
 ghost use Rattle.std.specs.List.{concat};
-ghost use Rattle.pt_name.specs.Identifying.{identification_by, identification_of, is_own_place, unless_reserved};
+ghost use Rattle.pt_name.specs.Identifying.{identification_by, identification_of, is_own_place};
+ghost use Rattle.pt_name.specs.Identifying.{unless_reserved};
 ghost use Rattle.pt_tree.specs.Path.{same_path};
 
 use crate::joining::concatenate;
@@ -50,7 +51,7 @@ pub enum Identification {
 /// Asked in this order: whether the names read something (`Malformed`), whether that is UTF-8
 /// (`NotUtf8`), whether the place is the storage root's own (`Reserved`), and whether the object is
 /// of this share. The path isn't empty. `Memory` where a growth was refused. An identifier of the
-/// share is noted in its list, if there is one and it stands there.
+/// share is noted in its list, if there is one and it stands there; that changes no answer.
 pub fn identify(
     site: &NamePath,
     prefix: &str,

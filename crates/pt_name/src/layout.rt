@@ -1,4 +1,5 @@
-ghost use Rattle.std.specs.Prelude.{◌≡◌, [], ◌∷◌, ◌++◌, ◌*◌, ◌<◌, ◌≤◌, length, All, IfOk, OnOk, Result};
+ghost use Rattle.std.specs.Prelude.{◌≡◌, [], ◌∷◌, ◌++◌, ◌*◌, ◌<◌, ◌≤◌, length, All, IfOk, OnOk};
+ghost use Rattle.std.specs.Prelude.{Result};
 ghost use Rattle.pt_tree.specs.Path.{joined};
 ghost use Rattle.pt_name.specs.Place.{IsPlaceByte, IsPlaceName, place_of, tuples_from};
 

@@ -1,36 +1,27 @@
 //! The names of Pairtree 0.1 and of OCFL places: an identifier cleaned and cut into a pairpath, and
-//! its place in a storage root by extension 0003-hash-and-id-n-tuple-storage-layout.
+//! read back from one; and its place in a storage root, by extension
+//! 0003-hash-and-id-n-tuple-storage-layout.
 //!
-//! Names of identifiers, for any bytes.
+//! ```rust
+//! let id = b"ark:/13030/xt12t3".as_slice();
+//! pairpath(alloc, id)?; // ar/k+/=1/30/30/=x/t1/2t/3
+//! Layout::default_form().place_text(alloc, id)?; // 4b8/4fe/385/ark%3a%2f13030%2fxt12t3
+//! unclean(alloc, b"ark+=13030=xt12t3")?; // ark:/13030/xt12t3
+//! ```
+//!
+//! What it promises, for any bytes:
 //!
 //! - `clean`: exactly the cleaned text, by cases on each byte. `pairpath`: that text in pieces of
-//!   two with `/` between.
-//! - `encoded`: exactly the encoded identifier. `last_name`: the same, or its first 100 characters,
-//!   `-` and the SHA-256 where it is longer than 100.
-//! - `Layout::of`: accepts exactly the numbers that the extension allows, and refuses each other
-//!   pair by the first rule that it breaks. `size`, `count`: the numbers. `default_form`: three by
-//!   three.
-//! - `Layout::place`: exactly the place of the identifier, as a path: the tuples from the front of
-//!   its SHA-256, then its last name. `Layout::place_text`: its names with `/` between.
-//! - `Share::of`: accepts exactly the shares 1 to N of up to 4,096, and refuses each other pair by
-//!   the first rule that it breaks. `whole`: the one share of one. `with_only`: of a share what
-//!   begins with some texts; `with_list`: what stands in a list. `holds`: exactly whether the
-//!   number of the share that the identifier's SHA-256 gives (`share_number`) is its own, and it is
-//!   `chosen`: it stands in the list or begins with one of the texts, or there is neither;
-//!   `is_first`: whether it is 1.
-//! - `IdentifierList::of`: the list of just these identifiers (`ListsAs`). `contains`: exactly
-//!   whether one stands in it. Which were met, and what `SoughtIdentifiers` says of that, has no
-//!   clause: no contract can say what a cell holds.
-//! - `Identifier`: a text, seen as its bytes.
-//! - `unclean`: reads a cleaned text back: gives an identifier exactly where the text reads it and
-//!   it is UTF-8, and says of each other text exactly whether it reads nothing or bytes that aren't
-//!   UTF-8. `concatenate`: joins the names of a pairpath for it.
-//! - `read_prefix`: exactly the prefix of a store, refused exactly where it is too long or not
-//!   UTF-8. `is_doubtful`: exactly the prefixes that read otherwise than they look.
+//!   two with `/` between. `unclean`: reads it back, exactly where it reads something and that is
+//!   UTF-8.
+//! - `encoded`, `last_name`, `Layout::place`: exactly what the extension makes of the identifier,
+//!   for each layout. `Layout::of`: accepts exactly the numbers that the extension allows.
 //! - `identify`: exactly what the names of a site say of its object (`Identification`): why it has
 //!   no identifier that can be carried (`Refusal`), that it is of another share, or its identifier,
-//!   behind the store's prefix, and its place. Asked in that order. What it notes in a list changes
-//!   no answer.
+//!   behind the store's prefix (`read_prefix`), and its place. Asked in that order.
+//! - `Share::of`: accepts exactly the shares 1 to N of up to 4,096. `holds`: exactly whether the
+//!   share's number is the one that the identifier's SHA-256 gives (`share_number`), and the
+//!   identifier is `chosen`, by the texts that it may begin with or by a list (`IdentifierList`).
 //! - Laws: a text reads at most one list of bytes (`one_reading`); what was cleaned reads back
 //!   (`cleaned_reads_back`); reading as a relation and as a function say the same
 //!   (`reading_is_computed`); two different identifiers share a place only where both encodings are

@@ -2,7 +2,8 @@ ghost use Rattle.std.specs.Prelude.{◌≡◌, string_bytes};
 ghost use Rattle.std.specs.List.{list_any};
 ghost use Rattle.std.specs.Str.{chars};
 ghost use Rattle.pt_tree.specs.Refusal.{Answers};
-ghost use Rattle.pt_name.specs.Prefix.{ends_line, has_outer_blank as has_outer_blank_in, is_doubtful as is_doubtful_text};
+ghost use Rattle.pt_name.specs.Prefix.{ends_line, has_outer_blank as has_outer_blank_in};
+ghost use Rattle.pt_name.specs.Prefix.{is_doubtful as is_doubtful_text};
 ghost use Rattle.pt_name.specs.Prefix.{is_unseen, prefix_number, prefix_refusal, without_line_ends};
 
 use std::alloc::Global;

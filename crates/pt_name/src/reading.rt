@@ -1,6 +1,8 @@
-ghost use Rattle.std.specs.Prelude.{◌≡◌, ◌<◌, length, IfErr, IfOk, IfSome, MatchOption, string_bytes};
+ghost use Rattle.std.specs.Prelude.{◌≡◌, ◌<◌, length, IfErr, IfOk, IfSome, MatchOption};
+ghost use Rattle.std.specs.Prelude.{string_bytes};
 ghost use Rattle.hex.specs.Hex.{hex_digit_value};
-ghost use Rattle.pt_name.specs.Reading.{GivesReading, Reads, RefusesText, before, hex_value, read_character, reading_of, unclean_number};
+ghost use Rattle.pt_name.specs.Reading.{GivesReading, Reads, RefusesText, before, hex_value};
+ghost use Rattle.pt_name.specs.Reading.{read_character, reading_of, unclean_number};
 
 use std::alloc::{AllocFailed, Global};
 use thiserror::Error;

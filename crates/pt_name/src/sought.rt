@@ -22,7 +22,8 @@ impl SoughtIdentifiers {
         self.list.len()
     }
 
-    /// The identifier at a position of the list, where it is of the share and no object of it was met.
+    /// The identifier at a position of the list, where it is of the share and no object of it was
+    /// met.
     pub fn unmet_at(&self, at: usize) -> Option<&str> {
         let id = self.list.unmet_at(at)?;
         self.share.numbers(id.as_bytes()).then_some(id)

@@ -1,7 +1,8 @@
 // The bytes of the files beside an object's contents and its inventory.
 ghost use Rattle.std.specs.Prelude.{◌≡◌, IfOk};
 ghost use Rattle.std.specs.String.{string_bytes};
-ghost use Rattle.pt_object.specs.Files.{object_declaration_bytes, root_declaration_bytes, sidecar_line, sidecar_text};
+ghost use Rattle.pt_object.specs.Files.{object_declaration_bytes, root_declaration_bytes};
+ghost use Rattle.pt_object.specs.Files.{sidecar_line, sidecar_text};
 ghost use Rattle.pt_object.specs.Algorithm.{digest_of};
 
 use crate::{Algorithm, Digest};

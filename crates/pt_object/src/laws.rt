@@ -1,9 +1,25 @@
 //! Laws of the definitions, for callers to cite.
+//!
+//! On tables: noting all rows in order gives the distinct ones (`noting_gives_distinct`), and keeps
+//! the first path of each (`noting_keeps_first`). Reading the inventory's text as JSON gives its
+//! tree (`inventory_reads_as_its_tree`).
+//!
+//! On objects and roots, for every list of files whose paths rise and lead to no other: each item
+//! of a script may be made after those before it (`script_can_be_made`,
+//! `script_of_rows_can_be_made`, `root_script_can_be_made`); carried out to its end it makes the
+//! object, or the root, in `staging`, and changes nothing else (`script_makes_the_object`,
+//! `script_of_rows_makes_the_object`, `root_script_makes_the_root`); what was made there stands at
+//! its place once it is moved (`moved_stands_there`); the object of rows is that of files with the
+//! bytes stored for them (`rows_are_files`); the state of the object's version is the list of
+//! files, where no two whose bytes differ have one digest (`state_is_the_files`).
 ghost use Rattle.pt_object.specs.Distinct.{NotingGivesDistinct, NotingKeepsFirst};
 ghost use Rattle.pt_object.specs.InventoryLaws.{InventoryReadsAsItsTree};
-ghost use Rattle.pt_object.specs.ObjectLaws.{LastFileTellsFolders, MovedStandsThere, PathsInOrderAreApart, PieceMakesMore};
-ghost use Rattle.pt_object.specs.ObjectLaws.{RootScriptCanBeMade, RootScriptMakesTheRoot, RowsAreFiles, ScriptCanBeMade};
-ghost use Rattle.pt_object.specs.ObjectLaws.{ScriptMakesTheObject, ScriptOfRowsCanBeMade, ScriptOfRowsMakesTheObject};
+ghost use Rattle.pt_object.specs.ObjectLaws.{LastFileTellsFolders, MovedStandsThere};
+ghost use Rattle.pt_object.specs.ObjectLaws.{PathsInOrderAreApart, PieceMakesMore};
+ghost use Rattle.pt_object.specs.ObjectLaws.{RootScriptCanBeMade, RootScriptMakesTheRoot};
+ghost use Rattle.pt_object.specs.ObjectLaws.{RowsAreFiles, ScriptCanBeMade};
+ghost use Rattle.pt_object.specs.ObjectLaws.{ScriptMakesTheObject, ScriptOfRowsCanBeMade};
+ghost use Rattle.pt_object.specs.ObjectLaws.{ScriptOfRowsMakesTheObject};
 ghost use Rattle.pt_object.specs.VersionLaws.{StateIsTheFiles};
 
 /// Noting all rows in order gives the distinct files: those with whose digest there is no earlier

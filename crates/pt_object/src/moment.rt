@@ -1,8 +1,10 @@
 // Moments to the second, as an inventory has them.
 ghost use Rattle.std.specs.Prelude.{◌≡◌, ◌<◌, IfSome, length};
-ghost use Rattle.pt_object.specs.Moment.{is_below as is_below_of, is_clock as is_clock_of, is_date as is_date_of};
+ghost use Rattle.pt_object.specs.Moment.{is_below as is_below_of, is_clock as is_clock_of};
+ghost use Rattle.pt_object.specs.Moment.{is_date as is_date_of};
 ghost use Rattle.pt_object.specs.Moment.{is_date_time as is_date_time_of, is_day as is_day_of};
-ghost use Rattle.pt_object.specs.Moment.{is_moment as is_moment_of, is_offset as is_offset_of, is_time as is_time_of, two_digits as two_digits_of};
+ghost use Rattle.pt_object.specs.Moment.{is_moment as is_moment_of, is_offset as is_offset_of};
+ghost use Rattle.pt_object.specs.Moment.{is_time as is_time_of, two_digits as two_digits_of};
 
 use jiff::civil::Date;
 

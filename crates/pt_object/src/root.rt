@@ -1,7 +1,8 @@
 ghost use Rattle.std.specs.Prelude.{◌≡◌, IfOk, map, slice_get};
 ghost use Rattle.std.specs.String.{string_bytes};
 ghost use Rattle.serde_json.specs.View.{view};
-ghost use Rattle.pt_object.specs.RootFiles.{config_at, config_text, config_tree, declaration_at, files_lent, layout_at, layout_text, root_files_of};
+ghost use Rattle.pt_object.specs.RootFiles.{config_at, config_text, config_tree, declaration_at};
+ghost use Rattle.pt_object.specs.RootFiles.{files_lent, layout_at, layout_text, root_files_of};
 
 use crate::WellKnownName;
 use crate::files::ROOT_DECLARATION;

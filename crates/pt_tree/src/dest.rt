@@ -1,9 +1,19 @@
+//! What a destination is, and the trees that it tells.
+//!
+//! A destination's tree is a function (`Tree`): at each path a file's bytes, a folder, something
+//! else, or nothing. A change is one equation: `put`, `added`, `moved`, `without`. `IsTree` says
+//! that a folder is above each entry; `tree_of` shows a source's tree (`Forest`) as such a
+//! function. What a destination tells is its tree and which file is open (`Writing`). It counts its
+//! failures up to 2^64 - 1 (`IsCounted`) and, where it keeps that, how often it was asked what
+//! stands (`AreAsManyCalls`).
 ghost use Rattle.std.specs.Prelude.{◌≡◌, ℕ, [], Option, Some, IfOk, OnOk, OnErr, ⊤};
 ghost use Rattle.std.specs.Option.{option_map};
 ghost use Rattle.pt_tree.specs.Failures.{AreAsManyCalls, IsCounted, IsOneMoreCall};
 ghost use Rattle.pt_tree.specs.Tree.{IsTree};
-ghost use Rattle.pt_tree.specs.Dest.{Writing, IsKindAt, CanPeek, IsPeeked, MayMake, CanWrite, MayMove, LeavesPart};
-ghost use Rattle.pt_tree.specs.Dest.{after_mkdir, after_create, after_append, after_finish, after_rename};
+ghost use Rattle.pt_tree.specs.Dest.{Writing, IsKindAt, CanPeek, IsPeeked, MayMake, CanWrite};
+ghost use Rattle.pt_tree.specs.Dest.{MayMove, LeavesPart};
+ghost use Rattle.pt_tree.specs.Dest.{after_mkdir, after_create, after_append, after_finish};
+ghost use Rattle.pt_tree.specs.Dest.{after_rename};
 
 use crate::{Block, Kind, NamePath, TreeFault};
 

@@ -1,13 +1,20 @@
 //! A source as if the entries with some names weren't there.
+//!
+//! It tells the source's tree without them (`without`), and with that meets `Source`, all calls: a
+//! listing is the source's without them, in its order, a file that is read is the source's, and a
+//! look past one of the names finds nothing, told or not (`is_past`). So all that `migrate` of
+//! pt_move promises of a run over it is said of the store without them.
 #![tactic(auto, using(crate::proofs::ToldWithout::ignoring))]
 
 ghost use Rattle.std.proofs.Common.{◌∙◌, refl};
-ghost use Rattle.std.specs.Prelude.{◌≡◌, ◌+◌, ◌-◌, [], IfOk, MatchResult, None, OnErr, OnOk, length, min, true};
+ghost use Rattle.std.specs.Prelude.{◌≡◌, ◌+◌, ◌-◌, [], IfOk, MatchResult, None, OnErr, OnOk};
+ghost use Rattle.std.specs.Prelude.{length, min, true};
 ghost use Rattle.pt_tree.specs.Failing.{ListsAs, LooksAs, OpensAs, ReadsAs};
 ghost use Rattle.pt_tree.specs.Failures.{IsCounted, IsOneMoreCall, greatest_count};
 ghost use Rattle.pt_tree.specs.Listing.{left_in};
 ghost use Rattle.std.specs.Option.{option_map};
-ghost use Rattle.pt_tree.specs.Source.{CanList, CanLook, CanOpen, CanRead, IsListed, IsRead, IsSeen};
+ghost use Rattle.pt_tree.specs.Source.{CanList, CanLook, CanOpen, CanRead, IsListed, IsRead};
+ghost use Rattle.pt_tree.specs.Source.{IsSeen};
 ghost use Rattle.pt_tree.specs.Source.{after_next, after_open, tree_in};
 ghost use Rattle.pt_tree.specs.Ignoring.{LeavesOut, is_past, told_without};
 ghost use Rattle.pt_tree.specs.ProperLeft.{proper_left};
@@ -54,6 +61,11 @@ impl<S: Source> Ignoring<S> {
     }
 
     /// How many entries were left out of what was listed, up to 2^64 - 1.
+    ///
+    /// None at first; a listing that is answered adds as many as were left out of the source's, and
+    /// each other call none (`LeavesOut`). Of a source that doesn't tell no contract says what it
+    /// lists, and so no clause of `list` how many were left out: they are counted there too,
+    /// exactly, as a function of its own says (`take_out`).
     pub fn left_out(&self) -> u64
         ensures { result ≡ self.now.left_out }
     {

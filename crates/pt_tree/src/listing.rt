@@ -1,5 +1,7 @@
-ghost use Rattle.std.specs.Prelude.{◌≡◌, ◌==◌, ◌++◌, [], ◌∷◌, IfOk, IsTrue, OnErr, length, slice_get};
-ghost use Rattle.pt_tree.specs.Listing.{can_follow as can_follow_items, items_lent, left_in, listing_refusal, listing_number, names_rise};
+ghost use Rattle.std.specs.Prelude.{◌≡◌, ◌==◌, ◌++◌, [], ◌∷◌, IfOk, IsTrue, OnErr, length};
+ghost use Rattle.std.specs.Prelude.{slice_get};
+ghost use Rattle.pt_tree.specs.Listing.{can_follow as can_follow_items, items_lent, left_in};
+ghost use Rattle.pt_tree.specs.Listing.{listing_refusal, listing_number, names_rise};
 ghost use Rattle.pt_tree.specs.Refusal.{Answers};
 
 use crate::{Kind, MemoryFault, Name};

@@ -1,7 +1,8 @@
 ghost use Rattle.std.specs.Prelude.{◌≡◌, ◌++◌, IfOk, IfSome, IsTrue, OnOk, Some};
 ghost use Rattle.std.specs.Str.{bytes_eq, is_utf8};
 ghost use Rattle.std.specs.Cmp.{partial_equiv_from_equiv};
-ghost use Rattle.std.specs.Cmp.Lexicographic.{slice_cmp, nat_list_eq_equiv, nat_list_cmp_total, texts_ties, texts_po};
+ghost use Rattle.std.specs.Cmp.Lexicographic.{slice_cmp, nat_list_eq_equiv, nat_list_cmp_total};
+ghost use Rattle.std.specs.Cmp.Lexicographic.{texts_ties, texts_po};
 ghost use Rattle.std.specs.Ordering.{nat_cmp};
 ghost use Rattle.std.proofs.Common.{rules};
 ghost use Rattle.pt_tree.specs.Name.{name_refusal, is_forbidden_name, is_name, name_number};
@@ -131,8 +132,8 @@ impl Name {
         }
     }
 
-    // The equality of two names, as their `==`, which is called only where one of them is not
-    // short.
+    // As `==`, for loops that compare the names of paths: two short names, as most in a store are,
+    // are compared here, without a call, and `==` is called for others only.
     pub(crate) fn same(&self, other: &Name) -> bool
         ensures { result ≡ bytes_eq self.now other.now }
     {
@@ -194,6 +195,8 @@ impl Clone for Name {
     }
 }
 
+// Names are equal where their bytes are. Of two short ones the whole arrays tell that: three words
+// of eight bytes are compared, and there is no loop.
 impl PartialEq for Name {
     ghost eq = { bytes_eq };
 

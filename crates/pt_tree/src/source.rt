@@ -1,9 +1,16 @@
+//! What a source is, and the trees that it tells.
+//!
+//! A source's tree is a `Forest`: the entries of a directory in the order of their names, each a
+//! file with its bytes, a directory with its own entries, or something else. What it tells is that
+//! tree and what is left of the open file (`Reading`). It may also say where it fails (`Failing`).
+//! It counts its failures up to 2^64 - 1 (`IsCounted`), and its calls (`IsOneMoreCall`).
 ghost use Rattle.std.specs.Prelude.{◌≡◌, ℕ, [], Option, Some, true, IfOk, MatchResult, OnOk, OnErr};
 ghost use Rattle.std.specs.Option.{option_map};
 ghost use Rattle.pt_tree.specs.Failing.{Failing, ListsAs, LooksAs, OpensAs, ReadsAs, failing_paths};
 ghost use Rattle.pt_tree.specs.Failures.{IsCounted, IsOneMoreCall};
 ghost use Rattle.pt_tree.specs.Forest.{is_proper};
-ghost use Rattle.pt_tree.specs.Source.{Reading, CanList, IsListed, CanLook, IsSeen, CanOpen, CanRead, IsRead};
+ghost use Rattle.pt_tree.specs.Source.{Reading, CanList, IsListed, CanLook, IsSeen, CanOpen};
+ghost use Rattle.pt_tree.specs.Source.{CanRead, IsRead};
 ghost use Rattle.pt_tree.specs.Source.{after_open, after_next, tree_in};
 
 use crate::{Block, Kind, Listing, NamePath, TreeFault};

@@ -1,4 +1,4 @@
-//! A source that is watched.
+//! A source that is watched. It meets `Source` by the contracts of the source within.
 ghost use Rattle.std.specs.Prelude.{◌≡◌};
 
 use crate::{Block, Kind, Listing, NamePath, Source, TreeFault};

@@ -80,42 +80,51 @@ stands_later n node f first rest inside proper before h = by_found (find f first
         (before_differs n first (found_later n f first it proper before found))
         ∙ ap (option_and_then (λ m. node_at m rest)) found ∙ e
 
+-- a site among the sites of two lists is among those of the first or among those of the second
 among_parts : (x : Site) (xs ys : List Site) → IsAmongSites x (xs ++ ys) → IsAmongSites x xs ⊎ IsAmongSites x ys
 among_parts x [] ys h = inr h
 among_parts x (y ∷ xs) ys (inl e) = inl (inl e)
 among_parts x (y ∷ xs) ys (inr h) = elim (among_parts x xs ys h) [ inl a ↦ inl (inr a) | inr b ↦ inr b ]
 
+-- a site among those of the first list is among those of both
 among_left : (x : Site) (xs ys : List Site) → IsAmongSites x xs → IsAmongSites x (xs ++ ys)
 among_left x [] ys h = absurd h
 among_left x (y ∷ xs) ys (inl e) = inl e
 among_left x (y ∷ xs) ys (inr h) = inr (among_left x xs ys h)
 
+-- and so is one among those of the second
 among_right : (x : Site) (xs ys : List Site) → IsAmongSites x ys → IsAmongSites x (xs ++ ys)
 among_right x [] ys h = h
 among_right x (y ∷ xs) ys h = inr (among_right x xs ys h)
 
+-- a site among those that are given only where b holds: b holds, and it is the first of them or among the others
 among_chosen : (b : Bool) (x y : Site) (ys : List Site) → IsAmongSites x (cond b (y ∷ ys) []) → (b ≡ true) × ((y ≡ x) ⊎ IsAmongSites x ys)
 among_chosen true x y ys h = (refl, h)
 among_chosen false x y ys h = absurd h
 
+-- a site among what is walked below a shorty: the shorty is listed, and the site is among what its directory leads to
 among_walked : (visit : Visit) (x : Site) (xs : List Site) → IsAmongSites x (walked visit xs) → (is_listed visit ≡ true) × IsAmongSites x xs
 among_walked (Listed inside) x xs h = (refl, h)
 among_walked Past x xs h = absurd h
 among_walked Deep x xs h = absurd h
 
+-- a shorty that is listed stands neither below a name of one byte (a) nor too deep (b)
 listed_tests : (a b : Bool) (d : Forest) → is_listed (cond a Past (cond b Deep (Listed d))) ≡ true → (a ≡ false) × (b ≡ false)
 listed_tests true b d h = absurd (cc)
 listed_tests false true d h = absurd (cc)
 listed_tests false false d h = (refl, refl)
 
+-- a shorty that is met as listed is one that is listed
 listed_inside : (visit : Visit) (inside : Forest) → visit ≡ Listed inside → is_listed visit ≡ true
 listed_inside visit inside e = ap is_listed e
 
+-- what is listed of a shorty is what its directory holds
 listed_same : (a b : Bool) (d inside : Forest) → cond a Past (cond b Deep (Listed d)) ≡ Listed inside → d ≡ inside
 listed_same true b d inside h = absurd (cc)
 listed_same false true d inside h = absurd (cc)
 listed_same false false d inside h = cc
 
+-- a name of one or two bytes below which a site may stand has two
 two_bytes : (one two : Bool) → is_last (cond one at.Last at.Pair) ≡ false → (one || two) ≡ true → two ≡ true
 two_bytes true two last short = absurd (cc)
 two_bytes false two last short = short
@@ -130,6 +139,7 @@ record Reached (depth : ℕ) (path : Path) (f : Forest) (to : Path) (inside : Fo
   way : is_way (first ∷ rest) ≡ true
   deep : length path + suc (length rest) ≤ depth
 
+-- what shorties lead to behind the first entry of a directory they lead to in the whole directory
 reached_after : (depth : ℕ) (path : Path) (n : List ℕ) (f whole : Forest) (node : Node) (to : Path) (inside : Forest) → is_proper f ≡ true
     → comes_before n f ≡ true
     → ((first : List ℕ) (rest : Path) → node_at (Dir whole) (first ∷ rest)
@@ -145,6 +155,7 @@ reached_after depth path n f whole node to inside proper before opens it = recor
   deep = it.deep;
 }
 
+-- a shorty that is listed is itself a directory that shorties lead to
 reached_here : (depth : ℕ) (path : Path) (n : List ℕ) (d f : Forest) (to : Path) (inside : Forest) → is_short n ≡ true → path ++ n ∷ [] ≡ to
     → visit_of depth path d ≡ Listed inside → Reached depth path (dir n d f) to inside
 reached_here depth path n d f to inside short to_is visit =
@@ -161,6 +172,7 @@ reached_here depth path n d f to inside short to_is visit =
       deep = omega (arith, within);
     }
 
+-- what shorties lead to from a shorty that is listed they lead to from the directory above it, by a way that is one name longer
 reached_below : (depth : ℕ) (path : Path) (n : List ℕ) (d f : Forest) (to : Path) (inside : Forest) → is_short n ≡ true
     → is_listed (visit_of depth path d) ≡ true → Reached depth (path ++ n ∷ []) d to inside → Reached depth path (dir n d f) to inside
 reached_below depth path n d f to inside short listed it =
@@ -178,6 +190,7 @@ reached_below depth path n d f to inside short listed it =
       deep = omega (arith, within, long);
     }
 
+-- each site that is listed among what the shorties of a directory lead to is reached from that directory
 reached : (depth : ℕ) (path : Path) (f : Forest) (to : Path) (inside : Forest) → is_proper f ≡ true → IsAmongSites (to, Listed inside) (sites_in depth path f)
     → Reached depth path f to inside
 reached depth path none to inside proper h = absurd h
@@ -204,6 +217,7 @@ reached depth path (dir n d f) to inside proper h =
           (reached depth path f to inside parts.2 after)
     ]
 
+-- each site that is listed is reached from the top directory
 pub listed_reached : ListedSitesAreReached
 listed_reached depth top path inside proper (inl e) =
     let at_top : [] ≡ path = ap (λ (x : Site). x.0) e in
@@ -222,17 +236,21 @@ listed_reached depth top path inside proper (inr h) =
       inr (omega (arith, within, long)),
     )
 
+-- one or two holds where two does
 or_right : (one two : Bool) → two ≡ true → (one || two) ≡ true
 or_right true two h = refl
 or_right false two h = h
 
+-- a name of two bytes hasn't one
 not_one : (k : ℕ) → (k == 2) ≡ true → (k == 1) ≡ false
 not_one k two = ap (λ n. n == 1) (eqb-true k 2 two)
 
+-- where b holds, the first of the sites that are given for it and each of the others is among them
 among_choice : (b : Bool) (x y : Site) (ys : List Site) → b ≡ true → (y ≡ x) ⊎ IsAmongSites x ys → IsAmongSites x (cond b (y ∷ ys) [])
 among_choice true x y ys is h = h
 among_choice false x y ys is h = absurd (cc)
 
+-- a shorty is listed that stands below no name of one byte, and not too deep
 visit_listed : (depth : ℕ) (path : Path) (d : Forest) → is_last (at_of path) ≡ false → length path + 1 ≤ depth → visit_of depth path d ≡ Listed d
 visit_listed depth path d may_lead deep =
     ap (λ b. cond b Past (cond (nat_lt depth (length path + 1)) Deep (Listed d))) may_lead
@@ -244,6 +262,7 @@ Inside depth path d inside rest =
     (first : List ℕ) (after : Path) → rest ≡ first ∷ after → is_last (at_of path) ≡ false → is_way (first ∷ after) ≡ true
     → length path + suc (length after) ≤ depth → IsAmongSites (path ++ first ∷ after, Listed inside) (sites_in depth path d)
 
+-- the directory at the end of a way whose first name is that of the first entry is among the sites that this entry leads to
 front_listed : (depth : ℕ) (path : Path) (n : List ℕ) (d inside : Forest) (rest : Path) → Inside depth (path ++ n ∷ []) d inside rest
     → node_at (Dir d) rest ≡ Some (Dir inside) → is_last (at_of path) ≡ false → is_way (n ∷ rest) ≡ true
     → length path + suc (length rest) ≤ depth
@@ -268,6 +287,7 @@ front_listed depth path n d inside (m ∷ rest) each there may_lead way deep =
     (or_right (length n == 1) (length n == 2) parts.0)
     (inr (subst (λ (v : Visit). IsAmongSites (path ++ n ∷ m ∷ rest, Listed inside) (walked v inner)) (sym (visit_listed depth path d may_lead near)) moved))
 
+-- the directory at the end of a way of shorties is listed among what the shorties of the directory at its start lead to
 listed_in : (depth : ℕ) (path : Path) (f : Forest) (first : List ℕ) (rest : Path) (inside : Forest) → node_at (Dir f) (first ∷ rest) ≡ Some (Dir inside)
     → is_last (at_of path) ≡ false → is_way (first ∷ rest) ≡ true
     → length path + suc (length rest) ≤ depth → IsAmongSites (path ++ first ∷ rest, Listed inside) (sites_in depth path f)
@@ -303,6 +323,7 @@ listed_in depth path (dir n d f) first rest inside there may_lead way deep =
           may_lead way deep)
     ]
 
+-- each directory that shorties lead to is a site that is listed
 pub reached_listed : ReachedSitesAreListed
 reached_listed depth top [] inside h =
     let there = h.0 in

@@ -2,13 +2,20 @@
 //! function that does nothing.
 ghost use Rattle.pt_walk.specs.SitesReached.{ListedSitesAreReached, ReachedSitesAreListed};
 ghost use Rattle.pt_walk.specs.ObjectPaths.{FilesPartInOrder, GatheredIsProper};
-ghost use Rattle.pt_walk.specs.ObjectLaws.{CountsInTurn, LooksBehindGoodEntries, GoodEntriesGrow, BadEntryIsFirst, SplitsAtTheFirstBad};
-ghost use Rattle.pt_walk.specs.SiteLaws.{PairFindsAsLast, CandidateIsTheOnlyNonShorty, InteriorHoldsShorties, LastNameSaysWhere};
-ghost use Rattle.pt_walk.specs.SiteWalk.{StartsWithTheTop, EntersTheNextSite, PassesTheNextSite, PassesNonShorties, LeavesTheSite, EndsWithTheTop};
-ghost use Rattle.pt_walk.specs.ObjectWalk.{StartsWithTheObject, StartsWithTheGathered, ReadsTheNextFile, MeetsTheNextOther};
-ghost use Rattle.pt_walk.specs.ObjectWalk.{EntersTheNextDirectory, PassesTheNextShorty, LeavesTheDirectory, EndsWithTheObject};
-ghost use Rattle.pt_walk.specs.TrailLaws.{FitsWhenEntered, FitsWhenMoved, DirectoryIsThere, FileIsThere, ListingIsThere};
-ghost use Rattle.pt_walk.specs.TrailLaws.{PathGrows, HoldsWhatIsListed, PathSplits, PathHasANameForEach, ReadsBelowADirectory};
+ghost use Rattle.pt_walk.specs.ObjectLaws.{CountsInTurn, LooksBehindGoodEntries, GoodEntriesGrow};
+ghost use Rattle.pt_walk.specs.ObjectLaws.{BadEntryIsFirst, SplitsAtTheFirstBad};
+ghost use Rattle.pt_walk.specs.SiteLaws.{PairFindsAsLast, CandidateIsTheOnlyNonShorty};
+ghost use Rattle.pt_walk.specs.SiteLaws.{InteriorHoldsShorties, LastNameSaysWhere};
+ghost use Rattle.pt_walk.specs.SiteWalk.{StartsWithTheTop, EntersTheNextSite, PassesTheNextSite};
+ghost use Rattle.pt_walk.specs.SiteWalk.{PassesNonShorties, LeavesTheSite, EndsWithTheTop};
+ghost use Rattle.pt_walk.specs.ObjectWalk.{StartsWithTheObject, StartsWithTheGathered};
+ghost use Rattle.pt_walk.specs.ObjectWalk.{ReadsTheNextFile, MeetsTheNextOther};
+ghost use Rattle.pt_walk.specs.ObjectWalk.{EntersTheNextDirectory, PassesTheNextShorty};
+ghost use Rattle.pt_walk.specs.ObjectWalk.{LeavesTheDirectory, EndsWithTheObject};
+ghost use Rattle.pt_walk.specs.TrailLaws.{FitsWhenEntered, FitsWhenMoved, DirectoryIsThere};
+ghost use Rattle.pt_walk.specs.TrailLaws.{FileIsThere, ListingIsThere};
+ghost use Rattle.pt_walk.specs.TrailLaws.{PathGrows, HoldsWhatIsListed, PathSplits};
+ghost use Rattle.pt_walk.specs.TrailLaws.{PathHasANameForEach, ReadsBelowADirectory};
 
 /// How many bytes its own name has changes nothing in what a site is found to be.
 pub fn pair_finds_as_last()

@@ -1,7 +1,17 @@
 //! How a Pairtree is walked: what a site is, the limits of a run, and the trail of listings to
 //! where the walk stands.
 //!
-//! Walking a Pairtree.
+//! Read `judge` first: it says of a site's listing whether that leads on, holds an object, or is
+//! passed over, and for which `Cause`.
+//!
+//! ```rust
+//! let finding = judge(&source.list(&site)?, At::Pair, Form::Plain);
+//! if let Finding::Candidate(index) = finding {
+//!     // The entry of this index, from 0 on, is the directory of an object.
+//! }
+//! ```
+//!
+//! What it promises:
 //!
 //! - `judge`: exactly what a site is found to be, gathering or not; below a name of one byte as
 //!   below one of two (`pair_finds_as_last`). `is_shorty`: exactly whether an entry is a shorty.

@@ -1,6 +1,8 @@
 ghost use Rattle.std.specs.Prelude.{◌≡◌, slice_get};
 ghost use Rattle.pt_tree.specs.declared.kind.Kind.TheVariants as kind;
-ghost use Rattle.pt_walk.specs.Site.{divided as divided_finding, found, is_shorty as is_shorty_item, non_shorties, without_object as without_object_finding};
+ghost use Rattle.pt_walk.specs.Site.{divided as divided_finding, found};
+ghost use Rattle.pt_walk.specs.Site.{is_shorty as is_shorty_item, non_shorties};
+ghost use Rattle.pt_walk.specs.Site.{without_object as without_object_finding};
 ghost use Rattle.pt_walk.specs.NonShorties.{non_shorty_kind, one_more, summary};
 
 use crate::Cause;

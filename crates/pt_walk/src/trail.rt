@@ -1,9 +1,12 @@
-ghost use Rattle.std.specs.Prelude.{◌≡◌, ◌==◌, ◌++◌, ◌<◌, ◌≤◌, ◌*◌, ◌-◌, ◌^◌, [], Some, IfOk, IsTrue, OnOk, OnErr, IsSome, cond, length, reverse, take};
+ghost use Rattle.std.specs.Prelude.{◌≡◌, ◌==◌, ◌++◌, ◌<◌, ◌≤◌, ◌*◌, ◌-◌, ◌^◌, [], Some, IfOk};
+ghost use Rattle.std.specs.Prelude.{IsTrue, OnOk, OnErr, IsSome, cond, length, reverse, take};
 ghost use Rattle.std.specs.Option.{option_copied};
 ghost use Rattle.pt_tree.specs.Listing.{items_lent};
 ghost use Rattle.pt_walk.specs.Sites.{at_of};
-ghost use Rattle.pt_walk.specs.Trail.{advanced, can_enter, current_entry, entered, entries_held, has_place};
-ghost use Rattle.pt_walk.specs.Trail.{innermost_listing, is_trail, names_to, parent, sought, trail_path};
+ghost use Rattle.pt_walk.specs.Trail.{advanced, can_enter, current_entry, entered, entries_held};
+ghost use Rattle.pt_walk.specs.Trail.{has_place};
+ghost use Rattle.pt_walk.specs.Trail.{innermost_listing, is_trail, names_to, parent, sought};
+ghost use Rattle.pt_walk.specs.Trail.{trail_path};
 ghost use Rattle.pt_walk.specs.declared.site.At.TheVariants as at;
 
 use crate::At;

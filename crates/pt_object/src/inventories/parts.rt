@@ -1,6 +1,7 @@
 // What an inventory is made of, and how far it is made.
 ghost use Rattle.std.specs.Prelude.{◌≡◌, IfOk};
-ghost use Rattle.pt_object.specs.InPieces.{AreParts, Puts, is_before_end, is_behind, is_head, is_in_manifest, is_in_state};
+ghost use Rattle.pt_object.specs.InPieces.{AreParts, Puts, is_before_end, is_behind, is_head};
+ghost use Rattle.pt_object.specs.InPieces.{is_in_manifest, is_in_state};
 
 use crate::inventories::document::{put_back, put_head, put_middle};
 use crate::inventories::manifest::put_stored;

@@ -1,5 +1,6 @@
 // The state of an inventory: each content's digest with the logical paths of all its files.
-ghost use Rattle.std.specs.Prelude.{◌≡◌, ◌≤◌, ◌∷◌, [], ◌++◌, IfOk, List, OnOk, drop, length, map, take};
+ghost use Rattle.std.specs.Prelude.{◌≡◌, ◌≤◌, ◌∷◌, [], ◌++◌, IfOk, List, OnOk, drop, length, map};
+ghost use Rattle.std.specs.Prelude.{take};
 ghost use Rattle.hex.specs.Hex.{encode_lower};
 ghost use Rattle.json.specs.Token.{key};
 ghost use Rattle.pt_tree.specs.Path.{Path, joined};

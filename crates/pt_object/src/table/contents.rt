@@ -1,4 +1,5 @@
-ghost use Rattle.std.specs.Prelude.{◌≡◌, ◌==◌, ◌<◌, [], false, IfOk, IsTrue, MatchOption, OnOk, OnErr, length, not, slice_get};
+ghost use Rattle.std.specs.Prelude.{◌≡◌, ◌==◌, ◌<◌, [], false, IfOk, IsTrue, MatchOption, OnOk};
+ghost use Rattle.std.specs.Prelude.{OnErr, length, not, slice_get};
 ghost use Rattle.std.specs.Option.{option_copied};
 ghost use Rattle.pt_object.specs.Contents.{DigestsDiffer, first_path, is_noted, noted};
 ghost use Rattle.pt_object.specs.Index.{IsAt, IsIndex, IsWithinBinaryDigits};

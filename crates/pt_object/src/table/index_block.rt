@@ -1,5 +1,6 @@
 // A row of positions, at whose ends a position comes or goes in one step.
-ghost use Rattle.std.specs.Prelude.{◌≡◌, ◌<◌, ◌≤◌, [], ◌∷◌, ◌++◌, IfOk, insert, length, slice_index};
+ghost use Rattle.std.specs.Prelude.{◌≡◌, ◌<◌, ◌≤◌, [], ◌∷◌, ◌++◌, IfOk, insert, length};
+ghost use Rattle.std.specs.Prelude.{slice_index};
 ghost use Rattle.pt_object.specs.SortedIndex.{row_length};
 
 use std::alloc::{AllocError, Global};

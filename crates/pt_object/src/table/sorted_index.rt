@@ -1,6 +1,7 @@
 // The positions of the items of a list in some order, in rows, so that one more moves at most a row
 // and a position of each later row.
-ghost use Rattle.std.specs.Prelude.{◌≡◌, ◌<◌, ◌≤◌, [], ◌∷◌, ◌++◌, OnOk, OnErr, insert, length, slice_index};
+ghost use Rattle.std.specs.Prelude.{◌≡◌, ◌<◌, ◌≤◌, [], ◌∷◌, ◌++◌, OnOk, OnErr, insert, length};
+ghost use Rattle.std.specs.Prelude.{slice_index};
 ghost use Rattle.std.specs.List.{concat};
 ghost use Rattle.pt_object.specs.SortedIndex.{AreRows, HasRoom, row_length};
 
