@@ -28,7 +28,8 @@ pub(crate) fn declares<R: Files + AllocGlobal>(rt: &R, path: &str) -> io::Result
 }
 
 // Whether a directory has such an entry. It is read as its names, each ended by a NUL, into room
-// for the longest, since no read ends inside one.
+// for the longest, since no read ends inside one. All of them are held, and looked through once: a
+// destination has few, and the answer is then said of one text, wherever its reads were cut.
 fn is_declared<D: Read>(alloc: Global, dir: &mut D) -> io::Result<bool>
     ensures { TellsDeclared D.remaining dir.old result }
 {
