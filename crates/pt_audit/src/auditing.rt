@@ -1,4 +1,16 @@
 //! A whole audit.
+//!
+//! Of what is passed over what is told is a run's line; of an object what was found at its place,
+//! which is so (`IsFoundOf`). The object of each item is told of, also a second one of an
+//! identifier. After a fault the log has got a front of what is told of the first items, or of all
+//! with the end line (`StopsAs`). `audit_objects` is for who has more to tell before the end line:
+//! after all items the log has got just what is told of them (`IsAllTold`), after a fault a front
+//! of what is told of the first (`TellsItems`); and job and prefix are given back (`GivesBack`).
+//!
+//! The limit of turns is met only where it is less than a survey's work, and of what else is in the
+//! destination nothing is refused; that it has ended already is never answered (`AuditSays`). It is
+//! made by steps of a survey, to the survey's end where it answers Ok (`IsMade`); what is held of
+//! the survey after each is what a survey's step says. The end line has the counts of the lines.
 ghost use Rattle.std.specs.Prelude.{◌≡◌, ◌≢◌, ℕ, IfErr, IfOk, List, OnErr, OnOk, Option, Some};
 ghost use Rattle.pt_audit.specs.Auditing.{FrontToldAs, GivesBack, GoesOn, HasSeenAll, IsFoundAtHand, IsSeen};
 ghost use Rattle.pt_audit.specs.Auditing.{IsTwinAtHand, IsUnderWay, LogsAs, StopsSeen, StopsUnderWay, TellsItems};

@@ -1,4 +1,6 @@
-//! The storage root that stands has to be one of this layout, before anything is compared.
+//! The storage root that stands has to be one of this layout, before anything is compared. `Target`
+//! is answered only where something else stands than nothing or a directory with the three files of
+//! this layout (`IsOfAnother`), after the store was found to be one with a good prefix.
 ghost use Rattle.std.specs.Prelude.{◌<◌, IfOk, length};
 ghost use Rattle.std.specs.Option.{ForSome};
 ghost use Rattle.pt_audit.specs.Failing.{RootFailsAs};

@@ -1,4 +1,6 @@
 //! The lines of an audit's log: each one compact JSON object with its keys in byte order, and LF.
+//! They (`object_line`, `end_line`) are the JSON of what they tell, byte for byte; of an object's
+//! bytes up to 2^64 - 1.
 ghost use Rattle.std.specs.Prelude.{◌≡◌, IfOk};
 ghost use Rattle.std.specs.String.{string_bytes};
 ghost use Rattle.serde_json.specs.View.{view};

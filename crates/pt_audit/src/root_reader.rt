@@ -1,5 +1,11 @@
 //! The files of the root that are read beside those of an object, while these are read for their
 //! digests: so what is alike needn't be read again when the object is compared.
+//!
+//! Between two steps (`Next`): of the contents of the object that is scanned so many, from the
+//! first on, as are counted stand in the root with the bytes that the store's files have, and where
+//! a file of the root is read beside one of the store, both have had the same bytes so far. What is
+//! held beside the survey are three paths, two numbers and a block, and nothing else
+//! (`BesideFields`).
 ghost use Rattle.std.specs.Prelude.{◌≡◌, ◌++◌, IfOk, OnOk, Option, is_some};
 ghost use Rattle.pt_audit.specs.RootReader.{CanFollow, HasBegun, IsAlikeAt, IsAtObject, IsBehind, IsPaced};
 ghost use Rattle.pt_audit.specs.Failing.{ReadFailsAs};

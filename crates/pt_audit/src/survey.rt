@@ -1,5 +1,23 @@
 //! A survey of a store under way, made step by step: its sites and objects are looked at as a run
 //! does, and nothing is made of them.
+//!
+//! It makes a run's own turns over a destination in which nothing stands, without those that make
+//! something. After each step so many items of the store were seen as the definitions have
+//! (`IsSurvey`); where the store tells, a step sees nothing more, or the next item: it only leads
+//! on, or is passed over, and its line is put, or its object was scanned whole and is at hand
+//! (`Sees`). What is at hand then are its identifier, its place and the rows and contents of all
+//! its files, and what is stored of these stands in the source (`HasAtHand`).
+//!
+//! A step never blames or refuses a destination; it blames source and log exactly where they
+//! failed, refuses a store only for what it is, and says that the survey has ended only at its end
+//! (`SurveySays`). The source's tree is as it was, and what stood in the log stands. The store is
+//! seen before its sites. A step calls the source at most once, or twice where it reads the prefix.
+//!
+//! Each step is counted, and there are no more than the limit. Where the store tells there are no
+//! more than a survey's work (`work_of_survey`: as many as a run over no root makes turns at most,
+//! where no identifier comes twice), so the limit is met only where it is less; and no more is held
+//! after a step than a run's bound (`Steps`), and beside its phase the fields of a run's state and
+//! nothing else: a survey is its phase and that state (`survey_of`).
 #![tactic(auto, using(crate::proofs::SurveyRules::survey_rules))]
 
 ghost use Rattle.std.specs.Option.{ForSome};

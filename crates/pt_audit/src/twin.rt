@@ -1,5 +1,7 @@
 //! Whether an object is a twin: its site isn't where its identifier belongs, and an object stands
-//! there.
+//! there. One that differs is told as a twin exactly where its site isn't the pairpath of its
+//! identifier without the prefix, and an object stands at that, as a run judges what is listed
+//! there (`is_twin`).
 #![tactic(auto, using(crate::proofs::Twins::twins))]
 
 ghost use Rattle.std.specs.Prelude.{◌≡◌, IfOk, drop, length};

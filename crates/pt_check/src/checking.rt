@@ -1,4 +1,24 @@
 //! The walk of a check over all that lies below a folder of a store.
+//!
+//! Where it ends well and the source tells (`Checks`), the top is listed, the file of the prefix is
+//! read, and told where it is none or reads otherwise than it looks (`ReadsPrefix`), and what a
+//! store must have is told where it is missing. Then pairtree_root and all that stands in it is
+//! visited (`Visits`): each entry of each folder that could be listed once, in the order of the
+//! names, a folder before its entries. Each file is opened, and read whole where that is wanted.
+//! Where a folder can't be listed or a file opened or read, its path is told with a reason, the
+//! source's count of failures rose, and the walk goes on with the next entry (`Enters`, `Opens`). A
+//! folder deeper below pairtree_root than the limit of a run, 600, is told, and not listed.
+//!
+//! Of a folder that couldn't be listed each reason that `Explains` gives is told, and no other
+//! (`TellsReasons`). Where it gives a listing of what has names there, that is visited; the folder
+//! isn't judged then, as a site or as anything, and has no object (`Begins`). So its shorties are
+//! sites where it is one, and its other folders are `Beside`; in an object they are that object's
+//! still. In a tree that is told each entry has a name, so that all are visited.
+//!
+//! The code keeps, and no contract says: of two sites with one identifier at least one has other
+//! names than its own, and is told, since a site's names follow from the text that they join to.
+//! And between two entries a check holds the listings on the way to where it stands, and numbers:
+//! nothing grows with the objects.
 ghost use Rattle.std.specs.Prelude.{◌≡◌, [], cond, is_some, false, length, string_bytes, take, IfOk, IfSome, IsSome, OnOk, MatchOption, Some};
 ghost use Rattle.std.specs.Option.{ForSome};
 ghost use Rattle.pt_check.specs.Counting.{no_numbers};

@@ -1,4 +1,8 @@
 //! The identifiers in the lines of a file, which is read block by block.
+//!
+//! Over every file by its reads: Ok gives just the identifiers in the lines of all that was read,
+//! and comes only where a read gave nothing; `Line` tells the first line that is none, whatever
+//! comes behind what was read; `Read` the error of a read (`ReadsIdentifiers`).
 #![tactic(auto, using(crate::proofs::IdentifierLines::lines))]
 
 ghost use Rattle.std.specs.Prelude.{◌≡◌, ◌∷◌, [], MatchResult, Err};
@@ -55,6 +59,8 @@ pub fn read_identifiers<F: Input>(alloc: Global, file: &mut F) -> Result<Vec<Str
 {
     let mut reader = LineReader::new(alloc);
     let mut block = [0u8; BLOCK];
+    // Counted as the reads of `take_all` of pt_folder (taking.rt), so that it ends whatever is
+    // read.
     for _ in 0..u64::MAX {
         match file.read_piece(&mut block) {
             Ok(0) => return reader.finish(),

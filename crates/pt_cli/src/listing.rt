@@ -1,4 +1,8 @@
 //! The job that takes the identifiers of a list.
+//!
+//! Where `--list` names a file, that is read first, by `read_identifiers`, and what is made takes
+//! just the identifiers in its lines (`TakesList`); a file that can't be read or has another line
+//! is refused (2).
 ghost use Rattle.std.specs.Prelude.{◌≡◌, ◌⊎◌, IfOk, map};
 ghost use Rattle.std.specs.String.{string_bytes};
 ghost use Rattle.pt_cli.specs.Inputs.{file_words};

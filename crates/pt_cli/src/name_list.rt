@@ -1,4 +1,10 @@
 //! The names of the identifiers in the lines of an input, piece by piece.
+//!
+//! Over every input and output: exactly the names of the lines before the first that is no
+//! identifier were added, in order; `Line` tells that one and why, and Ok that there is none and
+//! the input is at its end. After `Read` just the names of the whole lines were added, after
+//! `Write` a front of the names, and after `Memory` the names of the whole lines in a front of the
+//! input (`ListsNames`).
 ghost use Rattle.std.specs.Prelude.{◌≡◌, ◌<◌, ◌++◌, [], MatchResult, Ok, length, OnOk};
 ghost use Rattle.std.specs.Io.BufRead.{strip_last};
 ghost use Rattle.pt_cli.specs.Feeding.{IsFed, IsPut, Puts, ended, fed, fed_byte, finished};
@@ -63,6 +69,8 @@ pub fn list_names<I: Read, W: Write>(
     let mut space = Vec::new(alloc);
     space.resize(PIECE, 0)?;
     let room = space.as_mut_slice();
+    // Counted as the reads of `take_all` of pt_folder (taking.rt), so that it ends whatever is
+    // read.
     for _ in 0..u64::MAX {
         let Ok(count) = input.read(room) else {
             return Err(ListFault::Read);

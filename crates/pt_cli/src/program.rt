@@ -1,3 +1,16 @@
+//! The program on a machine: what each command does there, and which status that has.
+//!
+//! `names` writes the two names, by `names_to`, to the output that the machine lends, and the
+//! status is by the answer (`TellsNames`). `names -` asks for the machine's input, which no other
+//! command does, and writes the names of the identifiers in its lines, by `list_names`
+//! (`TellsAll`). Help and the version are written to the machine's output: 0 where they were, or
+//! nobody may read them any more, and else 3 (`TellsText`). Where the words that the program was
+//! started with aren't text that is refused (2), and want of memory is 3.
+//!
+//! The options that have a part in what is said of a run or an audit: those of the job, `--list`,
+//! `--ignore`, `--sync`, `--dry-run`, `--present-ok`, `--skips-ok`, `--extra`, `--read` and
+//! `--dest` of a check, and `--expect`, whose log is asked for its end. `--verbose`, `--progress`,
+//! `--interval` and `--quiet` are taken from the words too; what they then show is tested.
 ghost use Rattle.std.specs.Prelude.{◌≡◌, map, string_bytes};
 ghost use Rattle.std.specs.Process.{exit_status};
 ghost use Rattle.pt_messages.specs.Expected.{AsksEnd};

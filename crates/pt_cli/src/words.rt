@@ -1,4 +1,12 @@
 //! From the words of a command line to the command that they ask for.
+//!
+//! The words are read exactly as `clap` reads them, for the grammar that the contract spells out
+//! (`ReadsWords`). What the parser accepts always has an answer: `names` gives its identifier,
+//! prefix and layout, or `EmptyId` for the empty one, or `Tuples`. `migrate` gives the values of
+//! its options with their defaults and its two paths, or, in this order, `Created`, `EmptyName`,
+//! `Tuples`, `Share`, `Ignored`, `EmptyEvent` or `EmptyList`; `check` gives those of its own, or
+//! `Tuples`, `Ignored` or `EmptyDest`. Help, the version and `Words` come only where the parser's
+//! rules give them.
 ghost use Rattle.std.specs.Prelude.{◌≡◌, [], map, option_map};
 ghost use Rattle.clap.specs.Words.{found_of, rows_of, subcommand_rows_of};
 ghost use Rattle.pt_cli.specs.Arguments.{IsThere, ReadsAs};

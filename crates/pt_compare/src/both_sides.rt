@@ -21,6 +21,8 @@ pub(crate) fn are_alike<S: Source, R: Source>(source: &mut S, root: &mut R) -> R
 {
     let mut block = Block::new();
     let mut other = Block::new();
+    // Counted as the reads of `take_all` of pt_folder (taking.rt), so that it ends whatever is
+    // read.
     for _ in 0..u64::MAX {
         source.next(&mut block).map_err(of_source)?;
         root.next(&mut other).map_err(of_root)?;

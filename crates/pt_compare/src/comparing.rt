@@ -238,6 +238,8 @@ fn meet_way<R: Source>(
     let path = way.path;
     let whole = content_path(alloc, path.names())?;
     let met = folders_met(way.last, &whole);
+    // From `met` on would be the same. All are gone through since the definition (`way_items`)
+    // leaves out the folders that were met one by one: so each round of the loop is a step of it.
     for names in 0..path.len() {
         let is_met = names < met;
         if is_met {

@@ -1,4 +1,12 @@
 //! The walk over a root.
+//!
+//! What is found of a folder of the root (`found_at`): of an object, which has a declaration, that
+//! it is stray where its identifier can't be read; where that is chosen, that it is stray if its
+//! place is another, and that it is extra if no object stands in the store where its identifier
+//! belongs, as a run judges what is listed there (`of_object`, `is_held`); else nothing. Of another
+//! folder that it is stray where it is empty, or lies as deep as objects do; else what is found of
+//! its entries. A file, link or special file is stray, but for the root's own (`is_own`). What is
+//! stray and has no identifier is found by the first share alone (`of_unnamed`).
 ghost use Rattle.std.specs.Prelude.{◌≡◌, ◌<◌, ◌∷◌, [], IfOk, IsSome, OnErr, OnOk, length};
 ghost use Rattle.std.specs.Option.{ForSome};
 ghost use Rattle.pt_tree.specs.Source.{tree_in};

@@ -1,6 +1,9 @@
 //! Tests of folders by their public calls: folders of the disk, and of systems in memory that fail,
 //! count or keep the laws; what is put onto the disk, rehearsals, and whether a run may begin
 //! between two folders. No code of the program stands on this crate.
+//!
+//! Read on_disk.rt first, which makes entries on the disk, calls the devices, and looks at what
+//! they left; then memory_system.rt, a table of steps, each with what the system in memory answers.
 #![tactic(auto)]
 
 #[cfg(test)]

@@ -1,4 +1,9 @@
 //! A check of the store in a folder, on a machine.
+//!
+//! Where it ends well the output has got its lines, of the tree that the store's system keeps,
+//! without the entries that are left out; else its fault is the output's, or want of memory. After
+//! any answer that system keeps the same tree, what stood in the output stands, the destination's
+//! system is as it was, and the status follows from the answer (`ChecksOver`).
 ghost use Rattle.std.specs.Prelude.{◌≡◌, MatchOption, false, is_some};
 ghost use Rattle.pt_folder.specs.Failure.{name_of};
 ghost use Rattle.pt_host.specs.Checking.{ChecksOver, ChecksStore, check_call, check_status, wants_of as wants_of_options};

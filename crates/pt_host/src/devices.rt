@@ -1,4 +1,5 @@
-//! The devices of a run and of an audit, as they are asked for.
+//! The devices of a run (`open_devices`) and of an audit (`both_sides`), as they are asked for,
+//! each field by an equation.
 ghost use Rattle.std.specs.Prelude.{◌≡◌, ◌+◌, None};
 ghost use Rattle.pt_host.specs.Devices.{ReadsFrom, WritesInto};
 ghost use Rattle.pt_host.specs.Room.{place_overhead};

@@ -1,5 +1,13 @@
 //! The file in which a run or an audit is recorded as an event: made before it, and replaced after
 //! it.
+//!
+//! Once the lock is held, and before all else, where the file may lie is judged (`judge_file` of
+//! pt_guard), what stands at its path with `.part` behind it is asked for, and the file is made
+//! where nothing stands (`MakesEvent`). Where one of these refuses, that is the status
+//! (`event_status`), and no run or audit is made. After it, and before the lock is given back,
+//! another is made at the path with `.part` behind it and renamed to the file (`EndsFile`); where
+//! that fails the status is 3. No other path is named in these calls. Where no file is named none
+//! of them is made. What the texts say isn't promised.
 ghost use Rattle.std.specs.Prelude.{◌≡◌, ◌++◌, Err, IfOk, codes, option_map};
 ghost use Rattle.pt_host.specs.Events.{BeginsEvent, EndsEvent, EndsFile, MakesEvent, MakesNew};
 ghost use Rattle.pt_host.specs.Events.{MakesBy, MakesUnlessLeft, MovesOver, Replaces, event_status};

@@ -1,5 +1,9 @@
 //! What is alike in a run and an audit on a machine: the guard before it, with its lock, and the
 //! event that records it.
+//!
+//! `make_guarded` makes what is asked for behind the guard (`MakesGuarded`): `run_guarded` and
+//! `audit_guarded` are it of one of these. With a list of identifiers the status may be 1 in place
+//! of 0, and without one it stays (`EndsWithList`); what is told of them is tested.
 ghost use Rattle.pt_guard.specs.Guard.{Begins};
 ghost use Rattle.pt_host.specs.Asked.{Makes, MakesAlone, MakesGuarded, Records, claim_of};
 ghost use Rattle.pt_messages.specs.Expected.{AsksEnd};

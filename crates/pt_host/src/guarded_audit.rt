@@ -1,4 +1,9 @@
 //! An audit of the root in a folder against a store, on a machine.
+//!
+//! Where it ends well the output has got its log, of the trees that both systems keep, and after a
+//! fault a front of it. After any answer both systems keep the same trees, what stood in the output
+//! stands, a refusal is true of the store and of the root, and the status follows from the answer
+//! (`AuditsOver`). Where that was asked for, what was passed over counts as well (`others`).
 ghost use Rattle.std.specs.Prelude.{◌≡◌};
 ghost use Rattle.pt_messages.specs.Expected.{AsksEnd};
 ghost use Rattle.pt_host.specs.Audits.{Audits, AuditsOver, Compares, audit_call, audit_status};

@@ -1,4 +1,17 @@
 //! A run from one folder to another, on a machine.
+//!
+//! Where the log is to be synced its file is asked for, and synced once; the end of the log is
+//! asked for whose lines are expected. What is lent is asked for; a run from the store's folder to
+//! the destination's is made over it, with the job that is wanted, or a rehearsal of it; what was
+//! lent is given back as the run left it.
+//!
+//! What `Migrates` of pt_move promises is said over what the run's devices tell of these folders at
+//! the start (of the store's without the entries that are left out). Lines of what was present or
+//! passed over don't count for the status where they are allowed (`uncarried`). Where the log has a
+//! file and no fault ended the run, all that the output then holds was put onto the disk by it, or
+//! nothing was written (`IsLogged`). The system of DEST is left as calls left it of a destination
+//! that is set as wanted, to its end (`Serves`); of a rehearsal, which makes nothing there, that
+//! isn't said.
 ghost use Rattle.pt_messages.specs.Expected.{AsksEnd};
 ghost use Rattle.std.specs.Prelude.{◌≡◌};
 ghost use Rattle.pt_host.specs.Made.{Carries, FindsLog, Runs, run_call};
@@ -89,8 +102,10 @@ fn end_unsynced(rt: &impl Eprint) -> Ending
     }
 }
 
-// The file that the machine's output goes to, where there is one and it is to be put onto its disk.
-// Where that can't be had it is told; an error where it fails.
+// The file that the machine's output goes to, where there is one and it is to be put onto its disk,
+// synced once. Where syncing isn't wanted nothing is asked. Where it can't be opened, or has no
+// such call, that is told, and the log isn't synced; where syncing it fails otherwise, that is the
+// log's fault.
 fn synced_output<R: Eprint, H: Host>(
     rt: &R,
     host: &mut H,

@@ -1,5 +1,11 @@
-//! The machine that a run is made on. One ghost word says of each call what it may come to, so that
-//! a contract over it says which calls are made, in which order, and what becomes of their answers.
+//! The machine that a run is made on: a system with places and locks, which lends what a run is
+//! made over and takes it back. One ghost word says of each call what it may come to, so that a
+//! contract over it says which calls are made, in which order, and what becomes of their answers.
+//!
+//! Beside the machine the functions of this crate have the runtime's clock, standard error,
+//! allocator and terminals, and `Reads`, by bounds; no call of these can change a file or write to
+//! the output. The bounds that can, `Files` and `Print`, stand at the runtime's own instances
+//! alone.
 ghost use Rattle.std.specs.Prelude.{⊤};
 ghost use Rattle.pt_host.specs.HostCall.{HostCall, Lend, MakeFile, MoveFile, OpenOutput, TakeBack};
 ghost use Rattle.pt_host.specs.declared.host.HostIo.{HostIo};
@@ -95,6 +101,10 @@ where
 
     ghost does = { λ _ _ _. ⊤ };
 
+    // The runtime lends nothing of its own output by which it could be put onto the disk: so its
+    // file is opened once more, by the name that the system has for it. To append, since that
+    // changes nothing of it; where that can't be done, to read, which will do as well. What is no
+    // file isn't opened.
     fn output_file(&mut self) -> io::Result<Option<OutputFile<R::File>>> {
         if self.output_is_terminal() || !self.metadata(OUTPUT)?.is_file() {
             return Ok(None);

@@ -1,5 +1,12 @@
 //! What follows of a run from the promises of two, or of a check and a run; and what a check's room
 //! is. Each law is the contract of a function that does nothing.
+//!
+//! Where a rehearsal and a run of one job over the same store and the same tree of DEST both end
+//! well, and the log tells, both logs get the same text, and the status is the same
+//! (`RehearsalTellsTheRun`). Where a check read each file whole and told nothing, no run over its
+//! store answers `Source`, if the source tells the paths at which it fails, as the check's did, has
+//! no such file open, and can count a failure more (`NoRunIsHaltedForSource`). A folder of the
+//! system tells no paths.
 ghost use Rattle.pt_host.specs.QuietCheckLaw.{NoRunIsHaltedForSource};
 ghost use Rattle.pt_host.specs.RehearsalLaw.{RehearsalTellsTheRun};
 ghost use Rattle.pt_host.specs.Room.{RoomIsThatOfStaging};

@@ -1,3 +1,10 @@
+//! A log whose lines are put onto the disk.
+//!
+//! `DurableLog` is a log. Where its `put` is answered Ok, and it has a file, that was asked after
+//! the writing to put onto the disk all that its writer has written, and answered Ok
+//! (`IsPutBehind`). It has its file to its end, and unless it failed all that it wrote was put onto
+//! the disk (`LogStays`). That is proved whatever `puts`, the word for it, means of a file and a
+//! writer (`SyncsOutput`). What a disk then has no contract says.
 ghost use Rattle.std.specs.Prelude.{◌≡◌, IsSome, OnErr, OnOk};
 ghost use Rattle.std.specs.declared.io.Error.{Error};
 ghost use Rattle.std.specs.declared.result.Result.{Result};

@@ -7,7 +7,8 @@ use pt_name::Layout;
 const LONGEST: usize = 4095;
 
 /// The greatest length of a path that may be made in `staging`: so long that the same entry can be
-/// reached at the longest place of the layout, whose last name has 165 bytes.
+/// reached at the longest place of the layout, whose last name has 165 bytes. It is exactly 4,095
+/// less what that place is longer than `staging`.
 pub fn longest_made(layout: &Layout) -> usize
     ensures { result + place_overhead layout.now ≡ 4095 }
 {

@@ -1,4 +1,10 @@
 //! A run over its devices, and what it came to.
+//!
+//! A run is one over the destination's folder, and a rehearsal one over a destination that at first
+//! tells what the folder holds, and at the end the tree that it plays (`run_or_rehearse`, `IsRun`).
+//! Its devices stay at the folders that they were made for (`RunsFrom`). After any answer a
+//! rehearsal leaves all that the system keeps of DEST (`LeavesKept`). Something is unsynced at the
+//! end only where syncing was wanted and a fault ended the run (`IsUnsyncedBy`).
 ghost use Rattle.std.specs.Prelude.{◌≡◌};
 ghost use Rattle.pt_folder.specs.HostDest.{folder_path as dest_path, kept_by};
 ghost use Rattle.pt_folder.specs.HostSource.{folder_path as store_path};

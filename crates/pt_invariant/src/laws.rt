@@ -1,7 +1,26 @@
 //! Laws on a run in progress. Each is the contract of a function that does nothing.
 //!
+//! What holds of one (`RunInvariant`), in parts:
+//!
+//! - held, `HeldAt`: trail, rows, contents, the phase's numbers and what the hasher was fed fit the
+//!   phase; the layout is allowed. Always. So before a sidecar is made the hasher was fed the
+//!   inventory's text of the object and the rows that are held (`FedAt`).
+//! - source, `SourcePart`: where the run stands, which items are still to come, and whose bytes the
+//!   rows have. Where the source tells.
+//! - destination, `DestPart`: what stood stands; what was made of a root or an object, for objects
+//!   that came whole to free places. Where the destination tells.
+//! - items, `ItemsPart`: the objects placed are those carried of the items done, and the counts are
+//!   those of their lines. Where source and destination tell.
+//! - log, `HasTold`, where all three tell: the log has got these lines; `IsQuiet`, where the log
+//!   tells: before the pairtree is opened nothing.
+//! - end, `FaultStateAt`: of a run that has ended, destination and log are such as a fault may
+//!   leave. Where all three tell.
+//!
 //! The turns are those of the start, of the walk, of the scan of an object, those that make one,
-//! and those of placing, which bring it to its place and tell of it and of the end.
+//! and those of placing, which bring it to its place and tell of it and of the end. By group of
+//! turns and part, each with its proof in the folder of proofs/ of that part, there are laws such
+//! as `starting_keeps_held`, `walking_keeps_source`, `scanning_keeps_dest`, `making_keeps_items`
+//! and `placing_decreases_rank` (work_laws.rt).
 ghost use Rattle.pt_invariant.specs.InvariantLaws.{InvariantEnables, NewRunHoldsInvariant, TurnEndsInvariant, TurnKeepsInvariant};
 ghost use Rattle.pt_invariant.specs.BoundLaws.{HaltedIsWithinBound, TurnIsWithinBound};
 ghost use Rattle.pt_invariant.specs.DestLaws.{MakingKeepsDest, PlacingKeepsDest, ScanningKeepsDest, StartingKeepsDest, WalkingKeepsDest};
@@ -229,7 +248,7 @@ pub fn invariant_stands_still()
     ensures { InvariantStandsStill }
 {}
 
-/// Over such a root no run of the source can end well.
+/// Over a root for which a run is refused (`finds_target`) no run of the source can end well.
 pub fn bad_target_is_none()
     ensures { BadTargetIsNone }
 {}

@@ -1,4 +1,10 @@
 //! Laws on the turns that a run makes. Each is the contract of a function that does nothing.
+//!
+//! Where source and destination tell, the turns made and those that are left at most (`rank`) are
+//! together within the work (`InvariantWithinWork`, which implies `RunInvariant`:
+//! `within_work_holds_invariant`), since each turn lowers what is left (`new_run_is_within_work`,
+//! `turn_keeps_within_work`, `turn_ends_within_work`, `stops_within_work`). So the turns made are
+//! within the work, and before the end one is left (`turns_are_within_work`, `turn_is_left`).
 ghost use Rattle.pt_invariant.specs.WorkLaws.{MakingDecreasesRank, NewRunIsWithinWork, PlacingDecreasesRank, ScanningDecreasesRank};
 ghost use Rattle.pt_invariant.specs.WorkLaws.{StartingDecreasesRank, StopsWithinWork, TurnEndsWithinWork, TurnIsLeft};
 ghost use Rattle.pt_invariant.specs.WorkLaws.{TurnKeepsWithinWork, TurnsAreWithinWork, WalkingDecreasesRank, WithinWorkHoldsInvariant};

@@ -1,16 +1,23 @@
 //! What standard error is told of a run or an audit beside how it ended: how far it is, why a fault
 //! came, and what is doubtful.
 //!
-//! `Watch` is told of each call of a source (pt_tree, `Watched`), and can't touch it; so what is
-//! proved of a run holds of a watched one. What is shown and said has no contract, but that each
-//! function is safe and ends.
+//! Read `Watch` first, and then `tell` of reason.rt. A path or a text from outside is shown by
+//! `escape`:
 //!
-//! `Reads` is what can be read of files beside a run: the end of a log, a list of identifiers, and
-//! a store's prefix. Its calls change nothing. `lines_expected` asks for the end of the log that is
-//! named, if one is (`AsksEnd`); what it makes of it is shown only.
+//! ```rust
+//! escape(alloc, "two\nlines")?; // two\u{a}lines
+//! ```
 //!
-//! `Event` is the record of a run or an audit that `--event` asks for, as a text; who calls it
-//! writes that.
+//! What it promises:
+//!
+//! - `Watch` is told of each call of a source (pt_tree, `Watched`), and can't touch it; so what is
+//!   proved of a run holds of a watched one. What is shown and said has no contract, but that each
+//!   function is safe and ends.
+//! - `Reads` is what can be read of files beside a run: the end of a log, a list of identifiers,
+//!   and a store's prefix. Its calls change nothing. `lines_expected` asks for the end of the log
+//!   that is named, if one is (`AsksEnd`); what it makes of it is shown only.
+//! - `Event` is the record of a run or an audit that `--event` asks for, as a text; who calls it
+//!   writes that.
 //!
 //! No guarantee of README rests on its definitions.
 #![tactic(auto)]

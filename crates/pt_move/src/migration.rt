@@ -1,4 +1,8 @@
-// A whole run.
+//! A whole run.
+//!
+//! Beside `Migrates` a run promises of a source that tells where it fails: if a call of it failed,
+//! it does so at what a run asks for, or at the file that was open (`FailsOnlyWhereAsked` of
+//! pt_plan). Each step promises the same.
 ghost use Rattle.std.specs.Prelude.{ℕ};
 ghost use Rattle.pt_plan.specs.SourceFailures.{FailsOnlyWhereAsked};
 ghost use Rattle.pt_state.specs.Outside.{states_of};

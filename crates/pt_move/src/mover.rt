@@ -1,4 +1,13 @@
-// A run under way, made turn by turn.
+//! A run under way, made turn by turn.
+//!
+//! Of a step: `Turns` is answered exactly where the limit of turns was made before the end, `Ended`
+//! exactly after the end or a fault; at both the three devices are the very values that they were.
+//!
+//! In one turn the trail enters at most one listing or leaves inner ones (`Moves`), rows and
+//! contents gain at most one record or are emptied (`Gains`), and at most one line is counted. The
+//! source is called at most once, or twice where the prefix is read. What stands in the destination
+//! is asked at most once, twice where a file of the root is compared, four times where that is the
+//! layout's configuration, and in most turns never (`most_looks`).
 ghost use Rattle.std.specs.Prelude.{◌≡◌, ◌+◌, length};
 ghost use Rattle.pt_invariant.specs.RunInvariant.{AreStates, Start, start_of};
 ghost use Rattle.pt_plan.specs.DeviceStates.{DeviceStates};
@@ -155,7 +164,7 @@ impl Mover {
     }
 
     /// The lines of each kind whose `put` was answered Ok, and the turns made, a faulty one among
-    /// them.
+    /// them. The counts never overflow.
     pub fn report(&self) -> Report
         ensures counts { result ≡ self.now.state.counts }
         ensures well { TypeInvariant self.now }

@@ -1,4 +1,27 @@
 //! Laws on the definitions of a run. Each is the contract of a function that does nothing.
+//!
+//! - What is carried and told grows item by item; an item is taken against the root and the items
+//!   before it (`taken_against_earlier`, `carried_grows`, `text_grows`, `all_items_are_all`). The
+//!   files of each carried object come in order, none leading to another, as the laws on objects
+//!   ask (`files_come_in_order`, `carried_files_come_in_order`).
+//! - The root with one item more is the root with the object's tuple folders and its object moved
+//!   in from `staging`, whole (`after_grows`, `after_stays`, `begins_with_the_base`; by
+//!   `folders_grow`, `root_is_made_in_place`, `object_is_moved_in`, `root_is_moved_in`,
+//!   `root_is_its_own`, `roots_have_no_gaps`).
+//! - The numbers of the end line are those of the items carried, of the items whose place is taken,
+//!   and of the others that have a line; each line is counted once, and the numbers grow line by
+//!   line (`end_line_tells_numbers`, `lines_tell_numbers`, `each_line_is_counted`, `counts_grow`).
+//! - After any number of items something stands at an item's place exactly where it stood in the
+//!   root, or an earlier item against whose object there is no cause has that place
+//!   (`place_stands_where_taken`, `next_place_stands_where_taken`, `named_is_not_reserved`).
+//! - Over the root that any fault may leave, once `staging` is taken away, a run can end and leaves
+//!   the very root that an undisturbed run over the first root leaves; so it is after any number of
+//!   faults (`rerun_ends_alike`, `root_stays_without_staging`). Another limit of turns changes
+//!   nothing of it (`turns_have_no_part`).
+//! - Of the shares of a store, 1 to N, each carried over the same root, three laws hold for every
+//!   job, source, root and N (`shares_tell_the_whole`, `shares_leave_the_whole`,
+//!   `shares_meet_in_folders`); and of any choices of shares and texts that divide a store's
+//!   identifiers (`Divide`) the same.
 ghost use Rattle.pt_plan.specs.ItemLaws.{AllItemsAreAll, BeginsWithTheBase, CarriedGrows, IsTakenAgainstEarlier, TextGrows, WhatStandsStays};
 ghost use Rattle.pt_plan.specs.FileLaws.{CarriedFilesComeInOrder, FilesComeInOrder};
 ghost use Rattle.pt_plan.specs.PlaceLaws.{NamedIsNotReserved, NextPlaceStandsWhereTaken, PlaceStandsWhereTaken, WayStaysFree};
@@ -191,8 +214,8 @@ pub fn carried_have_their_files()
 {}
 
 /// The logs of all shares of a store have together the lines of the whole's, each line in the log
-/// of one share: whatever is asked of lines, as many of the whole's are such as of the shares'
-/// together. So the numbers of their end lines add up.
+/// of one share: whatever is asked of lines, as many of the whole's, but for the end line, are such
+/// as of the shares' together. So the numbers of their end lines add up.
 pub fn shares_tell_the_whole()
     ensures { SharesTellTheWhole }
 {}
@@ -203,8 +226,8 @@ pub fn shares_leave_the_whole()
     ensures { SharesLeaveTheWhole }
 {}
 
-/// Where two shares have something at a path, it stood in the root that both began with, or else is
-/// a folder.
+/// Where two shares have something at a path, it stood in the root that both began with (over no
+/// root, in the new one: its own files), or else is a folder.
 pub fn shares_meet_in_folders()
     ensures { SharesMeetInFolders }
 {}

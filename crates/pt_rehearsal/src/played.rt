@@ -47,7 +47,7 @@ impl Played {
         Played {}
     }
 
-    /// One step more.
+    /// One step more, this one, in front of the others (`noted`).
     #[inline(always)]
     pub fn then(&self, _note: &Note<'_>) -> Played
         ensures { result.steps ≡ noted self.now.steps _note.now }

@@ -1,3 +1,9 @@
+//! A destination that only looks.
+//!
+//! It refuses, with `Device`, exactly what it doesn't know: a look at what is hidden
+//! (`IsFromMemory`, `IsNotPeeked`); a directory or a file whose making, and a move whose effect,
+//! can't be remembered (`made_dir`, `made_file`, `moved_to`); beside that a path that is too long,
+//! and, where an entry right in the folder is made, a failed look at the folder.
 ghost use Rattle.std.proofs.Common.{◌∙◌, refl, subst};
 ghost use Rattle.std.specs.Prelude.{◌≡◌, ◌⊎◌, ◌≤◌, [], None, Ok, OnErr, OnOk, IfOk, length};
 ghost use Rattle.std.specs.Option.{option_map};

@@ -1,5 +1,7 @@
-//! What a rehearsal remembers of what it would have made: a text for each directory and each
-//! object, and no more.
+//! What a rehearsal remembers of what it would have made: a text for each directory that it would
+//! have made and each place that it would have moved something to, and the names that it would have
+//! made in one directory at a time (`View`); after each call by an equation (`Remembers`). The
+//! texts lie packed (text_set.rt): no text takes memory of its own, and none is taken for another.
 ghost use Rattle.std.specs.Prelude.{◌≡◌, ◌||◌, IfOk, OnErr, OnOk, true};
 ghost use Rattle.std.specs.Option.{option_map};
 ghost use Rattle.pt_tree.specs.Name.{AreNames};

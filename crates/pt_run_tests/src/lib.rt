@@ -3,6 +3,10 @@
 //! and numbers of a check of a store, and of what a root has more. No code of the program stands on
 //! this crate.
 //!
+//! Read `Run` first (lines.rt): a row has the entries of a store as a text, what the job has that
+//! isn't as usual, and what comes of the run. Of the worked stores in specs/ the prover computes
+//! it.
+//!
 //! No guarantee of README rests on its definitions.
 #![tactic(auto)]
 

@@ -21,7 +21,8 @@ pub struct State {
     pub contents: Contents,
     /// What was read last.
     pub block: Block,
-    /// What was read of the open file; or of an inventory its text, until its sidecar is made.
+    /// What was read of the open file; and from the version's inventory on the text of that, whose
+    /// digest both sidecars have.
     pub hasher: Hasher,
     /// How many lines of each kind were put, and how many turns were made.
     pub counts: Report,
