@@ -7,7 +7,8 @@
 - A text that says `crate, file.rt and Module` names files of src/ and of specs/ of that crate.
 - Any other word of code, which has a `_`, a `::` or a capital inside small letters, stands somewhere in the code.
 - Each crate of crates.txt is on the map of docs/DESIGN.md, behind those that it stands on. CONTRIBUTING.md says what each crate of tests tests.
-- The words of code at the head of a crate's lib.rt are declared in that crate, or where `crate::word` or `word` of crate says.
+- The words of code at the head of a file of a crate are declared in that crate, or where `crate::word` or `word` of crate says. What stands at the
+  head of its lib.rt behind `What it promises` has at most 20 lines.
 - Each public definition of crates/*/specs has a comment, and each edit of crates/*/must-fail one that says what the wrong body does: `make model` and
   `make wrong` print all of them. Each edit can be applied to the code as it stands. The lemmas that Migrates.antt names are there.
 - docs/GUARANTEES.md has each promise of a run, and README's ten guarantees lead there; both tell the exception where each byte is promised.
@@ -32,6 +33,7 @@ import index
 DOCUMENTS = ("README.md", "CONTRIBUTING.md", "CHANGELOG.md", *sorted(f"docs/{name}" for name in os.listdir(f"{TOP}/docs")))
 EIGHT = {"README.md", "CONTRIBUTING.md", "CHANGELOG.md", *(f"docs/{name}.md" for name in ("GUIDE", "REFERENCE", "GUARANTEES", "DESIGN", "PERF"))}
 MOST_LINES, MOST_BYTES, LONGEST_LINE, LONGEST_SENTENCE, README_LINES = 2200, 200000, 160, 40, 120
+MOST_PROMISED = 20
 START = re.compile(r"[0-9a-f]{40} is the start: the last commit that had landed before the work on speed began\.\n")
 LINK = re.compile(r"\[([^\]]*)\]\(([^)\s]+)\)")
 PATH = re.compile(r"(?<![\w/.-])(?:completions|crates|demo|docs|tests|tools|bench|man|LICENSES)/[\w./*-]*\w")
@@ -249,17 +251,31 @@ def explained(program, folder):
     return faults + [f"make model passes over {path}" for path in declared if index.definitions(path) and not any(line.startswith(f"{path}: ") for line in model)]
 
 
+def head_of(path):
+    """The lines of the head of a file."""
+    return re.findall(r"^//! ?(.*)$", text_of(path), re.MULTILINE) if os.path.isfile(f"{TOP}/{path}") else []
+
+
+def promised(head):
+    """The lines of what a head promises: the list behind the paragraph that begins so."""
+    text = "\n".join(head)
+    return re.sub(r"\n\n(?![ -]).*", "", text.partition("\nWhat it promises")[2].partition("\n\n")[2], flags=re.DOTALL).splitlines()
+
+
 def heads(program, folder):
-    """The words of code at the head of a crate's lib.rt are declared in that crate, or in the crate that is named with them."""
-    faults = []
+    """The words of code at the head of each file of a crate are declared in that crate, or in the crate that is named with them. The head of its first file
+    promises in few lines."""
+    faults = differs(promised=(promised(["A.", "", "What it promises:", "", "- b", "  c", "", "D."]), ["- b", "  c"]))
+    crates = {*code_files(), *re.findall(r"\w+", text_of("crates.txt"))}
     for crate in code_files():
-        root = next((path for path in (f"crates/{crate}/src/lib.rt", f"crates/{crate}/src/main.rt") if os.path.isfile(f"{TOP}/{path}")), None)
-        head = " ".join(re.findall(r"^//! ?(.*)$", text_of(root), re.MULTILINE)) if root else ""
-        faults += [] if head else [f"{crate} has no head"]
-        for text, of in re.findall(r"`([^`]+)`(?: of (pt_\w+))?", head):
-            if is_word_of_code(text) and text not in code_files():
-                there, *words = text.split("::") if text.startswith("pt_") else (of or crate, *text.split("::"))
-                faults += [] if declares(there, words) else [f"{root}: {text} isn't declared in {there}"]
+        first = [head for name in ("lib", "main") if (head := head_of(f"crates/{crate}/src/{name}.rt"))]
+        faults += [] if first else [f"{crate} has no head"]
+        faults += [f"the head of {crate} promises in {len(promised(head))} lines" for head in first if len(promised(head)) > MOST_PROMISED]
+        for path in (path for path in code_files()[crate] if path.endswith(".rt")):
+            for text, of in re.findall(r"`([^`]+)`(?: of (pt_\w+))?", " ".join(head_of(path))):
+                if is_word_of_code(text) and text not in crates:
+                    there, *words = text.split("::") if text.startswith("pt_") else (of or crate, *text.split("::"))
+                    faults += [] if declares(there, words) else [f"{path}: {text} isn't declared in {there}"]
     return faults
 
 
