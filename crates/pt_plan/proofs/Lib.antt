@@ -20,6 +20,7 @@ pub mod Reserved
 pub mod StagingKeeps
 pub mod ShareNumbers
 pub mod SharedItems
+pub mod SharedObjects
 pub mod SharedRoots
 pub mod TakenPlaces
 pub mod WholeObjects
