@@ -1,4 +1,5 @@
 mod Goes
+mod FilesHeld
 mod Keeping
 mod Kept
 mod NamesRead
@@ -8,6 +9,7 @@ mod Stepping
 mod Parts
 mod Others
 mod Quiet
+mod QuietSteps
 pub mod Readable
 mod Visiting
 mod WithinLimits

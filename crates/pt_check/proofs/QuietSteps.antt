@@ -1,0 +1,214 @@
+-- A step of a check that told nothing met no trouble, and the source failed at nothing in it.
+use Rattle.std.proofs.Common.{
+  ◌≡◌,
+  ◌<◌,
+  ◌∙◌,
+  ◌==◌,
+  ◌+◌,
+  ◌^◌,
+  ℕ,
+  Bool,
+  true,
+  false,
+  cond,
+  min,
+  length,
+  List,
+  [],
+  ◌∷◌,
+  ◌++◌,
+  Option,
+  None,
+  Some,
+  inl,
+  inr,
+  refl,
+  sym,
+  ap,
+  subst,
+  arith,
+}
+use Rattle.std.proofs.lemmas.Bool.{ltb-false}
+use Rattle.std.specs.Prelude.{◌⊎◌, nat_lt}
+use Rattle.pt_check.specs.Clean.{AreCleanBytes, IsCleanEntry, IsCleanFolder}
+use Rattle.pt_check.specs.Counting.{with_bytes, with_entry, with_object, with_object_begun}
+use Rattle.pt_check.specs.Goes.{GoesBy}
+use Rattle.pt_check.specs.Lines.{Told}
+use Rattle.pt_check.specs.Visits.{
+  Begins,
+  Enters,
+  Folder,
+  GoesAt,
+  Judges,
+  Meets,
+  Opens,
+  Puts,
+  Says,
+  Seen,
+  Tells,
+  TellsEach,
+  TellsFailure,
+  TellsIf,
+  TellsUnlisted,
+  count_trouble,
+  counting,
+  entry_trouble,
+  finding_of,
+  folder_trouble,
+  has_object,
+  reserved_trouble,
+  room_trouble,
+  size_trouble,
+  with_folder,
+}
+use Rattle.pt_check.specs.declared.numbers.Numbers.{Numbers}
+use Rattle.pt_check.specs.declared.trouble.Trouble.{Trouble}
+use Rattle.pt_check.specs.declared.trouble.Trouble.TheVariants as trouble
+use Rattle.pt_check.specs.declared.wants.Wants.{Wants}
+use Rattle.pt_check.specs.declared.within.Within.{Within}
+use Rattle.pt_check.specs.declared.within.Within.TheVariants as within
+use Rattle.pt_tree.specs.Failures.{greatest_count}
+use Rattle.pt_tree.specs.Forest.{File, Dir, Other}
+use Rattle.pt_tree.specs.Listing.{Item}
+use Rattle.pt_tree.specs.Path.{Path, joined}
+use Rattle.pt_tree.specs.declared.kind.Kind.{Kind}
+use Rattle.pt_tree.specs.declared.kind.Kind.TheVariants as kind
+use Rattle.pt_check.proofs.FilesHeld.{Fills, held_by, met_fills, one_of}
+
+-- how many lines told of something
+abbrev pub told_by : Seen → ℕ
+told_by s = s.numbers.told
+
+-- a line is counted
+line_told : (n : ℕ) → min (n + 1) greatest_count ≡ 0 → ⊥
+line_told n e = omega (arith, e)
+
+pub puts_told : (text : List ℕ) (a b : Seen) → Puts text a b → told_by b ≡ 0 → ⊥
+puts_told text a b puts nothing = line_told (told_by a) (sym (ap (λ (n : Numbers). n.told) puts.numbers) ∙ nothing)
+
+pub fails_told : (path : Path) (a b : Seen) → TellsFailure path a b → told_by b ≡ 0 → ⊥
+fails_told path a b (m, same, rose, held, numbers, (reason, puts)) nothing = puts_told _ m b puts nothing
+
+each_told : (path : Path) (reasons : List (List ℕ)) (a b : Seen) → TellsEach path reasons a b → told_by b ≡ 0 → told_by a ≡ 0
+each_told path [] a b same nothing = ap told_by (sym same) ∙ nothing
+each_told path (reason ∷ more) a b (m, puts, each) nothing = absurd (puts_told _ a m puts (each_told path more m b each nothing))
+
+pub unlisted_told : (says : Says) (path : Path) (part : Bool) (a b : Seen) → TellsUnlisted says path part a b → told_by b ≡ 0 → ⊥
+unlisted_told says path part a b (m, same, rose, held, numbers, (s, still, more, holds, counts, reason, further, (n, puts, each), said)) nothing =
+    puts_told _ s n puts (each_told path further n b each nothing)
+
+-- where nothing was told there was no trouble
+pub tells_if : (path : Path) (o : Option Trouble) (a b : Seen) → TellsIf path o a b → told_by b ≡ 0 → (o ≡ None) × (b ≡ a)
+tells_if path None a b same nothing = (refl, same)
+tells_if path (Some it) a b puts nothing = absurd (puts_told _ a b puts nothing)
+
+-- where its source fails, and how often it failed
+abbrev pub source_of : Seen → Option (Path → Bool) × ℕ
+source_of s = (s.failing, s.failed)
+
+-- of a step: nothing had been told before, and the source failed at nothing in it
+abbrev pub Quiet : Seen → Seen → Type 0
+Quiet a b = (told_by a ≡ 0) × (source_of b ≡ source_of a)
+
+-- what didn't fail before doesn't now
+pub still_goes : (path : Path) (a b : Seen) → source_of b ≡ source_of a → GoesAt path a → GoesAt path b
+still_goes path a b same goes = subst (λ (w : Option (Path → Bool)). GoesBy w path) (sym (ap (λ (x : Option (Path → Bool) × ℕ). x.0) same)) goes
+
+-- what changes numbers, and not that of the lines
+counted : (change : Numbers → Numbers) (a b : Seen) → ((n : Numbers) → (change n).told ≡ n.told) → b ≡ counting change a → told_by b ≡ 0 → Quiet a b
+counted change a b keeps same nothing = (sym (keeps a.numbers) ∙ sym (ap told_by same) ∙ nothing, ap source_of same)
+
+entry_told : (k : Kind) (bytes : ℕ) (n : Numbers) → (with_entry k bytes n).told ≡ n.told
+entry_told kind.File bytes n = refl
+entry_told kind.Dir bytes n = refl
+entry_told kind.Other bytes n = refl
+
+pub met : (wants : Wants) (folder : Folder) (name : List ℕ) (k : Kind) (a m : Seen) → Meets wants (folder.path ++ name ∷ []) folder.here (name, k) a m
+    → told_by m ≡ 0
+    → IsCleanEntry wants folder name k × Quiet a m × Fills folder.here (one_of k) a m
+met wants folder name k a m (s, crowds, n, tells, fits) nothing =
+    let path = folder.path ++ name ∷ [] in
+    let bytes = length (joined path) in
+    let room = tells_if path (room_trouble wants.room folder.here k bytes) n m fits nothing in
+    let last : told_by n ≡ 0 = ap told_by (sym room.1) ∙ nothing in
+    let clean = tells_if path (entry_trouble folder.here name k bytes) s n tells last in
+    let before : told_by s ≡ 0 = ap told_by (sym clean.1) ∙ last in
+    let few = tells_if path (count_trouble folder.here k a.numbers.held) (counting (with_entry k bytes) a) s crowds before in
+    let same = room.1 ∙ clean.1 ∙ few.1 in
+    ((clean.0, room.0), counted (with_entry k bytes) a m (entry_told k bytes) same nothing, met_fills folder.here k bytes a m few.0 same)
+
+-- of a file that was opened
+abbrev Opened : Bool → Path → List ℕ → Seen → Seen → Type 0
+Opened reads path bytes a b = AreCleanBytes reads bytes × Quiet a b × (b.numbers.held ≡ a.numbers.held) × (reads ≡ true → GoesAt path a)
+
+-- one that isn't too large has fewer bytes than are counted
+few_bytes : (reads : Bool) (bytes : List ℕ) → AreCleanBytes reads bytes → reads ≡ true → length bytes < greatest_count
+few_bytes false bytes clean reads = absurd (cc)
+few_bytes true bytes clean reads = by (nat_lt (2 ^ 43) (length bytes)) refl clean
+  where
+    by : (t : Bool) → nat_lt (2 ^ 43) (length bytes) ≡ t → cond t (Some trouble.Large) None ≡ None → length bytes < greatest_count
+    by true is e = absurd (cc)
+    by false is e = let few = ltb-false (2 ^ 43) (length bytes) is in omega (arith, few)
+
+pub opened : (reads : Bool) (path : Path) (bytes : List ℕ) (a b : Seen) → Opens reads path bytes a b → told_by b ≡ 0 → Opened reads path bytes a b
+opened reads path bytes a b (inl (tells, goes)) nothing =
+    let count = cond reads (length bytes) 0 in
+    let clean = tells_if path (size_trouble count) (counting (with_bytes count) a) b tells nothing in
+    (clean.0, counted (with_bytes count) a b (λ n. refl) clean.1 nothing, ap held_by clean.1, (λ is. goes is (few_bytes reads bytes clean.0 is)))
+opened reads path bytes a b (inr fails) nothing = absurd (fails_told path a b fails nothing)
+
+folder_told : (here : Within) (holds : Bool) (n : Numbers) → (with_folder here holds n).told ≡ n.told
+folder_told (within.Site at) holds n = refl
+folder_told within.Past holds n = refl
+folder_told (within.Object before) holds n = refl
+folder_told within.Beside holds n = refl
+
+folder_held : (here : Within) (holds : Bool) (n : Numbers) → (with_folder here holds n).held ≡ n.held
+folder_held (within.Site at) holds n = refl
+folder_held within.Past holds n = refl
+folder_held (within.Object before) holds n = refl
+folder_held within.Beside holds n = refl
+
+judged : (wants : Wants) (folder : Folder) (items : List Item) (a m : Seen) → Judges wants (folder.path, folder.prefix) folder.here items a m → told_by m ≡ 0
+    → ((folder_trouble folder.here (finding_of folder.here items) folder.path ≡ None)
+    × (reserved_trouble wants.layout folder.prefix (finding_of folder.here items) folder.path ≡ None)) × Quiet a m × (m.numbers.held ≡ a.numbers.held)
+judged wants folder items a m (n, judges, places) nothing =
+    let what = finding_of folder.here items in
+    let free = tells_if folder.path (reserved_trouble wants.layout folder.prefix what folder.path) n m places nothing in
+    let before : told_by n ≡ 0 = ap told_by (sym free.1) ∙ nothing in
+    let clean = tells_if folder.path (folder_trouble folder.here what folder.path) (counting (with_folder folder.here (has_object what)) a) n judges before in
+    let same = free.1 ∙ clean.1 in (
+      (clean.0, free.0),
+      counted (with_folder folder.here (has_object what)) a m (folder_told folder.here (has_object what)) same nothing,
+      ap held_by same ∙ folder_held folder.here (has_object what) a.numbers,
+    )
+
+-- of a folder that was entered
+abbrev Entered : Wants → Folder → List Item → (Seen → Type 0) → Seen → Seen → Type 0
+Entered wants folder items P a b = IsCleanFolder wants folder items × Quiet a b × ((m : Seen) × (m.numbers.held ≡ a.numbers.held) × P m) × GoesAt folder.path a
+
+pub entered : (says : Says) (wants : Wants) (folder : Folder) (items : List Item) (visits : Bool → Seen → Seen → Type 0) (P : Bool → Seen → Type 0) (a b : Seen)
+    → ((holds : Bool) (m : Seen) → visits holds m b → Quiet m b × P holds m)
+    → Enters says wants folder items visits a b → told_by b ≡ 0 → Entered wants folder items (P (has_object (finding_of folder.here items))) a b
+entered says wants folder items visits P a b on enters nothing = by (folder.left == 0) refl enters
+  where
+    by : (t : Bool) → (folder.left == 0) ≡ t → cond t (Tells (Told folder.path trouble.Deep) a b)
+        (TellsUnlisted says folder.path false a b ⊎ ((holds : Bool) × (m : Seen) × Begins says wants folder items holds a m × visits holds m b))
+        → Entered wants folder items (P (has_object (finding_of folder.here items))) a b
+    by true is tells = absurd (puts_told _ a b tells nothing)
+    by false is (inl fails) = absurd (unlisted_told says folder.path false a b fails nothing)
+    by false is (inr (holds, m, inl (judges, holds_is, goes), visited)) =
+        let rest = on holds m visited in
+        let first = judged wants folder items a m judges rest.0.0 in
+        ((is, first.0.0, first.0.1), (first.1.0, rest.0.1 ∙ first.1.1), (m, first.2, subst (λ (h : Bool). P h m) holds_is rest.1), goes)
+    by false is (inr (holds, m, inr (tells, holds_is), visited)) =
+        let rest = on holds m visited in
+        absurd (unlisted_told says folder.path true a m tells rest.0.0)
+
+pub begun_told : (t : Bool) (n : Numbers) → (cond t (with_object_begun n) n).told ≡ n.told
+begun_told true n = refl
+begun_told false n = refl
+
+pub ended_told : (t : Bool) (before : ℕ) (n : Numbers) → (cond t (with_object before n) n).told ≡ n.told
+ended_told true before n = refl
+ended_told false before n = refl
