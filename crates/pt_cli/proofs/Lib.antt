@@ -4,6 +4,7 @@ pub mod IdentifierLines
 pub mod NameLists
 pub mod Naming
 mod Parsed
+pub mod PartsThere
 pub mod Passing
 pub mod Present
 pub mod Reading
