@@ -6,6 +6,7 @@ pub mod NewObject
 pub mod PlacesKeep
 pub mod ReadsOn
 pub mod RootChecks
+pub mod ScanEnters
 pub mod ScanSteps
 pub mod ScannedFiles
 pub mod ScansKeep

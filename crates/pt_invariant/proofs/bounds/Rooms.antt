@@ -53,7 +53,7 @@ use Rattle.pt_invariant.proofs.bounds.Bounds.{IsOne, front_records, object_withi
 use Rattle.pt_invariant.proofs.source.InObject.{path_in_object, path_length}
 use Rattle.pt_invariant.proofs.source.InPairtree.{some_same}
 use Rattle.pt_invariant.proofs.source.ScanSteps.{left_directory}
-use Rattle.pt_invariant.proofs.source.ScansKeep.{no_cause_dir}
+use Rattle.pt_invariant.proofs.source.ScanEnters.{no_cause_dir}
 
 -- ---- the trail alone
 

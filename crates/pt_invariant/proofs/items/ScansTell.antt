@@ -64,7 +64,7 @@ use Rattle.pt_invariant.proofs.source.InPairtree.{pairtree_proper, some_same}
 use Rattle.pt_invariant.proofs.items.ItemLines.{Nothing, OneItem, Tells, free_item}
 use Rattle.pt_invariant.proofs.source.ReadsOn.{reads_block}
 use Rattle.pt_invariant.proofs.source.ScanSteps.{left_directory, left_file}
-use Rattle.pt_invariant.proofs.source.ScansKeep.{dir_entry}
+use Rattle.pt_invariant.proofs.source.ScanEnters.{dir_entry}
 
 -- ---- the item of the object under way
 

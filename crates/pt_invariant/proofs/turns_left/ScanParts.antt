@@ -66,7 +66,8 @@ use Rattle.pt_invariant.proofs.source.InPairtree.{some_same}
 use Rattle.pt_invariant.proofs.held.OwnFiles.{own_files}
 use Rattle.pt_invariant.proofs.items.PlacesTell.{comes_whole, files_are}
 use Rattle.pt_invariant.proofs.source.ScanSteps.{left_directory, left_file}
-use Rattle.pt_invariant.proofs.source.ScansKeep.{no_cause_dir, no_cause_file}
+use Rattle.pt_invariant.proofs.source.ScanEnters.{no_cause_dir}
+use Rattle.pt_invariant.proofs.source.ScansKeep.{no_cause_file}
 use Rattle.pt_invariant.specs.Rank.{bytes_there, still_here, still_listed, to_copy_from, to_leave, to_meet, to_meet_behind}
 use Rattle.pt_invariant.proofs.turns_left.Copying.{copies_all}
 use Rattle.pt_invariant.proofs.turns_left.WalksLower.{listed_there}
