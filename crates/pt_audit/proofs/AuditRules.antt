@@ -3,7 +3,7 @@ use Rattle.pt_audit.proofs.Layouts.{layouts}
 use Rattle.pt_audit.proofs.LineTexts.{texts}
 use Rattle.pt_audit.proofs.Pacing.{pacing}
 use Rattle.pt_audit.proofs.Saying.{saying}
-use Rattle.pt_audit.proofs.Telling.{auditing}
+use Rattle.pt_audit.proofs.ToldSteps.{auditing}
 use Rattle.pt_compare.proofs.Reading.{calls}
 
 pub ruleset audit_rules = (auditing, saying, pacing, calls, layouts, texts)

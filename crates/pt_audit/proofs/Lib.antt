@@ -1,5 +1,7 @@
 pub mod AfterRun
 pub mod Telling
+pub mod ToldObject
+pub mod ToldSteps
 pub mod Failing
 pub mod LineTexts
 pub mod Sound
@@ -13,6 +15,8 @@ mod Files
 pub mod Alone
 pub mod Seen
 pub mod Stepping
+pub mod StepLeaves
+pub mod StepRules
 pub mod Twins
 pub mod Working
 pub mod Steps

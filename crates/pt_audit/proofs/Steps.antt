@@ -20,7 +20,8 @@ use Rattle.pt_move.specs.Turning.{CountedTurn}
 use Rattle.pt_move.proofs.Answering.{fed_going}
 use Rattle.pt_audit.specs.Surveying.{IsReady, Steps, is_before_sites, is_before_store, Surveys, passed}
 use Rattle.pt_audit.proofs.Working.{is_left}
-use Rattle.pt_audit.proofs.Stepping.{bound_of_turn, going, leaves_of_turn}
+use Rattle.pt_audit.proofs.StepLeaves.{bound_of_turn, leaves_of_turn}
+use Rattle.pt_audit.proofs.Stepping.{going}
 
 -- the store is seen before its sites
 opens : {job : Job} {counts : Counts} (here : Phase) {next : Phase} {prefix read : List ℕ} {held after : Held} {calls : Calls} → is_before_store here ≡ true

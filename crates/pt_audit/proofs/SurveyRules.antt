@@ -1,4 +1,4 @@
 -- What a survey's functions are proved by.
-use Rattle.pt_audit.proofs.Stepping.{steps}
+use Rattle.pt_audit.proofs.StepRules.{steps}
 
 pub ruleset survey_rules = (steps)

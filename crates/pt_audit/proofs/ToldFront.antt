@@ -36,7 +36,9 @@ use Rattle.pt_audit.specs.declared.counts.Counts.{Counts}
 use Rattle.pt_audit.specs.declared.survey.ObjectAtHand.{ObjectAtHand}
 use Rattle.pt_audit.specs.declared.survey.SurveyEvent.TheVariants as sight
 use Rattle.pt_audit.specs.Surveying.{GoesOn, InSkip, IsHand, IsSurvey, StopsAt, Untold, is_before_sites, is_before_store, sight_at}
-use Rattle.pt_audit.proofs.Telling.{HasTold, looking_told, put_behind, seen_after, told_end, told_object, whole_log}
+use Rattle.pt_audit.proofs.Telling.{HasTold, looking_told, put_behind, seen_after}
+use Rattle.pt_audit.proofs.ToldSteps.{told_end, whole_log}
+use Rattle.pt_audit.proofs.ToldObject.{told_object}
 use Rattle.pt_compare.specs.declared.difference.Comparison.{Comparison}
 use Rattle.pt_invariant.proofs.source.InPairtree.{some_same}
 use Rattle.pt_move.specs.Running.{Running}

@@ -6,7 +6,7 @@ use Rattle.pt_tree.specs.Source.{tree_in}
 use Rattle.pt_state.specs.States.{job_of}
 use Rattle.pt_state.specs.declared.job.Job.{Job}
 use Rattle.pt_audit.proofs.Bounding.{made_stopped, made_within}
-use Rattle.pt_audit.proofs.Telling.{first_step, surveys_first}
+use Rattle.pt_audit.proofs.ToldSteps.{first_step, surveys_first}
 use Rattle.pt_audit.proofs.Pacing.{follows_first}
 use Rattle.pt_audit.proofs.Saying.{begun_is_not_over}
 use Rattle.pt_audit.proofs.ToldFront.{items_stopped}

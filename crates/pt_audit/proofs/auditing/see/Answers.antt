@@ -1,7 +1,7 @@
 use Rattle.std.proofs.Common.{rules}
 use Rattle.pt_audit.proofs.Pacing.{behind, holds_its_fields}
 use Rattle.pt_audit.proofs.Saying.{says_fault, says_read, says_survey}
-use Rattle.pt_audit.proofs.Telling.{surveys_on}
+use Rattle.pt_audit.proofs.ToldSteps.{surveys_on}
 use Rattle.pt_audit.proofs.ToldFront.{at_err, follow_stops, step_stops}
 use Rattle.pt_audit.proofs.auditing.see.Goals as goal
 

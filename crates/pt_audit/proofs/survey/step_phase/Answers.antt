@@ -1,6 +1,7 @@
 use Rattle.std.proofs.Common.{rules}
 use Rattle.std.specs.Prelude.{None}
-use Rattle.pt_audit.proofs.Stepping.{halt_leaves, halt_leaves_log, halt_well, looking_is, step_leaves, step_leaves_log, step_looks, step_passes, step_well}
+use Rattle.pt_audit.proofs.StepRules.{halt_leaves, halt_leaves_log, halt_well, step_leaves, step_leaves_log, step_looks, step_passes, step_well}
+use Rattle.pt_audit.proofs.Stepping.{looking_is}
 use Rattle.pt_audit.proofs.Files.{step_scans, step_scans_none}
 use Rattle.pt_audit.proofs.Steps.{step_steps}
 use Rattle.pt_audit.proofs.Stopping.{halt_stops, halt_untold}

@@ -1,7 +1,7 @@
 use Rattle.std.proofs.Common.{◌≡◌, ◌++◌, rules, subst, sym}
 use Rattle.std.specs.Prelude.{All, IfOk}
 use Rattle.pt_audit.proofs.Pacing.{alike_at_hand, alike_there, folder_stands}
-use Rattle.pt_audit.proofs.Telling.{can_compare, found_at_hand}
+use Rattle.pt_audit.proofs.ToldObject.{can_compare, found_at_hand}
 use Rattle.pt_audit.specs.Auditing.{IsFoundAtHand}
 use Rattle.pt_object.specs.declared.rows.Row.{Row}
 use Rattle.pt_plan.specs.TurnWalk.{in_pairtree}

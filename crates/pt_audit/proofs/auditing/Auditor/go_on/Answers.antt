@@ -1,5 +1,5 @@
 use Rattle.std.proofs.Common.{rules, ◌∙◌}
-use Rattle.pt_audit.proofs.Telling.{step_told}
+use Rattle.pt_audit.proofs.ToldSteps.{step_told}
 use Rattle.pt_audit.proofs.ToldFront.{at_err, tell_stops}
 use Rattle.pt_audit.specs.Growing.{sides_on}
 use Rattle.pt_tree.proofs.Growing.{grows_on}

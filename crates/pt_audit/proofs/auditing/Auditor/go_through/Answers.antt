@@ -3,7 +3,7 @@ use Rattle.std.specs.Prelude.{Option}
 use Rattle.pt_audit.specs.Bounds.{NoStep, OneMore}
 use Rattle.pt_audit.specs.Surveying.{Steps}
 use Rattle.pt_tree.specs.Forest.{Forest}
-use Rattle.pt_audit.proofs.Telling.{same_end, same_trees}
+use Rattle.pt_audit.proofs.ToldSteps.{same_end, same_trees}
 use Rattle.pt_audit.proofs.Saying.{same_failures}
 use Rattle.pt_audit.proofs.ToldFront.{same_stops}
 use Rattle.std.proofs.lemmas.Bool.{OnTrue_at}

@@ -1,7 +1,8 @@
 use Rattle.std.proofs.Common.{ap, refl, rules, subst, sym, ◌∙◌}
 use Rattle.pt_audit.proofs.Saying.{has_layout, more_is_not_over, object_is_not_over, says_err, says_failed, says_layout, store_is_not_over}
 use Rattle.pt_audit.proofs.Pacing.{at_sight, follows_told}
-use Rattle.pt_audit.proofs.Telling.{end_at, not_told, on_end, on_more, on_store}
+use Rattle.pt_audit.proofs.Telling.{end_at}
+use Rattle.pt_audit.proofs.ToldSteps.{not_told, on_end, on_more, on_store}
 use Rattle.pt_audit.proofs.ToldFront.{at_err, seen_stops_any}
 use Rattle.pt_audit.specs.Auditing.{IsAt, is_told}
 use Rattle.pt_tree.proofs.Growing.{grows_none}

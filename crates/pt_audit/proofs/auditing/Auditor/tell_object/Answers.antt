@@ -1,6 +1,6 @@
 use Rattle.std.proofs.Common.{refl, rules, subst}
 use Rattle.std.specs.Prelude.{Option}
-use Rattle.pt_audit.proofs.Telling.{told_object}
+use Rattle.pt_audit.proofs.ToldObject.{told_object}
 use Rattle.pt_audit.proofs.ToldFront.{at_err, object_stops, seen_stops_any}
 use Rattle.pt_audit.specs.Surveying.{IsHand}
 use Rattle.pt_audit.specs.declared.survey.ObjectAtHand.{ObjectAtHand}

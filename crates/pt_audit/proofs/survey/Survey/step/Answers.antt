@@ -4,7 +4,7 @@ use Rattle.pt_move.specs.Running.{Running}
 use Rattle.pt_tree.specs.Source.{tree_in}
 use Rattle.pt_state.specs.Counting.{calls_most, calls_none}
 use Rattle.pt_audit.specs.Surveying.{SurveySays, Untold}
-use Rattle.pt_audit.proofs.Stepping.{says_ended, says_step}
+use Rattle.pt_audit.proofs.StepRules.{says_ended, says_step}
 use Rattle.pt_audit.proofs.Stopping.{halt_seen}
 use Rattle.pt_audit.proofs.survey.Survey.step.Goals as goal
 
