@@ -84,7 +84,7 @@ walks_elsewhere (EndsWalk _ _ _) = (refl, refl)
 
 starts_elsewhere : {job : Job} {here next : Phase} {prefix read : List ℕ} {calls : Calls} → start.StartStep job here prefix read calls (Ok next)
     → is_looking here ≡ true → IsElsewhere here next
-starts_elsewhere (start.IsStore _ _ _) is = (refl, refl)
+starts_elsewhere (start.IsStore _ _) is = (refl, refl)
 starts_elsewhere (start.HasNoPrefix _) is = (refl, refl)
 starts_elsewhere (start.HasPrefix _ _ _) is = (refl, refl)
 starts_elsewhere (start.HasNoStaging _) is = absurd (true≢false (sym is))

@@ -278,7 +278,7 @@ pub looks_sees : {job : Job} {counts : Counts} {past : History} {s : Reading} {p
     → is_looking here ≡ true → Next job counts here prefix held read after calls (Ok next) → is_trail held.trail ≡ true → SourcePart job past here prefix held s
     → (new : Option Reading) → Answers calls.asked (Some s) new → (w : Option Writing) → Changes calls.change (Some bare) w
     → Sees job s.tree past.count here held calls.line (done_after here held.trail next past.count)
-looks_sees _ (Start (start.IsStore _ _ _)) _ _ _ _ _ _ = Nothing refl
+looks_sees _ (Start (start.IsStore _ _)) _ _ _ _ _ _ = Nothing refl
 looks_sees _ (Start (start.HasNoPrefix _)) _ _ _ _ _ _ = Nothing refl
 looks_sees _ (Start (start.HasPrefix _ _ _)) _ _ _ _ _ _ = Nothing refl
 looks_sees is (Start (start.HasNoStaging _)) _ _ _ _ _ _ = absurd (true≢false (sym is))
@@ -296,7 +296,7 @@ looks_sees is (Place turn) _ _ _ _ _ _ = absurd (true≢false (sym is ∙ placin
 
 pub looks_on : {job : Job} {counts : Counts} {prefix read : List ℕ} {here next : Phase} {held after : Held} {calls : Calls} → is_looking here ≡ true
     → Next job counts here prefix held read after calls (Ok next) → is_of_survey (passed next) ≡ true
-looks_on _ (Start (start.IsStore _ _ _)) = refl
+looks_on _ (Start (start.IsStore _ _)) = refl
 looks_on _ (Start (start.HasNoPrefix _)) = refl
 looks_on _ (Start (start.HasPrefix _ _ _)) = refl
 looks_on is (Start (start.HasNoStaging _)) = absurd (true≢false (sym is))

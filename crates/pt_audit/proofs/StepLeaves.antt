@@ -136,7 +136,8 @@ blames_none next left = record { source_is = ap (λ (f : Failures). f.source) le
 -- no turn of a survey refuses a destination
 start_refuses : {job : Job} {here : Phase} {prefix read : List ℕ} {calls : Calls} {why : Fault} → start.StartStep job here prefix read calls (Err why)
     → is_of_survey here ≡ true → is_of_dest why ≡ false
-start_refuses (start.IsNoStore _ _ _) is = refl
+start_refuses (start.HasNoVersion _ _ _ _) is = refl
+start_refuses (start.HasNoPairtree _ _ _) is = refl
 start_refuses (start.IsNoPrefixFile _ _ _ _) is = refl
 start_refuses (start.IsNoPrefix _ _ _ _) is = refl
 start_refuses _ is = absurd (true≢false (sym is))

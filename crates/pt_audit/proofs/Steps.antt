@@ -26,7 +26,7 @@ use Rattle.pt_audit.proofs.Stepping.{going}
 -- the store is seen before its sites
 opens : {job : Job} {counts : Counts} (here : Phase) {next : Phase} {prefix read : List ℕ} {held after : Held} {calls : Calls} → is_before_store here ≡ true
     → Next job counts here prefix held read after calls (Ok next) → is_before_sites (passed next) ≡ true
-opens (phase.Opening opening.Begin) is (Start (start.IsStore _ _ _)) = refl
+opens (phase.Opening opening.Begin) is (Start (start.IsStore _ _)) = refl
 opens (phase.Opening opening.Begin) is (Walk turn) = elim turn [ ]
 opens (phase.Opening opening.Begin) is (Scan turn) = elim turn [ ]
 opens (phase.Opening opening.Begin) is (Make turn) = elim turn [ ]

@@ -44,7 +44,7 @@ stops_by (WasAtHand it) same = Untold same
 
 start_stops : {job : Job} {here : Phase} {prefix read : List ℕ} {calls : Calls} {answer : Answer} {old new : Option (List ℕ)}
     → start.StartStep job here prefix read calls answer → LeavesFront calls.line old new → new ≡ old
-start_stops (start.IsStore _ _ _) same = same
+start_stops (start.IsStore _ _) same = same
 start_stops _ same = same
 
 walk_stops : {job : Job} {past : History} {s : Reading} {prefix : List ℕ} {here : Phase} {held after : Held} {calls : Calls} {answer : Answer}
@@ -85,7 +85,7 @@ looks_stop is (Place turn) _ _ _ _ _ = absurd (true≢false (sym is ∙ placing_
 start_refused : {job : Job} {here : Phase} {prefix read : List ℕ} {calls : Calls} {why : Fault} {old new : Option (List ℕ)}
     → start.StartStep job here prefix read calls (Err why) → Puts calls.line old new → new ≡ old
 unfolding Puts
-start_refused (start.IsNoStore _ _ _) same = same
+start_refused (start.HasNoVersion _ _ _ _) same = same
 start_refused _ same = same
 
 refused_untold : {job : Job} {counts : Counts} {prefix read : List ℕ} {here : Phase} {held after : Held} {calls : Calls} {why : Fault}

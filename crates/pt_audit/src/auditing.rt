@@ -62,7 +62,7 @@ use std::alloc::Global;
 /// nor than a survey's work; after each of them the survey holds no more than a run's bound, and
 /// nothing but a run's fields. While a file of the store is read for its digest, what stands in the
 /// root is read beside it; of a content that isn't alike both are read once more. A step calls the
-/// store at most once or twice; no clause counts what the comparison reads.
+/// store at most three times; no clause counts what the comparison reads.
 pub fn audit<S: Source, R: Source, L: Log, O: Observer<Counts>>(
     alloc: Global,
     source: &mut S,

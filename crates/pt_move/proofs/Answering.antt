@@ -208,19 +208,21 @@ leaves_behind start states r is = left_in (job_of r.state.job) start (as_told st
 
 -- ---- how often the source was called
 
--- twice at most where the prefix is read, which is the second turn, and else once
+-- three times at most where the store's top is looked at, which is the first turn, twice where the prefix is read, which is the second, and else once
 pub few_calls : (here : Phase) (s : State) → TypeInvariant (record { phase = here; state = s })
     → most_calls here ≤ most_calls_at (record { phase = here; state = s })
 few_calls here s well = by here well.bounded.within
   where
-    least : (b : Bool) → 1 ≤ cond b 2 1
-    least true = omega (arith)
-    least false = omega (arith)
+    least : (first second : Bool) → 1 ≤ cond first 3 (cond second 2 1)
+    least true second = omega (arith)
+    least false true = omega (arith)
+    least false false = omega (arith)
 
     one : 1 ≤ most_calls_at (record { phase = here; state = s })
-    one = least (s.counts.turns == 1)
+    one = least (s.counts.turns == 0) (s.counts.turns == 1)
 
     by : (here : Phase) → IsWithin (job_of s.job) here (held_of s []) s.counts.turns → most_calls here ≤ most_calls_at (record { phase = here; state = s })
+    by (phase.Opening opening.Begin) within = rw within (omega (arith))
     by (phase.Opening (opening.Prefix here)) within = rw within (omega (arith))
     by _ _ = one
 

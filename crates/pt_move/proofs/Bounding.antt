@@ -81,7 +81,7 @@ few_same {job} few same = record { rows = rw same few.rows; lengths = rw same fe
 
 follows_few : {job : Job} {counts : Counts} {here : Phase} {prefix read : List ℕ} {held new : Held} {calls : Calls} {answer : Answer} (turns : ℕ)
     → Next job counts here prefix held read new calls answer → AreFew job held → IsWithin job here held turns → AreFew job new
-follows_few _ (Start (start.IsStore _ _ _)) few _ = few
+follows_few _ (Start (start.IsStore _ _)) few _ = few
 follows_few _ (Walk (walk.OpensRoot _ _)) few _ = few_same few refl
 follows_few _ (Scan (scan.IsTooDeep _ _ _ _)) _ _ = no_rows _ _ refl
 follows_few _ (Scan (scan.MeetsDeep _ _ _ _ _ _)) _ _ = no_rows _ _ refl
@@ -111,7 +111,7 @@ either_within job held turns false first second _ within = within
 
 follows_within : {job : Job} {counts : Counts} {here : Phase} {prefix read : List ℕ} {held new : Held} {calls : Calls} {next : Phase} (turns : ℕ)
     → Next job counts here prefix held read new calls (Ok next) → IsWithin job here held turns → IsWithin job next new (turns + 1)
-follows_within turns (Start (start.IsStore _ entries is)) within = omega (arith, within)
+follows_within turns (Start (start.IsStore _ _)) within = omega (arith, within)
 follows_within {job} {held} turns (Start (start.MakesRoot _ number _ _)) _ = either_within job held (turns + 1) (number == 5) (phase.Opening opening.RootRename)
     (phase.Opening (opening.RootMake (number + 1))) tt tt
 follows_within {job} {held} turns (Start (start.IsSame _ number _ _ _)) _ = either_within job held (turns + 1) (number == 2) (phase.Opening opening.OpenRoot)

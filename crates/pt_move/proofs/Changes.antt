@@ -180,7 +180,7 @@ IsRefusal _ = ⊤
 
 pub follows_refuse : {job : Job} {counts : Counts} {here : Phase} {prefix read : List ℕ} {held new : Held} {calls : Calls} {why : Fault}
     → Next job counts here prefix held read new calls (Err why) → IsRefusal why × (calls.line ≡ None)
-follows_refuse (Start (start.IsNoStore _ _ _)) = (tt, refl)
+follows_refuse (Start (start.HasNoVersion _ _ _ _)) = (tt, refl)
 follows_refuse (Walk walks) = elim walks [ ]
 follows_refuse (Scan scans) = elim scans [ ]
 follows_refuse (Make (make.ReadsMore _ _ _ _ _ _ _)) = (tt, refl)
@@ -201,7 +201,7 @@ skip_line counts false at why = tt
 
 pub follows_line : {job : Job} {counts : Counts} {here : Phase} {prefix read : List ℕ} {held new : Held} {calls : Calls} {answer : Answer}
     → Next job counts here prefix held read new calls answer → LineOf counts calls.line
-follows_line (Start (start.IsStore _ _ _)) = tt
+follows_line (Start (start.IsStore _ _)) = tt
 follows_line {job} {counts} {held} (Walk (walk.IsPast _ _ _ _ _)) = skip_line counts (is_first job.share) (names_to held.trail) cause.Past
 follows_line {job} {counts} {held} (Walk (walk.IsDeep _ _ _ _ _ _)) = skip_line counts (is_first job.share) (names_to held.trail) cause.Limit
 follows_line (Scan (scan.StartsInSite _ _ _)) = tt

@@ -45,7 +45,7 @@ BlamesLogLate here (Err why) = ⊤
 -- a turn that tells a line is made where lines may be told
 told_late : {job : Job} {counts : Counts} {here : Phase} {prefix read : List ℕ} {held new : Held} {calls : Calls} {answer : Answer} {line : Line}
     → Next job counts here prefix held read new calls answer → calls.line ≡ Some line → may_tell here ≡ true
-told_late (Start (start.IsStore _ _ _)) tells = absurd (cc)
+told_late (Start (start.IsStore _ _)) tells = absurd (cc)
 told_late (Start _) tells = absurd (cc)
 told_late (Walk (walk.OpensRoot _ _)) _ = refl
 told_late (Scan (scan.StartsInSite _ _ _)) _ = refl

@@ -40,6 +40,7 @@ pub record IsBounded (job : Job) (here : Phase) (kept : Kept) : Type 0 where
 
 -- how often a turn of this phase calls the source at most
 abbrev pub most_calls : Phase → ℕ
+most_calls (phase.Opening opening.Begin) = 3
 most_calls (phase.Opening (opening.Prefix here)) = 2
 most_calls _ = 1
 

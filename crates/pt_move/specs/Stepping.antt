@@ -59,9 +59,10 @@ SameDevice keeps r old new = keeps old new
 abbrev pub Any : {X : Type 0} → X → X → Type 0
 Any old new = ⊤
 
--- how often a step calls the source at most: twice in the second turn, which reads the prefix, and else once
+-- how often a step calls the source at most: three times in the first turn, which looks whether it is a store, twice in the second, which reads the
+-- prefix, and else once
 abbrev pub most_calls_at : Running → ℕ
-most_calls_at r = cond (r.state.counts.turns == 1) 2 1
+most_calls_at r = cond (r.state.counts.turns == 0) 3 (cond (r.state.counts.turns == 1) 2 1)
 
 -- ---- the turn
 

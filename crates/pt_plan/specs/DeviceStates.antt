@@ -1,13 +1,14 @@
 -- What stands outside a run, as far as its devices tell, and how one turn finds and leaves it.
-use Rattle.std.specs.Prelude.{◌≡◌, ℕ, Bool, true, cond, List, [], take, Option, None, Some, ⊤}
+use Rattle.std.specs.Prelude.{◌≡◌, ℕ, Bool, true, cond, List, [], ◌∷◌, take, Option, None, Some, ⊤}
 use Rattle.std.specs.Io.KnownBytes.{Appends}
 use Rattle.std.specs.Option.{option_map}
 use Rattle.pt_object.specs.Script.{Item, MakeFolder, MakeFile, done}
 use Rattle.pt_tree.specs.Dest.{Writing, IsKindAt, IsPeeked, after_append, after_create, after_finish, after_mkdir, after_rename}
 use Rattle.pt_tree.specs.Listing.{Item as Entry, names_rise}
+use Rattle.pt_tree.specs.Forest.{Forest}
 use Rattle.pt_tree.specs.Log.{AppendsFront}
 use Rattle.pt_tree.specs.Path.{Path}
-use Rattle.pt_tree.specs.Source.{Reading, IsListed, IsRead, after_next, after_open}
+use Rattle.pt_tree.specs.Source.{Reading, IsListed, IsRead, IsSeen, after_next, after_open, tree_in}
 use Rattle.pt_tree.specs.Tree.{Bytes, Tree, put}
 use Rattle.pt_tree.specs.declared.kind.Kind.{Kind}
 use Rattle.pt_tree.specs.declared.kind.Kind.TheVariants as kind
@@ -31,7 +32,9 @@ pub record DeviceStates : Type 0 where
 -- what it asks of the source, with the answer
 pub data Asked : Type 0 where
   AsksNothing : Asked
+  Looks : (seen : List (Path × Option Kind)) → Asked
   Lists : (path : Path) → (entries : List Entry) → Asked
+  LooksAndLists : (seen : List (Path × Option Kind)) → (path : Path) → (entries : List Entry) → Asked
   Opens : (path : Path) → Asked
   Reads : (block : List ℕ) → Asked
   OpensAndReads : (path : Path) → (block : List ℕ) → Asked
@@ -77,10 +80,18 @@ tells_if told line =
 
 -- ---- how the devices answer, and what they are left with, where they tell
 
+-- at each of these paths this is seen, one look after another
+abbrev pub AreSeen : Option Forest → List (Path × Option Kind) → Type 0
+AreSeen tree [] = ⊤
+AreSeen tree (look ∷ looks) = IsSeen tree look.0 look.1 × AreSeen tree looks
+
 -- the source gives these answers; the names that are listed rise, whether it tells or not
 unfoldable pub Answers : Asked → Option Reading → Option Reading → Type 0
 Answers AsksNothing old new = new ≡ old
+Answers (Looks seen) old new = AreSeen (tree_in old) seen × (new ≡ old)
 Answers (Lists path entries) old new = IsListed old path entries × (names_rise entries ≡ true) × (new ≡ old)
+Answers (LooksAndLists seen path entries) old new =
+    AreSeen (tree_in old) seen × IsListed old path entries × (names_rise entries ≡ true) × (new ≡ old)
 Answers (Opens path) old new = new ≡ option_map (after_open path) old
 Answers (Reads block) old new = IsRead old block × (new ≡ option_map after_next old)
 Answers (OpensAndReads path block) old new =

@@ -96,7 +96,7 @@ MayMakePart job object part.Sidecar held reading writing =
 
 -- the calls of the turn of this phase may be made
 abbrev pub Enabled : Job → Phase → Held → Option Reading → Option Writing → Type 0
-Enabled job (phase.Opening opening.Begin) held reading writing = CanList reading []
+Enabled job (phase.Opening opening.Begin) held reading writing = ⊤
 Enabled job (phase.Opening (opening.Prefix here)) held reading writing = MayOpenPrefix reading here
 Enabled job (phase.Opening opening.Staging) held reading writing = ⊤
 Enabled job (phase.Opening opening.Root) held reading writing = ⊤

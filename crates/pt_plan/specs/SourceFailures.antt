@@ -7,7 +7,7 @@ use Rattle.pt_tree.specs.Forest.{Forest, dir_at, file_at}
 use Rattle.pt_tree.specs.Path.{Path}
 use Rattle.pt_tree.specs.Source.{Reading, tree_in}
 
--- a run asks its source for what is at this path: the top, the file of the prefix, and what is at `pairtree_root` or below
+-- a run asks its source for what is at this path: the top, for entries of it, the file of the prefix, and what is at `pairtree_root` or below
 abbrev pub IsAskedFor : Path → Type 0
 IsAskedFor [] = ⊤
 IsAskedFor (name ∷ path) = (name ≡ pairtree_root) ⊎ ((name ≡ prefix_file) × (path ≡ []))

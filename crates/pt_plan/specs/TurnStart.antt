@@ -1,5 +1,5 @@
 -- The turns of the start: the source has to be a Pairtree store, and the destination to hold a root that can be gone on with, or none.
-use Rattle.std.specs.Prelude.{◌≡◌, ◌≢◌, ℕ, ◌+◌, ◌==◌, ◌&&◌, Bool, true, false, cond, List, [], ◌∷◌, ◌++◌, Option, None, Some, slice_get, Ok, Err}
+use Rattle.std.specs.Prelude.{◌≡◌, ◌≢◌, ℕ, ◌+◌, ◌==◌, Bool, true, false, cond, List, [], ◌∷◌, ◌++◌, Option, None, Some, slice_get, Ok, Err}
 use Rattle.std.specs.Str.{bytes_eq}
 use Rattle.pt_name.specs.Prefix.{prefix_refusal, without_line_ends}
 use Rattle.pt_name.specs.declared.prefix.PrefixFault.{PrefixFault}
@@ -15,7 +15,7 @@ use Rattle.pt_plan.specs.declared.fault.Fault.TheVariants as fault
 use Rattle.pt_plan.specs.Job.{Job}
 use Rattle.pt_plan.specs.Roots.{storage_root}
 use Rattle.pt_plan.specs.Store.{pairtree_root, prefix_file, version_file}
-use Rattle.pt_plan.specs.DeviceStates.{Calls, Finds, Lists, Makes, OpensAndReads, Peeks, Renames, asks, does, no_calls}
+use Rattle.pt_plan.specs.DeviceStates.{Asked, Calls, Finds, Looks, LooksAndLists, Makes, OpensAndReads, Peeks, Renames, asks, does, no_calls}
 use Rattle.pt_plan.specs.declared.phase.Phase.{Phase}
 use Rattle.pt_plan.specs.declared.phase.Opening.TheVariants as opening
 use Rattle.pt_plan.specs.declared.phase.Phase.TheVariants as phase
@@ -39,10 +39,21 @@ is_dir_kind (Some kind.File) = false
 is_dir_kind (Some kind.Dir) = true
 is_dir_kind (Some kind.Other) = false
 
--- the top lists the version file and the directory of the pairtree (Pairtree 0.1)
-abbrev pub lists_store : List Entry → Bool
-lists_store entries =
-    is_file_kind (kind_in entries version_file) && is_dir_kind (kind_in entries pairtree_root)
+-- what a Pairtree store has at its top (Pairtree 0.1) is looked at in this order, up to the first that isn't as it must be. This stands at the version
+-- file's name; then the top is listed, since one that isn't there, or can't be read, is no store for another reason
+abbrev pub sees_no_version : Option Kind → List Entry → Asked
+sees_no_version here entries = LooksAndLists ((version_file ∷ [], here) ∷ []) [] entries
+
+-- or that is a file, and this stands at the name of the directory of the pairtree
+abbrev pub sees_no_pairtree : Option Kind → Asked
+sees_no_pairtree here =
+    Looks ((version_file ∷ [], Some kind.File) ∷ (pairtree_root ∷ [], here) ∷ [])
+
+-- or that is a directory, and this stands at the prefix file's name
+abbrev pub sees_prefix : Option Kind → Asked
+sees_prefix here =
+    Looks ((version_file ∷ [], Some kind.File) ∷ (pairtree_root ∷ [], Some kind.Dir)
+    ∷ (prefix_file ∷ [], here) ∷ [])
 
 -- after an item of the root's script: the next one, or, after the last, the renaming
 abbrev pub after_item : ℕ → Phase
@@ -54,12 +65,13 @@ after_file file = cond (file == 2) (phase.Opening opening.OpenRoot) (phase.Openi
 
 -- from the phase and the prefix to the prefix after, with the calls and the answer
 pub data StartStep (job : Job) : Phase → List ℕ → List ℕ → Calls → Answer → Type 0 where
-  -- the top is listed
-  IsStore : (prefix : List ℕ) (entries : List Entry) → lists_store entries ≡ true
-      → StartStep job (phase.Opening opening.Begin) prefix prefix (asks (Lists [] entries))
-      (Ok (phase.Opening (opening.Prefix (kind_in entries prefix_file))))
-  IsNoStore : (prefix : List ℕ) (entries : List Entry) → lists_store entries ≡ false
-      → StartStep job (phase.Opening opening.Begin) prefix prefix (asks (Lists [] entries)) (Err fault.NotPairtree)
+  -- up to three names of the top are looked at
+  IsStore : (prefix : List ℕ) (here : Option Kind)
+      → StartStep job (phase.Opening opening.Begin) prefix prefix (asks (sees_prefix here)) (Ok (phase.Opening (opening.Prefix here)))
+  HasNoVersion : (prefix : List ℕ) (here : Option Kind) (entries : List Entry) → is_file_kind here ≡ false
+      → StartStep job (phase.Opening opening.Begin) prefix prefix (asks (sees_no_version here entries)) (Err fault.NotPairtree)
+  HasNoPairtree : (prefix : List ℕ) (here : Option Kind) → is_dir_kind here ≡ false
+      → StartStep job (phase.Opening opening.Begin) prefix prefix (asks (sees_no_pairtree here)) (Err fault.NotPairtree)
   -- the prefix is read, if there is a file for it
   HasNoPrefix : (prefix : List ℕ)
       → StartStep job (phase.Opening (opening.Prefix None)) prefix prefix no_calls (Ok (phase.Opening opening.Staging))

@@ -23,7 +23,7 @@ pub enum Phase {
 /// compared.
 #[derive(Clone, Copy, Debug)]
 pub enum Opening {
-    /// Lists the top of the source.
+    /// Looks whether the source is a Pairtree store.
     Begin,
     /// Reads the prefix file, which is of this kind, if it is there.
     Prefix(Option<Kind>),

@@ -1,11 +1,10 @@
 -- Turns of the worked stores are turns by the definition.
 use Rattle.std.proofs.Common.{refl}
-use Rattle.std.specs.Prelude.{[], ◌∷◌, codes, Some}
+use Rattle.std.specs.Prelude.{[], ◌∷◌, codes, None, Some}
 use Rattle.std.specs.Str.{chars, is_utf8}
 use lib.Utf8.{encode}
 use Rattle.sha2.specs.Sha256.{compress, digest_bytes, first_words, hash_after, rounds, schedule, sha256}
 use Rattle.pt_name.specs.Share.{digest_number}
-use Rattle.pt_tree.specs.Forest.{listing_of}
 use Rattle.pt_tree.specs.declared.kind.Kind.TheVariants as kind
 use Rattle.pt_plan.specs.Run.{nothing_held}
 use Rattle.pt_plan.specs.Turn.{Start, Walk, Scan, Place}
@@ -13,12 +12,11 @@ use Rattle.pt_plan.specs.TurnPlace as place
 use Rattle.pt_plan.specs.TurnScan as scan
 use Rattle.pt_plan.specs.TurnStart as start
 use Rattle.pt_plan.specs.TurnWalk as walk
-use Rattle.pt_run_tests.specs.WorkedStores.{empty_store}
 use Rattle.pt_run_tests.specs.WorkedTurns.{EmptyStoreTurns, OneObjectTurns, at_empty_root, at_file, at_site, object_abc_under_way}
 
 pub empty_store_turns : EmptyStoreTurns
 empty_store_turns = (
-  Start (start.IsStore [] (listing_of empty_store) refl),
+  Start (start.IsStore [] None),
   Start (start.HasNoPrefix []),
   Start (start.HasNoStaging []),
   Start (start.HasNoRoot []),

@@ -1,10 +1,12 @@
 -- Turns of the worked stores, one by one.
-use Rattle.std.specs.Prelude.{ℕ, false, List, [], ◌∷◌, ◌++◌, codes, None, Ok}
+use Rattle.std.specs.Prelude.{ℕ, false, List, [], ◌∷◌, ◌++◌, codes, Option, None, Ok}
 use Rattle.pt_object.specs.Files.{root_declaration_bytes}
 use Rattle.pt_object.specs.RootFiles.{config_text, extension_name, layout_text}
 use Rattle.pt_object.specs.Script.{MakeFile, MakeFolder}
 use Rattle.pt_object.specs.Scripts.{staging}
-use Rattle.pt_tree.specs.Forest.{listing_of}
+use Rattle.pt_tree.specs.Forest.{kind_at}
+use Rattle.pt_tree.specs.Path.{Path}
+use Rattle.pt_tree.specs.declared.kind.Kind.{Kind}
 use Rattle.pt_tree.specs.declared.kind.Kind.TheVariants as kind
 use Rattle.pt_walk.specs.declared.frame.Frame.{Frame}
 use Rattle.pt_plan.specs.Job.{Job}
@@ -12,7 +14,7 @@ use Rattle.pt_plan.specs.Lines.{End}
 use Rattle.pt_plan.specs.Run.{Held, no_counts, nothing_held, with_fed, with_trail}
 use Rattle.pt_plan.specs.Turn.{Next}
 use Rattle.pt_plan.specs.Roots.{storage_root}
-use Rattle.pt_plan.specs.DeviceStates.{Calls, Finds, Lists, Makes, Opens, Reads, Renames, asks, does, no_calls, tells}
+use Rattle.pt_plan.specs.DeviceStates.{Calls, Finds, Lists, Looks, Makes, Opens, Reads, Renames, asks, does, no_calls, tells}
 use Rattle.pt_run_tests.specs.WorkedStores.{empty_store, flat_job, worked_job}
 use Rattle.pt_plan.specs.declared.object.Object.{Object}
 use Rattle.pt_plan.specs.declared.phase.Phase.{Phase}
@@ -28,10 +30,15 @@ Leads job here held calls next after = Next job no_counts here [] held [] after 
 abbrev pub at_empty_root : Held
 at_empty_root = with_trail nothing_held (record { listing = []; place = 0 } ∷ [])
 
+-- what is seen at a name of the top of the empty store
+abbrev pub seen_there : List ℕ → Path × Option Kind
+seen_there name = (name ∷ [], kind_at empty_store (name ∷ []))
+
 -- the 15 turns of the empty store, over no root
 abbrev pub EmptyStoreTurns : Type 0
 EmptyStoreTurns =
-    Leads worked_job (phase.Opening opening.Begin) nothing_held (asks (Lists [] (listing_of empty_store)))
+    Leads worked_job (phase.Opening opening.Begin) nothing_held (asks (Looks (seen_there (codes "pairtree_version0_1")
+    ∷ seen_there (codes "pairtree_root") ∷ seen_there (codes "pairtree_prefix") ∷ [])))
     (phase.Opening (opening.Prefix None)) nothing_held
     × Leads worked_job (phase.Opening (opening.Prefix None)) nothing_held no_calls (phase.Opening opening.Staging) nothing_held
     × Leads worked_job (phase.Opening opening.Staging) nothing_held (does (Finds staging None)) (phase.Opening opening.Root) nothing_held

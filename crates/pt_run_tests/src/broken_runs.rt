@@ -155,9 +155,9 @@ const FIVE_TURNS: &[Step] = &[
     Step::Is(Base::Nothing, &[("staging/", "")]),
 ];
 
-const TEN_CALLS: &[Step] = &[
+const TWELVE_CALLS: &[Step] = &[
     Step::Store(STORE),
-    Step::SourceFails(10),
+    Step::SourceFails(12),
     Step::Run(Settings::Usual, Ends::In(Fault::Source), ""),
     Step::Is(
         Base::Root,
@@ -168,19 +168,19 @@ const TEN_CALLS: &[Step] = &[
     ),
 ];
 
-const ELEVEN_CALLS: &[Step] = &[
+const THIRTEEN_CALLS: &[Step] = &[
     Step::Store(STORE),
-    Step::SourceFails(11),
+    Step::SourceFails(13),
     Step::Run(Settings::Usual, Ends::Well, LINES),
     Step::Is(Base::Object(ONE), ABC),
 ];
 
-// What a file of `abc` holds when it is read again, after eight calls, and what is left then.
+// What a file of `abc` holds when it is read again, after ten calls, and what is left then.
 struct ChangedFile(&'static str, Files);
 
 fn changes(alloc: Global, source: &mut LooseSource, bytes: &str) -> bool {
     match path(alloc, "pairtree_root/ab/c/obj/a.txt") {
-        Ok(file) => source.swap_after(8, &file, bytes.as_bytes()).is_ok(),
+        Ok(file) => source.swap_after(10, &file, bytes.as_bytes()).is_ok(),
         Err(_) => false,
     }
 }
@@ -280,14 +280,14 @@ fn runs_stop_at_a_failing_call_or_the_limit_of_turns(rt: HostRuntime) {
     all_go(
         &rt,
         rt.alloc(),
-        "a source that fails after ten calls ends the run",
-        TEN_CALLS,
+        "a source that fails after twelve calls ends the run",
+        TWELVE_CALLS,
     );
     all_go(
         &rt,
         rt.alloc(),
-        "a run takes eleven calls of its source",
-        ELEVEN_CALLS,
+        "a run takes thirteen calls of its source",
+        THIRTEEN_CALLS,
     );
     all_go(&rt, rt.alloc(), "a run that isn't broken", UNBROKEN);
     all_go(

@@ -10,6 +10,7 @@ use Rattle.pt_state.proofs.Words.{
   GoesOn,
   Start,
   Lists,
+  Looks,
   DeviceStates,
   asks,
   Fault,
@@ -29,27 +30,67 @@ use Rattle.pt_state.proofs.Words.kind
 use Rattle.pt_state.proofs.Words.opening
 use Rattle.pt_state.proofs.Words.phase
 use Rattle.pt_plan.specs.Enabled.{MayOpenPrefix}
-use Rattle.pt_plan.specs.Store.{prefix_file}
-use Rattle.pt_plan.specs.TurnStart.{IsStore, IsNoStore, HasNoPrefix, IsNoPrefixFile, HasPrefix, IsNoPrefix, kind_in, lists_store}
+use Rattle.pt_plan.specs.Store.{pairtree_root, prefix_file, version_file}
+use Rattle.pt_plan.specs.TurnStart.{
+  IsStore,
+  HasNoVersion,
+  HasNoPairtree,
+  HasNoPrefix,
+  IsNoPrefixFile,
+  HasPrefix,
+  IsNoPrefix,
+  is_dir_kind,
+  is_file_kind,
+}
 use Rattle.pt_plan.specs.DeviceStates.{OpensAndReads}
 use Rattle.pt_scan.specs.Store.{PrefixFails}
-use Rattle.pt_state.proofs.Together.{did_nothing}
+use Rattle.pt_state.proofs.Together.{did_nothing, looks_and_lists, looks_on}
 use Rattle.pt_state.proofs.Turns.{keeps_same, short_asked, turns}
 use Rattle.pt_tree.specs.Listing.{Item as Entry}
+use Rattle.pt_tree.specs.Source.{CanList}
 use Rattle.pt_state.proofs.Starts.{goes, halts}
 
 -- ---- the top
 
-pub is_store : (s : State) (w w' : DeviceStates) (top : Path) (entries : List Entry) (here : Option Kind) → top ≡ [] → Did (asks (Lists top entries)) w w'
-    → true ≡ lists_store entries → here ≡ kind_in entries prefix_file → Turned (phase.Opening opening.Begin) s s w w' (Ok (phase.Opening (opening.Prefix here)))
-is_store s w w' top entries here at did is same =
-    rw same
-    (goes w w' (IsStore _ entries (sym is)) (rw (at) at did) refl keeps_same refl)
+-- this is seen at a name of it
+abbrev Sees : List ℕ → Option Kind → DeviceStates → DeviceStates → Type 0
+Sees name here a b = Did (asks (Looks ((name ∷ [], here) ∷ []))) a b
 
-pub is_no_store : (s : State) (w w' : DeviceStates) (top : Path) (entries : List Entry) → top ≡ [] → Did (asks (Lists top entries)) w w'
-    → false ≡ lists_store entries → Turned (phase.Opening opening.Begin) s s w w' (Err fault.NotPairtree)
-is_no_store s w w' top entries at did is =
-    halts w w' (IsNoStore _ entries (sym is)) (rw (at) at did) keeps_same
+file_seen : (here : Option Kind) → is_file_kind here ≡ true → here ≡ Some kind.File
+file_seen None is = absurd (cc)
+file_seen (Some kind.File) is = refl
+file_seen (Some kind.Dir) is = absurd (cc)
+file_seen (Some kind.Other) is = absurd (cc)
+
+dir_seen : (here : Option Kind) → is_dir_kind here ≡ true → here ≡ Some kind.Dir
+dir_seen None is = absurd (cc)
+dir_seen (Some kind.File) is = absurd (cc)
+dir_seen (Some kind.Dir) is = refl
+dir_seen (Some kind.Other) is = absurd (cc)
+
+-- it may be listed
+pub list_top : (told : Option Reading) (top : Path) → top ≡ [] → CanList told top
+unfolding CanList
+list_top told top at s is = rw (at) refl
+
+pub no_version : (s : State) (a b c : DeviceStates) (here : Option Kind) (top : Path) (entries : List Entry) → top ≡ [] → Sees version_file here a b
+    → Did (asks (Lists top entries)) b c → is_file_kind here ≡ false → Turned (phase.Opening opening.Begin) s s a c (Err fault.NotPairtree)
+no_version s a b c here top entries at sees lists is =
+    halts a c (HasNoVersion _ here entries is) (looks_and_lists _ [] entries a b c sees (rw (at) at lists)) keeps_same
+
+pub no_pairtree : (s : State) (a b c : DeviceStates) (version here : Option Kind) → is_file_kind version ≡ true → Sees version_file version a b
+    → Sees pairtree_root here b c → is_dir_kind here ≡ false → Turned (phase.Opening opening.Begin) s s a c (Err fault.NotPairtree)
+no_pairtree s a b c version here file first next is =
+    let there = rw (file_seen version file) at first in
+    halts a c (HasNoPairtree _ here is) (looks_on _ _ a b c there next) keeps_same
+
+pub is_store : (s : State) (a b c d : DeviceStates) (version pairtree here : Option Kind) → is_file_kind version ≡ true → is_dir_kind pairtree ≡ true
+    → Sees version_file version a b → Sees pairtree_root pairtree b c → Sees prefix_file here c d
+    → Turned (phase.Opening opening.Begin) s s a d (Ok (phase.Opening (opening.Prefix here)))
+is_store s a b c d version pairtree here file dir first next last =
+    let one = rw (file_seen version file) at first in
+    let two = rw (dir_seen pairtree dir) at next in
+    goes a d (IsStore _ here) (looks_on _ _ a c d (looks_on _ _ a b c one two) last) refl keeps_same refl
 
 -- ---- the prefix
 
@@ -104,4 +145,4 @@ pub may_open_prefix : (told : Option Reading) (here : Option Kind) (path : Path)
 unfolding MayOpenPrefix
 may_open_prefix told here path may is at = rw (at) (may is)
 
-pub ruleset starting = (turns, may_open_prefix, is_store, is_no_store, no_prefix, no_prefix_dir, no_prefix_other, has_prefix, bad_prefix)
+pub ruleset starting = (turns, may_open_prefix, no_prefix, no_prefix_dir, no_prefix_other, has_prefix, bad_prefix)

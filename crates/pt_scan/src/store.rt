@@ -1,51 +1,61 @@
 //! The source has to be a Pairtree store with a good prefix.
 #![tactic(auto, using(crate::proofs::StoreTurns::starting))]
 
-ghost use Rattle.std.specs.Prelude.{◌≡◌, [], None, IfOk, IfErr};
+ghost use Rattle.std.specs.Prelude.{◌≡◌, [], ◌∷◌, None, IfOk, IfErr};
 ghost use Rattle.std.specs.String.{string_bytes};
 ghost use Rattle.pt_name.specs.Prefix.{prefix_refusal, without_line_ends};
 ghost use Rattle.pt_plan.specs.Enabled.{MayOpenPrefix};
-ghost use Rattle.pt_plan.specs.TurnStart.{lists_store};
 ghost use Rattle.pt_plan.specs.declared.phase.Opening.TheVariants as opening;
 ghost use Rattle.pt_plan.specs.declared.phase.Phase.TheVariants as phase;
-ghost use Rattle.pt_tree.specs.Source.{CanList};
+ghost use Rattle.pt_object.specs.WellKnown.{known_text};
+ghost use Rattle.pt_state.specs.Outside.{Looked};
 ghost use Rattle.pt_state.specs.Turns.{TakesTurn};
 ghost use Rattle.pt_scan.specs.Store.{PrefixFails};
 
 use pt_name::{PrefixFault, read_prefix};
 use pt_object::WellKnownName;
-use pt_plan::kinds::{is_dir, is_file, kind_in};
+use pt_plan::kinds::{is_dir, is_file};
 use pt_plan::{Fault, Opening, Phase};
 use pt_state::files::read_first;
 use pt_state::{Io, State};
-use pt_tree::{Block, Kind, KnownName, Listing, NamePath};
+use pt_tree::{Block, Kind, NamePath};
 use std::alloc::Global;
 
-/// Lists the top.
+/// Looks at what a Pairtree store has at its top (Pairtree 0.1): the file `pairtree_version0_1`,
+/// the directory `pairtree_root` and the prefix file. However much else stands there, that is three
+/// looks.
 ///
-/// Halts for `NotPairtree` where it has no file `pairtree_version0_1` or no directory
-/// `pairtree_root`, for `Source` where it can't be listed, and for `Memory` where a growth is
+/// Halts for `NotPairtree` where there is no such file or no such directory, for `Source` where a
+/// look fails or a top without the file can't be listed, and for `Memory` where a growth is
 /// refused.
 pub fn begin<O: Io>(state: &State, out: &mut O) -> Result<Phase, Fault>
-    requires { CanList (O.states out.old).source [] }
-    ensures turn { TakesTurn O.Io (1, 0) (phase.Opening opening.Begin)
+    ensures turn { TakesTurn O.Io (3, 0) (phase.Opening opening.Begin)
         (state.now, out.old) (state.now, out.new) result }
 {
-    let top = NamePath::new(state.alloc);
-    let listing = out.list(&top)?;
-    if !is_store(&listing) {
+    let version = look_at_top(state.alloc, WellKnownName::VersionFile, out)?;
+    if !is_file(version) {
+        // A folder that isn't there is no folder without that file, so it has to be readable.
+        out.list(&NamePath::new(state.alloc))?;
         return Err(Fault::NotPairtree);
     }
-    let here = kind_in(&listing, WellKnownName::PrefixFile.text().as_bytes());
-    Ok(Phase::Opening(Opening::Prefix(here)))
+    let pairtree = look_at_top(state.alloc, WellKnownName::PairtreeRoot, out)?;
+    if !is_dir(pairtree) {
+        return Err(Fault::NotPairtree);
+    }
+    let prefix = look_at_top(state.alloc, WellKnownName::PrefixFile, out)?;
+    Ok(Phase::Opening(Opening::Prefix(prefix)))
 }
 
-// Whether a top lists what a store has.
-fn is_store(listing: &Listing) -> bool
-    ensures { result ≡ lists_store listing.now }
+// Asks what stands at a name of the top.
+fn look_at_top<O: Io>(
+    alloc: Global,
+    name: WellKnownName,
+    out: &mut O,
+) -> Result<Option<Kind>, Fault>
+    ensures { Looked O.states (O.within 1 0) (known_text name ∷ []) out.old out.new result }
 {
-    is_file(kind_in(listing, WellKnownName::VersionFile.text().as_bytes()))
-        && is_dir(kind_in(listing, WellKnownName::PairtreeRoot.text().as_bytes()))
+    let path = NamePath::of_known(alloc, &[name])?;
+    out.look(&path)
 }
 
 /// Reads the prefix file, if it is there.

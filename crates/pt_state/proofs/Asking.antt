@@ -1,5 +1,5 @@
 -- What a call of the devices came to in their states, from what the device promises.
-use Rattle.std.proofs.Common.{◌≡◌, ℕ, List, refl, sym, subst, ap, add-zero, arith}
+use Rattle.std.proofs.Common.{◌≡◌, ℕ, List, [], ◌∷◌, refl, sym, subst, ap, add-zero, arith}
 use Rattle.std.specs.Prelude.{Option, Some, Err, IsTrue, IsSome}
 use Rattle.std.specs.Io.KnownBytes.{Appends}
 use Rattle.std.specs.Option.{option_map}
@@ -21,6 +21,7 @@ use Rattle.pt_state.proofs.Words.{
   Finds,
   Finishes,
   Lists,
+  Looks,
   Makes,
   OfPiece,
   Opens,
@@ -50,7 +51,7 @@ use Rattle.pt_plan.specs.DeviceStates.{Peeks}
 use Rattle.pt_tree.specs.Dest.{CanPeek, IsPeeked, LeavesPart, after_append, after_finish, after_mkdir, after_rename}
 use Rattle.pt_tree.specs.Failures.{AreAsManyCalls, IsCounted, IsOneMoreCall}
 use Rattle.pt_tree.specs.Listing.{Item as Entry, names_rise}
-use Rattle.pt_tree.specs.Source.{IsListed, IsRead, after_next}
+use Rattle.pt_tree.specs.Source.{IsListed, IsRead, IsSeen, after_next}
 use Rattle.pt_tree.specs.Tree.{Entry as TreeEntry, bytes_of}
 use Rattle.pt_tree.specs.declared.faults.TreeFault.{TreeFault}
 use Rattle.pt_tree.specs.declared.faults.TreeFault.TheVariants as tree
@@ -84,6 +85,11 @@ module _ (r r' : Option Reading) (w : Option Writing) (g : Option (List ℕ)) (n
       → Did (asks (Lists p entries)) (states r w g n d l) (states r' w g n' d l)
   unfolding Answers
   did_list p entries is rise same count = answers (Lists p entries) (is, rise, same) count
+
+  pub did_look : (p : Path) (here : Option Kind) → IsSeen (tree_in r) p here → r' ≡ r → n' ≡ n
+      → Did (asks (Looks ((p, here) ∷ []))) (states r w g n d l) (states r' w g n' d l)
+  unfolding Answers
+  did_look p here is same count = answers (Looks ((p, here) ∷ [])) ((is, tt), same) count
 
   pub did_open : (p : Path) → r' ≡ option_map (after_open p) r → n' ≡ n → Did (asks (Opens p)) (states r w g n d l) (states r' w g n' d l)
   unfolding Answers
@@ -195,6 +201,7 @@ module _ (r : Option Reading) (w : Option Writing) (g g' : Option (List ℕ)) (n
 
 pub ruleset answering = (
   did_list,
+  did_look,
   did_open,
   did_next,
   stays_source,

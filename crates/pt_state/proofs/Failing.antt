@@ -5,11 +5,11 @@ use Rattle.std.specs.Prelude.{◌⊎◌, IsSome, None, OnErr, OnOk, Option, Resu
 use Rattle.pt_plan.specs.SourceFailures.{FailsAtOpen, FailsWhereAsked, FailsOnlyWhereAsked, IsAskedFor, SourceView, StandsAt}
 use Rattle.pt_state.proofs.Together.{opened, read_on}
 use Rattle.pt_state.specs.SourceFailures.{fails_nowhere}
-use Rattle.pt_tree.specs.Failing.{Failing, GoesAs, ListsAs, OpensAs, OpensWith, ReadsAs, ReadsWith}
+use Rattle.pt_tree.specs.Failing.{Failing, GoesAs, ListsAs, LooksAs, LooksWith, OpensAs, OpensWith, ReadsAs, ReadsWith}
 use Rattle.pt_tree.specs.Failures.{IsCounted}
 use Rattle.pt_tree.specs.Forest.{Forest, dir_at, file_at}
-use Rattle.pt_tree.specs.Path.{Path}
-use Rattle.pt_tree.specs.Source.{CanList, CanOpen, Reading, after_next, after_open, tree_in}
+use Rattle.pt_tree.specs.Path.{Path, parent}
+use Rattle.pt_tree.specs.Source.{CanList, CanLook, CanOpen, Reading, after_next, after_open, tree_in}
 use Rattle.pt_tree.specs.declared.faults.TreeFault.{TreeFault}
 use Rattle.pt_tree.specs.declared.faults.TreeFault.TheVariants as tree
 
@@ -25,6 +25,10 @@ dir_stands : (r : Option Reading) (p : Path) → CanList r p → ForSome (tree_i
 unfolding CanList
 dir_stands None p can tree is = absurd (cc)
 dir_stands (Some s) p can tree is = let same : s.tree ≡ tree = cc in inl (subst (λ (t : Forest). IsSome (dir_at t p)) same (can s refl))
+
+above_stands : (tree : Option Forest) (p : Path) → CanLook tree p → ForSome tree (λ tree. StandsAt tree (parent p))
+unfolding CanLook
+above_stands tree p can t is = inl (can t is)
 
 file_stands : (r : Option Reading) (p : Path) → CanOpen r p → ForSome (tree_in r) (λ tree. StandsAt tree p)
 unfolding CanOpen
@@ -95,6 +99,22 @@ module _ (r r' : Option Reading) (n n' : ℕ) (p : Path) where
           record { failed = inr (fails_at g of (file_stands r p can) opens.1); still = still (Some g) f' (ap tree_in same) opens.0 }
       by (Err tree.Memory) opens ok same count = record { failed = inl count; still = still (Some g) f' (ap tree_in same) opens }
 
+-- a path is looked at
+pub fails_look : {T : Type 0} (r r' : Option Reading) (n n' : ℕ) (p : Path) (f f' : Option Failing) (result : Result T TreeFault) → CanLook (tree_in r) p
+    → IsAskedFor (parent p) → LooksAs f f' p result → r' ≡ r → IsCounted n n' result
+    → FailsOnlyWhereAsked (source r f n) (source r' f' n')
+unfolding LooksAs
+fails_look r r' n n' p None f' result can of looks same count = record { failed = inr (untold r); still = λ fails. untold r }
+fails_look {T} r r' n n' p (Some g) f' result can of looks same count = record {
+  failed = by result (looks g refl).1 count;
+  still = still r r' n n' (parent p) (Some g) f' (ap tree_in same) (looks g refl).0;
+}
+  where
+    by : (result : Result T TreeFault) → LooksWith (g.at (parent p)) result → IsCounted n n' result → (n' ≡ n) ⊎ Fails r (Some g)
+    by (Ok x) goes count = inl count
+    by (Err tree.Device) goes count = inr (fails_at r r' n n' (parent p) g of (above_stands (tree_in r) p can) goes)
+    by (Err tree.Memory) goes count = inl count
+
 -- a block of the open file is read
 pub fails_next : {T : Type 0} (r r' : Option Reading) (n n' : ℕ) (f f' : Option Failing) (block : List ℕ) (result : Result T TreeFault)
     → ReadsAs f f' block result
@@ -111,4 +131,4 @@ fails_next {T} r r' n n' (Some g) f' block result reads ok same count = by resul
         record { failed = inr (inl (λ h is. held g h (λ k. k.reading ≡ true) is goes.1)); still = still r r' n n' [] (Some g) f' (ap tree_in same) goes.0 }
     by (Err tree.Memory) goes ok same count = record { failed = inl count; still = still r r' n n' [] (Some g) f' (ap tree_in same) goes.0 }
 
-pub ruleset failing = (fails_nowhere, fails_list, fails_open, fails_next)
+pub ruleset failing = (fails_nowhere, fails_list, fails_look, fails_open, fails_next)

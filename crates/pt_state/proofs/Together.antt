@@ -1,5 +1,5 @@
 -- What several calls of a turn came to.
-use Rattle.std.proofs.Common.{◌≡◌, ℕ, List, [], ◌++◌, Bool, true, false, refl, sym, ap, ◌∙◌, take, length, cond, arith}
+use Rattle.std.proofs.Common.{◌≡◌, ℕ, List, [], ◌∷◌, ◌++◌, Bool, true, false, refl, sym, ap, ◌∙◌, take, length, cond, arith}
 use Rattle.std.proofs.lemmas.List.{take_all}
 use Rattle.std.specs.Prelude.{Option, None, Some}
 use Rattle.std.specs.Option.{option_map}
@@ -18,6 +18,7 @@ use Rattle.pt_state.proofs.Words.{
   Finds,
   Finishes,
   Lists,
+  Looks,
   Makes,
   OfPiece,
   Opens,
@@ -44,8 +45,10 @@ use Rattle.pt_state.proofs.Words.{
 }
 use Rattle.pt_object.specs.Script.{done}
 use Rattle.pt_object.proofs.Ways.{path_itself}
-use Rattle.pt_plan.specs.DeviceStates.{AsksNothing, LeavesPart, OfFile, OpensAndReads, WasRead, after_make}
+use Rattle.pt_plan.specs.DeviceStates.{AreSeen, AsksNothing, LeavesPart, LooksAndLists, OfFile, OpensAndReads, WasRead, after_make}
 use Rattle.pt_state.proofs.Words.fault
+use Rattle.pt_tree.specs.Forest.{Forest}
+use Rattle.pt_tree.specs.Listing.{Item as Entry}
 use Rattle.pt_tree.specs.Dest.{CanWrite, added_to, after_append, after_finish}
 use Rattle.pt_tree.specs.Source.{CanRead, after_next}
 use Rattle.pt_tree.specs.Tree.{edited_by, put}
@@ -64,7 +67,9 @@ read_on (Some s) = refl
 pub asked_tree : (asked : Asked) (r r' : Option Reading) → Answers asked r r' → tree_in r' ≡ tree_in r
 unfolding Answers
 asked_tree AsksNothing r r' is = ap tree_in is
+asked_tree (Looks seen) r r' is = ap tree_in is.1
 asked_tree (Lists path entries) r r' is = ap tree_in is.2
+asked_tree (LooksAndLists seen path entries) r r' is = ap tree_in is.3
 asked_tree (Opens path) r r' is = ap tree_in is ∙ opened path r
 asked_tree (Reads block) r r' is = ap tree_in is.1 ∙ read_on r
 asked_tree (OpensAndReads path block) r r' is = ap tree_in is.1 ∙ read_on (option_map (after_open path) r) ∙ opened path r
@@ -120,7 +125,9 @@ then_did asked change a b c first next = (
 was_read : (asked : Asked) (r r' : Option Reading) → Answers asked r r' → WasRead asked r
 unfolding Answers
 was_read AsksNothing r r' is = tt
+was_read (Looks seen) r r' is = tt
 was_read (Lists path entries) r r' is = tt
+was_read (LooksAndLists seen path entries) r r' is = tt
 was_read (Opens path) r r' is = tt
 was_read (Reads block) r r' is = is.0
 was_read (OpensAndReads path block) r r' is = tt
@@ -153,6 +160,37 @@ leaves_none change f a b stays = (
 pub leaves_short : (change : Change) (why : Fault) (w : DeviceStates) → why ≡ fault.Memory → FailsPartway (does change) why w w
 unfolding FailsUnchanged
 leaves_short change why w is = leaves_none change why w w (rw is (refl, refl, refl, refl, tt))
+
+-- ---- looks at the source, and a listing behind them
+
+both_seen : (tree : Option Forest) (seen more : List (Path × Option Kind)) → AreSeen tree seen → AreSeen tree more → AreSeen tree (seen ++ more)
+both_seen tree [] more first next = next
+both_seen tree (look ∷ seen) more first next = (first.0, both_seen tree seen more first.1 next)
+
+pub looks_on : (seen more : List (Path × Option Kind)) (a b c : DeviceStates) → Did (asks (Looks seen)) a b → Did (asks (Looks more)) b c
+    → Did (asks (Looks (seen ++ more))) a c
+unfolding Did Answers Changes Puts
+looks_on seen more a b c first next = (
+  record {
+    source = (both_seen (tree_in a.source) seen more first.0.source.0 (rw first.0.source.1 at next.0.source.0), next.0.source.1 ∙ first.0.source.1);
+    dest = next.0.dest ∙ first.0.dest;
+    log = next.0.log ∙ first.0.log;
+  },
+  next.1 ∙ first.1,
+)
+
+pub looks_and_lists : (seen : List (Path × Option Kind)) (path : Path) (entries : List Entry) (a b c : DeviceStates) → Did (asks (Looks seen)) a b
+    → Did (asks (Lists path entries)) b c
+    → Did (asks (LooksAndLists seen path entries)) a c
+unfolding Did Answers Changes Puts
+looks_and_lists seen path entries a b c first next = (
+  record {
+    source = (first.0.source.0, rw first.0.source.1 at next.0.source.0, next.0.source.1, next.0.source.2 ∙ first.0.source.1);
+    dest = next.0.dest ∙ first.0.dest;
+    log = next.0.log ∙ first.0.log;
+  },
+  next.1 ∙ first.1,
+)
 
 -- ---- files of the source
 

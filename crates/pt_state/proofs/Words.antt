@@ -29,6 +29,7 @@ pub use Rattle.pt_plan.specs.DeviceStates.{
   Finds,
   Finishes,
   Lists,
+  Looks,
   Makes,
   NewFile,
   OfPiece,

@@ -1,5 +1,5 @@
 -- One turn, as the functions of a run make it: that it is a turn of the run's definitions, over the states of its devices.
-use Rattle.std.specs.Prelude.{◌≡◌, ℕ, List, Option, Result, Ok, Err, IfErr, IfOk, OnOk, ⊤}
+use Rattle.std.specs.Prelude.{◌≡◌, ℕ, List, [], ◌∷◌, Option, Result, Ok, Err, IfErr, IfOk, OnOk, ⊤}
 use Rattle.pt_object.specs.Hasher.{HasBeenFed}
 use Rattle.pt_object.specs.declared.algorithm.Algorithm.{Algorithm}
 use Rattle.pt_object.specs.declared.hasher.Hasher.{Hasher}
@@ -13,7 +13,7 @@ use Rattle.pt_tree.specs.declared.log.Log.{Ghosts as OfLog}
 use Rattle.pt_tree.specs.declared.source.Source.{Ghosts as OfSource}
 use Rattle.pt_plan.specs.Answer.{Answer}
 use Rattle.pt_plan.specs.Turn.{Did, FailsPartway, FailsUnchanged, Turn}
-use Rattle.pt_plan.specs.DeviceStates.{Calls, Finds, Lists, DeviceStates, asks, does}
+use Rattle.pt_plan.specs.DeviceStates.{Calls, Finds, Lists, Looks, DeviceStates, asks, does}
 use Rattle.pt_plan.specs.declared.fault.Fault.{Fault}
 use Rattle.pt_plan.specs.declared.phase.Phase.{Phase}
 use Rattle.pt_state.specs.States.{job_of, kept_of}
@@ -59,7 +59,14 @@ pub record Listed {O : Type 0} (states : O → DeviceStates) (within : O → O �
   pub failed : IfErr result (λ why. FailsUnchanged why (states old) (states new))
   pub few : within old new
 
--- a look at a path: so it is with what stands there
+-- a look at a path of the source: so it is with what stands there
+pub record Looked {O : Type 0} (states : O → DeviceStates) (within : O → O → Type 0) (path : Path) (old new : O)
+    (result : Result (Option Kind) Fault) : Type 0 where
+  pub did : IfOk result (λ here. Did (asks (Looks ((path, here) ∷ []))) (states old) (states new))
+  pub failed : IfErr result (λ why. FailsUnchanged why (states old) (states new))
+  pub few : within old new
+
+-- a look at a path of the destination: so it is with what stands there
 pub record Found {O : Type 0} (states : O → DeviceStates) (within : O → O → Type 0) (path : Path) (old new : O)
     (result : Result (Option Kind) Fault) : Type 0 where
   pub did : IfOk result (λ here. Did (does (Finds path here)) (states old) (states new))

@@ -9,10 +9,11 @@ ghost use Rattle.pt_plan.specs.SourceFailures.{FailsOnlyWhereAsked, IsAskedFor};
 ghost use Rattle.pt_plan.specs.DeviceStates.{DeviceStates, Adds, Creates, Finishes, Makes, Opens, Peeks, Reads, Renames, asks, does, tells};
 ghost use Rattle.pt_tree.specs.Dest.{Writing, CanPeek, CanWrite, MayMake, MayMove};
 ghost use Rattle.pt_tree.specs.Forest.{is_proper};
-ghost use Rattle.pt_tree.specs.Source.{Reading, CanList, CanOpen, CanRead};
+ghost use Rattle.pt_tree.specs.Path.{parent};
+ghost use Rattle.pt_tree.specs.Source.{Reading, CanList, CanLook, CanOpen, CanRead, tree_in};
 ghost use Rattle.pt_tree.specs.Tree.{IsTree};
 ghost use Rattle.pt_state.specs.Counting.{AtMostCalls, calls_after, calls_more, calls_most, calls_none, calls_still};
-ghost use Rattle.pt_state.specs.Outside.{Called, Found, Listed, Wrote, states_of};
+ghost use Rattle.pt_state.specs.Outside.{Called, Found, Listed, Looked, Wrote, states_of};
 ghost use Rattle.pt_state.specs.SourceFailures.{fails_nowhere, fails_on, source_view};
 
 use pt_plan::Fault;
@@ -32,11 +33,17 @@ pub trait Io {
     /// at most so many times more what stands.
     ghost within: { ℕ → ℕ → Self → Self → Type 0 };
 
-    /// Lists a directory of the source, the top or one of the pairtree.
+    /// Lists a directory of the source, one of the pairtree, or the top where it has no store.
     fn list(&mut self, path: &NamePath) -> Result<Listing, Fault>
         requires listed { CanList (states self.old).source path.now }
         requires asked_for { IsAskedFor path.now }
         ensures { Listed states (within 1 0) path.now self.old self.new result };
+
+    /// Asks what stands at a path of the source, right in its top.
+    fn look(&mut self, path: &NamePath) -> Result<Option<Kind>, Fault>
+        requires looked { CanLook (tree_in (states self.old).source) path.now }
+        requires asked_for { IsAskedFor (parent path.now) }
+        ensures { Looked states (within 1 0) path.now self.old self.new result };
 
     /// Opens a file of the source, that of the prefix or one of the pairtree.
     fn open(&mut self, path: &NamePath) -> Result<(), Fault>
@@ -216,6 +223,10 @@ impl<'s, 'd, 'l, S: Source, D: Dest, L: Log> Io for Devices<'s, 'd, 'l, S, D, L>
             }
             Err(fault) => Err(Fault::of_source(fault)),
         }
+    }
+
+    fn look(&mut self, path: &NamePath) -> Result<Option<Kind>, Fault> {
+        self.source.kind(path).map_err(Fault::of_source)
     }
 
     fn open(&mut self, path: &NamePath) -> Result<(), Fault> {

@@ -5,7 +5,7 @@ use Rattle.pt_tree.specs.Source.{Reading, after_next, after_open}
 use Rattle.pt_plan.specs.Job.{Job}
 use Rattle.pt_plan.specs.Run.{Kept, Run, turning}
 use Rattle.pt_plan.specs.Turn.{Did, GoesOn, Turn}
-use Rattle.pt_plan.specs.DeviceStates.{Answers, Asked, AsksNothing, Lists, Opens, OpensAndReads, Reads, DeviceStates}
+use Rattle.pt_plan.specs.DeviceStates.{Answers, Asked, AsksNothing, Lists, Looks, LooksAndLists, Opens, OpensAndReads, Reads, DeviceStates}
 use Rattle.pt_plan.specs.declared.phase.Phase.{Phase}
 use Rattle.pt_invariant.specs.RunInvariant.{RunInvariant, Start}
 use Rattle.pt_invariant.specs.SourceInvariant.{IsWithinBound}
@@ -20,7 +20,9 @@ use Rattle.pt_invariant.proofs.bounds.WithinBound.{invariant_is_within_bound}
 answered : (asked : Asked) (s : Reading) {new : Option Reading} → Answers asked (Some s) new → (v : Reading) × (new ≡ Some v) × (v.tree ≡ s.tree)
 unfolding Answers
 answered AsksNothing s answers = (s, answers, refl)
+answered (Looks _) s answers = (s, answers.1, refl)
 answered (Lists _ _) s answers = (s, answers.2, refl)
+answered (LooksAndLists _ _ _) s answers = (s, answers.3, refl)
 answered (Opens path) s answers = (after_open path s, answers, refl)
 answered (Reads _) s answers = (after_next s, answers.1, refl)
 answered (OpensAndReads path _) s answers = (after_next (after_open path s), answers.1, refl)

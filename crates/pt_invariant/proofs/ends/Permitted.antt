@@ -96,10 +96,6 @@ may_open_prefix : {reading : Option Reading} {here : Option Kind} → ForSome re
 unfolding MayOpenPrefix CanOpen
 may_open_prefix knows file s is = prefix_there (find s.tree prefix_file) (sym (knows s is) ∙ file)
 
-top_listed : (reading : Option Reading) → CanList reading []
-unfolding CanList
-top_listed _ _ _ = refl
-
 may_read : {reading : Option Reading} → ForSome reading (λ s. (left : List ℕ) × (s.unread ≡ Some left)) → CanRead reading
 unfolding CanRead
 may_read knows s is = ap is_some (knows s is).1
@@ -182,7 +178,7 @@ may_make_part {job} {past} {object} a_part.Sidecar {held} at _ dest = next_item 
 
 permits : {job : Job} {past : History} (here : Phase) {prefix : List ℕ} {held : Held} {reading : Option Reading} {writing : Option Writing}
     → HeldAt job past here held → KnowsSource job past here prefix held reading → KnowsDest job past here held writing → Enabled job here held reading writing
-permits (phase.Opening opening.Begin) {reading} _ _ _ = top_listed reading
+permits (phase.Opening opening.Begin) _ _ _ = tt
 permits (phase.Opening (opening.Prefix _)) _ source _ = may_open_prefix (λ s is. (source s is).at.3)
 permits {job} (phase.Opening (opening.RootMake number)) _ _ dest = may_make_root job number
     (λ item is now same. let known = dest now same in root_item_made job known.0 number item now known.1.started is known.1.at)

@@ -24,6 +24,8 @@ use Rattle.pt_plan.specs.DeviceStates.{
   LeavesFront,
   LeavesPart,
   Lists,
+  Looks,
+  LooksAndLists,
   NewFile,
   OfFile,
   OfPiece,
@@ -71,7 +73,9 @@ refused_same (Place (IsInTheWay _ _ _ _ _)) change = change.1
 pub answers_tree : (asked : Asked) (old new : Option Reading) → Answers asked old new → tree_in new ≡ tree_in old
 unfolding Answers
 answers_tree AsksNothing _ _ answers = ap tree_in answers
+answers_tree (Looks _) _ _ answers = ap tree_in answers.1
 answers_tree (Lists _ _) _ _ answers = ap tree_in answers.2
+answers_tree (LooksAndLists _ _ _) _ _ answers = ap tree_in answers.3
 answers_tree (Opens _) None _ answers = ap tree_in answers
 answers_tree (Opens _) (Some _) _ answers = ap tree_in answers
 answers_tree (Reads _) None _ answers = ap tree_in answers.1

@@ -26,6 +26,8 @@ use Rattle.pt_plan.specs.DeviceStates.{
   FindsNoneAndMakes,
   Finishes,
   Lists,
+  Looks,
+  LooksAndLists,
   Makes,
   Opens,
   OpensAndReads,
@@ -67,7 +69,9 @@ use Rattle.pt_invariant.proofs.items.Telling.{both_tell, log_tells, none_put}
 pub told_source : (asked : Asked) (old : Option Reading) (new : Reading) → Answers asked old (Some new) → (s : Reading) × (old ≡ Some s)
 unfolding Answers
 told_source AsksNothing None new answers = absurd (cc)
+told_source (Looks seen) None new answers = absurd (let none = answers.1 in cc)
 told_source (Lists path entries) None new answers = absurd (let none = answers.2 in cc)
+told_source (LooksAndLists seen path entries) None new answers = absurd (let none = answers.3 in cc)
 told_source (Opens path) None new answers = absurd (cc)
 told_source (Reads block) None new answers = absurd (let none = answers.1 in cc)
 told_source (OpensAndReads path block) None new answers = absurd (let none = answers.1 in cc)

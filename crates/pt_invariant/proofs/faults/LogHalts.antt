@@ -63,7 +63,7 @@ quiet_leaves _ quiet = absurd (cc)
 
 follows_quiet : {job : Job} {counts : Counts} {here : Phase} {prefix : List ℕ} {held : Held} {read : List ℕ} {after : Held} {calls : Calls} {answer : Answer}
     → Next job counts here prefix held read after calls answer → may_tell here ≡ true → is_quiet calls.change ≡ true
-follows_quiet (a_start (start.IsStore _ _ _)) tells = absurd (cc)
+follows_quiet (a_start (start.IsStore _ _)) tells = absurd (cc)
 follows_quiet (a_start _) tells = absurd (cc)
 follows_quiet (Walk (walk.OpensRoot _ _)) _ = refl
 follows_quiet (Scan (scan.StartsInSite _ _ _)) _ = refl

@@ -43,7 +43,7 @@ either_later false _ _ _ two = two
 
 pub follows_quietly : {job : Job} {counts : Counts} {here : Phase} {prefix : List ℕ} {held : Held} {read : List ℕ} {after : Held} {calls : Calls} {next : Phase}
     → Next job counts here prefix held read after calls (Ok next) → is_start next ≡ true → StartsQuietly here calls
-follows_quietly (a_start (IsStore _ _ _)) _ = record { start = refl; line = refl }
+follows_quietly (a_start (IsStore _ _)) _ = record { start = refl; line = refl }
 follows_quietly (a_start _) _ = record { start = refl; line = refl }
 follows_quietly (Walk (OpensRoot _ _)) start = absurd (cc)
 follows_quietly (Scan (StartsInSite _ _ _)) start = absurd (cc)

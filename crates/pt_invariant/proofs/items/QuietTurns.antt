@@ -7,7 +7,7 @@ use Rattle.pt_plan.specs.Run.{Counts, Held}
 use Rattle.pt_plan.specs.Turn.{Next, Start as a_start, Walk, Scan, Make, Place}
 use Rattle.pt_plan.specs.TurnMake.{ReadsMore, ReadsOther}
 use Rattle.pt_plan.specs.TurnPlace.{IsInTheWay}
-use Rattle.pt_plan.specs.TurnStart.{IsNoStore}
+use Rattle.pt_plan.specs.TurnStart.{HasNoVersion}
 use Rattle.pt_plan.specs.DeviceStates.{Calls}
 use Rattle.pt_plan.specs.declared.fault.Fault.{Fault}
 use Rattle.pt_plan.specs.declared.phase.Phase.{Phase}
@@ -38,7 +38,7 @@ follows_runs {job} {counts} {here} {prefix} {held} {read} {after} {calls} {answe
 
 pub refused_quiet : {job : Job} {counts : Counts} {here : Phase} {prefix : List ℕ} {held : Held} {read : List ℕ} {after : Held} {calls : Calls} {why : Fault}
     → Next job counts here prefix held read after calls (Err why) → calls.line ≡ None
-refused_quiet (a_start (IsNoStore _ _ _)) = refl
+refused_quiet (a_start (HasNoVersion _ _ _ _)) = refl
 refused_quiet (a_start _) = refl
 refused_quiet (Walk turn) = elim turn [ ]
 refused_quiet (Scan turn) = elim turn [ ]

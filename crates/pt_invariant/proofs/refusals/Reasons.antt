@@ -21,7 +21,7 @@ use Rattle.pt_plan.specs.Turn.{
 }
 use Rattle.pt_plan.specs.TurnMake.{ReadsMore, ReadsOther}
 use Rattle.pt_plan.specs.TurnPlace.{IsInTheWay}
-use Rattle.pt_plan.specs.TurnStart.{IsNoStore}
+use Rattle.pt_plan.specs.TurnStart.{HasNoVersion}
 use Rattle.pt_plan.specs.DeviceStates.{Calls, Failures, DeviceStates}
 use Rattle.pt_plan.specs.declared.fault.Fault.{Fault}
 use Rattle.pt_plan.specs.declared.fault.Fault.TheVariants as fault
@@ -38,7 +38,7 @@ is_refusal _ = false
 
 follows_for : {job : Job} {counts : Counts} {here : Phase} {prefix : List ℕ} {held : Held} {read : List ℕ} {new : Held} {calls : Calls} {why : Fault}
     → Next job counts here prefix held read new calls (Err why) → is_refusal why ≡ true
-follows_for (a_start (IsNoStore _ _ _)) = refl
+follows_for (a_start (HasNoVersion _ _ _ _)) = refl
 follows_for (a_start _) = refl
 follows_for (Walk turn) = elim turn [ ]
 follows_for (Scan turn) = elim turn [ ]

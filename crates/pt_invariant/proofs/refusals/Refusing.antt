@@ -12,8 +12,8 @@ use Rattle.pt_name.specs.declared.prefix.PrefixFault.TheVariants as bad
 use Rattle.pt_object.proofs.Ways.{name_itself}
 use Rattle.pt_object.specs.Algorithm.{digest_of}
 use Rattle.pt_object.specs.declared.rows.Row.{Row}
-use Rattle.pt_tree.specs.Forest.{Forest, Node, File, Dir, Other, as_file, find, is_proper, kind_of, listing_of, node_at}
-use Rattle.pt_tree.specs.Source.{Reading, IsListed, IsRead, after_open}
+use Rattle.pt_tree.specs.Forest.{Forest, Node, File, Dir, Other, as_file, find, is_proper, kind_of, node_at}
+use Rattle.pt_tree.specs.Source.{Reading, IsRead, after_open}
 use Rattle.pt_tree.specs.declared.kind.Kind.{Kind}
 use Rattle.pt_tree.specs.declared.kind.Kind.TheVariants as kind
 use Rattle.pt_walk.specs.Left.{bytes_at}
@@ -38,7 +38,7 @@ use Rattle.pt_plan.specs.Turn.{
 }
 use Rattle.pt_plan.specs.TurnMake.{ReadsMore, ReadsOther, is_as_read, path_of_source}
 use Rattle.pt_plan.specs.TurnPlace.{IsInTheWay}
-use Rattle.pt_plan.specs.TurnStart.{IsNoStore, IsNoPrefixFile, IsNoPrefix, is_file_kind, lists_store}
+use Rattle.pt_plan.specs.TurnStart.{HasNoVersion, HasNoPairtree, IsNoPrefixFile, IsNoPrefix, is_file_kind}
 use Rattle.pt_plan.specs.DeviceStates.{Answers, Calls, Failures, DeviceStates}
 use Rattle.pt_plan.specs.declared.fault.Fault.{Fault}
 use Rattle.pt_plan.specs.declared.fault.Fault.TheVariants as fault
@@ -55,7 +55,7 @@ use Rattle.pt_invariant.proofs.source.MakesKeep.{file_of_row}
 use Rattle.pt_invariant.proofs.source.ReadsOn.{IsWhole, reads_block, reads_end}
 use Rattle.pt_invariant.proofs.source.ScannedFiles.{RowFile}
 use Rattle.pt_invariant.specs.History.{History}
-use Rattle.pt_invariant.proofs.source.StartsKeep.{store_listed}
+use Rattle.pt_invariant.proofs.source.StartsKeep.{lacks_version, store_by_pairtree}
 
 -- ---- the prefix
 
@@ -127,10 +127,9 @@ follows_refuse : {job : Job} (s : Reading) (new : Option Reading) {counts : Coun
     {after : Held} {calls : Calls} {why : Fault}
     → is_proper s.tree ≡ true → Next job counts here prefix held read after calls (Err why) → SourceAt job s prefix count here held
     → Answers calls.asked (Some s) new → SaysOfSource why s.tree
-unfolding Answers IsListed IsRead
-follows_refuse s _ _ _ (a_start (IsNoStore _ entries is)) _ answers =
-    let listed : entries ≡ listing_of s.tree = sym (some_same _ entries (answers.0 s refl)) in
-    sym (store_listed s.tree) ∙ ap lists_store (sym listed) ∙ is
+unfolding Answers IsRead
+follows_refuse s _ _ _ (a_start (HasNoVersion _ _ _ is)) _ answers = lacks_version s.tree (answers.0.0 s.tree refl) is
+follows_refuse s _ _ _ (a_start (HasNoPairtree _ _ is)) _ answers = store_by_pairtree s.tree (answers.0.0 s.tree refl) (answers.0.1.0 s.tree refl) is
 follows_refuse s _ _ _ (a_start (IsNoPrefixFile _ _ some is)) at _ = (at.2, no_file (find s.tree prefix_file) some is at.3)
 follows_refuse s _ _ _ (a_start (IsNoPrefix _ _ _ is)) at answers =
     (at.2, bad_prefix (find s.tree prefix_file) at.3 (answers.0 (after_open (prefix_file ∷ []) s) refl) is)

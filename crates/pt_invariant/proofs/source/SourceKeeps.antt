@@ -19,7 +19,7 @@ use Rattle.pt_plan.specs.TurnPlace.{PlaceStep, after_tuple, MakesTuple, FindsTup
 use Rattle.pt_plan.specs.TurnScan.{to_site}
 use Rattle.pt_plan.specs.TurnStart.{StartStep, MakesRoot, IsSame}
 use Rattle.pt_plan.specs.TurnWalk.{WalkStep, OpensRoot, IsNew, IsPast, IsDeep, EntersSite, PassesEntry, LeavesSite, at_object}
-use Rattle.pt_plan.specs.DeviceStates.{Answers, Asked, AsksNothing, Lists, Opens, Reads, OpensAndReads, Calls}
+use Rattle.pt_plan.specs.DeviceStates.{Answers, Asked, AsksNothing, Lists, Looks, LooksAndLists, Opens, Reads, OpensAndReads, Calls}
 use Rattle.pt_plan.specs.declared.object.Object.{Object}
 use Rattle.pt_plan.specs.declared.phase.Phase.{Phase}
 use Rattle.pt_plan.specs.declared.phase.Phase.TheVariants as phase
@@ -44,7 +44,9 @@ use Rattle.pt_invariant.proofs.held.WithBytes.{rows_again}
 pub tree_kept : (asked : Asked) (s new : Reading) → Answers asked (Some s) (Some new) → new.tree ≡ s.tree
 unfolding Answers
 tree_kept AsksNothing s new answers = ap (λ (r : Reading). r.tree) (some_same new s answers)
+tree_kept (Looks seen) s new answers = ap (λ (r : Reading). r.tree) (some_same new s answers.1)
 tree_kept (Lists path entries) s new answers = ap (λ (r : Reading). r.tree) (some_same new s answers.2)
+tree_kept (LooksAndLists seen path entries) s new answers = ap (λ (r : Reading). r.tree) (some_same new s answers.3)
 tree_kept (Opens path) s new answers = ap (λ (r : Reading). r.tree) (some_same new (after_open path s) answers)
 tree_kept (Reads block) s new answers = ap (λ (r : Reading). r.tree) (some_same new (after_next s) answers.1)
 tree_kept (OpensAndReads path block) s new answers = ap (λ (r : Reading). r.tree) (some_same new (after_next (after_open path s)) answers.1)

@@ -1,5 +1,5 @@
 -- The turns of the start keep what holds where the source tells.
-use Rattle.std.proofs.Common.{inl, inr, ◌≡◌, ◌≤◌, ℕ, ◌&&◌, Bool, true, List, [], ◌∷◌, refl, ap, sym, ◌∙◌, cond, length, arith, take}
+use Rattle.std.proofs.Common.{inl, inr, ◌≡◌, ◌≤◌, ℕ, ◌&&◌, Bool, true, false, List, [], ◌∷◌, refl, ap, sym, ◌∙◌, cond, length, arith, take}
 use Rattle.std.specs.Prelude.{Option, None, Some, Ok, is_none, is_some, nat_lt, min}
 use Rattle.std.specs.Option.{option_and_then, option_map}
 use Rattle.std.specs.Str.{is_utf8}
@@ -7,8 +7,8 @@ use Rattle.std.proofs.lemmas.Bool.{cases_Bool, ltb-false}
 use Rattle.std.proofs.lemmas.List.{length-take, take_all}
 use Rattle.pt_name.specs.Prefix.{prefix_refusal, without_line_ends}
 use Rattle.pt_name.specs.declared.prefix.PrefixFault.TheVariants as fault
-use Rattle.pt_tree.specs.Forest.{Forest, Node, File, Dir, Other, as_dir, as_file, find, kind_of, listing_of, node_at}
-use Rattle.pt_tree.specs.Source.{Reading, IsListed, IsRead, after_open}
+use Rattle.pt_tree.specs.Forest.{Forest, Node, File, Dir, Other, as_dir, as_file, dir_at, file_at, find, kind_at, kind_of, node_at}
+use Rattle.pt_tree.specs.Source.{Reading, IsRead, after_open}
 use Rattle.pt_tree.specs.declared.kind.Kind.{Kind}
 use Rattle.pt_tree.specs.declared.kind.Kind.TheVariants as kind
 use Rattle.pt_invariant.specs.SourceInvariant.{HasStarted, HoldsNothing, SourceAt}
@@ -16,36 +16,50 @@ use Rattle.pt_invariant.specs.History.{done_after}
 use Rattle.pt_plan.specs.Job.{Job}
 use Rattle.pt_plan.specs.Run.{Held}
 use Rattle.pt_plan.specs.Store.{is_prefix, is_store, pairtree_root, prefix_file, prefix_in, version_file}
-use Rattle.pt_plan.specs.TurnStart.{StartStep, IsStore, HasNoPrefix, HasPrefix, MakesRoot, IsSame, is_dir_kind, is_file_kind, kind_in, lists_store}
+use Rattle.pt_plan.specs.TurnStart.{StartStep, IsStore, HasNoPrefix, HasPrefix, MakesRoot, IsSame, is_dir_kind, is_file_kind}
 use Rattle.pt_plan.specs.DeviceStates.{Answers, Calls}
 use Rattle.pt_plan.specs.declared.phase.Phase.{Phase}
 use Rattle.pt_plan.specs.declared.phase.Opening.TheVariants as opening
 use Rattle.pt_plan.specs.declared.phase.Phase.TheVariants as phase
-use Rattle.pt_plan.proofs.FoundKinds.{kind_listed}
+use Rattle.pt_plan.proofs.FoundKinds.{kind_seen}
 use Rattle.pt_invariant.proofs.held.EitherPhase.{after_root_file, after_root_item}
 use Rattle.pt_invariant.proofs.source.InPairtree.{some_same, stays}
 
 -- ---- the top
 
-file_kind : (o : Option Node) → is_file_kind (option_map kind_of o) ≡ is_some (option_and_then as_file (option_and_then (λ node. node_at node []) o))
-file_kind None = refl
-file_kind (Some (File bytes)) = refl
-file_kind (Some (Dir inside)) = refl
-file_kind (Some Other) = refl
+-- a file is seen at a name just where one stands there
+file_top : (f : Forest) (name : List ℕ) → is_file_kind (kind_at f (name ∷ [])) ≡ is_some (file_at f (name ∷ []))
+file_top f name = by (find f name)
+  where
+    by : (o : Option Node) → is_file_kind (option_map kind_of (option_and_then (λ node. node_at node []) o))
+        ≡ is_some (option_and_then as_file (option_and_then (λ node. node_at node []) o))
+    by None = refl
+    by (Some (File bytes)) = refl
+    by (Some (Dir inside)) = refl
+    by (Some Other) = refl
 
-dir_kind : (o : Option Node) → is_dir_kind (option_map kind_of o) ≡ is_some (option_and_then as_dir (option_and_then (λ node. node_at node []) o))
-dir_kind None = refl
-dir_kind (Some (File bytes)) = refl
-dir_kind (Some (Dir inside)) = refl
-dir_kind (Some Other) = refl
+-- and so is a directory
+dir_top : (f : Forest) (name : List ℕ) → is_dir_kind (kind_at f (name ∷ [])) ≡ is_some (dir_at f (name ∷ []))
+dir_top f name = by (find f name)
+  where
+    by : (o : Option Node) → is_dir_kind (option_map kind_of (option_and_then (λ node. node_at node []) o))
+        ≡ is_some (option_and_then as_dir (option_and_then (λ node. node_at node []) o))
+    by None = refl
+    by (Some (File bytes)) = refl
+    by (Some (Dir inside)) = refl
+    by (Some Other) = refl
 
-pub store_listed : (f : Forest) → lists_store (listing_of f) ≡ is_store f
-store_listed f =
-    ap (λ (o : Option Kind). is_file_kind o && is_dir_kind (kind_in (listing_of f) pairtree_root)) (kind_listed f version_file)
-    ∙ ap (λ (o : Option Kind). is_file_kind (option_map kind_of (find f version_file)) && is_dir_kind o) (kind_listed f pairtree_root)
-    ∙ ap (λ (b : Bool). b && is_dir_kind (option_map kind_of (find f pairtree_root))) (file_kind (find f version_file))
-    ∙ ap (λ (b : Bool). is_some (option_and_then as_file (option_and_then (λ node. node_at node []) (find f version_file))) && b)
-    (dir_kind (find f pairtree_root))
+pub lacks_version : (f : Forest) {here : Option Kind} → kind_at f (version_file ∷ []) ≡ here → is_file_kind here ≡ false → is_store f ≡ false
+lacks_version f seen is = ap (λ (b : Bool). b && is_some (dir_at f (pairtree_root ∷ []))) (sym (file_top f version_file) ∙ ap is_file_kind seen ∙ is)
+
+-- beside the version file the directory of the pairtree makes the store
+has_version : (f : Forest) → kind_at f (version_file ∷ []) ≡ Some kind.File → is_store f ≡ is_dir_kind (kind_at f (pairtree_root ∷ []))
+has_version f seen =
+    ap (λ (b : Bool). b && is_some (dir_at f (pairtree_root ∷ []))) (sym (file_top f version_file) ∙ ap is_file_kind seen) ∙ sym (dir_top f pairtree_root)
+
+pub store_by_pairtree : (f : Forest) {here : Option Kind} {is : Bool} → kind_at f (version_file ∷ []) ≡ Some kind.File
+    → kind_at f (pairtree_root ∷ []) ≡ here → is_dir_kind here ≡ is → is_store f ≡ is
+store_by_pairtree f file seen is = has_version f file ∙ ap is_dir_kind seen ∙ is
 
 -- ---- the prefix
 
@@ -88,13 +102,12 @@ Started prefix count held s = HoldsNothing held × (count ≡ 0) × HasStarted s
 pub starts_keep : {job : Job} (s new : Reading) {prefix read : List ℕ} (count : ℕ) {here next : Phase} (held : Held) {calls : Calls}
     → StartStep job here prefix read calls (Ok next) → SourceAt job s prefix count here held → Answers calls.asked (Some s) (Some new)
     → SourceAt job new read (done_after here held.trail next count) next held
-unfolding Answers IsListed IsRead
-starts_keep s new {prefix} count held (IsStore was entries is) at answers =
-    let listed : entries ≡ listing_of s.tree = sym (some_same (listing_of s.tree) entries (answers.0 s refl)) in
-    let store : is_store s.tree ≡ true = sym (store_listed s.tree) ∙ ap lists_store (sym listed) ∙ is in
-    stays (λ r. HoldsNothing held × (count ≡ 0) × (is_store r.tree ≡ true) × (kind_in entries prefix_file ≡ option_map kind_of (find r.tree prefix_file))
-    × (prefix ≡ [])) answers.2
-    (at.0, at.1, store, ap (λ l. kind_in l prefix_file) listed ∙ kind_listed s.tree prefix_file, at.2)
+unfolding Answers IsRead
+starts_keep s new {prefix} count held (IsStore was here) at answers =
+    let store : is_store s.tree ≡ true = store_by_pairtree s.tree (answers.0.0 s.tree refl) (answers.0.1.0 s.tree refl) refl in
+    let read : here ≡ option_map kind_of (find s.tree prefix_file) = sym (answers.0.1.1.0 s.tree refl) ∙ kind_seen s.tree prefix_file in
+    stays (λ r. HoldsNothing held × (count ≡ 0) × (is_store r.tree ≡ true) × (here ≡ option_map kind_of (find r.tree prefix_file)) × (prefix ≡ [])) answers.1
+    (at.0, at.1, store, read, at.2)
 starts_keep s new {prefix} count held (HasNoPrefix was) at answers =
     let none_there = no_prefix (find s.tree prefix_file) at.3 in
     stays (Started prefix count held) answers (at.0, at.1, record { store = at.2; good = none_there.0; read = at.4 ∙ sym none_there.1 })
