@@ -11,7 +11,8 @@
 //! A step never blames or refuses a destination; it blames source and log exactly where they
 //! failed, refuses a store only for what it is, and says that the survey has ended only at its end
 //! (`SurveySays`). The source's tree is as it was, and what stood in the log stands. The store is
-//! seen before its sites. A step calls the source at most once, or twice where it reads the prefix.
+//! seen before its sites. A step calls the source at most once, twice where it reads the prefix, or
+//! three times where it looks whether it is a store.
 //!
 //! Each step is counted, and there are no more than the limit. Where the store tells there are no
 //! more than a survey's work (`work_of_survey`: as many as a run over no root makes turns at most,
