@@ -122,7 +122,8 @@ def folders():
     yield Case("no store, and no destination", {}, fault(5, {}, dest_name="absent"))
     bad = b"\xff".decode(errors="surrogateescape")
     reason = "a name in it is not UTF-8"
-    yield Case("a name that isn't UTF-8 at the top", {**ONE, bad: b""}, fault(1, {}, top=("s/", reason)))
+    yield Case("a name that isn't UTF-8 beside the pairtree", {**ONE, bad: b""}, ends([ONE_DONE], ONE_ROOT))
+    yield Case("a name that isn't UTF-8 where no store is", {bad: b""}, fault(1, {}, top=("s/", reason)))
     below = {**ONE, f"pairtree_root/{bad}/x": b""}
     yield Case("a name that isn't UTF-8 in the root", below, fault(1, root(), top=("s/pairtree_root", reason)))
     two = {**ONE, "pairtree_root/ab/d/obj/a.txt": b"abc", f"pairtree_root/ab/d/obj/{bad}": b"1"}

@@ -54,6 +54,34 @@ def second_mounts(program, folder):
     return faults
 
 
+def named_at_the_top(program, folder, *words):
+    """How a command ends, and the calls in which it names the store, an entry right in it or the open folder of one, in their order."""
+    trace = ["strace", "-f", "-y", "-o", f"{folder}/trace", "-s", "4096", "-e", "trace=%file,getdents64"]
+    done = subprocess.run([*trace, program, *words, "s", "d"], cwd=folder, capture_output=True, timeout=120)
+    with open(f"{folder}/trace", encoding="utf-8", errors="replace") as file:
+        found = [re.search(rf'\b(\w+)\(.*?(?:"s(?=[/"])|<{re.escape(folder)}/s(?=[/>]))/?([^/">]*)["/>]', line) for line in file]
+    return done.returncode, [(call.group(1), call.group(2)) for call in found if call]
+
+
+def beside_the_pairtree(program, folder):
+    """Whatever stands beside the pairtree at SOURCE's top, a name that isn't UTF-8 too, a rehearsal, a run and an audit make not one call more:
+    they look for what they need by its name, and don't list the top. Where no store is, it is listed."""
+    needs("strace")
+    made, bad = [], b"\xff".decode(errors="surrogateescape")
+    commands = {"rehearsal": ("migrate", *MEANT, "-n"), "run": ("migrate", *MEANT), "audit": ("audit",)}
+    for beside in ([], [bad, *(f"beside{number:03d}" for number in range(400))]):
+        subprocess.run(["rm", "-rf", f"{folder}/d"], check=True)
+        build(folder, {"d": DIR, **{f"s/{name}": b"" for name in beside}})
+        made.append({name: named_at_the_top(program, folder, *words) for name, words in commands.items()})
+    faults = []
+    for name, (status, calls) in made[0].items():
+        looks = [[at for _, at in calls].count(file) for file in ("pairtree_version0_1", "pairtree_prefix")]
+        faults += differs(**{name: ((status, looks, ("getdents64", "") in calls, made[1][name]), (0, [1, 1], False, (status, calls)))})
+    os.unlink(f"{folder}/s/pairtree_version0_1")
+    status, calls = named_at_the_top(program, folder, *commands["rehearsal"])
+    return faults + differs(no_store=((status, ("getdents64", "") in calls), (3, True)))
+
+
 def with_sync(folder, *command):
     """A durable run, by these words, into an empty destination: its status, its log, what it says, and what stands there then."""
     subprocess.run(["rm", "-rf", f"{folder}/d"], check=True)
@@ -321,6 +349,7 @@ def open_files(process):
 CASES = [
     Alone("a pipe in a file's place", pipe_in_a_files_place),
     Alone("second mounts of folders", second_mounts),
+    Alone("what stands beside the pairtree", beside_the_pairtree),
     Alone("a working folder that is too deep", deep_folder),
     Alone("a lock that can't be had", no_lock),
     Alone("a destination that is no folder", no_folder),
