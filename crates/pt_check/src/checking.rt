@@ -19,15 +19,18 @@
 //! names than its own, and is told, since a site's names follow from the text that they join to.
 //! And between two entries a check holds the listings on the way to where it stands, and numbers:
 //! nothing grows with the objects.
-ghost use Rattle.std.specs.Prelude.{◌≡◌, [], cond, is_some, false, length, string_bytes, take, IfOk, IfSome, IsSome, OnOk, MatchOption, Some};
+ghost use Rattle.std.specs.Prelude.{◌≡◌, [], cond, is_some, false, length, string_bytes, take};
+ghost use Rattle.std.specs.Prelude.{IfOk, IfSome, IsSome, OnOk, MatchOption, Some};
 ghost use Rattle.std.specs.Option.{ForSome};
 ghost use Rattle.pt_check.specs.Counting.{no_numbers};
 ghost use Rattle.pt_check.specs.Faults.{LogFailsAs};
 ghost use Rattle.pt_plan.specs.Store.{prefix_file};
 ghost use Rattle.pt_plan.specs.TurnStart.{kind_in as kind_in_items};
 ghost use Rattle.pt_tree.specs.Path.{joined};
-ghost use Rattle.pt_check.specs.Visits.{Checks, Finds, Judges, Keeps, Looks, Meets, Opens, OpensIf, ReadsFront, ReadsPrefix, TellsReasons, TellsUnlisted};
-ghost use Rattle.pt_check.specs.Visits.{VisitsFolder, begun, ended, finding_of as finding_of_items, has_object as has_object_in, missing as missing_by};
+ghost use Rattle.pt_check.specs.Visits.{Checks, Finds, Judges, Keeps, Looks, Meets, Opens, OpensIf};
+ghost use Rattle.pt_check.specs.Visits.{ReadsFront, ReadsPrefix, TellsReasons, TellsUnlisted};
+ghost use Rattle.pt_check.specs.Visits.{VisitsFolder, begun, ended, finding_of as finding_of_items};
+ghost use Rattle.pt_check.specs.Visits.{has_object as has_object_in, missing as missing_by};
 ghost use Rattle.pt_check.specs.Visits.{prefix_path, seen_by, tree_by, with_folder};
 ghost use Rattle.pt_tree.specs.Forest.{dir_at, file_at, listing_at};
 ghost use Rattle.pt_tree.specs.declared.kind.Kind.TheVariants as kind;

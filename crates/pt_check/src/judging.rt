@@ -14,12 +14,20 @@ ghost use Rattle.std.specs.Prelude.{◌≡◌, ◌<◌, drop, length, IfOk};
 ghost use Rattle.std.specs.List.{concat};
 ghost use Rattle.pt_name.specs.Identifying.{identification_of};
 ghost use Rattle.pt_name.specs.Share.{whole};
-ghost use Rattle.pt_check.specs.Visits.{count_trouble as count_trouble_of, entry_trouble as entry_trouble_of};
-ghost use Rattle.pt_check.specs.Visits.{finding_of as finding_of_items, folder_trouble as folder_trouble_of, has_object as has_object_in};
-ghost use Rattle.pt_check.specs.Visits.{is_long as is_long_path, is_of_desktop as is_of_desktop_name, name_trouble as name_trouble_of};
-ghost use Rattle.pt_check.specs.Visits.{reserved_at as reserved_at_place, reserved_by as reserved_by_answer};
-ghost use Rattle.pt_check.specs.Visits.{reserved_trouble as reserved_trouble_of, room_trouble as room_trouble_of};
-ghost use Rattle.pt_check.specs.Visits.{size_trouble as size_trouble_of, spelling_trouble as spelling_trouble_of, trouble_of_names};
+ghost use Rattle.pt_check.specs.Visits.{count_trouble as count_trouble_of};
+ghost use Rattle.pt_check.specs.Visits.{entry_trouble as entry_trouble_of};
+ghost use Rattle.pt_check.specs.Visits.{finding_of as finding_of_items};
+ghost use Rattle.pt_check.specs.Visits.{folder_trouble as folder_trouble_of};
+ghost use Rattle.pt_check.specs.Visits.{has_object as has_object_in};
+ghost use Rattle.pt_check.specs.Visits.{is_long as is_long_path};
+ghost use Rattle.pt_check.specs.Visits.{is_of_desktop as is_of_desktop_name};
+ghost use Rattle.pt_check.specs.Visits.{name_trouble as name_trouble_of};
+ghost use Rattle.pt_check.specs.Visits.{reserved_at as reserved_at_place};
+ghost use Rattle.pt_check.specs.Visits.{reserved_by as reserved_by_answer};
+ghost use Rattle.pt_check.specs.Visits.{reserved_trouble as reserved_trouble_of};
+ghost use Rattle.pt_check.specs.Visits.{room_trouble as room_trouble_of};
+ghost use Rattle.pt_check.specs.Visits.{size_trouble as size_trouble_of};
+ghost use Rattle.pt_check.specs.Visits.{spelling_trouble as spelling_trouble_of, trouble_of_names};
 
 use crate::{Trouble, Within};
 use pt_name::{

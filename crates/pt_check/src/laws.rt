@@ -1,6 +1,7 @@
 //! What follows of a check from its promises. Each law is the contract of a function that does
 //! nothing.
-ghost use Rattle.pt_check.specs.Clean.{NoRunFailsForSource, NoRunSkipsForLimit, NoRunSkipsForOther, NoRunSkipsForReserved};
+ghost use Rattle.pt_check.specs.Clean.{NoRunFailsForSource, NoRunSkipsForLimit, NoRunSkipsForOther};
+ghost use Rattle.pt_check.specs.Clean.{NoRunSkipsForReserved};
 ghost use Rattle.pt_check.specs.Clean.{QuietCheckMeansCleanStore, QuietCheckMeansReadableStore};
 
 /// Where a check ended well and told nothing there is nothing to tell of its store, as its source

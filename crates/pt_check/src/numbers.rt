@@ -1,7 +1,8 @@
 //! The numbers of a check are those of what was visited (`with_site`, `with_entry`, `with_bytes`,
 //! `with_object`); `told` is that of the lines. The last line has them, and they are its answer.
 ghost use Rattle.std.specs.Prelude.{◌≡◌};
-ghost use Rattle.pt_check.specs.Counting.{no_numbers, with_bytes, with_entry, with_line, with_object, with_object_begun, with_site};
+ghost use Rattle.pt_check.specs.Counting.{no_numbers, with_bytes, with_entry, with_line};
+ghost use Rattle.pt_check.specs.Counting.{with_object, with_object_begun, with_site};
 
 use pt_tree::Kind;
 

@@ -1,7 +1,8 @@
 //! What is told of the prefix of a store, which stands before each of its identifiers.
 #![tactic(auto)]
 
-ghost use Rattle.std.specs.Prelude.{◌≡◌, ◌<◌, length, IfOk, IsSome, None, OnOk, Some, string_bytes, take};
+ghost use Rattle.std.specs.Prelude.{◌≡◌, ◌<◌, length, IfOk, IsSome, None, OnOk, Some, string_bytes};
+ghost use Rattle.std.specs.Prelude.{take};
 ghost use Rattle.std.specs.Option.{ForSome};
 ghost use Rattle.pt_check.specs.Goes.{GoesBy};
 ghost use Rattle.pt_check.specs.Prefix.{prefix_trouble as prefix_trouble_of, trouble_of_prefix};

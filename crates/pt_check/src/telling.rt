@@ -3,7 +3,8 @@ ghost use Rattle.std.specs.Io.KnownBytes.{Appends};
 ghost use Rattle.std.specs.Prelude.{◌≡◌, map, string_bytes, IfOk, OnOk};
 ghost use Rattle.pt_check.specs.Faults.{LogFailsAs};
 ghost use Rattle.pt_check.specs.Lines.{End, Told, Unreadable, line_text};
-ghost use Rattle.pt_check.specs.Visits.{Keeps, Puts, Tells, TellsEach, TellsIf, TellsUnread, seen_by};
+ghost use Rattle.pt_check.specs.Visits.{Keeps, Puts, Tells, TellsEach, TellsIf, TellsUnread};
+ghost use Rattle.pt_check.specs.Visits.{seen_by};
 
 use crate::checking::Check;
 use crate::lines::{end_line, trouble_line, unreadable_line};

@@ -1,5 +1,6 @@
 //! What is known of a folder that a source failed to list.
-ghost use Rattle.std.specs.Prelude.{◌≡◌, ◌≤◌, ◌∷◌, ℕ, List, Bool, true, map, is_some, string_bytes, IfOk, IfSome};
+ghost use Rattle.std.specs.Prelude.{◌≡◌, ◌≤◌, ◌∷◌, ℕ, List, Bool, true, map, is_some, string_bytes};
+ghost use Rattle.std.specs.Prelude.{IfOk, IfSome};
 ghost use Rattle.pt_tree.specs.Source.{CanList, IsListed};
 
 use pt_tree::{Listing, MemoryFault, NamePath, Source};

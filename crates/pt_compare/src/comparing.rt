@@ -2,10 +2,13 @@
 ghost use Rattle.std.specs.Prelude.{◌≡◌, ◌++◌, IfOk, map, true, All, IfErr, None, OnOk};
 ghost use Rattle.std.specs.Option.{ForSome};
 ghost use Rattle.pt_compare.specs.Beside.{AreAlike, IsKnown, IsKnownToStand};
-ghost use Rattle.pt_compare.specs.Found.{HaltsAs, IsFound, LeavesExtra, MeetsInventories, MeetsObject, sought_of, texts_of_object};
+ghost use Rattle.pt_compare.specs.Found.{HaltsAs, IsFound, LeavesExtra, MeetsInventories};
+ghost use Rattle.pt_compare.specs.Found.{MeetsObject, sought_of, texts_of_object};
 ghost use Rattle.pt_compare.specs.Marks.{inside, marks_of, marks_over};
-ghost use Rattle.pt_compare.specs.Meeting.{FailsAs, FailsInRoot, MeetsFrom, MeetsIn, NotedStand, both};
-ghost use Rattle.pt_compare.specs.Parts.{content_items, files_of, first_items, fronts, last_items, way_items};
+ghost use Rattle.pt_compare.specs.Meeting.{FailsAs, FailsInRoot, MeetsFrom, MeetsIn, NotedStand};
+ghost use Rattle.pt_compare.specs.Meeting.{both};
+ghost use Rattle.pt_compare.specs.Parts.{content_items, files_of, first_items, fronts, last_items};
+ghost use Rattle.pt_compare.specs.Parts.{way_items};
 ghost use Rattle.pt_compare.specs.Ways.{AreMet};
 ghost use Rattle.pt_compare.specs.Root.{KeepsRoot};
 ghost use Rattle.pt_tree.specs.Failures.{IsCounted};

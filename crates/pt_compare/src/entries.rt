@@ -1,5 +1,6 @@
 //! The entries of an object that stands which weren't met yet.
-ghost use Rattle.std.specs.Prelude.{◌≡◌, ℕ, [], IfOk, IfSome, IsSome, OnErr, OnOk, ◌∷◌, ◌++◌, MatchOption};
+ghost use Rattle.std.specs.Prelude.{◌≡◌, ℕ, [], IfOk, IfSome, IsSome, OnErr, OnOk, ◌∷◌, ◌++◌};
+ghost use Rattle.std.specs.Prelude.{MatchOption};
 ghost use Rattle.std.specs.Global.{Vec};
 ghost use Rattle.pt_tree.specs.Path.{joined};
 ghost use Rattle.pt_tree.specs.Pieces.{names_in};

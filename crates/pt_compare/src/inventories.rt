@@ -5,7 +5,9 @@ ghost use Rattle.std.specs.String.{string_bytes};
 ghost use Rattle.serde_json.specs.Data.{null};
 ghost use Rattle.serde_json.specs.Read.{read};
 ghost use Rattle.serde_json.specs.View.{view};
-ghost use Rattle.pt_compare.specs.Described.{IsGiven, IsMade, TellsMade, description_in, given_by, is_text_with, texts_in, texts_in_inventory, texts_view};
+ghost use Rattle.pt_compare.specs.Described.{IsGiven, IsMade, TellsMade, description_in, given_by};
+ghost use Rattle.pt_compare.specs.Described.{is_text_with, texts_in, texts_in_inventory};
+ghost use Rattle.pt_compare.specs.Described.{texts_view};
 ghost use Rattle.pt_compare.specs.Found.{texts_of_object};
 ghost use Rattle.pt_object.specs.Distinct.{content_of_row, distinct};
 

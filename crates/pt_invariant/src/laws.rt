@@ -21,17 +21,26 @@
 //! turns and part, each with its proof in the folder of proofs/ of that part, there are laws such
 //! as `starting_keeps_held`, `walking_keeps_source`, `scanning_keeps_dest`, `making_keeps_items`
 //! and `placing_decreases_rank` (work_laws.rt).
-ghost use Rattle.pt_invariant.specs.InvariantLaws.{InvariantEnables, NewRunHoldsInvariant, TurnEndsInvariant, TurnKeepsInvariant};
+ghost use Rattle.pt_invariant.specs.InvariantLaws.{InvariantEnables, NewRunHoldsInvariant};
+ghost use Rattle.pt_invariant.specs.InvariantLaws.{TurnEndsInvariant, TurnKeepsInvariant};
 ghost use Rattle.pt_invariant.specs.BoundLaws.{HaltedIsWithinBound, TurnIsWithinBound};
-ghost use Rattle.pt_invariant.specs.DestLaws.{MakingKeepsDest, PlacingKeepsDest, ScanningKeepsDest, StartingKeepsDest, WalkingKeepsDest};
+ghost use Rattle.pt_invariant.specs.DestLaws.{MakingKeepsDest, PlacingKeepsDest, ScanningKeepsDest};
+ghost use Rattle.pt_invariant.specs.DestLaws.{StartingKeepsDest, WalkingKeepsDest};
 ghost use Rattle.pt_invariant.specs.EndLaws.{InvariantIsWithinBound, EndsWell, EndsWithStates};
 ghost use Rattle.pt_invariant.specs.GoodStart.{NothingIsRefused};
 ghost use Rattle.pt_invariant.specs.HaltLaws.{HaltsLeave, StopsLeave};
-ghost use Rattle.pt_invariant.specs.HeldLaws.{MakingKeepsHeld, PlacingKeepsHeld, ScanningKeepsHeld, StartingKeepsHeld, WalkingKeepsHeld};
-ghost use Rattle.pt_invariant.specs.ItemLaws.{MakingKeepsItems, PlacingKeepsItems, ScanningKeepsItems, StartingKeepsItems, WalkingKeepsItems};
+ghost use Rattle.pt_invariant.specs.HeldLaws.{MakingKeepsHeld, PlacingKeepsHeld, ScanningKeepsHeld};
+ghost use Rattle.pt_invariant.specs.HeldLaws.{StartingKeepsHeld, WalkingKeepsHeld};
+ghost use Rattle.pt_invariant.specs.ItemLaws.{MakingKeepsItems, PlacingKeepsItems};
+ghost use Rattle.pt_invariant.specs.ItemLaws.{ScanningKeepsItems, StartingKeepsItems};
+ghost use Rattle.pt_invariant.specs.ItemLaws.{WalkingKeepsItems};
 ghost use Rattle.pt_invariant.specs.LogLaws.{FailedLogLeavesNoStaging};
-ghost use Rattle.pt_invariant.specs.RefusalLaws.{BadTargetIsNone, EarlyLeavesDest, EarlyLeavesLog, FindsStaging, FindsTarget, FindsTargetOf, RefusesRightly};
-ghost use Rattle.pt_invariant.specs.SourceLaws.{MakingKeepsSource, PlacingKeepsSource, ScanningKeepsSource, StartingKeepsSource, WalkingKeepsSource};
+ghost use Rattle.pt_invariant.specs.RefusalLaws.{BadTargetIsNone, EarlyLeavesDest, EarlyLeavesLog};
+ghost use Rattle.pt_invariant.specs.RefusalLaws.{FindsStaging, FindsTarget, FindsTargetOf};
+ghost use Rattle.pt_invariant.specs.RefusalLaws.{RefusesRightly};
+ghost use Rattle.pt_invariant.specs.SourceLaws.{MakingKeepsSource, PlacingKeepsSource};
+ghost use Rattle.pt_invariant.specs.SourceLaws.{ScanningKeepsSource, StartingKeepsSource};
+ghost use Rattle.pt_invariant.specs.SourceLaws.{WalkingKeepsSource};
 ghost use Rattle.pt_invariant.specs.StillLaws.{InvariantStandsStill, LeftBehindStandsStill};
 
 /// A new run is in progress, whatever its devices tell.

@@ -5,9 +5,12 @@
 //! `within_work_holds_invariant`), since each turn lowers what is left (`new_run_is_within_work`,
 //! `turn_keeps_within_work`, `turn_ends_within_work`, `stops_within_work`). So the turns made are
 //! within the work, and before the end one is left (`turns_are_within_work`, `turn_is_left`).
-ghost use Rattle.pt_invariant.specs.WorkLaws.{MakingDecreasesRank, NewRunIsWithinWork, PlacingDecreasesRank, ScanningDecreasesRank};
-ghost use Rattle.pt_invariant.specs.WorkLaws.{StartingDecreasesRank, StopsWithinWork, TurnEndsWithinWork, TurnIsLeft};
-ghost use Rattle.pt_invariant.specs.WorkLaws.{TurnKeepsWithinWork, TurnsAreWithinWork, WalkingDecreasesRank, WithinWorkHoldsInvariant};
+ghost use Rattle.pt_invariant.specs.WorkLaws.{MakingDecreasesRank, NewRunIsWithinWork};
+ghost use Rattle.pt_invariant.specs.WorkLaws.{PlacingDecreasesRank, ScanningDecreasesRank};
+ghost use Rattle.pt_invariant.specs.WorkLaws.{StartingDecreasesRank, StopsWithinWork};
+ghost use Rattle.pt_invariant.specs.WorkLaws.{TurnEndsWithinWork, TurnIsLeft};
+ghost use Rattle.pt_invariant.specs.WorkLaws.{TurnKeepsWithinWork, TurnsAreWithinWork};
+ghost use Rattle.pt_invariant.specs.WorkLaws.{WalkingDecreasesRank, WithinWorkHoldsInvariant};
 
 /// A new run is in progress within its work, whatever its devices tell.
 pub fn new_run_is_within_work()

@@ -8,7 +8,8 @@ ghost use Rattle.pt_state.specs.States.{held_of};
 ghost use Rattle.pt_state.specs.Turns.{TakesTurn};
 ghost use Rattle.pt_tree.specs.Dest.{MayMake};
 ghost use Rattle.pt_tree.specs.Source.{CanOpen};
-ghost use Rattle.pt_make.specs.Making.{DigestTells, IsAtContent, IsNextCopy, IsNextFolder, IsStep, content_phase};
+ghost use Rattle.pt_make.specs.Making.{DigestTells, IsAtContent, IsNextCopy, IsNextFolder, IsStep};
+ghost use Rattle.pt_make.specs.Making.{content_phase};
 
 use pt_object::{Hasher, Row, Rows};
 use pt_plan::{Fault, Object, Part, Phase, Position, Stage};

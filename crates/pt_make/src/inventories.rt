@@ -12,8 +12,10 @@ ghost use Rattle.pt_state.specs.Turns.{TakesTurn, WroteBy};
 ghost use Rattle.pt_state.specs.States.{job_of};
 ghost use Rattle.pt_tree.specs.Dest.{MayMake};
 ghost use Rattle.pt_object.specs.WellKnown.{known_text};
-ghost use Rattle.pt_make.specs.Making.{HasContentsOfRows, HasFedAt, HasFedInventory, IsFedFor, IsFedMore};
-ghost use Rattle.pt_make.specs.Making.{in_folder, inventory_held, inventory_part, makes_file, sidecar_part};
+ghost use Rattle.pt_make.specs.Making.{HasContentsOfRows, HasFedAt, HasFedInventory, IsFedFor};
+ghost use Rattle.pt_make.specs.Making.{IsFedMore};
+ghost use Rattle.pt_make.specs.Making.{in_folder, inventory_held, inventory_part, makes_file};
+ghost use Rattle.pt_make.specs.Making.{sidecar_part};
 
 use pt_object::{
     Algorithm, Digest, Hasher, InventoryInput, InventoryPieces, WellKnownName, sidecar_of,

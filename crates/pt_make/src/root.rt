@@ -15,7 +15,8 @@ ghost use Rattle.pt_plan.specs.Turn.{FailsUnchanged};
 ghost use Rattle.pt_tree.specs.Dest.{IsKindAt, MayMake, MayMove};
 ghost use Rattle.pt_tree.specs.declared.kind.Kind.TheVariants as kind;
 ghost use Rattle.pt_state.specs.Turns.{TakesTurn};
-ghost use Rattle.pt_make.specs.Root.{IsFileAt, IsItemAt, IsRootItem, configuration, inner_folder, looks_at_file, outer_folder};
+ghost use Rattle.pt_make.specs.Root.{IsFileAt, IsItemAt, IsRootItem, configuration, inner_folder};
+ghost use Rattle.pt_make.specs.Root.{looks_at_file, outer_folder};
 
 use crate::placing::rename_staging;
 use pt_object::{WellKnownName, root_files};

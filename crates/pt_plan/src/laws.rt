@@ -22,16 +22,23 @@
 //!   job, source, root and N (`shares_tell_the_whole`, `shares_leave_the_whole`,
 //!   `shares_meet_in_folders`); and of any choices of shares and texts that divide a store's
 //!   identifiers (`Divide`) the same.
-ghost use Rattle.pt_plan.specs.ItemLaws.{AllItemsAreAll, BeginsWithTheBase, CarriedGrows, IsTakenAgainstEarlier, TextGrows, WhatStandsStays};
+ghost use Rattle.pt_plan.specs.ItemLaws.{AllItemsAreAll, BeginsWithTheBase, CarriedGrows};
+ghost use Rattle.pt_plan.specs.ItemLaws.{IsTakenAgainstEarlier, TextGrows, WhatStandsStays};
 ghost use Rattle.pt_plan.specs.FileLaws.{CarriedFilesComeInOrder, FilesComeInOrder};
-ghost use Rattle.pt_plan.specs.PlaceLaws.{NamedIsNotReserved, NextPlaceStandsWhereTaken, PlaceStandsWhereTaken, WayStaysFree};
-ghost use Rattle.pt_plan.specs.CountLaws.{CountsGrow, EachLineIsCounted, EndLineTellsNumbers, LinesTellNumbers};
-ghost use Rattle.pt_plan.specs.RerunLaws.{RerunEndsAlike, RerunLeavesTheSame, RootStaysWithoutStaging, TurnsHaveNoPart};
+ghost use Rattle.pt_plan.specs.PlaceLaws.{NamedIsNotReserved, NextPlaceStandsWhereTaken};
+ghost use Rattle.pt_plan.specs.PlaceLaws.{PlaceStandsWhereTaken, WayStaysFree};
+ghost use Rattle.pt_plan.specs.CountLaws.{CountsGrow, EachLineIsCounted, EndLineTellsNumbers};
+ghost use Rattle.pt_plan.specs.CountLaws.{LinesTellNumbers};
+ghost use Rattle.pt_plan.specs.RerunLaws.{RerunEndsAlike, RerunLeavesTheSame};
+ghost use Rattle.pt_plan.specs.RerunLaws.{RootStaysWithoutStaging, TurnsHaveNoPart};
 ghost use Rattle.pt_plan.specs.GrowthLaws.{AfterGrows, AfterStays, FoldersGrow, ObjectIsMovedIn};
-ghost use Rattle.pt_plan.specs.GrowthLaws.{RootIsItsOwn, RootIsMadeInPlace, RootIsMovedIn, RootsHaveNoGaps};
+ghost use Rattle.pt_plan.specs.GrowthLaws.{RootIsItsOwn, RootIsMadeInPlace, RootIsMovedIn};
+ghost use Rattle.pt_plan.specs.GrowthLaws.{RootsHaveNoGaps};
 ghost use Rattle.pt_plan.specs.FixityLaws.{FaultsLeaveWhatIsKept, RowsMakeWholeObjects};
-ghost use Rattle.pt_plan.specs.ShareLaws.{ChoicesLeaveTheWhole, ChoicesMeetInFolders, ChoicesTellTheWhole};
-ghost use Rattle.pt_plan.specs.ShareLaws.{SharesLeaveTheWhole, SharesMeetInFolders, SharesTellTheWhole};
+ghost use Rattle.pt_plan.specs.ShareLaws.{ChoicesLeaveTheWhole, ChoicesMeetInFolders};
+ghost use Rattle.pt_plan.specs.ShareLaws.{ChoicesTellTheWhole};
+ghost use Rattle.pt_plan.specs.ShareLaws.{SharesLeaveTheWhole, SharesMeetInFolders};
+ghost use Rattle.pt_plan.specs.ShareLaws.{SharesTellTheWhole};
 ghost use Rattle.pt_plan.specs.WholeLaws.{CarriedHaveTheirFiles, CarriedStandWhole};
 
 /// In the order of the walk the files of a directory have logical paths that come in order, none

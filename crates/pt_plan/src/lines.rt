@@ -3,14 +3,17 @@
 
 ghost use Rattle.std.specs.Prelude.{◌≡◌, ◌++◌, ◌∷◌, ℕ, List, [], Some, codes, false, IfOk, OnOk};
 ghost use Rattle.std.specs.String.{string_bytes};
-ghost use Rattle.serde.specs.Event.{Log, Logs, field_key, text as text_event, unsigned as number_event};
+ghost use Rattle.serde.specs.Event.{Log, Logs, field_key, text as text_event};
+ghost use Rattle.serde.specs.Event.{unsigned as number_event};
 ghost use Rattle.serde.specs.declared.name.Case.TheVariants.{AsIs};
 ghost use Rattle.serde_json.specs.Data.{no_members, object};
 ghost use Rattle.serde_json.specs.Events.{SendsValue};
 ghost use Rattle.serde_json.specs.Sent.{IsTextOf};
 ghost use Rattle.serde_json.specs.View.{view};
 ghost use Rattle.serde_json.specs.Written.{compact_text, has_float};
-ghost use Rattle.pt_plan.specs.Lines.{line_text, line_tree, number_member, text_member, Present as PresentLine, Skipped as SkippedLine, End as EndLine};
+ghost use Rattle.pt_plan.specs.Lines.{line_text, line_tree, number_member, text_member};
+ghost use Rattle.pt_plan.specs.Lines.{Present as PresentLine, Skipped as SkippedLine};
+ghost use Rattle.pt_plan.specs.Lines.{End as EndLine};
 ghost use Rattle.pt_plan.specs.ToldLines.{done_of};
 ghost use Rattle.pt_tree.specs.Path.{joined};
 

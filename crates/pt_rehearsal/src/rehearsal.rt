@@ -11,11 +11,13 @@ ghost use Rattle.pt_folder.specs.Calls.{CannotMake};
 ghost use Rattle.pt_folder.specs.DestHeld.{told_of};
 ghost use Rattle.pt_folder.specs.Failure.{OnDevice};
 ghost use Rattle.pt_folder.specs.Folder.{entry_text};
-ghost use Rattle.pt_folder.specs.HostDest.{failures_of, folder_path, kept_by, lasting, longest_of, unsynced_of, system_of, told as told_by};
+ghost use Rattle.pt_folder.specs.HostDest.{failures_of, folder_path, kept_by, lasting, longest_of};
+ghost use Rattle.pt_folder.specs.HostDest.{unsynced_of, system_of, told as told_by};
 ghost use Rattle.pt_rehearsal.specs.Fitting.{FitsTold};
 ghost use Rattle.pt_tree.specs.Failures.{IsCounted};
 ghost use Rattle.pt_rehearsal.specs.SameFolder.{LooksAtFolder, SameFolder};
-ghost use Rattle.pt_rehearsal.specs.Seeing.{Remembers, made_dir, made_file, moved_to, nothing, view};
+ghost use Rattle.pt_rehearsal.specs.Seeing.{Remembers, made_dir, made_file, moved_to, nothing};
+ghost use Rattle.pt_rehearsal.specs.Seeing.{view};
 
 use crate::played::{Note, Played};
 use crate::remembered::{Remembered, Seen};
@@ -76,9 +78,12 @@ impl<'a, S: System> Rehearsal<'a, S> {
 }
 
 impl<'a, S: System> Dest for Rehearsal<'a, S> {
-    ghost use Rattle.pt_tree.specs.Dest.{CanPeek, CanWrite, IsKindAt, IsPeeked, LeavesPart, MayMake, MayMove};
-    ghost use Rattle.pt_tree.specs.Dest.{after_mkdir, after_create, after_append, after_finish, after_rename};
-    ghost use Rattle.pt_rehearsal.specs.Rehearsal.{IsCall, IsSame, LooksUnlessKnown, PeeksUnlessKnown, told};
+    ghost use Rattle.pt_tree.specs.Dest.{CanPeek, CanWrite, IsKindAt, IsPeeked, LeavesPart};
+    ghost use Rattle.pt_tree.specs.Dest.{MayMake, MayMove};
+    ghost use Rattle.pt_tree.specs.Dest.{after_mkdir, after_create, after_append, after_finish};
+    ghost use Rattle.pt_tree.specs.Dest.{after_rename};
+    ghost use Rattle.pt_rehearsal.specs.Rehearsal.{IsCall, IsSame, LooksUnlessKnown};
+    ghost use Rattle.pt_rehearsal.specs.Rehearsal.{PeeksUnlessKnown, told};
     ghost use Rattle.pt_rehearsal.specs.Told.{tree_of_rehearsal};
 
     ghost told = { told };

@@ -6,9 +6,12 @@ ghost use Rattle.std.specs.Prelude.{◌≡◌, ◌||◌, IfOk, OnErr, OnOk, true
 ghost use Rattle.std.specs.Option.{option_map};
 ghost use Rattle.pt_tree.specs.Name.{AreNames};
 ghost use Rattle.pt_tree.specs.Path.{joined};
-ghost use Rattle.pt_rehearsal.specs.Seeing.{Becomes, inner_of, is_inside, is_itself, is_met, made_dir};
-ghost use Rattle.pt_rehearsal.specs.Seeing.{made_file, made_inside, made_known, met_in, moved_known, moved_to};
-ghost use Rattle.pt_rehearsal.specs.Seeing.{nothing, renamed_to, seen_at, view, with_folder, with_met};
+ghost use Rattle.pt_rehearsal.specs.Seeing.{Becomes, inner_of, is_inside, is_itself, is_met};
+ghost use Rattle.pt_rehearsal.specs.Seeing.{made_dir};
+ghost use Rattle.pt_rehearsal.specs.Seeing.{made_file, made_inside, made_known, met_in};
+ghost use Rattle.pt_rehearsal.specs.Seeing.{moved_known, moved_to};
+ghost use Rattle.pt_rehearsal.specs.Seeing.{nothing, renamed_to, seen_at, view, with_folder};
+ghost use Rattle.pt_rehearsal.specs.Seeing.{with_met};
 
 use crate::text_set::TextSet;
 use pt_tree::{MemoryFault, Name, NamePath};

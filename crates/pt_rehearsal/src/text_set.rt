@@ -4,9 +4,11 @@
 //! text says in which bucket it lies (linear hashing: as the set grows, one bucket after another is
 //! divided in two, so that a bucket stays short). This equals all texts in one list that is looked
 //! through from its start.
-ghost use Rattle.std.specs.Prelude.{◌≡◌, ◌<◌, ◌≤◌, ◌++◌, ◌∷◌, [], false, length, map, max, IfOk, List, OnErr, OnOk, ℕ};
+ghost use Rattle.std.specs.Prelude.{◌≡◌, ◌<◌, ◌≤◌, ◌++◌, ◌∷◌, [], false, length, map, max, IfOk};
+ghost use Rattle.std.specs.Prelude.{List, OnErr, OnOk, ℕ};
 ghost use Rattle.std.specs.Borrow.{Bor};
-ghost use Rattle.pt_rehearsal.specs.Buckets.{HasNoNul, IsHalved, bucket_of, hash_of, holds, texts_in};
+ghost use Rattle.pt_rehearsal.specs.Buckets.{HasNoNul, IsHalved, bucket_of, hash_of, holds};
+ghost use Rattle.pt_rehearsal.specs.Buckets.{texts_in};
 
 use pt_tree::MemoryFault;
 use std::alloc::Global;

@@ -1,7 +1,9 @@
 //! The turns that scan an object: its directories are listed and entered, its files opened.
-ghost use Rattle.std.specs.Prelude.{◌≡◌, ◌<◌, ◌+◌, ◌-◌, ◌==◌, ◌&&◌, ◌^◌, IfOk, IsTrue, None, Ok, cond, drop, false, length, nat_lt, not};
+ghost use Rattle.std.specs.Prelude.{◌≡◌, ◌<◌, ◌+◌, ◌-◌, ◌==◌, ◌&&◌, ◌^◌, IfOk, IsTrue, None, Ok};
+ghost use Rattle.std.specs.Prelude.{cond, drop, false, length, nat_lt, not};
 ghost use Rattle.pt_plan.specs.Enabled.{MayEnter, MayOpen};
-ghost use Rattle.pt_plan.specs.TurnScan.{is_in_site as is_in_site_of, logical_path as logical_path_of, to_site};
+ghost use Rattle.pt_plan.specs.TurnScan.{is_in_site as is_in_site_of};
+ghost use Rattle.pt_plan.specs.TurnScan.{logical_path as logical_path_of, to_site};
 ghost use Rattle.pt_plan.specs.TurnWalk.{in_pairtree};
 ghost use Rattle.pt_plan.specs.DeviceStates.{DeviceStates};
 ghost use Rattle.pt_plan.specs.declared.phase.Phase.{Phase};
@@ -12,7 +14,8 @@ ghost use Rattle.pt_walk.specs.Site.{is_shorty as is_shorty_entry};
 ghost use Rattle.pt_walk.specs.Trail.{current_entry, is_dir_entry, names_to, trail_path};
 ghost use Rattle.pt_state.specs.Outside.{Turned};
 ghost use Rattle.pt_state.specs.Turns.{TakesTurn, TakesTurnAt};
-ghost use Rattle.pt_scan.specs.Scanning.{CanEnter, CanPassOver, CanScan, Entered, GaveUp, GivesUp, IsAtEntry, IsAtFile, IsInObject, IsSite, MeetsDirectory};
+ghost use Rattle.pt_scan.specs.Scanning.{CanEnter, CanPassOver, CanScan, Entered, GaveUp, GivesUp};
+ghost use Rattle.pt_scan.specs.Scanning.{IsAtEntry, IsAtFile, IsInObject, IsSite, MeetsDirectory};
 
 use crate::walking::listed_path;
 use pt_object::Hasher;

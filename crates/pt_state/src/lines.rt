@@ -3,7 +3,8 @@
 //! Each function halts for `Log` where its line can't be put, and for `Memory` where a growth is
 //! refused. Nothing is counted then; a part of the line may stand in the log.
 ghost use Rattle.std.specs.Prelude.{◌<◌, ◌^◌};
-ghost use Rattle.pt_plan.specs.Lines.{Present as PresentLine, Skipped as SkippedLine, End as EndLine};
+ghost use Rattle.pt_plan.specs.Lines.{Present as PresentLine, Skipped as SkippedLine};
+ghost use Rattle.pt_plan.specs.Lines.{End as EndLine};
 ghost use Rattle.pt_plan.specs.DeviceStates.{tells};
 ghost use Rattle.pt_plan.specs.ToldLines.{done_of};
 ghost use Rattle.pt_state.specs.Turns.{Told, WroteBy};

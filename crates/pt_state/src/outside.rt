@@ -6,13 +6,15 @@ ghost use Rattle.pt_object.specs.Script.{MakeFolder};
 ghost use Rattle.pt_plan.specs.Lines.{Line, line_text};
 ghost use Rattle.pt_plan.specs.Turn.{Did, FailsPartway};
 ghost use Rattle.pt_plan.specs.SourceFailures.{FailsOnlyWhereAsked, IsAskedFor};
-ghost use Rattle.pt_plan.specs.DeviceStates.{DeviceStates, Adds, Creates, Finishes, Makes, Opens, Peeks, Reads, Renames, asks, does, tells};
+ghost use Rattle.pt_plan.specs.DeviceStates.{DeviceStates, Adds, Creates, Finishes, Makes, Opens};
+ghost use Rattle.pt_plan.specs.DeviceStates.{Peeks, Reads, Renames, asks, does, tells};
 ghost use Rattle.pt_tree.specs.Dest.{Writing, CanPeek, CanWrite, MayMake, MayMove};
 ghost use Rattle.pt_tree.specs.Forest.{is_proper};
 ghost use Rattle.pt_tree.specs.Path.{parent};
 ghost use Rattle.pt_tree.specs.Source.{Reading, CanList, CanLook, CanOpen, CanRead, tree_in};
 ghost use Rattle.pt_tree.specs.Tree.{IsTree};
-ghost use Rattle.pt_state.specs.Counting.{AtMostCalls, calls_after, calls_more, calls_most, calls_none, calls_still};
+ghost use Rattle.pt_state.specs.Counting.{AtMostCalls, calls_after, calls_more, calls_most};
+ghost use Rattle.pt_state.specs.Counting.{calls_none, calls_still};
 ghost use Rattle.pt_state.specs.Outside.{Called, Found, Listed, Looked, Wrote, states_of};
 ghost use Rattle.pt_state.specs.SourceFailures.{fails_nowhere, fails_on, source_view};
 
