@@ -1,5 +1,5 @@
 -- The turns that look whether the source is a Pairtree store, from their calls.
-use Rattle.std.proofs.Common.{◌≡◌, ℕ, List, [], ◌∷◌, refl, sym, ap, true, false}
+use Rattle.std.proofs.Common.{◌≡◌, ℕ, List, [], ◌∷◌, refl, ap, true, false}
 use Rattle.std.specs.Prelude.{Option, None, Some, Ok, Err, IsErrAnd}
 use Rattle.std.specs.String.{string_bytes}
 use Rattle.pt_name.specs.Prefix.{prefix_refusal, without_line_ends}
