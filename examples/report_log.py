@@ -14,10 +14,12 @@ KEYS = {
     "differs": ("at", "id", "path", "to", "why"),
     "skip": ("at", "cause"),
     "extra": ("id", "to"),
-    "stray": ("to",),
+    "stray": ("reason", "to"),
     **{kind: ("path",) for kind in TROUBLES},
     "unreadable": ("path", "reason"),
 }
+# What a line of a kind may lack: a folder that can't be listed is stray for a reason.
+LACKED = {"stray": {"reason"}}
 # The keys of an end line, and of which log it is.
 AUDIT = ("absent", "differs", "same", "skip")
 CHECK = ("bytes", "files", "folders", "largest", "longest", "objects", "sites", "told")
@@ -35,8 +37,9 @@ def form_of(kind):
     """The fixed form of a line of this kind, with a group for each value. A text with an escape in it isn't of this form."""
     forms = {key: "(0|[1-9][0-9]{0,19})" for key in NUMBERS}
     forms.update({key: f'"({"|".join(words)})"' for key, words in WORDS.items()})
-    members = ",".join(f'"{key}":{forms.get(key, TEXT)}' for key in KEYS[kind])
-    return re.compile(rf'\{{"as":"{kind}",{members}\}}\n?'.encode())
+    members = {key: f',"{key}":{forms.get(key, TEXT)}' for key in KEYS[kind]}
+    members.update({key: f"(?:{members[key]})?" for key in LACKED.get(kind, ())})
+    return re.compile(rf'\{{"as":"{kind}"{"".join(members.values())}\}}\n?'.encode())
 
 
 # By the first letters of the kind, which stand at the same place in every line but an audit's end line.
@@ -49,13 +52,14 @@ STANDS = tuple(f'{{"as":"{kind}"'.encode() for kind in ("done", "present", "same
 
 
 def parsed(line):
-    """The kind of a line and its values, as bytes, in the order of its keys. What is no line of a log is a `ValueError`."""
+    """The kind of a line and its values, as bytes, in the order of its keys; one that it may lack is empty then. What is no line of a log is a
+    `ValueError`."""
     kind, form = FORMS.get(line[7:11], (None, None))
     found = form and form.fullmatch(line)
     if not found:
         return by_json(line)
     line.decode()
-    return kind, found.groups()
+    return kind, found.groups(b"")
 
 
 def by_json(line):
@@ -66,9 +70,9 @@ def by_json(line):
         if kind == "end":
             what = next(what for keys, what in ENDS.items() if set(keys) == set(entry))
             return kind, (what, {key: int(value_of("files", value)) for key, value in entry.items()})
-        if set(KEYS[kind]) != set(entry):
+        if set(KEYS[kind]) != set(entry) | LACKED.get(kind, set()):
             raise ValueError
-        return kind, tuple(value_of(key, entry[key]) for key in KEYS[kind])
+        return kind, tuple(value_of(key, entry.get(key, "")) for key in KEYS[kind])
     except (TypeError, AttributeError, KeyError, StopIteration, RecursionError):
         raise ValueError from None
 

@@ -225,7 +225,9 @@ class Report:
         elif kind in TROUBLES:
             self.troubles.add(values[0], kind, b"".join(values[1:]), log)
         elif kind not in ID_AT:
-            self.lacking.add(values[0] if kind == "extra" else b"", values[-1], kind, log)
+            extra = kind == "extra"
+            why = values[0] if not extra else b""
+            self.lacking.add(values[0] if extra else b"", values[-1], b": ".join(filter(None, (kind.encode(), why))), log)
         else:
             twins.note(values[ID_AT[kind]], values[0])
             if kind in MEASURED:

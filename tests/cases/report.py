@@ -170,18 +170,21 @@ def one_audit(program, folder):
 
 def one_audit_with_extras(program, folder):
     """An audit's log with what the root has and the store lacks, which are no objects of the store; and its table."""
-    entries = [sized("aa/obj", "aa", 5, kind="same"), {"as": "extra", "id": "ab", "to": stores.place("ab")}, {"as": "stray", "to": "a b"}]
-    counts = {"absent": 0, "differs": 0, "extra": 1, "same": 1, "skip": 0, "stray": 1}
+    denied, bad = "Permission denied (os error 13)", "a name in it is not UTF-8: caf\\xe9"
+    unlisted = [{"as": "stray", "reason": denied, "to": "x"}, {"as": "stray", "reason": bad, "to": "y"}]
+    entries = [sized("aa/obj", "aa", 5, kind="same"), {"as": "extra", "id": "ab", "to": stores.place("ab")}, {"as": "stray", "to": "a b"}, *unlisted]
+    counts = {"absent": 0, "differs": 0, "extra": 1, "same": 1, "skip": 0, "stray": 3}
     names = logs(folder, audit=lines(*entries, {"as": "end", **counts}))
     found, said = page(folder, *names)
-    lacking = [["ab", stores.place("ab"), "extra"], ["", "a b", "stray"]]
+    lacking = [["ab", stores.place("ab"), "extra"], ["", "a b", "stray"], ["", "x", f"stray: {denied}"], ["", "y", "stray: " + bad.replace("\\", "\\\\")]]
     faults = differs(said=(said, (0, "")), numbers=(found.table("numbers"), [["audit.log", "audit", "end line", "1", "1", "5", "0"]]))
     faults += differs(lacking=(found.table("lacking"), lacking), notes=(found.notes, ["Each log has its end line, and as many lines of each kind as that counts."]))
     again, _ = page(folder, *names, *logs(folder, run=whole_log(skip("ab", "split"))))
     faults += differs(missing=(again.table("missing"), [["ab", "split", "run.log"]]))
     made = list(csv.DictReader(io.StringIO(report(folder, "--csv", *names)[1].decode())))
-    rows = [(row["as"], row["id"], row["to"], row["at"]) for row in made[1:]]
-    return faults + differs(table=(rows, [("extra", "ab", stores.place("ab"), ""), ("stray", "", "a b", "")]))
+    rows = [(row["as"], row["id"], row["to"], row["at"], row["reason"]) for row in made[1:]]
+    strays = [("stray", "", "a b", "", ""), ("stray", "", "x", "", denied), ("stray", "", "y", "", bad)]
+    return faults + differs(table=(rows, [("extra", "ab", stores.place("ab"), "", ""), *strays]))
 
 
 def of_the_program(program, folder):
