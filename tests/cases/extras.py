@@ -17,6 +17,9 @@ OBJECT = "0=ocfl_object_1.1"
 ABD = place("abd")
 FIRST = place("abc").split("/", maxsplit=1)[0]
 TWO = {"ab/c/obj/a.txt": b"abc", "ab/d/obj/f": b"1"}
+# A name that isn't UTF-8, as Python has it.
+CAFE = os.fsdecode(b"caf\xe9")
+DENIED = "Permission denied (os error 13)"
 
 
 def extra(identifier, layout=(3, 3)):
@@ -27,6 +30,11 @@ def extra(identifier, layout=(3, 3)):
 def stray(path):
     """The line of what is no part of the root or of an object."""
     return {"as": "stray", "to": path}
+
+
+def unlisted(path, reason="a name in it is not UTF-8: caf\\xe9"):
+    """The line of a folder that can't be listed whole."""
+    return {"as": "stray", "reason": reason, "to": path}
 
 
 def at(path, files):
@@ -85,6 +93,16 @@ PLANTED = {
     "a link": ({"ocfl/a": Link("0=ocfl_1.1")}, [stray("a")]),
     "a link to an object": ({f"ocfl/{FIRST}/l": Link(f"../{place('abc')}")}, [stray(f"{FIRST}/l")]),
     "a named pipe": ({"ocfl/p": FIFO}, [stray("p")]),
+    "a name that isn't UTF-8 at the top": ({f"ocfl/{CAFE}": b"", "ocfl/x/f": b""}, [unlisted(""), stray("x/f")]),
+    "a name that isn't UTF-8 among the tuples": ({f"ocfl/{FIRST}/{CAFE}": DIR, f"ocfl/{FIRST}/f": b""}, [unlisted(FIRST), stray(f"{FIRST}/f")]),
+    "two names that aren't UTF-8 in a folder, and nothing else": (
+        {f"ocfl/x/{os.fsdecode(name)}": b"" for name in (b"\xff", b"caf\xe9")},
+        [unlisted("x"), unlisted("x", "a name in it is not UTF-8: \\xff")],
+    ),
+    "a name that isn't UTF-8 in a folder as deep as objects": ({f"ocfl/a/b/c/d/{CAFE}": b"", "ocfl/a/b/c/d/f": b""}, [unlisted("a/b/c/d")]),
+    "a name that isn't UTF-8 in an object": ({**stored("abd", ABC), f"ocfl/{ABD}/{CAFE}": b""}, [unlisted(ABD), extra("abd")]),
+    "a name that isn't UTF-8 in a folder of an object": ({**stored("abd", ABC), f"ocfl/{ABD}/v1/{CAFE}": b""}, [extra("abd")]),
+    "a name that isn't UTF-8 in the root's own extensions": ({f"ocfl/extensions/{CAFE}": b""}, []),
     "what is the root's own": (
         {
             **{f"ocfl/{name}": b"" for name in ("ocfl_1.1.md", "ocfl_1.1.html", "ocfl_extensions_1.0.md", "extensions/a/b")},
@@ -241,20 +259,51 @@ def beside_the_log(program, folder):
     return faults + differs(expected=(audit(program, folder, *words)[2], b""))
 
 
-def unreadable(program, folder):
-    """What can't be read of the root is fault 2, and the log has no end line; root, who can read all, asks as another user."""
-    migrate(program, folder)
-    build(f"{folder}/d", {"ocfl/a": b"", "ocfl/z/f": b""})
+def as_another(program, folder, *words):
+    """An audit with extras, asked as another user by root, who can read all; its status, log and standard error."""
     shutil.copy(program, f"{folder}/program")
+    command = [*(() if os.geteuid() else as_nobody()), f"{folder}/program", "audit", "--extra", *words, f"{folder}/s", f"{folder}/d"]
+    done = subprocess.run(command, capture_output=True, timeout=120, check=False)
+    return done.returncode, done.stdout, done.stderr
+
+
+def unreadable(program, folder):
+    """A folder that can't be listed is stray with the reason, and the walk goes on behind it; below it nothing is told."""
+    migrate(program, folder)
+    build(f"{folder}/d", {"ocfl/a": b"", "ocfl/y/x/f": b"", "ocfl/y/z/f": b"", "ocfl/z": b""})
     subprocess.run(["chmod", "-R", "a+rX", folder], check=True)
     status, plain, _ = audit(program, folder)
-    os.chmod(f"{folder}/d/ocfl/z", 0)
-    command = [*(() if os.geteuid() else as_nobody()), f"{folder}/program", "audit", "--extra", f"{folder}/s", f"{folder}/d"]
-    done = subprocess.run(command, capture_output=True, timeout=120, check=False)
-    os.chmod(f"{folder}/d/ocfl/z", 0o755)
-    front = plain.splitlines(keepends=True)[0] + text_of(stray("a")) + b"\n"
-    wanted = (3, front, b"pairtree2ocfl: fault 2: cannot read the destination\n")
-    return differs(status=(status, 0), unreadable=((done.returncode, done.stdout, done.stderr), wanted))
+    os.chmod(f"{folder}/d/ocfl/y/x", 0)
+    entries = [stray("a"), unlisted("y/x", DENIED), stray("y/z/f"), stray("z")]
+    found = as_another(program, folder)
+    shares = [as_another(program, folder, "--share", f"{number}/2") for number in (1, 2)]
+    os.chmod(f"{folder}/d/ocfl/y/x", 0o755)
+    told_by = [[line for line in map(json.loads, out.splitlines()) if line["as"] == "stray"] for _, out, _ in shares]
+    faults = differs(status=(status, 0), unreadable=(found, (1, with_extras(plain, entries), b"")))
+    return faults + differs(shares=(told_by, [entries, []]), statuses=([share[0] for share in shares], [1, 0]))
+
+
+def unreadable_file(program, folder):
+    """An inventory that can't be read is fault 2, and the log has no end line."""
+    migrate(program, folder)
+    build(f"{folder}/d", {"ocfl/0": b"", **stored("abd", ABC)})
+    subprocess.run(["chmod", "-R", "a+rX", folder], check=True)
+    plain = audit(program, folder)[1]
+    os.chmod(f"{folder}/d/ocfl/{ABD}/inventory.json", 0)
+    front = plain.splitlines(keepends=True)[0] + text_of(stray("0")) + b"\n"
+    return differs(unreadable=(as_another(program, folder), (3, front, b"pairtree2ocfl: fault 2: cannot read the destination\n")))
+
+
+def unnamed(program, folder):
+    """Names that aren't UTF-8 are told by the first share alone; in an object that is compared one is fault 2, with extras and without."""
+    migrate(program, folder)
+    build(f"{folder}/d", {f"ocfl/{CAFE}": b"", f"ocfl/x/{CAFE}": b"", "ocfl/x/f": b""})
+    entries = [unlisted(""), unlisted("x"), stray("x/f")]
+    faults = told(program, folder, "whole", entries)
+    for number in (1, 2):
+        faults += told(program, folder, f"share {number}", entries if number == 1 else [], "--share", f"{number}/2")
+    build(f"{folder}/d", {f"ocfl/{place('abc')}/{CAFE}": b""})
+    return faults + differs(compared=([audit(program, folder, *words)[0] for words in ((), ("--extra",))], [3, 3]))
 
 
 def asked(program, folder, *words):
@@ -338,6 +387,8 @@ CASES = [
     Alone("audit: extra, statuses", statuses),
     Alone("audit: extra, summary, event and --expect", beside_the_log),
     Alone("audit: extra, what can't be read", unreadable),
+    Alone("audit: extra, an inventory that can't be read", unreadable_file),
+    Alone("audit: extra, names that aren't UTF-8", unnamed),
     Alone("audit: extra, what it asks of the store", looked_up),
     Alone("audit: extra, an inventory in little memory", in_little_memory),
 ]

@@ -42,7 +42,8 @@ carried. Each line says under "as" what was found:
   skip     not carried, for the cause that migrate gives
   extra    with --extra, an object at "to" of ocfl that isn't in the source
   stray    with --extra, what stands at "to" is no part of ocfl or of an object,
-           or is an object whose place is another, or whose identifier can't be read
+           or is an object whose place is another, or whose identifier can't be read,
+           or is a folder that can't be listed whole, for the "reason"
   end      the last line: how many there were of each
 
 Exit status:

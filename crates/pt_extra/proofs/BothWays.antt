@@ -6,7 +6,7 @@ use Rattle.std.specs.Prelude.{IfErr, IfOk, OnErr, OnOk, Option, Some, Result, Ok
 use Rattle.std.specs.String.{string_bytes}
 use Rattle.pt_audit.proofs.Telling.{put_behind}
 use Rattle.pt_audit.proofs.ToldFront.{front_put}
-use Rattle.pt_audit.specs.Auditing.{AllToldAs, AuditStart, FrontToldAs, GivesBack, LogsAs, TellsItems, start_over}
+use Rattle.pt_audit.specs.Auditing.{AllToldAs, AuditStart, FrontToldAs, GivesBack, IsAllTold, LogsAs, start_over}
 use Rattle.pt_audit.specs.Bounds.{IsMade, counts_in}
 use Rattle.pt_audit.specs.Failing.{AuditSays, BlamesRightly}
 use Rattle.pt_audit.specs.declared.auditing.Audited.{Audited}
@@ -24,7 +24,6 @@ use Rattle.pt_extra.specs.Audits.{
   against_given,
   against_store,
   counts_of,
-  found_extra,
   in_both,
   rest_text,
   with_found,
@@ -32,7 +31,8 @@ use Rattle.pt_extra.specs.Audits.{
 use Rattle.pt_extra.specs.Counting.{no_numbers, with_findings}
 use Rattle.pt_extra.specs.Findings.{Against}
 use Rattle.pt_extra.specs.Lines.{ExtraFinding, last_text, texts}
-use Rattle.pt_extra.specs.Walk.{Tells, TellsFront, against, found_in}
+use Rattle.pt_extra.specs.Unlisted.{IsToldIn}
+use Rattle.pt_extra.specs.Walk.{RootFails, TellsFrontPast, TellsPast, against}
 use Rattle.pt_extra.specs.declared.auditing.AuditCounts.{AuditCounts}
 use Rattle.pt_extra.specs.declared.devices.ExtraDevices.{ExtraDevices}
 use Rattle.pt_extra.specs.declared.numbers.ExtraNumbers.{ExtraNumbers}
@@ -42,6 +42,7 @@ use Rattle.pt_plan.specs.Job.{Job}
 use Rattle.pt_plan.specs.declared.fault.Fault.{Fault}
 use Rattle.pt_state.specs.States.{job_of}
 use Rattle.pt_state.specs.declared.job.Job as own
+use Rattle.pt_tree.specs.Failures.{HasRisen}
 use Rattle.pt_tree.specs.Forest.{Forest}
 use Rattle.pt_tree.specs.Log.{AppendsFront}
 use Rattle.pt_tree.specs.declared.log.Log.{Ghosts as OfLog}
@@ -62,17 +63,17 @@ puts_rest counts fs a b c numbers (Err why) first is puts part =
     front_on a b c (texts fs) (last_text (with_found counts fs)) first (subst (λ (k : AuditCounts). AppendsFront b c (last_text k)) same part)
 
 -- a walk that is to begin over these, with what an audit gave back
-pub record IsBegun {S R L : Type 0} (walk : Extras S R L) (devices : ExtraDevices S R L) (audited : Audited) : Type 0 where
+pub record IsBegun {S R L E : Type 0} (walk : Extras S R L E) (devices : ExtraDevices S R L E) (audited : Audited) : Type 0 where
   devices_are : (walk.store ≡ devices.store) × (walk.root ≡ devices.root) × (walk.log ≡ devices.log)
   against_is : (walk.job ≡ audited.job) × (walk.prefix ≡ audited.prefix)
   numbers_are : walk.numbers ≡ no_numbers
 
-pub begun : {S R L : Type 0} {walk : Extras S R L} {devices : ExtraDevices S R L} {audited : Audited}
+pub begun : {S R L E : Type 0} {walk : Extras S R L E} {devices : ExtraDevices S R L E} {audited : Audited}
     → (walk.store ≡ devices.store) × (walk.root ≡ devices.root) × (walk.log ≡ devices.log) → (walk.job ≡ audited.job) × (walk.prefix ≡ audited.prefix)
     → walk.numbers ≡ no_numbers → IsBegun walk devices audited
 begun devices against numbers = record { devices_are = devices; against_is = against; numbers_are = numbers }
 
-module _ {S R L : Type 0} (store : OfSource S) (root : OfSource R) (log : OfLog L) (walk after : Extras S R L) (devices : ExtraDevices S R L)
+module _ {S R L E : Type 0} (store : OfSource S) (root : OfSource R) (log : OfLog L) (walk after : Extras S R L E) (devices : ExtraDevices S R L E)
     (audited : Audited) (it : IsBegun walk devices audited) where
   start : AuditStart
   start = start_over (tree_in (store.told devices.store)) (tree_in (root.told devices.root)) (log.told devices.log)
@@ -80,81 +81,85 @@ module _ {S R L : Type 0} (store : OfSource S) (root : OfSource R) (log : OfLog 
   same : (s : Forest) → against walk s ≡ against_given audited s
   same s = λ i. record { job = job_of (it.against_is.0 i); prefix = string_bytes (it.against_is.1 i); store = s }
 
+  -- what is told is of what an audit gave back, and of the devices
+  may : (s r : Forest) (fs : List ExtraFinding) → IsToldIn (RootFails root walk after) (against walk s) r fs
+      → IsToldIn (HasRisen (root.failed devices.root) (root.failed after.root)) (against_given audited s) r fs
+  may s r fs it_may =
+      subst (λ (x : R). IsToldIn (HasRisen (root.failed x) (root.failed after.root)) (against_given audited s) r fs) it.devices_are.1
+      (subst (λ (x : Against). IsToldIn (RootFails root walk after) x r fs) (same s) it_may)
+
   -- it came to its end, and the end line was tried
-  pub tells_rest : (numbers : ExtraNumbers) (now : Option (List ℕ)) (ran : Result AuditCounts Fault) → Tells store root log found_in walk after
+  pub tells_rest : (numbers : ExtraNumbers) (now : Option (List ℕ)) (ran : Result AuditCounts Fault) → TellsPast store root log IsToldIn walk after
       → numbers ≡ after.numbers
       → IfOk ran (λ told. (told ≡ record { counts = audited.counts; numbers = numbers })
       × Appends (log.told after.log) now (last_text (record { counts = audited.counts; numbers = numbers })))
       → OnErr ran (AppendsFront (log.told after.log) now (last_text (record { counts = audited.counts; numbers = numbers })))
-      → TellsRest audited (start_over (tree_in (store.told devices.store)) (tree_in (root.told devices.root)) (log.told devices.log)) now ran
+      → TellsRest (HasRisen (root.failed devices.root) (root.failed after.root)) audited
+      (start_over (tree_in (store.told devices.store)) (tree_in (root.told devices.root)) (log.told devices.log)) now ran
   tells_rest numbers now ran told numbers_are puts part = λ s is r there.
-      let found = told s (ap (λ (x : S). tree_in (store.told x)) it.devices_are.0 ∙ is) r (ap (λ (x : R). tree_in (root.told x)) it.devices_are.1 ∙ there) in
-      subst (λ (x : Against). PutsRest audited.counts (found_in x r) (log.told devices.log) now ran) (same s)
-      (subst (λ (x : L). PutsRest audited.counts (found_in (against walk s) r) (log.told x) now ran) it.devices_are.2
-      (puts_rest audited.counts (found_in (against walk s) r) (log.told walk.log) (log.told after.log) now numbers ran found.held
-      (numbers_are ∙ found.numbers ∙ ap (with_findings (found_in (against walk s) r)) it.numbers_are) puts part))
+      let found = told s (ap (λ (x : S). tree_in (store.told x)) it.devices_are.0 ∙ is) r (ap (λ (x : R). tree_in (root.told x)) it.devices_are.1 ∙ there) in (
+        found.0,
+        may s r found.0 found.1,
+        subst (λ (x : L). PutsRest audited.counts found.0 (log.told x) now ran) it.devices_are.2
+            (puts_rest audited.counts found.0 (log.told walk.log) (log.told after.log) now numbers ran found.2.held
+            (numbers_are ∙ found.2.numbers ∙ ap (with_findings found.0) it.numbers_are) puts part),
+      )
 
   -- it broke off
-  pub stops_rest : (why : Fault) → TellsFront store root log found_in walk after
-      → TellsRest audited (start_over (tree_in (store.told devices.store)) (tree_in (root.told devices.root)) (log.told devices.log)) (log.told after.log)
-      (Err why)
+  pub stops_rest : (why : Fault) → TellsFrontPast store root log IsToldIn walk after
+      → TellsRest (HasRisen (root.failed devices.root) (root.failed after.root)) audited
+      (start_over (tree_in (store.told devices.store)) (tree_in (root.told devices.root)) (log.told devices.log)) (log.told after.log) (Err why)
   stops_rest why front = λ s is r there.
-      let found = front s (ap (λ (x : S). tree_in (store.told x)) it.devices_are.0 ∙ is) r (ap (λ (x : R). tree_in (root.told x)) it.devices_are.1 ∙ there) in
-      subst (λ (x : Against). AppendsFront (log.told devices.log) (log.told after.log) (rest_text audited.counts (found_in x r))) (same s)
-      (subst (λ (x : L). AppendsFront (log.told x) (log.told after.log) (rest_text audited.counts (found_in (against walk s) r))) it.devices_are.2
-      (front_more (log.told walk.log) (log.told after.log) (texts (found_in (against walk s) r))
-      (last_text (with_found audited.counts (found_in (against walk s) r))) found))
+      let found = front s (ap (λ (x : S). tree_in (store.told x)) it.devices_are.0 ∙ is) r (ap (λ (x : R). tree_in (root.told x)) it.devices_are.1 ∙ there) in (
+        found.0,
+        may s r found.0 found.1,
+        subst (λ (x : L). AppendsFront (log.told x) (log.told after.log) (rest_text audited.counts found.0)) it.devices_are.2
+            (front_more (log.told walk.log) (log.told after.log) (texts found.0) (last_text (with_found audited.counts found.0)) found.2),
+      )
 
 -- ---- a whole audit
 
-pub extra_logs : (job : own.Job) (start : AuditStart) (source root : Option Forest) (mid now : Option (List ℕ)) (audited : Audited)
+pub extra_logs : (F : Type 0) (job : own.Job) (start : AuditStart) (source root : Option Forest) (mid now : Option (List ℕ)) (audited : Audited)
     (ran : Result AuditCounts Fault) → source ≡ start.source → root ≡ start.root → AllToldAs (job_of job) start mid audited.counts
     → GivesBack job start.source audited
-    → TellsRest audited (start_over source root mid) now ran → ExtraLogs (job_of job) start now ran
-extra_logs job start source root mid now audited ran source_is root_is all given rest = by ran rest
+    → TellsRest F audited (start_over source root mid) now ran → ExtraLogs F (job_of job) start now ran
+extra_logs F job start source root mid now audited ran source_is root_is all given rest = by ran rest
   where
     same : (s : Forest) → start.source ≡ Some s → against_given audited s ≡ against_store (job_of job) s
     same s e = λ i. record { job = job_of (given.0 i); prefix = given.1 s e i; store = s }
 
-    whole : (s r : Forest) (text : List ℕ) → start.source ≡ Some s → IsExtraLog (job_of job) s r text (with_found audited.counts (found_extra (job_of job) s r))
-        → IsExtraLog (job_of job) s r text (with_found audited.counts (found_in (against_given audited s) r))
-    whole s r text e it = subst (λ (x : Against). IsExtraLog (job_of job) s r text (with_found audited.counts (found_in x r))) (sym (same s e)) it
+    whole : (s r : Forest) (lines : List ℕ) (fs : List ExtraFinding) → start.source ≡ Some s → IsAllTold (job_of job) s r lines audited.counts
+        → IsToldIn F (against_given audited s) r fs
+        → IsExtraLog F (job_of job) s r (lines ++ rest_text audited.counts fs) (with_found audited.counts fs)
+    whole s r lines fs e all may = record {
+      lines = lines;
+      all = all;
+      findings = fs;
+      of_root = subst (λ (x : Against). IsToldIn F x r fs) (same s e) may;
+      numbers = refl;
+      whole = refl;
+    }
 
-    by : (ran : Result AuditCounts Fault) → TellsRest audited (start_over source root mid) now ran → ExtraLogs (job_of job) start now ran
+    by : (ran : Result AuditCounts Fault) → TellsRest F audited (start_over source root mid) now ran → ExtraLogs F (job_of job) start now ran
     by (Ok told) rest = λ s e r f old g.
         let had = all s e r f old g in
-        let put = rest s (source_is ∙ e) r (root_is ∙ f) in
-        let more = rest_text audited.counts (found_in (against_given audited s) r) in (
+        let found = rest s (source_is ∙ e) r (root_is ∙ f) in
+        let more = rest_text audited.counts found.0 in (
           had.0 ++ more,
-          put_behind old had.0 more mid now had.1 put.1,
-          subst (IsExtraLog (job_of job) s r (had.0 ++ more)) (sym put.0)
-              (whole s r (had.0 ++ more) e (record {
-                lines = had.0;
-                all = had.2;
-                numbers = refl;
-                whole = ap
-                    (λ (x : Against). had.0 ++ rest_text audited.counts (found_in x r)) (same s e);
-              })),
+          put_behind old had.0 more mid now had.1 found.2.1,
+          subst (IsExtraLog F (job_of job) s r (had.0 ++ more)) (sym found.2.0) (whole s r had.0 found.0 e had.2 found.1),
         )
     by (Err why) rest = λ s e r f old g.
         let had = all s e r f old g in
-        let more = rest_text audited.counts (found_in (against_given audited s) r) in
-        let put = front_put old had.0 more mid now had.1 (rest s (source_is ∙ e) r (root_is ∙ f)) in (
-          put.0,
-          had.0 ++ more,
-          put.1,
-          WithRest (whole s r (had.0 ++ more) e (record {
-            lines = had.0;
-            all = had.2;
-            numbers = refl;
-            whole = ap
-                (λ (x : Against). had.0 ++ rest_text audited.counts (found_in x r)) (same s e);
-          })),
-        )
+        let found = rest s (source_is ∙ e) r (root_is ∙ f) in
+        let more = rest_text audited.counts found.0 in
+        let put = front_put old had.0 more mid now had.1 found.2 in
+        (put.0, had.0 ++ more, put.1, WithRest (whole s r had.0 found.0 e had.2 found.1))
 
 -- it broke off before all objects were told
-pub extra_stops : (job : Job) (start : AuditStart) (now : Option (List ℕ)) (why : Fault) → FrontToldAs job start now → ExtraLogs job start now (Err why)
-extra_stops job start now why front = λ s e r f old g. let had = front s e r f old g in (had.0, had.1, had.2, OfItems had.3)
+pub extra_stops : (F : Type 0) (job : Job) (start : AuditStart) (now : Option (List ℕ)) (why : Fault) → FrontToldAs job start now
+    → ExtraLogs F job start now (Err why)
+extra_stops F job start now why front = λ s e r f old g. let had = front s e r f old g in (had.0, had.1, had.2, OfItems had.3)
 
 -- ---- without extras
 
@@ -162,10 +167,11 @@ in_counts : (ran : Result Counts Fault) → in_both (counts_of ran) ≡ ran
 in_counts (Ok counts) = refl
 in_counts (Err why) = refl
 
-pub plain_logs : (job : Job) (start : AuditStart) (now : Option (List ℕ)) (ran : Result Counts Fault) (told : Result AuditCounts Fault) → told ≡ counts_of ran
-    → LogsAs job start.source start.root start.log now ran → AuditLogs false job start now told
-plain_logs job start now ran told is logs =
-    subst (AuditLogs false job start now) (sym is) (
+pub plain_logs : (F : Type 0) (job : Job) (start : AuditStart) (now : Option (List ℕ)) (ran : Result Counts Fault) (told : Result AuditCounts Fault)
+    → told ≡ counts_of ran
+    → LogsAs job start.source start.root start.log now ran → AuditLogs false F job start now told
+plain_logs F job start now ran told is logs =
+    subst (AuditLogs false F job start now) (sym is) (
       subst (LogsAs job start.source start.root start.log now) (sym (in_counts ran)) logs,
       ap counts_of (in_counts ran),
     )

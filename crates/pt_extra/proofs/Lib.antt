@@ -1,13 +1,17 @@
 mod BothWays
 mod Converted
+mod Exits
 mod ExtraRules
 mod Keeping
 mod LineTexts
 mod Objects
 mod Passed
+mod Past
 mod ReadTexts
 mod Reading
+mod Reasons
 mod Roots
 mod Telling
 mod Tops
+mod Unlisted
 mod Visiting

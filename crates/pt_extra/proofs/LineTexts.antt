@@ -2,11 +2,12 @@
 use Rattle.std.proofs.Common.{◌≡◌, List, ℕ, [], ◌∷◌, ◌++◌, false, refl, ap, ◌∙◌}
 use Rattle.serde_json.specs.Data.{Data}
 use Rattle.serde_json.specs.Written.{compact_text, has_float}
-use Rattle.pt_extra.specs.Lines.{ExtraFinding, Stray, Extra, last_text, last_tree, line_text, line_tree}
+use Rattle.pt_extra.specs.Lines.{ExtraFinding, Stray, Extra, Unlisted, last_text, last_tree, line_text, line_tree}
 use Rattle.pt_extra.specs.declared.auditing.AuditCounts.{AuditCounts}
 
 no_float_in : (line : ExtraFinding) → has_float (line_tree line) ≡ false
 no_float_in (Stray to) = refl
+no_float_in (Unlisted reason to) = refl
 no_float_in (Extra id to) = refl
 
 pub no_float : (line : ExtraFinding) (d : Data) → d ≡ line_tree line → has_float d ≡ false

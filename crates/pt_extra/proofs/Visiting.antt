@@ -27,14 +27,29 @@ use Rattle.std.proofs.Common.{
   append-nil,
   append_assoc,
 }
+use Rattle.std.proofs.Math.Nat.{le-min, le_trans, min-le_left, min-le_right}
 use Rattle.std.proofs.lemmas.Option.{slice_get_past}
 use Rattle.std.specs.Option.{ForSome}
 use Rattle.std.specs.Prelude.{IsSome, Option, None, Some, ◌||◌, slice_get}
 use Rattle.pt_extra.proofs.Telling.{front_more, front_none, front_on, puts_none, puts_on, texts_on}
-use Rattle.pt_extra.specs.Findings.{Against, found_at, is_object, is_part, of_entries, of_leaf, of_object, of_unnamed}
+use Rattle.pt_extra.proofs.Unlisted.{
+  IsBefore,
+  Part,
+  Whole,
+  entries_found,
+  told_behind,
+  told_found,
+  told_not,
+  told_part_bare,
+  wider,
+  wider_before,
+}
+use Rattle.pt_extra.specs.Findings.{Against, found_at, is_object, is_part, of_entries, of_folder_by, of_leaf, of_object, of_unnamed}
 use Rattle.pt_extra.specs.Inventories.{id_of}
 use Rattle.pt_extra.specs.Lines.{ExtraFinding, texts}
+use Rattle.pt_extra.specs.Unlisted.{IsOfEntries, IsToldAt, Listed, of_unlisted}
 use Rattle.pt_extra.specs.Walk.{Puts, Seen}
+use Rattle.pt_tree.specs.Failures.{HasRisen, greatest_count}
 use Rattle.pt_plan.specs.TurnWalk.{in_root}
 use Rattle.pt_tree.specs.Forest.{Forest, none, dir_at, is_proper, listing_at, listing_of}
 use Rattle.pt_tree.specs.Listing.{Item}
@@ -59,148 +74,189 @@ next_stands told path entry items place name what there proper listed at is_dir 
     subst (λ (q : Path). IsSome (dir_at tree (in_root q))) (sym entry_is)
     (dir_stands tree (in_root path) items place name (proper_in told proper tree here) (listed tree here) at_dir)
 
+-- a folder of the destination is one of the storage root, and lists the same
+pub listed_at : (tree : Option Forest) (folder path : Path) (items : List Item) → folder ≡ in_root path
+    → ForSome tree (λ t. listing_at t folder ≡ Some items) → ForSome tree (λ t. listing_at t (in_root path) ≡ Some items)
+listed_at tree folder path items same listed = subst (λ (p : Path). ForSome tree (λ t. listing_at t p ≡ Some items)) same listed
+
+-- ---- a count of failures
+
+-- it has risen where it rose before
+pub risen_on : (a b d : ℕ) → HasRisen a b → b ≤ d → HasRisen a d
+risen_on a b d rose le = le_trans rose le
+
+-- and where it rises after
+pub risen_from : (a b d : ℕ) → a ≤ b → HasRisen b d → HasRisen a d
+risen_from a b d le rose =
+    le_trans (le-min (le_trans (min-le_left (a + 1) greatest_count) (omega (arith, le))) (min-le_right (a + 1) greatest_count)) rose
+
+-- it has risen later, where it had
+abbrev pub Later : ℕ → ℕ → ℕ → Type 0
+Later first now last = HasRisen first now → HasRisen first last
+
+-- ---- what is told of a folder
+
+-- what may be told of it is put
+pub record IsPut (F : Type 0) (c : Against) (path : Path) (left : ℕ) (inside : Forest) (a b : Seen) : Type 0 where
+  pub told : List ExtraFinding
+  pub may : IsToldAt F c path left inside told
+  pub puts : Puts told a b
+
+-- a front of it
+pub record IsFront (F : Type 0) (c : Against) (path : Path) (left : ℕ) (inside : Forest) (old last : Option (List ℕ)) : Type 0 where
+  pub told : List ExtraFinding
+  pub may : IsToldAt F c path left inside told
+  pub part : AppendsFront old last (texts told)
+
 -- ---- the entries of a folder
 
--- what is found of an entry
-abbrev of_entry : Against → Forest → Path → ℕ → List ℕ → Kind → List ExtraFinding
-of_entry c top path left name kind.File = of_leaf c path name kind.File
-of_entry c top path left name kind.Other = of_leaf c path name kind.Other
-of_entry c top path left name kind.Dir =
-    cond (is_part path name kind.Dir) [] (found_at c (path ++ name ∷ []) (left - 1) (inside_at top (in_root (path ++ name ∷ []))))
+-- what may be told of an entry
+abbrev OfEntry : Type 0 → Against → Forest → Path → ℕ → List ℕ → Kind → List ExtraFinding → Type 0
+OfEntry F c top path left name kind.File e = e ≡ of_leaf c path name kind.File
+OfEntry F c top path left name kind.Other e = e ≡ of_leaf c path name kind.Other
+OfEntry F c top path left name kind.Dir e =
+    (here : List ExtraFinding) × IsToldAt F c (path ++ name ∷ []) (left - 1) (inside_at top (in_root (path ++ name ∷ []))) here
+    × (e ≡ cond (is_part path name kind.Dir) [] here)
 
--- what is found of the rest begins with it
-splits : (c : Against) (top : Forest) (path : Path) (left : ℕ) (items : List Item) (place : ℕ) (name : List ℕ) (here : Kind) → is_proper top ≡ true
-    → listing_at top (in_root path) ≡ Some items
-    → slice_get items place ≡ Some (name, here)
-    → of_entries c path left (entries_from place (inside_at top (in_root path))) ≡ of_entry c top path left name here
-    ++ of_entries c path left (entries_from (place + 1) (inside_at top (in_root path)))
-splits c top path left items place name kind.File proper listed at =
-    ap (of_entries c path left) ((file_ahead top (in_root path) items place name proper listed at).rest_is)
-splits c top path left items place name kind.Other proper listed at =
-    ap (of_entries c path left) (other_ahead top (in_root path) items place name proper listed at)
-splits c top path left items place name kind.Dir proper listed at =
-    ap (of_entries c path left) ((dir_ahead top (in_root path) items place name proper listed at).rest_is)
+-- what may be told of the rest begins with it
+joins : (F : Type 0) (c : Against) (top : Forest) (path : Path) (left : ℕ) (items : List Item) (place : ℕ) (name : List ℕ) (here : Kind)
+    (e more : List ExtraFinding) → is_proper top ≡ true → listing_at top (in_root path) ≡ Some items → slice_get items place ≡ Some (name, here)
+    → OfEntry F c top path left name here e → IsOfEntries F c path left (entries_from (place + 1) (inside_at top (in_root path))) more
+    → IsOfEntries F c path left (entries_from place (inside_at top (in_root path))) (e ++ more)
+joins F c top path left items place name kind.File e more proper listed at is it =
+    subst (λ (f : Forest). IsOfEntries F c path left f (e ++ more)) (sym (file_ahead top (in_root path) items place name proper listed at).rest_is)
+    (more, it, ap (λ (l : List ExtraFinding). l ++ more) is)
+joins F c top path left items place name kind.Other e more proper listed at is it =
+    subst (λ (f : Forest). IsOfEntries F c path left f (e ++ more)) (sym (other_ahead top (in_root path) items place name proper listed at))
+    (more, it, ap (λ (l : List ExtraFinding). l ++ more) is)
+joins F c top path left items place name kind.Dir e more proper listed at (here, may, is) it =
+    subst (λ (f : Forest). IsOfEntries F c path left f (e ++ more)) (sym (dir_ahead top (in_root path) items place name proper listed at).rest_is)
+    (here, more, may, it, ap (λ (l : List ExtraFinding). l ++ more) is)
 
--- so many entries of a folder were met, and what is found of them is told
-pub record FoundTo (c : Against) (path : Path) (left : ℕ) (inside : Forest) (place : ℕ) (a b : Seen) : Type 0 where
+-- so many entries of a folder were met, while the count of the root's failures went from the first to the second, and what is told of them is put
+-- behind what was told of the folder itself
+pub record FoundTo (first now : ℕ) (c : Against) (path : Path) (left : ℕ) (inside : Forest) (place : ℕ) (a b : Seen) : Type 0 where
+  before : List ExtraFinding
   findings : List ExtraFinding
-  puts : Puts findings a b
-  rest : findings ++ of_entries c path left (entries_from place inside) ≡ of_entries c path left inside
+  puts : Puts (before ++ findings) a b
+  is_before : IsBefore (HasRisen first now) c path before
+  rest : (last : ℕ) → Later first now last → (more : List ExtraFinding) → IsOfEntries (HasRisen first last) c path left (entries_from place inside) more
+      → IsOfEntries (HasRisen first last) c path left inside (findings ++ more)
 
-pub found_none : (c : Against) (path : Path) (left : ℕ) (inside : Forest) (a : Seen) → FoundTo c path left inside 0 a a
-found_none c path left inside a = record { findings = []; puts = puts_none a; rest = refl }
+-- what was told of a folder itself by whether it was listed whole
+abbrev BeforeBy : Type 0 → Against → Path → Bool → List ExtraFinding → Type 0
+BeforeBy F c path true before = before ≡ []
+BeforeBy F c path false before = F × (reason : List ℕ) × (further : List (List ℕ)) × (before ≡ of_unlisted c path (reason ∷ further))
 
--- and of one more
-found_more : (c : Against) (top : Forest) (path : Path) (left : ℕ) (items : List Item) (place : ℕ) (name : List ℕ) (here : Kind) (a b d : Seen)
-    → is_proper top ≡ true → listing_at top (in_root path) ≡ Some items
-    → slice_get items place ≡ Some (name, here) → FoundTo c path left (inside_at top (in_root path)) place a b → Puts (of_entry c top path left name here) b d
-    → FoundTo c path left (inside_at top (in_root path)) (place + 1) a d
-found_more c top path left items place name here a b d proper listed at to puts =
-    let e = of_entry c top path left name here in
-    let rest = of_entries c path left (entries_from (place + 1) (inside_at top (in_root path))) in
-    record {
-      findings = to.findings ++ e;
-      puts = puts_on to.findings e a b d to.puts puts;
-      rest = append_assoc to.findings e rest ∙ ap (λ (l : List ExtraFinding). to.findings ++ l)
-          (sym (splits c top path left items place name here proper listed at)) ∙ to.rest;
-    }
+before_by : {F : Type 0} (c : Against) (path : Path) (whole : Bool) (before : List ExtraFinding) → BeforeBy F c path whole before → IsBefore F c path before
+before_by c path true before is = Whole is
+before_by c path false before (rose, reason, further, is) = Part rose reason further is
 
--- where it is the root's own
-pub found_part : (c : Against) (top : Forest) (path : Path) (left : ℕ) (items : List Item) (place : ℕ) (name : List ℕ) (here : Kind) (a b : Seen)
-    → is_proper top ≡ true → listing_at top (in_root path) ≡ Some items
-    → slice_get items place ≡ Some (name, here) → is_part path name here ≡ true → FoundTo c path left (inside_at top (in_root path)) place a b
-    → FoundTo c path left (inside_at top (in_root path)) (place + 1) a b
-found_part c top path left items place name here a b proper listed at part to =
-    found_more c top path left items place name here a b b proper listed at to
-    (subst (λ (l : List ExtraFinding). Puts l b b) (sym (by here part)) (puts_none b))
-  where
-    by : (here : Kind) → is_part path name here ≡ true → of_entry c top path left name here ≡ []
-    by kind.File part = ap (λ (t : Bool). cond t [] (of_unnamed c (path ++ name ∷ []))) part
-    by kind.Other part = ap (λ (t : Bool). cond t [] (of_unnamed c (path ++ name ∷ []))) part
-    by kind.Dir part = ap (λ (t : Bool). cond t [] (found_at c (path ++ name ∷ []) (left - 1) (inside_at top (in_root (path ++ name ∷ []))))) part
+-- and that is put
+pub record IsBegun (first now : ℕ) (c : Against) (path : Path) (whole : Bool) (a b : Seen) : Type 0 where
+  before : List ExtraFinding
+  puts : Puts before a b
+  by_whole : BeforeBy (HasRisen first now) c path whole before
 
--- where it is a folder
-dir_is : (c : Against) (top : Forest) (path : Path) (left : ℕ) (name : List ℕ) (here : Kind) (entry : Path) → here ≡ kind.Dir → is_part path name here ≡ false
-    → entry ≡ path ++ name ∷ []
-    → of_entry c top path left name here ≡ found_at c entry (left - 1) (inside_at top (in_root entry))
-dir_is c top path left name here entry is part entry_is = by here is part
-    ∙ ap (λ (p : Path). found_at c p (left - 1) (inside_at top (in_root p))) (sym entry_is)
-  where
-    by : (here : Kind) → here ≡ kind.Dir → is_part path name here ≡ false
-        → of_entry c top path left name here ≡ found_at c (path ++ name ∷ []) (left - 1) (inside_at top (in_root (path ++ name ∷ [])))
-    by kind.File is part = absurd (cc)
-    by kind.Other is part = absurd (cc)
-    by kind.Dir is part = ap (λ (t : Bool). cond t [] (found_at c (path ++ name ∷ []) (left - 1) (inside_at top (in_root (path ++ name ∷ []))))) part
+pub begun_whole : (first now : ℕ) (c : Against) (path : Path) (a : Seen) → IsBegun first now c path true a a
+begun_whole first now c path a = record { before = []; puts = puts_none a; by_whole = refl }
 
-pub found_dir : (c : Against) (top : Forest) (path : Path) (left : ℕ) (items : List Item) (place : ℕ) (name : List ℕ) (here : Kind) (entry : Path)
-    (a b d : Seen) → is_proper top ≡ true → listing_at top (in_root path) ≡ Some items
-    → slice_get items place ≡ Some (name, here) → here ≡ kind.Dir → is_part path name here ≡ false → entry ≡ path ++ name ∷ []
-    → FoundTo c path left (inside_at top (in_root path)) place a b
-    → Puts (found_at c entry (left - 1) (inside_at top (in_root entry))) b d
-    → FoundTo c path left (inside_at top (in_root path)) (place + 1) a d
-found_dir c top path left items place name here entry a b d proper listed at is part entry_is to puts =
-    found_more c top path left items place name here a b d proper listed at to
-    (subst (λ (l : List ExtraFinding). Puts l b d) (sym (dir_is c top path left name here entry is part entry_is)) puts)
+pub begun_part : (first now : ℕ) (c : Against) (path : Path) (a b : Seen) (reason : List ℕ) (further : List (List ℕ)) → HasRisen first now
+    → Puts (of_unlisted c path (reason ∷ further)) a b → IsBegun first now c path false a b
+begun_part first now c path a b reason further rose puts =
+    record { before = of_unlisted c path (reason ∷ further); puts = puts; by_whole = (rose, reason, further, refl) }
 
--- where it is none
-leaf_is : (c : Against) (top : Forest) (path : Path) (left : ℕ) (name : List ℕ) (here : Kind) (entry : Path) → (here ≡ kind.Dir → ⊥)
-    → is_part path name here ≡ false → entry ≡ path ++ name ∷ []
-    → of_entry c top path left name here ≡ of_unnamed c entry
-leaf_is c top path left name here entry leaf part entry_is = by here leaf part ∙ ap (of_unnamed c) (sym entry_is)
-  where
-    by : (here : Kind) → (here ≡ kind.Dir → ⊥) → is_part path name here ≡ false → of_entry c top path left name here ≡ of_unnamed c (path ++ name ∷ [])
-    by kind.File leaf part = ap (λ (t : Bool). cond t [] (of_unnamed c (path ++ name ∷ []))) part
-    by kind.Other leaf part = ap (λ (t : Bool). cond t [] (of_unnamed c (path ++ name ∷ []))) part
-    by kind.Dir leaf part = absurd (leaf refl)
+-- no entry was met yet
+pub found_none : (first now : ℕ) (c : Against) (path : Path) (left : ℕ) (inside : Forest) (whole : Bool) (a b : Seen) → IsBegun first now c path whole a b
+    → FoundTo first now c path left inside 0 a b
+found_none first now c path left inside whole a b it = record {
+  before = it.before;
+  findings = [];
+  puts = subst (λ (l : List ExtraFinding). Puts l a b) (sym (append-nil it.before)) it.puts;
+  is_before = before_by c path whole it.before it.by_whole;
+  rest = λ last later more of_them. of_them;
+}
 
-pub found_leaf : (c : Against) (top : Forest) (path : Path) (left : ℕ) (items : List Item) (place : ℕ) (name : List ℕ) (here : Kind) (entry : Path)
-    (a b d : Seen) → is_proper top ≡ true → listing_at top (in_root path) ≡ Some items
-    → slice_get items place ≡ Some (name, here) → (here ≡ kind.Dir → ⊥) → is_part path name here ≡ false → entry ≡ path ++ name ∷ []
-    → FoundTo c path left (inside_at top (in_root path)) place a b
-    → Puts (of_unnamed c entry) b d
-    → FoundTo c path left (inside_at top (in_root path)) (place + 1) a d
-found_leaf c top path left items place name here entry a b d proper listed at leaf part entry_is to puts =
-    found_more c top path left items place name here a b d proper listed at to
-    (subst (λ (l : List ExtraFinding). Puts l b d) (sym (leaf_is c top path left name here entry leaf part entry_is)) puts)
+module _ (c : Against) (top : Forest) (path : Path) (left : ℕ) (items : List Item) (proper : is_proper top ≡ true)
+    (listed : listing_at top (in_root path) ≡ Some items) (first now : ℕ) (place : ℕ) (a b : Seen)
+    (to : FoundTo first now c path left (inside_at top (in_root path)) place a b) where
+  -- one more was met
+  found_more : (later : ℕ) (name : List ℕ) (here : Kind) (e : List ExtraFinding) (d : Seen) → Later first now later → slice_get items place ≡ Some (name, here)
+      → ((last : ℕ) → Later first later last → OfEntry (HasRisen first last) c top path left name here e) → Puts e b d
+      → FoundTo first later c path left (inside_at top (in_root path)) (place + 1) a d
+  found_more later name here e d le at may puts = record {
+    before = to.before;
+    findings = to.findings ++ e;
+    puts = subst (λ (l : List ExtraFinding). Puts l a d) (append_assoc to.before to.findings e) (puts_on (to.before ++ to.findings) e a b d to.puts puts);
+    is_before = wider_before c path to.before le to.is_before;
+    rest = λ last after more it.
+        subst (IsOfEntries (HasRisen first last) c path left (inside_at top (in_root path))) (sym (append_assoc to.findings e more))
+        (to.rest last (λ rose. after (le rose)) (e ++ more)
+        (joins (HasRisen first last) c top path left items place name here e more proper listed at (may last after) it));
+  }
 
--- ---- where it breaks off
+  -- it is the root's own
+  pub found_part : (name : List ℕ) (here : Kind) → slice_get items place ≡ Some (name, here) → is_part path name here ≡ true
+      → FoundTo first now c path left (inside_at top (in_root path)) (place + 1) a b
+  found_part name here at part = found_more now name here [] b (λ rose. rose) at (λ last after. may (HasRisen first last) here part) (puts_none b)
+    where
+      may : (F : Type 0) (here : Kind) → is_part path name here ≡ true → OfEntry F c top path left name here []
+      may F kind.File part = sym (ap (λ (t : Bool). cond t [] (of_unnamed c (path ++ name ∷ []))) part)
+      may F kind.Other part = sym (ap (λ (t : Bool). cond t [] (of_unnamed c (path ++ name ∷ []))) part)
+      may F kind.Dir part =
+          let it = path ++ name ∷ [] in
+          let found = of_entries c it (left - 1) (inside_at top (in_root it)) in (
+            of_folder_by c it (left - 1) (inside_at top (in_root it)) (of_unnamed c it) found,
+            told_found F c it (left - 1) (inside_at top (in_root it)),
+            sym (ap
+                (λ (t : Bool). cond t [] (of_folder_by c it (left - 1) (inside_at top (in_root it)) (of_unnamed c it) found)) part),
+          )
 
--- of an entry a front is put
-stops_more : (c : Against) (top : Forest) (path : Path) (left : ℕ) (items : List Item) (place : ℕ) (name : List ℕ) (here : Kind) (a b : Seen)
-    (last : Option (List ℕ)) → is_proper top ≡ true → listing_at top (in_root path) ≡ Some items
-    → slice_get items place ≡ Some (name, here) → FoundTo c path left (inside_at top (in_root path)) place a b
-    → AppendsFront b.held last (texts (of_entry c top path left name here))
-    → AppendsFront a.held last (texts (of_entries c path left (inside_at top (in_root path))))
-stops_more c top path left items place name here a b last proper listed at to part =
-    let e = of_entry c top path left name here in
-    let rest = of_entries c path left (entries_from (place + 1) (inside_at top (in_root path))) in
-    let whole : texts to.findings ++ (texts e ++ texts rest) ≡ texts (of_entries c path left (inside_at top (in_root path))) =
-    ap (λ (l : List ℕ). texts to.findings ++ l) (sym (texts_on e rest)) ∙ sym (texts_on to.findings (e ++ rest))
-    ∙ ap texts (ap (λ (l : List ExtraFinding). to.findings ++ l) (sym (splits c top path left items place name here proper listed at)) ∙ to.rest) in
-    subst (AppendsFront a.held last) whole
-    (front_on a.held b.held last (texts to.findings) (texts e ++ texts rest) to.puts.held (front_more b.held last (texts e) (texts rest) part))
+  of_dir : (F : Type 0) (name : List ℕ) (here : Kind) (entry : Path) (e : List ExtraFinding) → here ≡ kind.Dir → is_part path name here ≡ false
+      → entry ≡ path ++ name ∷ [] → IsToldAt F c entry (left - 1) (inside_at top (in_root entry)) e → OfEntry F c top path left name here e
+  of_dir F name kind.File entry e is part entry_is may = absurd (cc)
+  of_dir F name kind.Other entry e is part entry_is may = absurd (cc)
+  of_dir F name kind.Dir entry e is part entry_is may = (
+    e,
+    subst (λ (p : Path). IsToldAt F c p (left - 1) (inside_at top (in_root p)) e) entry_is may,
+    sym (ap (λ (t : Bool). cond t [] e) part),
+  )
 
--- nothing is
-stops_here : (c : Against) (path : Path) (left : ℕ) (inside : Forest) (place : ℕ) (a b : Seen) → FoundTo c path left inside place a b
-    → AppendsFront a.held b.held (texts (of_entries c path left inside))
-stops_here c path left inside place a b to =
-    let rest = of_entries c path left (entries_from place inside) in
-    subst (AppendsFront a.held b.held) (sym (texts_on to.findings rest) ∙ ap texts to.rest)
-    (front_on a.held b.held b.held (texts to.findings) (texts rest) to.puts.held (front_none b.held (texts rest)))
+  -- what was told of a folder from a count of failures on, seen from the first
+  widened : (later last : ℕ) (entry : Path) (e : List ExtraFinding) → first ≤ now → Later first later last
+      → IsToldAt (HasRisen now later) c entry (left - 1) (inside_at top (in_root entry)) e
+      → IsToldAt (HasRisen first last) c entry (left - 1) (inside_at top (in_root entry)) e
+  widened later last entry e from after may = wider c entry (left - 1) (inside_at top (in_root entry)) e
+      (λ rose. after (risen_from first now later from rose)) may
 
--- at the end all is told
-found_all : (c : Against) (top : Forest) (path : Path) (left : ℕ) (items : List Item) (place : ℕ) (a b : Seen) → listing_at top (in_root path) ≡ Some items
-    → length items ≤ place
-    → FoundTo c path left (inside_at top (in_root path)) place a b → Puts (of_entries c path left (inside_at top (in_root path))) a b
-found_all c top path left items place a b listed past to =
-    let nothing = nothing_ahead top (in_root path) items place listed (slice_get_past items place past) in
-    let whole : to.findings ≡ of_entries c path left (inside_at top (in_root path)) =
-    sym (append-nil to.findings) ∙ ap (λ (f : Forest). to.findings ++ of_entries c path left f) (sym nothing) ∙ to.rest in
-    subst (λ (l : List ExtraFinding). Puts l a b) whole to.puts
+  -- it is a folder
+  pub found_dir : (later : ℕ) (name : List ℕ) (here : Kind) (entry : Path) (d : Seen) → first ≤ now → Later first now later
+      → slice_get items place ≡ Some (name, here) → here ≡ kind.Dir → is_part path name here ≡ false → entry ≡ path ++ name ∷ []
+      → IsPut (HasRisen now later) c entry (left - 1) (inside_at top (in_root entry)) b d
+      → FoundTo first later c path left (inside_at top (in_root path)) (place + 1) a d
+  found_dir later name here entry d from le at is part entry_is put =
+      found_more later name here put.told d le at
+      (λ last after. of_dir (HasRisen first last) name here entry put.told is part entry_is (widened later last entry put.told from after put.may)) put.puts
+
+  leaf_is : (F : Type 0) (name : List ℕ) (here : Kind) (entry : Path) → (here ≡ kind.Dir → ⊥) → is_part path name here ≡ false → entry ≡ path ++ name ∷ []
+      → OfEntry F c top path left name here (of_unnamed c entry)
+  leaf_is F name kind.File entry leaf part entry_is =
+      ap (of_unnamed c) entry_is ∙ sym (ap (λ (t : Bool). cond t [] (of_unnamed c (path ++ name ∷ []))) part)
+  leaf_is F name kind.Other entry leaf part entry_is =
+      ap (of_unnamed c) entry_is ∙ sym (ap (λ (t : Bool). cond t [] (of_unnamed c (path ++ name ∷ []))) part)
+  leaf_is F name kind.Dir entry leaf part entry_is = absurd (leaf refl)
+
+  -- it is none
+  pub found_leaf : (later : ℕ) (name : List ℕ) (here : Kind) (entry : Path) (d : Seen) → Later first now later
+      → slice_get items place ≡ Some (name, here)
+      → (here ≡ kind.Dir → ⊥) → is_part path name here ≡ false → entry ≡ path ++ name ∷ [] → Puts (of_unnamed c entry) b d
+      → FoundTo first later c path left (inside_at top (in_root path)) (place + 1) a d
+  found_leaf later name here entry d le at leaf part entry_is puts =
+      found_more later name here (of_unnamed c entry) d le at (λ last after. leaf_is (HasRisen first last) name here entry leaf part entry_is) puts
 
 -- ---- a folder
 
--- of one that isn't an object, isn't too deep, and isn't empty it is what is found of its entries
+-- of one that isn't an object, isn't too deep, and isn't empty it is what is told of its entries
 pub record IsWalked (left : ℕ) (items : List Item) : Type 0 where
   object : is_object items ≡ false
   deep : (left == 0) ≡ false
@@ -209,74 +265,203 @@ pub record IsWalked (left : ℕ) (items : List Item) : Type 0 where
 pub is_walked : (left : ℕ) (items : List Item) → is_object items ≡ false → (left == 0) ≡ false → (length items == 0) ≡ false → IsWalked left items
 is_walked left items object deep empty = record { object = object; deep = deep; empty = empty }
 
-folder_is : (c : Against) (top : Forest) (path : Path) (left : ℕ) (items : List Item) → listing_at top (in_root path) ≡ Some items → IsWalked left items
-    → found_at c path left (inside_at top (in_root path)) ≡ of_entries c path left (inside_at top (in_root path))
-folder_is c top path left items listed it =
+folder_is : (c : Against) (top : Forest) (path : Path) (left : ℕ) (items : List Item) (entries bare : List ExtraFinding)
+    → listing_at top (in_root path) ≡ Some items → IsWalked left items
+    → of_folder_by c path left (inside_at top (in_root path)) bare entries ≡ entries
+folder_is c top path left items entries bare listed it =
     let lists = inside_lists top (in_root path) items listed in
-    let entries = of_entries c path left (inside_at top (in_root path)) in
     let first : is_object (listing_of (inside_at top (in_root path))) ≡ false = ap is_object lists ∙ it.object in
     let none : (length (listing_of (inside_at top (in_root path))) == 0) ≡ false = ap (λ (l : List Item). length l == 0) lists ∙ it.empty in
     ap (λ (t : Bool). cond t (of_object c path (id_of (inside_at top (in_root path))))
-    (cond (left == 0 || length (listing_of (inside_at top (in_root path))) == 0) (of_unnamed c path) entries)) first
-    ∙ ap (λ (t : Bool). cond (t || length (listing_of (inside_at top (in_root path))) == 0) (of_unnamed c path) entries) it.deep
-    ∙ ap (λ (t : Bool). cond t (of_unnamed c path) entries) none
+    (cond (left == 0 || length (listing_of (inside_at top (in_root path))) == 0) bare entries)) first
+    ∙ ap (λ (t : Bool). cond (t || length (listing_of (inside_at top (in_root path))) == 0) bare entries) it.deep
+    ∙ ap (λ (t : Bool). cond t bare entries) none
 
-pub found_folder : (c : Against) (top : Forest) (path : Path) (left : ℕ) (items : List Item) (place : ℕ) (a b : Seen)
-    → listing_at top (in_root path) ≡ Some items → IsWalked left items → length items ≤ place
-    → FoundTo c path left (inside_at top (in_root path)) place a b → Puts (found_at c path left (inside_at top (in_root path))) a b
-found_folder c top path left items place a b listed it past to =
-    subst (λ (l : List ExtraFinding). Puts l a b) (sym (folder_is c top path left items listed it)) (found_all c top path left items place a b listed past to)
+module _ (c : Against) (top : Forest) (path : Path) (left : ℕ) (items : List Item) (proper : is_proper top ≡ true)
+    (listed : listing_at top (in_root path) ≡ Some items) (walked : IsWalked left items) (first now : ℕ) (place : ℕ) (a b : Seen)
+    (to : FoundTo first now c path left (inside_at top (in_root path)) place a b) where
+  -- what was told with what is still to be told of its entries may be told of it
+  may_be : (last : ℕ) (more : List ExtraFinding) → Later first now last
+      → IsOfEntries (HasRisen first last) c path left (entries_from place (inside_at top (in_root path))) more
+      → IsToldAt (HasRisen first last) c path left (inside_at top (in_root path)) (to.before ++ (to.findings ++ more))
+  may_be last more le it =
+      told_behind c path left (inside_at top (in_root path)) to.before (to.findings ++ more) (to.findings ++ more)
+      (wider_before c path to.before le to.is_before) (to.rest last le more it)
+      (λ bare. folder_is c top path left items (to.findings ++ more) bare listed walked)
 
--- where it breaks off in it: at an entry that is a folder, at one that is none, and before one
-pub stops_dir : (c : Against) (top : Forest) (path : Path) (left : ℕ) (items : List Item) (place : ℕ) (name : List ℕ) (here : Kind) (entry : Path) (a b : Seen)
-    (last : Option (List ℕ)) → is_proper top ≡ true → listing_at top (in_root path) ≡ Some items
-    → slice_get items place ≡ Some (name, here) → here ≡ kind.Dir → is_part path name here ≡ false → entry ≡ path ++ name ∷ [] → IsWalked left items
-    → FoundTo c path left (inside_at top (in_root path)) place a b
-    → AppendsFront b.held last (texts (found_at c entry (left - 1) (inside_at top (in_root entry))))
-    → AppendsFront a.held last (texts (found_at c path left (inside_at top (in_root path))))
-stops_dir c top path left items place name here entry a b last proper listed at is part entry_is it to put =
-    subst (λ (l : List ExtraFinding). AppendsFront a.held last (texts l)) (sym (folder_is c top path left items listed it))
-    (stops_more c top path left items place name here a b last proper listed at to
-    (subst (λ (l : List ExtraFinding). AppendsFront b.held last (texts l)) (sym (dir_is c top path left name here entry is part entry_is)) put))
+  -- at the end all is told
+  pub found_folder : length items ≤ place → IsPut (HasRisen first now) c path left (inside_at top (in_root path)) a b
+  found_folder past =
+      let nothing = nothing_ahead top (in_root path) items place listed (slice_get_past items place past) in
+      let none_left : IsOfEntries (HasRisen first now) c path left (entries_from place (inside_at top (in_root path))) [] =
+      subst (λ (f : Forest). IsOfEntries (HasRisen first now) c path left f []) (sym nothing) refl in
+      record {
+        told = to.before ++ (to.findings ++ []);
+        may = may_be now [] (λ rose. rose) none_left;
+        puts = subst (λ (l : List ExtraFinding). Puts (to.before ++ l) a b) (sym (append-nil to.findings)) to.puts;
+      }
 
-pub stops_leaf : (c : Against) (top : Forest) (path : Path) (left : ℕ) (items : List Item) (place : ℕ) (name : List ℕ) (here : Kind) (entry : Path) (a b : Seen)
-    (last : Option (List ℕ)) → is_proper top ≡ true → listing_at top (in_root path) ≡ Some items
-    → slice_get items place ≡ Some (name, here) → (here ≡ kind.Dir → ⊥) → is_part path name here ≡ false → entry ≡ path ++ name ∷ [] → IsWalked left items
-    → FoundTo c path left (inside_at top (in_root path)) place a b
-    → AppendsFront b.held last (texts (of_unnamed c entry)) → AppendsFront a.held last (texts (found_at c path left (inside_at top (in_root path))))
-stops_leaf c top path left items place name here entry a b last proper listed at leaf part entry_is it to put =
-    subst (λ (l : List ExtraFinding). AppendsFront a.held last (texts l)) (sym (folder_is c top path left items listed it))
-    (stops_more c top path left items place name here a b last proper listed at to
-    (subst (λ (l : List ExtraFinding). AppendsFront b.held last (texts l)) (sym (leaf_is c top path left name here entry leaf part entry_is)) put))
+  -- where it breaks off, a front of what is still to be told is put
+  stops_with : (last : ℕ) (more : List ExtraFinding) (end : Option (List ℕ)) → Later first now last
+      → IsOfEntries (HasRisen first last) c path left (entries_from place (inside_at top (in_root path))) more → AppendsFront b.held end (texts more)
+      → IsFront (HasRisen first last) c path left (inside_at top (in_root path)) a.held end
+  stops_with last more end le it part = record {
+    told = to.before ++ (to.findings ++ more);
+    may = may_be last more le it;
+    part = subst (AppendsFront a.held end)
+        (sym (texts_on (to.before ++ to.findings) more) ∙ ap texts (append_assoc to.before to.findings more))
+        (front_on a.held b.held end (texts (to.before ++ to.findings)) (texts more) to.puts.held part);
+  }
 
-pub stops_before : (c : Against) (top : Forest) (path : Path) (left : ℕ) (items : List Item) (place : ℕ) (a b : Seen)
-    → listing_at top (in_root path) ≡ Some items → IsWalked left items → FoundTo c path left (inside_at top (in_root path)) place a b
-    → AppendsFront a.held b.held (texts (found_at c path left (inside_at top (in_root path))))
-stops_before c top path left items place a b listed it to =
-    subst (λ (l : List ExtraFinding). AppendsFront a.held b.held (texts l)) (sym (folder_is c top path left items listed it))
-    (stops_here c path left (inside_at top (in_root path)) place a b to)
+  -- nothing of it
+  pub stops_before : IsFront (HasRisen first now) c path left (inside_at top (in_root path)) a.held b.held
+  stops_before =
+      let rest = of_entries c path left (entries_from place (inside_at top (in_root path))) in
+      stops_with now rest b.held (λ rose. rose) (entries_found (HasRisen first now) c path left (entries_from place (inside_at top (in_root path))))
+      (front_none b.held (texts rest))
 
--- of an object
-pub found_object : (c : Against) (top : Forest) (path : Path) (left : ℕ) (items : List Item) → listing_at top (in_root path) ≡ Some items
-    → is_object items ≡ true
-    → found_at c path left (inside_at top (in_root path)) ≡ of_object c path (id_of (inside_at top (in_root path)))
-found_object c top path left items listed object =
+  -- a front of an entry
+  stops_more : (last : ℕ) (name : List ℕ) (here : Kind) (e : List ExtraFinding) (end : Option (List ℕ)) → Later first now last
+      → slice_get items place ≡ Some (name, here) → OfEntry (HasRisen first last) c top path left name here e → AppendsFront b.held end (texts e)
+      → IsFront (HasRisen first last) c path left (inside_at top (in_root path)) a.held end
+  stops_more last name here e end le at may part =
+      let rest = of_entries c path left (entries_from (place + 1) (inside_at top (in_root path))) in
+      stops_with last (e ++ rest) end le
+      (joins (HasRisen first last) c top path left items place name here e rest proper listed at may
+      (entries_found (HasRisen first last) c path left (entries_from (place + 1) (inside_at top (in_root path)))))
+      (subst (AppendsFront b.held end) (sym (texts_on e rest)) (front_more b.held end (texts e) (texts rest) part))
+
+  -- which is a folder
+  pub stops_dir : (last : ℕ) (name : List ℕ) (here : Kind) (entry : Path) (end : Option (List ℕ)) → first ≤ now → Later first now last
+      → slice_get items place ≡ Some (name, here) → here ≡ kind.Dir → is_part path name here ≡ false → entry ≡ path ++ name ∷ []
+      → IsFront (HasRisen now last) c entry (left - 1) (inside_at top (in_root entry)) b.held end
+      → IsFront (HasRisen first last) c path left (inside_at top (in_root path)) a.held end
+  stops_dir last name here entry end from le at is part entry_is front =
+      stops_more last name here front.told end le at
+      (of_dir c top path left items proper listed first now place a b to (HasRisen first last) name here entry front.told is part entry_is
+      (widened c top path left items proper listed first now place a b to last last entry front.told from (λ rose. rose) front.may)) front.part
+
+  -- or none
+  pub stops_leaf : (last : ℕ) (name : List ℕ) (here : Kind) (entry : Path) (end : Option (List ℕ)) → Later first now last
+      → slice_get items place ≡ Some (name, here) → (here ≡ kind.Dir → ⊥) → is_part path name here ≡ false → entry ≡ path ++ name ∷ []
+      → AppendsFront b.held end (texts (of_unnamed c entry))
+      → IsFront (HasRisen first last) c path left (inside_at top (in_root path)) a.held end
+  stops_leaf last name here entry end le at leaf part entry_is put =
+      stops_more last name here (of_unnamed c entry) end le at
+      (leaf_is c top path left items proper listed first now place a b to (HasRisen first last) name here entry leaf part entry_is) put
+
+-- ---- a folder that isn't walked
+
+-- of an object, by whatever is found of a bare folder
+pub object_is : (c : Against) (top : Forest) (path : Path) (left : ℕ) (items : List Item) (bare : List ExtraFinding)
+    → listing_at top (in_root path) ≡ Some items → is_object items ≡ true
+    → of_folder_by c path left (inside_at top (in_root path)) bare (of_entries c path left (inside_at top (in_root path)))
+    ≡ of_object c path (id_of (inside_at top (in_root path)))
+object_is c top path left items bare listed object =
     let lists = inside_lists top (in_root path) items listed in
     ap (λ (t : Bool). cond t (of_object c path (id_of (inside_at top (in_root path))))
-    (cond (left == 0 || length (listing_of (inside_at top (in_root path))) == 0) (of_unnamed c path) (of_entries c path left (inside_at top (in_root path)))))
+    (cond (left == 0 || length (listing_of (inside_at top (in_root path))) == 0) bare (of_entries c path left (inside_at top (in_root path)))))
     (ap is_object lists ∙ object)
 
 -- of one that is too deep or empty
-pub found_bare : (c : Against) (top : Forest) (path : Path) (left : ℕ) (items : List Item) → listing_at top (in_root path) ≡ Some items
-    → is_object items ≡ false
-    → (left == 0 || length items == 0) ≡ true → found_at c path left (inside_at top (in_root path)) ≡ of_unnamed c path
-found_bare c top path left items listed object bare =
+pub bare_is : (c : Against) (top : Forest) (path : Path) (left : ℕ) (items : List Item) (bare : List ExtraFinding)
+    → listing_at top (in_root path) ≡ Some items → is_object items ≡ false → (left == 0 || length items == 0) ≡ true
+    → of_folder_by c path left (inside_at top (in_root path)) bare (of_entries c path left (inside_at top (in_root path))) ≡ bare
+bare_is c top path left items bare listed object is =
     let lists = inside_lists top (in_root path) items listed in
     let entries = of_entries c path left (inside_at top (in_root path)) in
     ap (λ (t : Bool). cond t (of_object c path (id_of (inside_at top (in_root path))))
-    (cond (left == 0 || length (listing_of (inside_at top (in_root path))) == 0) (of_unnamed c path) entries)) (ap is_object lists ∙ object)
-    ∙ ap (λ (l : List Item). cond (left == 0 || length l == 0) (of_unnamed c path) entries) lists
-    ∙ ap (λ (t : Bool). cond t (of_unnamed c path) entries) bare
+    (cond (left == 0 || length (listing_of (inside_at top (in_root path))) == 0) bare entries)) (ap is_object lists ∙ object)
+    ∙ ap (λ (l : List Item). cond (left == 0 || length l == 0) bare entries) lists
+    ∙ ap (λ (t : Bool). cond t bare entries) is
+
+module _ (c : Against) (top : Forest) (path : Path) (left : ℕ) (items : List Item) (listed : listing_at top (in_root path) ≡ Some items)
+    (first now : ℕ) (whole : Bool) (a b : Seen) (it : IsBegun first now c path whole a b) where
+  may_object : (later : ℕ) → is_object items ≡ true → Later first now later
+      → IsToldAt (HasRisen first later) c path left (inside_at top (in_root path)) (it.before ++ of_object c path (id_of (inside_at top (in_root path))))
+  may_object later object le =
+      let inside = inside_at top (in_root path) in
+      told_behind c path left inside it.before (of_entries c path left inside) (of_object c path (id_of inside))
+      (wider_before c path it.before le (before_by c path whole it.before it.by_whole)) (entries_found (HasRisen first later) c path left inside)
+      (λ bare. object_is c top path left items bare listed object)
+
+  -- an object is told behind that
+  pub put_object : (later : ℕ) (d : Seen) → is_object items ≡ true → Later first now later
+      → Puts (of_object c path (id_of (inside_at top (in_root path)))) b d
+      → IsPut (HasRisen first later) c path left (inside_at top (in_root path)) a d
+  put_object later d object le puts = record {
+    told = it.before ++ of_object c path (id_of (inside_at top (in_root path)));
+    may = may_object later object le;
+    puts = puts_on it.before (of_object c path (id_of (inside_at top (in_root path)))) a b d it.puts puts;
+  }
+
+  -- or a front of it
+  pub front_object : (later : ℕ) (end : Option (List ℕ)) → is_object items ≡ true → Later first now later
+      → AppendsFront b.held end (texts (of_object c path (id_of (inside_at top (in_root path)))))
+      → IsFront (HasRisen first later) c path left (inside_at top (in_root path)) a.held end
+  front_object later end object le part =
+      let of_it = of_object c path (id_of (inside_at top (in_root path))) in
+      record {
+        told = it.before ++ of_it;
+        may = may_object later object le;
+        part = subst (AppendsFront a.held end) (sym (texts_on it.before of_it)) (front_on a.held b.held end (texts it.before) (texts of_it) it.puts.held part);
+      }
+
+  may_bare : (whole : Bool) (before : List ExtraFinding) → BeforeBy (HasRisen first now) c path whole before
+      → is_object items ≡ false → (left == 0 || length items == 0) ≡ true
+      → IsToldAt (HasRisen first now) c path left (inside_at top (in_root path)) (before ++ cond whole (of_unnamed c path) [])
+  may_bare true before is object bare =
+      let inside = inside_at top (in_root path) in (
+        of_entries c path left inside,
+        entries_found (HasRisen first now) c path left inside,
+        Listed (ap (λ (l : List ExtraFinding). l ++ of_unnamed c path) is
+            ∙ sym (bare_is c top path left items (of_unnamed c path) listed object bare)),
+      )
+  may_bare false before (rose, reason, further, is) object bare =
+      subst (λ (l : List ExtraFinding). IsToldAt (HasRisen first now) c path left (inside_at top (in_root path)) (l ++ [])) (sym is)
+      (told_part_bare c path left (inside_at top (in_root path)) reason further rose (bare_is c top path left items [] listed object bare))
+
+  -- a bare folder is told so, unless it was told already
+  pub put_bare : (later : ℕ) (d : Seen) → is_object items ≡ false → (left == 0 || length items == 0) ≡ true → Later first now later
+      → Puts (cond whole (of_unnamed c path) []) b d → IsPut (HasRisen first later) c path left (inside_at top (in_root path)) a d
+  put_bare later d object bare le puts = record {
+    told = it.before ++ cond whole (of_unnamed c path) [];
+    may = wider c path left (inside_at top (in_root path)) (it.before ++ cond whole (of_unnamed c path) []) le
+        (may_bare whole it.before it.by_whole object bare);
+    puts = puts_on it.before (cond whole (of_unnamed c path) []) a b d it.puts puts;
+  }
+
+  pub front_bare : (later : ℕ) (end : Option (List ℕ)) → is_object items ≡ false → (left == 0 || length items == 0) ≡ true → Later first now later
+      → AppendsFront b.held end (texts (cond whole (of_unnamed c path) []))
+      → IsFront (HasRisen first later) c path left (inside_at top (in_root path)) a.held end
+  front_bare later end object bare le part =
+      let of_it = cond whole (of_unnamed c path) [] in
+      record {
+        told = it.before ++ of_it;
+        may = wider c path left (inside_at top (in_root path)) (it.before ++ of_it) le (may_bare whole it.before it.by_whole object bare);
+        part = subst (AppendsFront a.held end) (sym (texts_on it.before of_it)) (front_on a.held b.held end (texts it.before) (texts of_it) it.puts.held part);
+      }
+
+-- nothing of it could be listed
+pub put_not : (F : Type 0) (c : Against) (path : Path) (left : ℕ) (inside : Forest) (a b : Seen) (reason : List ℕ) (further : List (List ℕ)) → F
+    → Puts (of_unlisted c path (reason ∷ further)) a b → IsPut F c path left inside a b
+put_not F c path left inside a b reason further failed puts =
+    record { told = of_unlisted c path (reason ∷ further); may = told_not c path left inside reason further failed; puts = puts }
+
+pub front_not : (F : Type 0) (c : Against) (path : Path) (left : ℕ) (inside : Forest) (old end : Option (List ℕ)) (reason : List ℕ)
+    (further : List (List ℕ)) → F → AppendsFront old end (texts (of_unlisted c path (reason ∷ further))) → IsFront F c path left inside old end
+front_not F c path left inside old end reason further failed part =
+    record { told = of_unlisted c path (reason ∷ further); may = told_not c path left inside reason further failed; part = part }
+
+-- and where nothing was put
+pub front_still : (F : Type 0) (c : Against) (path : Path) (left : ℕ) (inside : Forest) (old end : Option (List ℕ)) → end ≡ old
+    → IsFront F c path left inside old end
+front_still F c path left inside old end same = record {
+  told = found_at c path left inside;
+  may = told_found F c path left inside;
+  part = subst (λ (l : Option (List ℕ)). AppendsFront old l (texts (found_at c path left inside))) (sym same)
+      (front_none old (texts (found_at c path left inside)));
+}
 
 -- it is too deep
 pub bare_deep : (left n : ℕ) → left ≡ 0 → (left == 0 || n == 0) ≡ true

@@ -1,16 +1,18 @@
 -- An audit both ways: what its log tells.
-use Rattle.std.specs.Prelude.{◌≡◌, ℕ, Bool, true, false, List, ◌++◌, Option, Some, Result, Ok, Err, take}
+use Rattle.std.specs.Prelude.{◌≡◌, ◌≤◌, ℕ, Bool, true, false, List, ◌++◌, Option, Some, Result, Ok, Err, take}
 use Rattle.std.specs.Io.KnownBytes.{Appends}
 use Rattle.std.specs.Option.{ForSome}
 use Rattle.std.specs.String.{string_bytes}
 use Rattle.pt_audit.specs.Auditing.{AuditStart, IsAllTold, IsOfItems, LogsAs}
+use Rattle.pt_audit.specs.Failing.{BlamesRightly}
 use Rattle.pt_audit.specs.declared.auditing.Audited.{Audited}
 use Rattle.pt_audit.specs.declared.counts.Counts.{Counts}
 use Rattle.pt_extra.specs.Counting.{no_numbers, with_findings}
 use Rattle.pt_extra.specs.Findings.{Against}
 use Rattle.pt_extra.specs.Lines.{ExtraFinding, last_text, texts}
-use Rattle.pt_extra.specs.Walk.{found_in}
+use Rattle.pt_extra.specs.Unlisted.{IsToldIn}
 use Rattle.pt_extra.specs.declared.auditing.AuditCounts.{AuditCounts}
+use Rattle.pt_plan.specs.DeviceStates.{Failures}
 use Rattle.pt_plan.specs.Job.{Job}
 use Rattle.pt_plan.specs.Store.{prefix_of}
 use Rattle.pt_plan.specs.declared.fault.Fault.{Fault}
@@ -55,12 +57,13 @@ abbrev pub against_given : Audited → Forest → Against
 against_given audited store =
     record { job = job_of audited.job; prefix = string_bytes audited.prefix; store = store }
 
--- so it is behind the objects' lines of an audit, where store and root tell
-abbrev pub TellsRest : Audited → AuditStart → Option (List ℕ) → Result AuditCounts Fault → Type 0
-TellsRest audited start now ran =
+-- so it is behind the objects' lines of an audit, where store and root tell, by whether the root failed
+abbrev pub TellsRest : Type 0 → Audited → AuditStart → Option (List ℕ) → Result AuditCounts Fault → Type 0
+TellsRest failed audited start now ran =
     ForSome start.source
     (λ s. ForSome start.root
-    (λ r. PutsRest audited.counts (found_in (against_given audited s) r) start.log now ran))
+    (λ r. (findings : List ExtraFinding) × IsToldIn failed (against_given audited s) r findings
+    × PutsRest audited.counts findings start.log now ran))
 
 -- ---- a whole audit
 
@@ -68,37 +71,41 @@ TellsRest audited start now ran =
 abbrev pub against_store : Job → Forest → Against
 against_store job store = record { job = job; prefix = prefix_of store; store = store }
 
--- what is found in a root that its store lacks
-abbrev pub found_extra : Job → Forest → Forest → List ExtraFinding
-found_extra job source root = found_in (against_store job source) root
-
--- what is told of all items of the store, then of what it lacks, and the end line, with the counts of these
-pub record IsExtraLog (job : Job) (source root : Forest) (text : List ℕ) (told : AuditCounts) : Type 0 where
+-- what is told of all items of the store, then of what it lacks, by whether the root failed, and the end line, with the counts of these
+pub record IsExtraLog (failed : Type 0) (job : Job) (source root : Forest) (text : List ℕ) (told : AuditCounts) : Type 0 where
   pub lines : List ℕ
   pub all : IsAllTold job source root lines told.counts
-  pub numbers : told ≡ with_found told.counts (found_extra job source root)
-  pub whole : text ≡ lines ++ rest_text told.counts (found_extra job source root)
+  pub findings : List ExtraFinding
+  pub of_root : IsToldIn failed (against_store job source) root findings
+  pub numbers : told ≡ with_found told.counts findings
+  pub whole : text ≡ lines ++ rest_text told.counts findings
 
 -- what is told of the first so many items; or all of that
-pub data IsExtraLogSoFar (job : Job) (source root : Forest) (text : List ℕ) : Type 0 where
-  OfItems : IsOfItems job source root text → IsExtraLogSoFar job source root text
-  WithRest : {told : AuditCounts} → IsExtraLog job source root text told → IsExtraLogSoFar job source root text
+pub data IsExtraLogSoFar (failed : Type 0) (job : Job) (source root : Forest) (text : List ℕ) : Type 0 where
+  OfItems : IsOfItems job source root text → IsExtraLogSoFar failed job source root text
+  WithRest : {told : AuditCounts} → IsExtraLog failed job source root text told → IsExtraLogSoFar failed job source root text
 
 -- where all three are told, the log has got by the answer all of it, with these counts, or a front of it
-abbrev pub ExtraLogs : Job → AuditStart → Option (List ℕ) → Result AuditCounts Fault → Type 0
-ExtraLogs job start now (Ok told) =
+abbrev pub ExtraLogs : Type 0 → Job → AuditStart → Option (List ℕ) → Result AuditCounts Fault → Type 0
+ExtraLogs failed job start now (Ok told) =
     ForSome start.source
     (λ s. ForSome start.root
     (λ r. ForSome start.log
-    (λ old. (text : List ℕ) × (now ≡ Some (old ++ text)) × IsExtraLog job s r text told)))
-ExtraLogs job start now (Err why) =
+    (λ old. (text : List ℕ) × (now ≡ Some (old ++ text)) × IsExtraLog failed job s r text told)))
+ExtraLogs failed job start now (Err why) =
     ForSome start.source
     (λ s. ForSome start.root
     (λ r. ForSome start.log
-    (λ old. (n : ℕ) × (text : List ℕ) × (now ≡ Some (old ++ take n text)) × IsExtraLogSoFar job s r text)))
+    (λ old. (n : ℕ) × (text : List ℕ) × (now ≡ Some (old ++ take n text)) × IsExtraLogSoFar failed job s r text)))
 
--- with extras, or without them
-abbrev pub AuditLogs : Bool → Job → AuditStart → Option (List ℕ) → Result AuditCounts Fault → Type 0
-AuditLogs true job start now ran = ExtraLogs job start now ran
-AuditLogs false job start now ran =
+-- with extras, by whether the root failed, or without them
+abbrev pub AuditLogs : Bool → Type 0 → Job → AuditStart → Option (List ℕ) → Result AuditCounts Fault → Type 0
+AuditLogs true failed job start now ran = ExtraLogs failed job start now ran
+AuditLogs false failed job start now ran =
     LogsAs job start.source start.root start.log now (in_both ran) × (counts_of (in_both ran) ≡ ran)
+
+-- devices are blamed rightly; with extras the root may have failed before, and was passed
+abbrev pub AuditBlames : Bool → Failures → Failures → Result AuditCounts Fault → Type 0
+AuditBlames true old new ran =
+    (passed : ℕ) × (old.dest ≤ passed) × BlamesRightly (record old { dest = passed }) new ran
+AuditBlames false old new ran = BlamesRightly old new ran

@@ -1,6 +1,6 @@
 -- How many lines told of what the store lacks.
 use Rattle.std.specs.Prelude.{◌+◌, ℕ, List, [], ◌∷◌, min}
-use Rattle.pt_extra.specs.Lines.{ExtraFinding, Extra, Stray}
+use Rattle.pt_extra.specs.Lines.{ExtraFinding, Extra, Stray, Unlisted}
 use Rattle.pt_extra.specs.declared.numbers.ExtraNumbers.{ExtraNumbers}
 use Rattle.pt_tree.specs.Failures.{greatest_count}
 
@@ -15,6 +15,7 @@ one_more n = min (n + 1) greatest_count
 -- a line more
 abbrev pub with_finding : ExtraFinding → ExtraNumbers → ExtraNumbers
 with_finding (Stray to) numbers = record numbers { stray = one_more numbers.stray }
+with_finding (Unlisted reason to) numbers = record numbers { stray = one_more numbers.stray }
 with_finding (Extra id to) numbers = record numbers { extra = one_more numbers.extra }
 
 -- so many lines more

@@ -74,10 +74,15 @@ is_part (n ∷ path) name here = false
 abbrev pub of_leaf : Against → Path → List ℕ → Kind → List ExtraFinding
 of_leaf c path name here = cond (is_part path name here) [] (of_unnamed c (path ++ name ∷ []))
 
--- what is found of a folder, by what is found of its entries: it is an object, or is stray where it is empty, or lies as deep as objects do
+-- what is found of a folder, by what is found of it where it is bare, and what of its entries: it is an object, or is bare where it is empty, or
+-- lies as deep as objects do
+abbrev pub of_folder_by : Against → Path → ℕ → Forest → List ExtraFinding → List ExtraFinding → List ExtraFinding
+of_folder_by c path left inside bare entries = cond (is_object (listing_of inside)) (of_object c path (id_of inside))
+    (cond (left == 0 || length (listing_of inside) == 0) bare entries)
+
+-- the same, where a bare one is stray
 abbrev pub of_folder : Against → Path → ℕ → Forest → List ExtraFinding → List ExtraFinding
-of_folder c path left inside entries = cond (is_object (listing_of inside)) (of_object c path (id_of inside))
-    (cond (left == 0 || length (listing_of inside) == 0) (of_unnamed c path) entries)
+of_folder c path left inside entries = of_folder_by c path left inside (of_unnamed c path) entries
 
 -- what is found of the entries of a folder at this path, below which so many names lead to an object, and of all that stands in them
 abbrev pub of_entries : Against → Path → ℕ → Forest → List ExtraFinding

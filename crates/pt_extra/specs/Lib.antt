@@ -3,4 +3,5 @@ pub mod Counting
 pub mod Findings
 pub mod Inventories
 pub mod Lines
+pub mod Unlisted
 pub mod Walk

@@ -8,9 +8,10 @@ use Rattle.serde_json.specs.Data as json
 use Rattle.serde_json.specs.Written.{compact_text}
 
 -- what is told of a path from the storage root on: it is no part of the root or of an object, or of an object that doesn't stand at its
--- place; or an object stands there which the store doesn't have
+-- place; or the folder there couldn't be listed whole, for this reason; or an object stands there which the store doesn't have
 pub data ExtraFinding : Type 0 where
   Stray : (to : Path) → ExtraFinding
+  Unlisted : (reason : List ℕ) → (to : Path) → ExtraFinding
   Extra : (id : List ℕ) → (to : Path) → ExtraFinding
 
 -- the line as a tree of JSON
@@ -18,6 +19,10 @@ abbrev pub line_tree : ExtraFinding → Data
 line_tree (Stray to) = json.object
     (text_member (codes "as") (codes "stray")
     (text_member (codes "to") (joined to) no_members))
+line_tree (Unlisted reason to) = json.object
+    (text_member (codes "as") (codes "stray")
+    (text_member (codes "reason") reason
+    (text_member (codes "to") (joined to) no_members)))
 line_tree (Extra id to) = json.object
     (text_member (codes "as") (codes "extra")
     (text_member (codes "id") id

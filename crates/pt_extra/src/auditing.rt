@@ -1,22 +1,25 @@
 //! An audit both ways: the objects of a store are held against the root, and the root against the
 //! store.
-ghost use Rattle.std.specs.Prelude.{◌≡◌, IfErr, IfOk, OnErr, OnOk};
+ghost use Rattle.std.specs.Prelude.{◌≡◌, true, IfErr, IfOk, OnErr, OnOk};
 ghost use Rattle.std.specs.Io.KnownBytes.{Appends};
 ghost use Rattle.std.specs.Option.{ForSome};
 ghost use Rattle.pt_audit.specs.Auditing.{start_over};
 ghost use Rattle.pt_audit.specs.Bounds.{IsMade};
-ghost use Rattle.pt_audit.specs.Failing.{AuditSays, BlamesRightly, FailsAs, failures};
+ghost use Rattle.pt_audit.specs.Failing.{AuditSays, FailsAs, failures};
 ghost use Rattle.pt_audit.specs.Growing.{KeepsLog, KeepsSides};
 ghost use Rattle.pt_audit.specs.Layout.{IsOfLayout};
 ghost use Rattle.pt_tree.specs.Source.{tree_in};
-ghost use Rattle.pt_extra.specs.Audits.{AuditLogs, ExtraLogs, TellsRest, counts_of, in_both};
+ghost use Rattle.pt_extra.specs.Audits.{AuditBlames, AuditLogs, ExtraLogs, TellsRest, counts_of, in_both};
 ghost use Rattle.pt_extra.specs.Lines.{last_text};
+ghost use Rattle.pt_extra.specs.Walk.{FailsAsPast};
 ghost use Rattle.pt_state.specs.States.{job_of};
+ghost use Rattle.pt_tree.specs.Failures.{HasRisen};
 ghost use Rattle.pt_tree.specs.Log.{AppendsFront};
 
 use crate::lines::end_line;
 use crate::{ExtraDevices, ExtraNumbers, Extras};
 use pt_audit::{Audited, Counts, audit_objects};
+use pt_check::Explains;
 use pt_move::{Job, Observer};
 use pt_plan::Fault;
 use pt_tree::{Log, Source};
@@ -33,11 +36,11 @@ pub struct AuditCounts {
 
 /// What an audit came to, and its devices, as it left them.
 #[derive(Drop)]
-pub struct AuditEnd<S, R, L> {
+pub struct AuditEnd<S, R, L, E> {
     /// How many lines its log has, or why it broke off.
     pub ran: Result<AuditCounts, Fault>,
     /// The devices.
-    pub devices: ExtraDevices<S, R, L>,
+    pub devices: ExtraDevices<S, R, L, E>,
 }
 
 /// An audit, as `audit` of pt_audit makes it; where extras are wanted too, the log tells of what
@@ -46,14 +49,21 @@ pub struct AuditEnd<S, R, L> {
 ///
 /// It answers the faults of `audit`, and those of a walk (`Extras::run`). After a fault the log has
 /// a front of what is told.
-pub fn audit<S: Source, R: Source, L: Log, O: Observer<Counts>>(
+pub fn audit<S, R, L, E, O>(
     alloc: Global,
-    devices: ExtraDevices<S, R, L>,
+    devices: ExtraDevices<S, R, L, E>,
     job: Job,
     with_extras: bool,
     observer: &O,
-) -> AuditEnd<S, R, L>
-    ensures ends { AuditLogs with_extras (job_of job) (start_over (tree_in (S.told devices.store))
+) -> AuditEnd<S, R, L, E>
+where
+    S: Source,
+    R: Source,
+    L: Log,
+    E: Explains<R> + Drop,
+    O: Observer<Counts>,
+    ensures ends { AuditLogs with_extras (HasRisen (R.failed devices.root)
+        (R.failed result.devices.root)) (job_of job) (start_over (tree_in (S.told devices.store))
         (tree_in (R.told devices.root)) (L.told devices.log))
         (L.told result.devices.log) result.ran }
     ensures layout { OnOk result.ran (ForSome (tree_in (R.told devices.root))
@@ -61,7 +71,7 @@ pub fn audit<S: Source, R: Source, L: Log, O: Observer<Counts>>(
     ensures sides { KeepsSides S.told S.keeps R.told R.keeps (devices.store, devices.root)
         (result.devices.store, result.devices.root) }
     ensures log { KeepsLog L.told L.keeps devices.log result.devices.log }
-    ensures blames { BlamesRightly
+    ensures blames { AuditBlames with_extras
         (failures (S.failed devices.store) (R.failed devices.root) (L.failed devices.log))
         (failures (S.failed result.devices.store) (R.failed result.devices.root)
         (L.failed result.devices.log)) result.ran }
@@ -76,11 +86,17 @@ pub fn audit<S: Source, R: Source, L: Log, O: Observer<Counts>>(
         mut store,
         mut root,
         mut log,
+        explains,
     } = devices;
     let ran = pt_audit::audit(alloc, &mut store, &mut root, &mut log, job, observer);
     AuditEnd {
         ran: without_extras(ran),
-        devices: ExtraDevices { store, root, log },
+        devices: ExtraDevices {
+            store,
+            root,
+            log,
+            explains,
+        },
     }
 }
 
@@ -98,13 +114,20 @@ fn without_extras(ran: Result<Counts, Fault>) -> Result<AuditCounts, Fault>
 }
 
 // An audit that tells of what the store lacks too.
-fn audit_with_extras<S: Source, R: Source, L: Log, O: Observer<Counts>>(
+fn audit_with_extras<S, R, L, E, O>(
     alloc: Global,
-    devices: ExtraDevices<S, R, L>,
+    devices: ExtraDevices<S, R, L, E>,
     job: Job,
     observer: &O,
-) -> AuditEnd<S, R, L>
-    ensures ends { ExtraLogs (job_of job) (start_over (tree_in (S.told devices.store))
+) -> AuditEnd<S, R, L, E>
+where
+    S: Source,
+    R: Source,
+    L: Log,
+    E: Explains<R> + Drop,
+    O: Observer<Counts>,
+    ensures ends { ExtraLogs (HasRisen (R.failed devices.root)
+        (R.failed result.devices.root)) (job_of job) (start_over (tree_in (S.told devices.store))
         (tree_in (R.told devices.root)) (L.told devices.log))
         (L.told result.devices.log) result.ran }
     ensures layout { OnOk result.ran (ForSome (tree_in (R.told devices.root))
@@ -112,7 +135,7 @@ fn audit_with_extras<S: Source, R: Source, L: Log, O: Observer<Counts>>(
     ensures sides { KeepsSides S.told S.keeps R.told R.keeps (devices.store, devices.root)
         (result.devices.store, result.devices.root) }
     ensures log { KeepsLog L.told L.keeps devices.log result.devices.log }
-    ensures blames { BlamesRightly
+    ensures blames { AuditBlames true
         (failures (S.failed devices.store) (R.failed devices.root) (L.failed devices.log))
         (failures (S.failed result.devices.store) (R.failed result.devices.root)
         (L.failed result.devices.log)) result.ran }
@@ -124,9 +147,15 @@ fn audit_with_extras<S: Source, R: Source, L: Log, O: Observer<Counts>>(
         mut store,
         mut root,
         mut log,
+        explains,
     } = devices;
     let audited = audit_objects(alloc, &mut store, &mut root, &mut log, job, observer);
-    let devices = ExtraDevices { store, root, log };
+    let devices = ExtraDevices {
+        store,
+        root,
+        log,
+        explains,
+    };
     match audited {
         Ok(audited) => tell_rest(alloc, devices, audited),
         Err(fault) => AuditEnd {
@@ -137,19 +166,25 @@ fn audit_with_extras<S: Source, R: Source, L: Log, O: Observer<Counts>>(
 }
 
 // Tells of what the store lacks, and of the end, after all objects of the store were told.
-fn tell_rest<S: Source, R: Source, L: Log>(
+fn tell_rest<S, R, L, E>(
     alloc: Global,
-    devices: ExtraDevices<S, R, L>,
+    devices: ExtraDevices<S, R, L, E>,
     audited: Audited,
-) -> AuditEnd<S, R, L>
-    ensures told { TellsRest audited (start_over (tree_in (S.told devices.store))
+) -> AuditEnd<S, R, L, E>
+where
+    S: Source,
+    R: Source,
+    L: Log,
+    E: Explains<R> + Drop,
+    ensures told { TellsRest (HasRisen (R.failed devices.root) (R.failed result.devices.root))
+        audited (start_over (tree_in (S.told devices.store))
         (tree_in (R.told devices.root)) (L.told devices.log))
         (L.told result.devices.log) result.ran }
     ensures counts { IfOk result.ran (λ told. told.counts ≡ audited.counts) }
     ensures sides { KeepsSides S.told S.keeps R.told R.keeps (devices.store, devices.root)
         (result.devices.store, result.devices.root) }
     ensures log { KeepsLog L.told L.keeps devices.log result.devices.log }
-    ensures fails { FailsAs result.ran
+    ensures fails { FailsAsPast result.ran
         (failures (S.failed devices.store) (R.failed devices.root) (L.failed devices.log))
         (failures (S.failed result.devices.store) (R.failed result.devices.root)
         (L.failed result.devices.log)) }

@@ -32,6 +32,7 @@ mod devices;
 mod identifier;
 mod inventory;
 mod lines;
+mod listing;
 mod numbers;
 mod parts;
 mod store;

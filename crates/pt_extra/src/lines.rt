@@ -2,7 +2,7 @@
 //! LF.
 ghost use Rattle.std.specs.Prelude.{◌≡◌, IfOk};
 ghost use Rattle.std.specs.String.{string_bytes};
-ghost use Rattle.pt_extra.specs.Lines.{Extra, Stray, last_text, line_text};
+ghost use Rattle.pt_extra.specs.Lines.{Extra, Stray, Unlisted, last_text, line_text};
 
 use crate::AuditCounts;
 use pt_object::members::{put_number, put_text};
@@ -18,6 +18,23 @@ pub(crate) fn stray_line(alloc: Global, to: &NamePath) -> Result<String, MemoryF
     let to = text_of(to)?;
     let mut members = Map::new(alloc);
     put_text(&mut members, alloc, "as", "stray")?;
+    put_text(&mut members, alloc, "to", to.as_str())?;
+    line_of(alloc, &Value::from(members))
+}
+
+/// The line of what is stray at a path, since the folder there couldn't be listed whole, for this
+/// reason.
+pub(crate) fn unlisted_line(
+    alloc: Global,
+    reason: &str,
+    to: &NamePath,
+) -> Result<String, MemoryFault>
+    ensures { IfOk result (λ text. string_bytes text ≡ line_text (Unlisted reason.now to.now)) }
+{
+    let to = text_of(to)?;
+    let mut members = Map::new(alloc);
+    put_text(&mut members, alloc, "as", "stray")?;
+    put_text(&mut members, alloc, "reason", reason)?;
     put_text(&mut members, alloc, "to", to.as_str())?;
     line_of(alloc, &Value::from(members))
 }

@@ -13,8 +13,9 @@ ghost use Rattle.pt_tree.specs.Source.{tree_in};
 ghost use Rattle.pt_extra.specs.Counting.{no_numbers, with_finding};
 ghost use Rattle.pt_extra.specs.Findings.{is_held};
 ghost use Rattle.pt_extra.specs.Lines.{Extra, ExtraFinding, Stray, line_text, texts};
-ghost use Rattle.pt_extra.specs.Walk.{Fails, Keeps, Puts, Tells, TellsFront, against, seen_by};
-ghost use Rattle.pt_extra.specs.Walk.{found_below, found_in, found_named, found_one, found_there, found_unnamed};
+ghost use Rattle.pt_extra.specs.Unlisted.{IsToldIn};
+ghost use Rattle.pt_extra.specs.Walk.{Fails, FailsPast, IsToldBelow, Keeps, Puts, Tells, TellsFront, TellsFrontPast};
+ghost use Rattle.pt_extra.specs.Walk.{TellsPast, against, found_bare, found_named, found_one, found_there, found_unnamed, seen_by};
 ghost use Rattle.pt_object.specs.WellKnown.{known_text};
 ghost use Rattle.pt_object.specs.declared.well_known.WellKnownName.TheVariants as known;
 ghost use Rattle.pt_plan.specs.TurnStart.{is_dir_kind, kind_in};
@@ -27,6 +28,7 @@ use crate::lines::{extra_line, stray_line};
 use crate::parts::{is_object, is_part};
 use crate::store::{has_folder, has_object};
 use crate::{ExtraDevices, ExtraNumbers};
+use pt_check::Explains;
 use pt_move::Job;
 use pt_object::WellKnownName;
 use pt_plan::Fault;
@@ -36,25 +38,26 @@ use std::alloc::Global;
 
 /// A walk over the storage root that stands: against what it is held, and what it has told.
 #[derive(Drop)]
-pub struct Extras<S, R, L> {
+pub struct Extras<S, R, L, E> {
     pub(crate) store: S,
     pub(crate) root: R,
     pub(crate) log: L,
+    pub(crate) explains: E,
     pub(crate) job: Job,
     pub(crate) prefix: String,
     pub(crate) numbers: ExtraNumbers,
     pub(crate) alloc: Global,
 }
 
-impl<S: Source, R: Source, L: Log> Extras<S, R, L> {
+impl<S: Source, R: Source, L: Log, E: Explains<R> + Drop> Extras<S, R, L, E> {
     /// A walk over the root in a destination, held against a store, each of whose identifiers
     /// begins with this prefix, as a run with this job sees it. Nothing is told yet.
     pub fn new(
         alloc: Global,
-        devices: ExtraDevices<S, R, L>,
+        devices: ExtraDevices<S, R, L, E>,
         job: Job,
         prefix: String,
-    ) -> Extras<S, R, L>
+    ) -> Extras<S, R, L, E>
         ensures devices { (result.store ≡ devices.store) × (result.root ≡ devices.root)
             × (result.log ≡ devices.log) }
         ensures against { (result.job ≡ job) × (result.prefix ≡ prefix) }
@@ -64,6 +67,7 @@ impl<S: Source, R: Source, L: Log> Extras<S, R, L> {
             store: devices.store,
             root: devices.root,
             log: devices.log,
+            explains: devices.explains,
             job,
             prefix,
             numbers: ExtraNumbers::none(),
@@ -71,19 +75,20 @@ impl<S: Source, R: Source, L: Log> Extras<S, R, L> {
         }
     }
 
-    /// Walks the root, and tells what the store lacks. Gives how many lines there are.
+    /// Walks the root, and tells what the store lacks. Gives how many lines there are. That the
+    /// root fails to list a folder is told, and passed.
     ///
-    /// `Source` where the store can't be listed, `Dest` where the root can't be listed or read,
+    /// `Source` where the store can't be listed, `Dest` where the root can't be looked at or read,
     /// `Log` where a line couldn't be put, and `Memory` where a growth was refused. The log has a
     /// front of the lines then.
     pub fn run(&mut self) -> Result<ExtraNumbers, Fault>
         ensures told { OnOk result
-            (Tells S.Source R.Source L.Log found_in self.old self.new) }
+            (TellsPast S.Source R.Source L.Log IsToldIn self.old self.new) }
         ensures stops { OnErr result
-            (TellsFront S.Source R.Source L.Log found_in self.old self.new) }
+            (TellsFrontPast S.Source R.Source L.Log IsToldIn self.old self.new) }
         ensures numbers { IfOk result (λ numbers. numbers ≡ self.new.numbers) }
         ensures keeps { Keeps S.Source R.Source L.Log self.old self.new }
-        ensures fails { Fails S.Source R.Source L.Log self.old self.new result }
+        ensures fails { FailsPast S.Source R.Source L.Log self.old self.new result }
     {
         if !self.has_root()? {
             return Ok(self.numbers);
@@ -95,7 +100,7 @@ impl<S: Source, R: Source, L: Log> Extras<S, R, L> {
     }
 
     /// Store, root and log, as the walk left them.
-    pub fn into_devices(self) -> ExtraDevices<S, R, L>
+    pub fn into_devices(self) -> ExtraDevices<S, R, L, E>
         ensures { (result.store ≡ self.store) × (result.root ≡ self.root)
             × (result.log ≡ self.log) }
     {
@@ -103,6 +108,7 @@ impl<S: Source, R: Source, L: Log> Extras<S, R, L> {
             store: self.store,
             root: self.root,
             log: self.log,
+            explains: self.explains,
         }
     }
 
@@ -111,26 +117,28 @@ impl<S: Source, R: Source, L: Log> Extras<S, R, L> {
     fn visit(&mut self, path: &NamePath, left: usize) -> Result<(), Fault>
         requires { ForSome (tree_in (R.told self.old.root))
             (λ tree. IsSome (dir_at tree (in_root path.now))) }
-        ensures told { OnOk result (Tells S.Source R.Source L.Log
-            (found_below path.now left) self.old self.new) }
-        ensures stops { OnErr result (TellsFront S.Source R.Source L.Log
-            (found_below path.now left) self.old self.new) }
+        ensures told { OnOk result (TellsPast S.Source R.Source L.Log
+            (IsToldBelow path.now left) self.old self.new) }
+        ensures stops { OnErr result (TellsFrontPast S.Source R.Source L.Log
+            (IsToldBelow path.now left) self.old self.new) }
         ensures keeps { Keeps S.Source R.Source L.Log self.old self.new }
-        ensures fails { Fails S.Source R.Source L.Log self.old self.new result }
+        ensures fails { FailsPast S.Source R.Source L.Log self.old self.new result }
     {
         let folder = in_storage_root(self.alloc, path)?;
-        let listing = self.list(&folder)?;
-        if is_object(&listing) {
-            return self.judge(path, &folder, &listing);
+        let Some(found) = self.list(path, &folder)? else {
+            return Ok(());
+        };
+        if is_object(&found.listing) {
+            return self.judge(path, &folder, &found.listing);
         }
         if left == 0 {
-            return self.meet_stray(path);
+            return self.meet_bare(path, found.is_whole);
         }
-        if listing.is_empty() {
-            return self.meet_stray(path);
+        if found.listing.is_empty() {
+            return self.meet_bare(path, found.is_whole);
         }
-        for i in 0..listing.len() {
-            let Some((name, kind)) = listing.get(i) else {
+        for i in 0..found.listing.len() {
+            let Some((name, kind)) = found.listing.get(i) else {
                 continue;
             };
             if is_part(path, name, kind) {
@@ -155,23 +163,6 @@ impl<S: Source, R: Source, L: Log> Extras<S, R, L> {
         ensures fails { Fails S.Source R.Source L.Log self.old self.new result }
     {
         has_folder(self.alloc, &mut self.root, WellKnownName::StorageRoot).map_err(Fault::of_dest)
-    }
-
-    // The listing of a folder of the destination.
-    #[tactic(auto, using(pt_tree::proofs::Told::listed_in))]
-    fn list(&mut self, folder: &NamePath) -> Result<Listing, Fault>
-        requires { ForSome (tree_in (R.told self.old.root))
-            (λ tree. IsSome (dir_at tree folder.now)) }
-        ensures listed { IfOk result (λ listing. ForSome (tree_in (R.told self.old.root))
-            (λ tree. listing_at tree folder.now ≡ Some listing)) }
-        ensures rest { self.new ≡ record self.old { root = self.new.root } }
-        ensures keeps { Keeps S.Source R.Source L.Log self.old self.new }
-        ensures fails { Fails S.Source R.Source L.Log self.old self.new result }
-    {
-        match self.root.list(folder) {
-            Ok(listing) => Ok(listing),
-            Err(fault) => Err(Fault::of_dest(fault)),
-        }
     }
 
     // Judges the object at a path, whose folder in the destination lists these.
@@ -235,6 +226,21 @@ impl<S: Source, R: Source, L: Log> Extras<S, R, L> {
         .map_err(Fault::of_source)
     }
 
+    // A bare folder at a path, which was listed whole, or else was told already, is stray.
+    fn meet_bare(&mut self, path: &NamePath, is_whole: bool) -> Result<(), Fault>
+        ensures told { OnOk result (Tells S.Source R.Source L.Log
+            (found_bare path.now is_whole) self.old self.new) }
+        ensures stops { OnErr result (TellsFront S.Source R.Source L.Log
+            (found_bare path.now is_whole) self.old self.new) }
+        ensures keeps { Keeps S.Source R.Source L.Log self.old self.new }
+        ensures fails { Fails S.Source R.Source L.Log self.old self.new result }
+    {
+        if is_whole {
+            return self.meet_stray(path);
+        }
+        Ok(())
+    }
+
     // What stands at a path is stray and has no identifier: the first share tells it.
     fn meet_stray(&mut self, path: &NamePath) -> Result<(), Fault>
         ensures told { OnOk result (Tells S.Source R.Source L.Log
@@ -277,7 +283,7 @@ impl<S: Source, R: Source, L: Log> Extras<S, R, L> {
     }
 
     // Puts the line of a finding, with which these are the numbers.
-    fn put(&mut self, line: &str, numbers: ExtraNumbers) -> Result<(), Fault>
+    pub(crate) fn put(&mut self, line: &str, numbers: ExtraNumbers) -> Result<(), Fault>
         ensures put { (finding : ExtraFinding) → line.now ≡ line_text finding
             → numbers ≡ with_finding finding self.old.numbers → OnOk result
             (Puts (finding ∷ []) (seen_by L.Log self.old) (seen_by L.Log self.new)) }

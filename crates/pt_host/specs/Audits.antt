@@ -18,6 +18,7 @@ use Rattle.pt_host.specs.Made.{GuardsRecord}
 use Rattle.pt_host.specs.declared.host.HostIo.{HostIo}
 use Rattle.pt_host.specs.declared.options.AuditOptions.{AuditOptions}
 use Rattle.pt_state.specs.States.{job_of}
+use Rattle.pt_tree.specs.Failures.{HasRisen}
 use Rattle.pt_tree.specs.Log.{Grows}
 use Rattle.pt_tree.specs.Forest.{Forest}
 
@@ -62,11 +63,12 @@ root_seen words call host_io = root_tree (words.folder host_io.folder call.folde
 
 -- an audit was made over these folders of the systems, with what `audit` of pt_extra promises of it: where it ended well the
 -- output got its log, of both trees as they stood, and the root is one that a run could go on with; after a fault it got a front of what
--- is told; and they stand
+-- is told; and they stand. With extras what is told of the root goes by whether reading it failed.
 pub record AuditsOver {S D W : Type 0} (words : HostIoWords S D W (Option Forest)) (call : AuditCall)
     (old new : HostIo S D W) (status : ℕ) : Type 0 where
   pub ran : Result AuditCounts Fault
-  pub ends : AuditLogs call.options.extra (job_of call.options.job)
+  pub failed : ℕ
+  pub ends : AuditLogs call.options.extra (HasRisen 0 failed) (job_of call.options.job)
       (start_over (store_seen words call old) (root_seen words call old) (words.output old.output))
       (words.output new.output) ran
   pub layout : OnOk ran (ForSome (root_seen words call old) (IsOfLayout (job_of call.options.job)))

@@ -83,6 +83,7 @@ pub(crate) fn both_sides<'a, S: System, D: System, W: Write, F: SyncsOutput<W> +
     ensures store { ReadsFrom result.source.source lent.host_io.store folders.entry.store.now }
     ensures left_out { result.source.names ≡ ignored }
     ensures folder { ReadsFrom result.root lent.host_io.folder folders.entry.folder.now }
+    ensures unread { result.root.failures ≡ 0 }
     ensures log { result.log.writer ≡ lent.host_io.output }
     ensures log_synced { result.log.file ≡ lent.file }
 {

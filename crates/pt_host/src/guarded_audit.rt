@@ -11,6 +11,7 @@ ghost use Rattle.pt_host.specs.Machine.{host_io_words};
 
 use crate::asked::Asked;
 use crate::devices::{Lent, Sides, both_sides};
+use crate::explaining::LastFailure;
 use crate::folders::Folders;
 use crate::guarded::make_guarded;
 use crate::log::SyncsOutput;
@@ -119,6 +120,7 @@ where
         store: source,
         root,
         log,
+        explains: LastFailure,
     };
     let AuditEnd { ran, devices } = audit(alloc, devices, options.job, options.extra, &tally);
     let source = devices.store;

@@ -35,6 +35,7 @@ mod asked;
 mod checking;
 mod devices;
 mod event;
+mod explaining;
 mod folders;
 mod guarded;
 mod guarded_audit;

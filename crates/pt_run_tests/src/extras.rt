@@ -3,19 +3,23 @@
 
 use crate::expected_roots::Files;
 use crate::jobs::{Settings, make_job};
+use crate::spoiled_stores::ItFailed;
 use pt_extra::{ExtraDevices, ExtraNumbers, Extras};
-use pt_memory::texts::{add, store};
-use pt_memory::{MemLog, MemSource};
+use pt_memory::texts::{add, path, store};
+use pt_memory::{MemLog, MemSource, SpoiledSource};
 use pt_move::Fault;
 use std::alloc::Global;
 
 // A walk: the store's entries, what its identifiers begin with, what is asked for, what stands in
-// the destination, and the log.
+// the destination, where that can't be listed, with which further reasons, and the log. With
+// further ones the entries are listed all the same.
 struct Row {
     entries: &'static str,
     prefix: &'static str,
     settings: Settings,
     root: Files,
+    spoiled: &'static [&'static str],
+    further: &'static [&'static str],
     log: &'static str,
     numbers: ExtraNumbers,
 }
@@ -45,6 +49,8 @@ const SAME: Row = Row {
         ("ocfl/ba7/816/bf8/abc/more/f", ""),
         ("staging/f", ""),
     ],
+    spoiled: &[],
+    further: &[],
     log: "",
     numbers: NONE,
 };
@@ -65,6 +71,8 @@ const STRAY: Row = Row {
         ("ocfl/ba7/816/ocfl_layout.json", ""),
         ("ocfl/extensions", ""),
     ],
+    spoiled: &[],
+    further: &[],
     log: r#"{"as":"stray","to":"0=ocfl_1.1"}
 {"as":"stray","to":"a"}
 {"as":"stray","to":"b"}
@@ -90,6 +98,8 @@ const EXTRA: Row = Row {
         ("ocfl/c/inventory.json", r#"{"id":""}"#),
         ("ocfl/d/0=ocfl_object_1.1", ""),
     ],
+    spoiled: &[],
+    further: &[],
     log: r#"{"as":"stray","to":"a"}
 {"as":"extra","id":"abc","to":"ba7/816/bf8/abc"}
 {"as":"stray","to":"c"}
@@ -104,6 +114,8 @@ const PREFIX: Row = Row {
     prefix: "ark:/",
     settings: Settings::Usual,
     root: &[ABC, ABC_ID],
+    spoiled: &[],
+    further: &[],
     log: "{\"as\":\"extra\",\"id\":\"abc\",\"to\":\"ba7/816/bf8/abc\"}\n",
     numbers: ExtraNumbers { extra: 1, stray: 0 },
 };
@@ -114,6 +126,8 @@ const SPLIT: Row = Row {
     prefix: "",
     settings: Settings::Usual,
     root: &[ABC, ABC_ID],
+    spoiled: &[],
+    further: &[],
     log: "{\"as\":\"extra\",\"id\":\"abc\",\"to\":\"ba7/816/bf8/abc\"}\n",
     numbers: ExtraNumbers { extra: 1, stray: 0 },
 };
@@ -123,6 +137,8 @@ const GATHERED: Row = Row {
     prefix: "",
     settings: Settings::Gather,
     root: &[ABC, ABC_ID],
+    spoiled: &[],
+    further: &[],
     log: "",
     numbers: NONE,
 };
@@ -141,6 +157,8 @@ const OTHER_SHARE: Row = Row {
     prefix: "",
     settings: Settings::Share(1, 2),
     root: SHARED,
+    spoiled: &[],
+    further: &[],
     log: "{\"as\":\"stray\",\"to\":\"a\"}\n",
     numbers: ExtraNumbers { extra: 0, stray: 1 },
 };
@@ -150,13 +168,106 @@ const OWN_SHARE: Row = Row {
     prefix: "",
     settings: Settings::Share(2, 2),
     root: SHARED,
+    spoiled: &[],
+    further: &[],
     log: r#"{"as":"extra","id":"abc","to":"ba7/816/bf8/abc"}
 {"as":"stray","to":"x"}
 "#,
     numbers: ExtraNumbers { extra: 1, stray: 1 },
 };
 
-const ROWS: [Row; 8] = [
+// At each level; one holds an object, and one is an object.
+const UNLISTED: Files = &[
+    ("ocfl/a/f", ""),
+    ABC,
+    ABC_ID,
+    ("ocfl/ba7/817/x/f", ""),
+    ("ocfl/z", ""),
+];
+
+const SPOILED: Row = Row {
+    entries: "",
+    prefix: "",
+    settings: Settings::Usual,
+    root: UNLISTED,
+    spoiled: &["ocfl/a", "ocfl/ba7/816", "ocfl/none", "ocfl/z"],
+    further: &[],
+    log: r#"{"as":"stray","reason":"it failed","to":"a"}
+{"as":"stray","reason":"it failed","to":"ba7/816"}
+{"as":"stray","to":"ba7/817/x/f"}
+{"as":"stray","to":"z"}
+"#,
+    numbers: ExtraNumbers { extra: 0, stray: 4 },
+};
+
+const SPOILED_TOP: Row = Row {
+    entries: "",
+    prefix: "",
+    settings: Settings::Usual,
+    root: UNLISTED,
+    spoiled: &["ocfl"],
+    further: &[],
+    log: "{\"as\":\"stray\",\"reason\":\"it failed\",\"to\":\"\"}\n",
+    numbers: ExtraNumbers { extra: 0, stray: 1 },
+};
+
+// Where entries are listed all the same, what is found of them follows.
+const IN_PART: Row = Row {
+    entries: "",
+    prefix: "",
+    settings: Settings::Usual,
+    root: &[
+        ABC,
+        ABC_ID,
+        ("ocfl/ba7/817/", ""),
+        ("ocfl/c/d/e/f/g", ""),
+        ("ocfl/z", ""),
+    ],
+    spoiled: &["ocfl/ba7/816/bf8/abc", "ocfl/ba7/817", "ocfl/c/d/e/f"],
+    further: &["again"],
+    log: r#"{"as":"stray","reason":"it failed","to":"ba7/816/bf8/abc"}
+{"as":"stray","reason":"again","to":"ba7/816/bf8/abc"}
+{"as":"extra","id":"abc","to":"ba7/816/bf8/abc"}
+{"as":"stray","reason":"it failed","to":"ba7/817"}
+{"as":"stray","reason":"again","to":"ba7/817"}
+{"as":"stray","reason":"it failed","to":"c/d/e/f"}
+{"as":"stray","reason":"again","to":"c/d/e/f"}
+{"as":"stray","to":"z"}
+"#,
+    numbers: ExtraNumbers { extra: 1, stray: 7 },
+};
+
+// The first share alone tells it.
+const FIRST_SPOILED: Row = Row {
+    entries: "",
+    prefix: "",
+    settings: Settings::Share(1, 2),
+    root: SHARED,
+    spoiled: &["ocfl", "ocfl/x"],
+    further: &["again"],
+    log: r#"{"as":"stray","reason":"it failed","to":""}
+{"as":"stray","reason":"again","to":""}
+{"as":"stray","to":"a"}
+{"as":"stray","reason":"it failed","to":"x"}
+{"as":"stray","reason":"again","to":"x"}
+"#,
+    numbers: ExtraNumbers { extra: 0, stray: 5 },
+};
+
+const SECOND_SPOILED: Row = Row {
+    entries: "",
+    prefix: "",
+    settings: Settings::Share(2, 2),
+    root: SHARED,
+    spoiled: &["ocfl", "ocfl/x"],
+    further: &["again"],
+    log: r#"{"as":"extra","id":"abc","to":"ba7/816/bf8/abc"}
+{"as":"stray","to":"x"}
+"#,
+    numbers: ExtraNumbers { extra: 1, stray: 1 },
+};
+
+const ROWS: [Row; 13] = [
     SAME,
     STRAY,
     EXTRA,
@@ -165,6 +276,11 @@ const ROWS: [Row; 8] = [
     GATHERED,
     OTHER_SHARE,
     OWN_SHARE,
+    SPOILED,
+    SPOILED_TOP,
+    IN_PART,
+    FIRST_SPOILED,
+    SECOND_SPOILED,
 ];
 
 // What a walk comes to, and its log.
@@ -183,10 +299,22 @@ fn walked(
     let Ok(prefix) = String::from_str(alloc, row.prefix) else {
         return None;
     };
+    let mut spoiled = Vec::new(alloc);
+    for at in row.spoiled {
+        let Ok(at) = path(alloc, at) else {
+            return None;
+        };
+        let Ok(()) = spoiled.push(at) else {
+            return None;
+        };
+    }
     let devices = ExtraDevices {
         store,
-        root,
+        root: SpoiledSource::new(root, spoiled),
         log: MemLog::new(alloc),
+        explains: ItFailed {
+            further: row.further,
+        },
     };
     let mut walk = Extras::new(alloc, devices, job, prefix);
     let ran = walk.run();

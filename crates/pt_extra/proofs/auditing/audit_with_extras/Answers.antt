@@ -1,14 +1,16 @@
-use Rattle.std.proofs.Common.{ap, sym, ◌≡◌}
+use Rattle.std.proofs.Common.{ap, arith, subst, sym, ℕ, ◌≡◌, ◌≤◌}
 use Rattle.std.specs.Prelude.{IfOk, Option, Result, Ok, Err}
 use Rattle.pt_audit.proofs.Bounding.{made_by}
-use Rattle.pt_audit.proofs.Saying.{says_by}
+use Rattle.pt_audit.proofs.Saying.{blames_by, says_by}
 use Rattle.pt_audit.specs.Auditing.{start_over}
 use Rattle.pt_audit.specs.Bounds.{IsMade}
+use Rattle.pt_audit.specs.Failing.{BlamesRightly, failures}
 use Rattle.pt_tree.proofs.Growing.{grows_on}
 use Rattle.pt_audit.specs.declared.counts.Counts.{Counts}
+use Rattle.pt_tree.specs.Failures.{HasRisen}
 use Rattle.pt_tree.specs.Source.{tree_in}
 use Rattle.pt_extra.proofs.BothWays.{extra_logs, extra_stops}
-use Rattle.pt_extra.specs.Audits.{in_both}
+use Rattle.pt_extra.specs.Audits.{ExtraLogs, in_both}
 use Rattle.pt_extra.specs.declared.auditing.AuditCounts.{AuditCounts}
 use Rattle.pt_plan.specs.declared.fault.Fault.{Fault}
 use Rattle.pt_state.specs.States.{job_of}
@@ -24,12 +26,40 @@ made_rest job source counts (Err why) is it = made_by (Err why) tt it
 
 pub returns-in-Ok-clause-ends : goal.returns-in-Ok-clause-ends
 returns-in-Ok-clause-ends g c =
-    extra_logs c.args.job
-    (start_over (tree_in (g.S.Source.told c.args.devices.store)) (tree_in (g.R.Source.told c.args.devices.root)) (g.L.Log.told c.args.devices.log))
+    let start = start_over (tree_in (g.S.Source.told c.args.devices.store)) (tree_in (g.R.Source.told c.args.devices.root))
+    (g.L.Log.told c.args.devices.log) in
+    let end = c.tell_rest.result.devices in
+    subst (λ (n : ℕ). ExtraLogs (HasRisen n (g.R.Source.failed end.root)) (job_of c.args.job) start (g.L.Log.told end.log) c.tell_rest.result.ran)
+    c.in-Ok.ensures.blames.root
+    (extra_logs (HasRisen (g.R.Source.failed c.audit_objects-audited.new.root) (g.R.Source.failed end.root)) c.args.job start
     (tree_in (g.S.Source.told c.audit_objects-audited.new.source)) (tree_in (g.R.Source.told c.audit_objects-audited.new.root))
-    (g.L.Log.told c.audit_objects-audited.new.log) (g.L.Log.told c.tell_rest.result.devices.log) c.in-Ok.audited c.tell_rest.result.ran
+    (g.L.Log.told c.audit_objects-audited.new.log) (g.L.Log.told end.log) c.in-Ok.audited c.tell_rest.result.ran
     c.audit_objects-audited.ensures.sides.source.1 c.audit_objects-audited.ensures.sides.root.1 c.in-Ok.ensures.ends c.in-Ok.ensures.given
-    c.tell_rest.ensures.told
+    c.tell_rest.ensures.told)
+
+pub returns-in-Ok-clause-blames : goal.returns-in-Ok-clause-blames
+returns-in-Ok-clause-blames g c =
+    let fails = c.tell_rest.ensures.fails in
+    let had = c.in-Ok.ensures.blames in
+    let passed = fails.0 in
+    let end = c.tell_rest.result.devices in
+    let now = failures (g.S.Source.failed end.store) (g.R.Source.failed end.root) (g.L.Log.failed end.log) in (
+      passed,
+      subst (λ (n : ℕ). n ≤ passed) had.root fails.1,
+      subst
+          (λ (n : ℕ). BlamesRightly (failures n passed (g.L.Log.failed c.args.devices.log)) now c.tell_rest.result.ran) had.source
+          (subst (λ (n : ℕ). BlamesRightly (failures (g.S.Source.failed c.audit_objects-audited.new.source) passed n) now c.tell_rest.result.ran) had.log
+          (blames_by c.tell_rest.result.ran
+          (failures (g.S.Source.failed c.audit_objects-audited.new.source) passed (g.L.Log.failed c.audit_objects-audited.new.log)) now fails.2)),
+    )
+
+pub returns-in-Err-clause-blames : goal.returns-in-Err-clause-blames
+returns-in-Err-clause-blames g c =
+    let had = c.in-Err.ensures.blames in (
+      g.R.Source.failed c.args.devices.root,
+      omega (arith),
+      record { source = had.source; root = had.root; log = had.log },
+    )
 
 pub returns-in-Ok-clause-log : goal.returns-in-Ok-clause-log
 returns-in-Ok-clause-log g c = (
@@ -38,13 +68,13 @@ returns-in-Ok-clause-log g c = (
 )
 
 pub returns-in-Ok-clause-says : goal.returns-in-Ok-clause-says
-returns-in-Ok-clause-says g c = says_by c.tell_rest.result.ran _ _ _ _ _ c.tell_rest.ensures.fails
+returns-in-Ok-clause-says g c = says_by c.tell_rest.result.ran _ _ _ _ _ c.tell_rest.ensures.fails.2
 
 pub returns-in-Ok-clause-made : goal.returns-in-Ok-clause-made
 returns-in-Ok-clause-made g c = made_rest _ _ c.in-Ok.audited.counts c.tell_rest.result.ran c.tell_rest.ensures.counts c.in-Ok.ensures.made
 
 pub returns-in-Err-clause-ends : goal.returns-in-Err-clause-ends
 returns-in-Err-clause-ends g c =
-    extra_stops (job_of c.args.job)
+    extra_stops _ (job_of c.args.job)
     (start_over (tree_in (g.S.Source.told c.args.devices.store)) (tree_in (g.R.Source.told c.args.devices.root)) (g.L.Log.told c.args.devices.log))
     _ c.in-Err.fault c.in-Err.ensures.ends

@@ -28,7 +28,8 @@ returns g c =
     let stands = root_is folders _ (sym c.into_system-2.ensures) (ap (λ f. f.path.now) made.sides.root.0 ∙ c.both_sides-source.ensures.folder.1) in
     record {
       ran = ran;
-      ends = ends_as c.args.options.extra ran (job_of job) store folder first (ap contents (sym output)) made.ends;
+      failed = c.audit-ran.result.devices.root.failures;
+      ends = ends_as c.args.options.extra ran (job_of job) c.both_sides-source.ensures.unread store folder first (ap contents (sym output)) made.ends;
       layout = subst (λ t. OnOk ran (ForSome t (IsOfLayout (job_of job)))) folder made.layout;
       says = says_as ran job store folder made.says;
       store_stays = sym later ∙ made.sides.source.1 ∙ store;

@@ -1,0 +1,138 @@
+-- What is told of a root of which a folder can't be listed.
+use Rattle.std.proofs.Common.{◌≡◌, ◌+◌, ◌-◌, ℕ, List, [], ◌∷◌, ◌++◌, refl, sym, ap, ◌∙◌, subst, cond, Bool, true, false}
+use Rattle.pt_extra.specs.Findings.{Against, found_at, is_part, of_entries, of_folder, of_folder_by, of_leaf, of_object, of_unnamed}
+use Rattle.pt_extra.specs.Inventories.{id_of}
+use Rattle.pt_extra.specs.Lines.{ExtraFinding}
+use Rattle.pt_extra.specs.Unlisted.{InPart, IsOfEntries, IsOfFolder, IsToldAt, IsToldIn, Listed, NotAtAll, of_unlisted}
+use Rattle.pt_extra.specs.Walk.{found_in}
+use Rattle.pt_object.specs.WellKnown.{known_text}
+use Rattle.pt_object.specs.declared.well_known.WellKnownName.TheVariants as known
+use Rattle.pt_plan.specs.Roots.{storage_root}
+use Rattle.pt_plan.specs.TurnStart.{is_dir_kind, kind_in}
+use Rattle.pt_tree.specs.Forest.{Forest, none, file, other, dir, listing_of}
+use Rattle.pt_tree.specs.Path.{Path}
+use Rattle.pt_tree.specs.declared.kind.Kind.TheVariants as kind
+use Rattle.pt_walk.specs.Left.{inside_at}
+
+-- ---- by whether the root failed
+
+wider_folder : {F G : Type 0} (c : Against) (path : Path) (left : ℕ) (inside : Forest) (entries told : List ExtraFinding) → (F → G)
+    → IsOfFolder F c path left inside entries told → IsOfFolder G c path left inside entries told
+wider_folder c path left inside entries told on (Listed is) = Listed is
+wider_folder c path left inside entries told on (InPart f reason further is) = InPart (on f) reason further is
+wider_folder c path left inside entries told on (NotAtAll f reason further is) = NotAtAll (on f) reason further is
+
+wider_entries : {F G : Type 0} (c : Against) (path : Path) (left : ℕ) (inside : Forest) (told : List ExtraFinding) → (F → G)
+    → IsOfEntries F c path left inside told → IsOfEntries G c path left inside told
+wider_entries c path left none told on it = it
+wider_entries c path left (file name bytes after) told on (rest, it, is) = (rest, wider_entries c path left after rest on it, is)
+wider_entries c path left (other name after) told on (rest, it, is) = (rest, wider_entries c path left after rest on it, is)
+wider_entries c path left (dir name inside after) told on (here, rest, (entries, of_them, of_it), it, is) = (
+  here,
+  rest,
+  (
+    entries,
+    wider_entries c (path ++ name ∷ []) (left - 1) inside entries on of_them,
+    wider_folder c (path ++ name ∷ []) (left - 1) inside entries here on of_it,
+  ),
+  wider_entries c path left after rest on it,
+  is,
+)
+
+-- what may be told where the root failed may be where it failed more
+pub wider : {F G : Type 0} (c : Against) (path : Path) (left : ℕ) (inside : Forest) (told : List ExtraFinding) → (F → G)
+    → IsToldAt F c path left inside told → IsToldAt G c path left inside told
+wider c path left inside told on (entries, of_them, of_it) =
+    (entries, wider_entries c path left inside entries on of_them, wider_folder c path left inside entries told on of_it)
+
+-- ---- just what is found
+
+pub entries_found : (F : Type 0) (c : Against) (path : Path) (left : ℕ) (inside : Forest) → IsOfEntries F c path left inside (of_entries c path left inside)
+entries_found F c path left none = refl
+entries_found F c path left (file name bytes after) = (of_entries c path left after, entries_found F c path left after, refl)
+entries_found F c path left (other name after) = (of_entries c path left after, entries_found F c path left after, refl)
+entries_found F c path left (dir name inside after) =
+    let it = path ++ name ∷ [] in (
+      of_folder c it (left - 1) inside (of_entries c it (left - 1) inside),
+      of_entries c path left after,
+      (of_entries c it (left - 1) inside, entries_found F c it (left - 1) inside, Listed refl),
+      entries_found F c path left after,
+      refl,
+    )
+
+-- all that is found of a folder may be told
+pub told_found : (F : Type 0) (c : Against) (path : Path) (left : ℕ) (inside : Forest) → IsToldAt F c path left inside (found_at c path left inside)
+told_found F c path left inside = (of_entries c path left inside, entries_found F c path left inside, Listed refl)
+
+only_folder : {F : Type 0} (c : Against) (path : Path) (left : ℕ) (inside : Forest) (entries told : List ExtraFinding) → (F → ⊥)
+    → IsOfFolder F c path left inside entries told → told ≡ of_folder c path left inside entries
+only_folder c path left inside entries told never (Listed is) = is
+only_folder c path left inside entries told never (InPart f reason further is) = absurd (never f)
+only_folder c path left inside entries told never (NotAtAll f reason further is) = absurd (never f)
+
+only_entries : {F : Type 0} (c : Against) (path : Path) (left : ℕ) (inside : Forest) (told : List ExtraFinding) → (F → ⊥)
+    → IsOfEntries F c path left inside told → told ≡ of_entries c path left inside
+only_entries c path left none told never it = it
+only_entries c path left (file name bytes after) told never (rest, it, is) =
+    is ∙ ap (λ (l : List ExtraFinding). of_leaf c path name kind.File ++ l) (only_entries c path left after rest never it)
+only_entries c path left (other name after) told never (rest, it, is) =
+    is ∙ ap (λ (l : List ExtraFinding). of_leaf c path name kind.Other ++ l) (only_entries c path left after rest never it)
+only_entries c path left (dir name inside after) told never (here, rest, (entries, of_them, of_it), it, is) =
+    let at = path ++ name ∷ [] in
+    is ∙ ap (λ (l : List ExtraFinding). cond (is_part path name kind.Dir) [] l ++ rest) (only_folder c at (left - 1) inside entries here never of_it
+    ∙ ap (of_folder c at (left - 1) inside) (only_entries c at (left - 1) inside entries never of_them))
+    ∙ ap (λ (l : List ExtraFinding). cond (is_part path name kind.Dir) [] (found_at c at (left - 1) inside) ++ l) (only_entries c path left after rest never it)
+
+only_at : {F : Type 0} (c : Against) (path : Path) (left : ℕ) (inside : Forest) (told : List ExtraFinding) → (F → ⊥)
+    → IsToldAt F c path left inside told → told ≡ found_at c path left inside
+only_at c path left inside told never (entries, of_them, of_it) =
+    only_folder c path left inside entries told never of_it ∙ ap (of_folder c path left inside) (only_entries c path left inside entries never of_them)
+
+-- where the root didn't fail that is told, and nothing else
+pub only_found : {F : Type 0} (c : Against) (standing : Forest) (told : List ExtraFinding) → (F → ⊥) → IsToldIn F c standing told
+    → told ≡ found_in c standing
+only_found {F} c standing told never it = by (is_dir_kind (kind_in (listing_of standing) (known_text known.StorageRoot))) it
+  where
+    by : (b : Bool) → cond b (IsToldAt F c [] (c.job.tuples.count + 1) (inside_at standing storage_root) told) (told ≡ [])
+        → told ≡ cond b (found_at c [] (c.job.tuples.count + 1) (inside_at standing storage_root)) []
+    by true it = only_at c [] (c.job.tuples.count + 1) (inside_at standing storage_root) told never it
+    by false it = it
+
+-- ---- a folder
+
+-- what was told of a folder itself, before its entries: nothing, or that it couldn't be listed whole
+pub data IsBefore (F : Type 0) (c : Against) (path : Path) (before : List ExtraFinding) : Type 0 where
+  Whole : before ≡ [] → IsBefore F c path before
+  Part : F → (reason : List ℕ) → (further : List (List ℕ)) → before ≡ of_unlisted c path (reason ∷ further) → IsBefore F c path before
+
+pub wider_before : {F G : Type 0} (c : Against) (path : Path) (before : List ExtraFinding) → (F → G) → IsBefore F c path before → IsBefore G c path before
+wider_before c path before on (Whole is) = Whole is
+wider_before c path before on (Part f reason further is) = Part (on f) reason further is
+
+-- then behind that what is found of it, by what is told of its entries
+pub told_behind : {F : Type 0} (c : Against) (path : Path) (left : ℕ) (inside : Forest) (before entries here : List ExtraFinding)
+    → IsBefore F c path before → IsOfEntries F c path left inside entries
+    → ((bare : List ExtraFinding) → of_folder_by c path left inside bare entries ≡ here) → IsToldAt F c path left inside (before ++ here)
+told_behind c path left inside before entries here (Whole is) it same =
+    (entries, it, Listed (ap (λ (l : List ExtraFinding). l ++ here) is ∙ sym (same (of_unnamed c path))))
+told_behind c path left inside before entries here (Part f reason further is) it same = (
+  entries,
+  it,
+  InPart f reason further (ap (λ (l : List ExtraFinding). l ++ here) is
+      ∙ ap (λ (l : List ExtraFinding). of_unlisted c path (reason ∷ further) ++ l) (sym (same []))),
+)
+
+-- nothing more, where it is bare and told so, or nothing of it could be listed
+pub told_part_bare : {F : Type 0} (c : Against) (path : Path) (left : ℕ) (inside : Forest) (reason : List ℕ) (further : List (List ℕ)) → F
+    → of_folder_by c path left inside [] (of_entries c path left inside) ≡ []
+    → IsToldAt F c path left inside (of_unlisted c path (reason ∷ further) ++ [])
+told_part_bare {F} c path left inside reason further f bare = (
+  of_entries c path left inside,
+  entries_found F c path left inside,
+  InPart f reason further (ap (λ (l : List ExtraFinding). of_unlisted c path (reason ∷ further) ++ l) (sym bare)),
+)
+
+pub told_not : {F : Type 0} (c : Against) (path : Path) (left : ℕ) (inside : Forest) (reason : List ℕ) (further : List (List ℕ)) → F
+    → IsToldAt F c path left inside (of_unlisted c path (reason ∷ further))
+told_not {F} c path left inside reason further f =
+    (of_entries c path left inside, entries_found F c path left inside, NotAtAll f reason further refl)

@@ -1,0 +1,140 @@
+//! How a walk lists a folder, and tells that it can't.
+ghost use Rattle.std.specs.Prelude.{◌≡◌, ◌∷◌, cond, false, map, string_bytes, IfOk, IfSome, IsSome, MatchOption, OnErr, OnOk, Some};
+ghost use Rattle.std.specs.Option.{ForSome};
+ghost use Rattle.pt_extra.specs.Lines.{Unlisted};
+ghost use Rattle.pt_extra.specs.Walk.{Fails, FailsPast, Keeps, Tells, TellsFront, TellsReasons, TellsReasonsFront};
+ghost use Rattle.pt_extra.specs.Walk.{TellsUnlisted, TellsUnlistedFront, found_each, found_one, found_unlisted};
+ghost use Rattle.pt_tree.specs.Forest.{dir_at, listing_at};
+ghost use Rattle.pt_tree.specs.Source.{tree_in};
+
+use crate::Extras;
+use crate::lines::unlisted_line;
+use pt_check::{Explains, UnlistedFolder};
+use pt_plan::Fault;
+use pt_tree::{Listing, Log, NamePath, Source, TreeFault};
+
+// What of a folder could be listed: all of its entries, or those that have names.
+#[derive(Drop)]
+pub(crate) struct Found {
+    pub(crate) listing: Listing,
+    pub(crate) is_whole: bool,
+}
+
+impl<S: Source, R: Source, L: Log, E: Explains<R> + Drop> Extras<S, R, L, E> {
+    // What can be listed of the folder at a path, which in the destination is this, and None where
+    // nothing can. That not all of it can is told.
+    #[tactic(auto, using(pt_tree::proofs::Told::listed_in))]
+    pub(crate) fn list(
+        &mut self,
+        path: &NamePath,
+        folder: &NamePath,
+    ) -> Result<Option<Found>, Fault>
+        requires { ForSome (tree_in (R.told self.old.root))
+            (λ tree. IsSome (dir_at tree folder.now)) }
+        ensures listed { IfOk result (λ found. IfSome found
+            (λ found. ForSome (tree_in (R.told self.old.root))
+            (λ tree. listing_at tree folder.now ≡ Some found.listing))) }
+        ensures told { IfOk result (λ found. MatchOption found
+            (TellsUnlisted S.Source R.Source L.Log path.now self.old self.new)
+            (λ found. cond found.is_whole (self.new ≡ record self.old { root = self.new.root })
+            (TellsUnlisted S.Source R.Source L.Log path.now self.old self.new))) }
+        ensures stops { OnErr result
+            (TellsUnlistedFront S.Source R.Source L.Log path.now self.old self.new) }
+        ensures keeps { Keeps S.Source R.Source L.Log self.old self.new }
+        ensures fails { FailsPast S.Source R.Source L.Log self.old self.new result }
+    {
+        // That the count is one of 64 bits, for the proof.
+        let _failures = self.root.failures();
+        match self.root.list(folder) {
+            Ok(listing) => Ok(Some(Found {
+                listing,
+                is_whole: true,
+            })),
+            Err(TreeFault::Device) => self.list_part(path, folder),
+            Err(TreeFault::Memory) => Err(Fault::Memory),
+        }
+    }
+
+    // Tells that the root failed to list a folder, by a line for each reason. Gives what of it can
+    // be listed all the same.
+    #[tactic(auto, using(pt_tree::proofs::Told::listed_in))]
+    fn list_part(&mut self, path: &NamePath, folder: &NamePath) -> Result<Option<Found>, Fault>
+        requires { ForSome (tree_in (R.told self.old.root))
+            (λ tree. IsSome (dir_at tree folder.now)) }
+        ensures listed { IfOk result (λ found. IfSome found
+            (λ found. ForSome (tree_in (R.told self.old.root))
+            (λ tree. listing_at tree folder.now ≡ Some found.listing))) }
+        ensures part { IfOk result (λ found. IfSome found (λ found. found.is_whole ≡ false)) }
+        ensures told { OnOk result
+            (TellsReasons S.Source R.Source L.Log path.now self.old self.new) }
+        ensures stops { OnErr result
+            (TellsReasonsFront S.Source R.Source L.Log path.now self.old self.new) }
+        ensures keeps { Keeps S.Source R.Source L.Log self.old self.new }
+        ensures fails { FailsPast S.Source R.Source L.Log self.old self.new result }
+    {
+        let UnlistedFolder {
+            reason,
+            further,
+            listing,
+        } = self
+            .explains
+            .explain_listing(self.alloc, &mut self.root, folder)?;
+        self.meet_unlisted(path, reason.as_str(), &further)?;
+        match listing {
+            Some(listing) => Ok(Some(Found {
+                listing,
+                is_whole: false,
+            })),
+            None => Ok(None),
+        }
+    }
+
+    // The folder at a path can't be listed whole, for these reasons: the first share tells it.
+    fn meet_unlisted(
+        &mut self,
+        path: &NamePath,
+        reason: &str,
+        further: &[String],
+    ) -> Result<(), Fault>
+        ensures told { OnOk result (Tells S.Source R.Source L.Log (found_unlisted path.now
+            (reason.now ∷ map (λ reason. string_bytes reason) further.now)) self.old self.new) }
+        ensures stops { OnErr result (TellsFront S.Source R.Source L.Log (found_unlisted path.now
+            (reason.now ∷ map (λ reason. string_bytes reason) further.now)) self.old self.new) }
+        ensures keeps { Keeps S.Source R.Source L.Log self.old self.new }
+        ensures fails { Fails S.Source R.Source L.Log self.old self.new result }
+    {
+        if !self.job.share.is_first() {
+            return Ok(());
+        }
+        self.tell_unlisted(path, reason)?;
+        self.tell_each(path, further)
+    }
+
+    // Tells that the folder at a path can't be listed whole, for each of these reasons.
+    fn tell_each(&mut self, path: &NamePath, reasons: &[String]) -> Result<(), Fault>
+        ensures told { OnOk result (Tells S.Source R.Source L.Log (found_each path.now
+            (map (λ reason. string_bytes reason) reasons.now)) self.old self.new) }
+        ensures stops { OnErr result (TellsFront S.Source R.Source L.Log (found_each path.now
+            (map (λ reason. string_bytes reason) reasons.now)) self.old self.new) }
+        ensures keeps { Keeps S.Source R.Source L.Log self.old self.new }
+        ensures fails { Fails S.Source R.Source L.Log self.old self.new result }
+    {
+        for reason in reasons {
+            self.tell_unlisted(path, reason.as_str())?;
+        }
+        Ok(())
+    }
+
+    // Tells that the folder at a path can't be listed whole, for this reason.
+    fn tell_unlisted(&mut self, path: &NamePath, reason: &str) -> Result<(), Fault>
+        ensures told { OnOk result (Tells S.Source R.Source L.Log
+            (found_one (Unlisted reason.now path.now)) self.old self.new) }
+        ensures stops { OnErr result (TellsFront S.Source R.Source L.Log
+            (found_one (Unlisted reason.now path.now)) self.old self.new) }
+        ensures keeps { Keeps S.Source R.Source L.Log self.old self.new }
+        ensures fails { Fails S.Source R.Source L.Log self.old self.new result }
+    {
+        let line = unlisted_line(self.alloc, reason, path)?;
+        self.put(line.as_str(), self.numbers.with_stray())
+    }
+}
