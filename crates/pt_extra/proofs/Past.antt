@@ -168,7 +168,7 @@ module _ {S R L E : Type 0} (store : OfSource S) (root : OfSource R) (log : OfLo
         reason,
         further,
         λ s is r there.
-            subst (λ (a : Seen). Puts (of_unlisted (against old s) path (reason ∷ further)) a (seen_by log new)) still
+            subst (λ (a : Seen). Puts (of_unlisted path (reason ∷ further)) a (seen_by log new)) still
             (told_from store root log (found_unlisted path (reason ∷ further)) old mid new kept tells s is r there),
       ),
     )
@@ -196,7 +196,7 @@ module _ {S R L E : Type 0} (store : OfSource S) (root : OfSource R) (log : OfLo
         reason,
         further,
         λ s is r there.
-            subst (λ (l : Option (List ℕ)). AppendsFront l (log.told new.log) (texts (of_unlisted (against old s) path (reason ∷ further))))
+            subst (λ (l : Option (List ℕ)). AppendsFront l (log.told new.log) (texts (of_unlisted path (reason ∷ further))))
             (ap (λ (a : Seen). a.held) still)
             (front_from store root log (found_unlisted path (reason ∷ further)) old mid new kept front s is r there),
       ),

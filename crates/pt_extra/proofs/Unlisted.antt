@@ -103,7 +103,7 @@ only_found {F} c standing told never it = by (is_dir_kind (kind_in (listing_of s
 -- what was told of a folder itself, before its entries: nothing, or that it couldn't be listed whole
 pub data IsBefore (F : Type 0) (c : Against) (path : Path) (before : List ExtraFinding) : Type 0 where
   Whole : before ≡ [] → IsBefore F c path before
-  Part : F → (reason : List ℕ) → (further : List (List ℕ)) → before ≡ of_unlisted c path (reason ∷ further) → IsBefore F c path before
+  Part : F → (reason : List ℕ) → (further : List (List ℕ)) → before ≡ of_unlisted path (reason ∷ further) → IsBefore F c path before
 
 pub wider_before : {F G : Type 0} (c : Against) (path : Path) (before : List ExtraFinding) → (F → G) → IsBefore F c path before → IsBefore G c path before
 wider_before c path before on (Whole is) = Whole is
@@ -119,20 +119,20 @@ told_behind c path left inside before entries here (Part f reason further is) it
   entries,
   it,
   InPart f reason further (ap (λ (l : List ExtraFinding). l ++ here) is
-      ∙ ap (λ (l : List ExtraFinding). of_unlisted c path (reason ∷ further) ++ l) (sym (same []))),
+      ∙ ap (λ (l : List ExtraFinding). of_unlisted path (reason ∷ further) ++ l) (sym (same []))),
 )
 
 -- nothing more, where it is bare and told so, or nothing of it could be listed
 pub told_part_bare : {F : Type 0} (c : Against) (path : Path) (left : ℕ) (inside : Forest) (reason : List ℕ) (further : List (List ℕ)) → F
     → of_folder_by c path left inside [] (of_entries c path left inside) ≡ []
-    → IsToldAt F c path left inside (of_unlisted c path (reason ∷ further) ++ [])
+    → IsToldAt F c path left inside (of_unlisted path (reason ∷ further) ++ [])
 told_part_bare {F} c path left inside reason further f bare = (
   of_entries c path left inside,
   entries_found F c path left inside,
-  InPart f reason further (ap (λ (l : List ExtraFinding). of_unlisted c path (reason ∷ further) ++ l) (sym bare)),
+  InPart f reason further (ap (λ (l : List ExtraFinding). of_unlisted path (reason ∷ further) ++ l) (sym bare)),
 )
 
 pub told_not : {F : Type 0} (c : Against) (path : Path) (left : ℕ) (inside : Forest) (reason : List ℕ) (further : List (List ℕ)) → F
-    → IsToldAt F c path left inside (of_unlisted c path (reason ∷ further))
+    → IsToldAt F c path left inside (of_unlisted path (reason ∷ further))
 told_not {F} c path left inside reason further f =
     (of_entries c path left inside, entries_found F c path left inside, NotAtAll f reason further refl)

@@ -146,7 +146,7 @@ pub record FoundTo (first now : ℕ) (c : Against) (path : Path) (left : ℕ) (i
 -- what was told of a folder itself by whether it was listed whole
 abbrev BeforeBy : Type 0 → Against → Path → Bool → List ExtraFinding → Type 0
 BeforeBy F c path true before = before ≡ []
-BeforeBy F c path false before = F × (reason : List ℕ) × (further : List (List ℕ)) × (before ≡ of_unlisted c path (reason ∷ further))
+BeforeBy F c path false before = F × (reason : List ℕ) × (further : List (List ℕ)) × (before ≡ of_unlisted path (reason ∷ further))
 
 before_by : {F : Type 0} (c : Against) (path : Path) (whole : Bool) (before : List ExtraFinding) → BeforeBy F c path whole before → IsBefore F c path before
 before_by c path true before is = Whole is
@@ -162,9 +162,9 @@ pub begun_whole : (first now : ℕ) (c : Against) (path : Path) (a : Seen) → I
 begun_whole first now c path a = record { before = []; puts = puts_none a; by_whole = refl }
 
 pub begun_part : (first now : ℕ) (c : Against) (path : Path) (a b : Seen) (reason : List ℕ) (further : List (List ℕ)) → HasRisen first now
-    → Puts (of_unlisted c path (reason ∷ further)) a b → IsBegun first now c path false a b
+    → Puts (of_unlisted path (reason ∷ further)) a b → IsBegun first now c path false a b
 begun_part first now c path a b reason further rose puts =
-    record { before = of_unlisted c path (reason ∷ further); puts = puts; by_whole = (rose, reason, further, refl) }
+    record { before = of_unlisted path (reason ∷ further); puts = puts; by_whole = (rose, reason, further, refl) }
 
 -- no entry was met yet
 pub found_none : (first now : ℕ) (c : Against) (path : Path) (left : ℕ) (inside : Forest) (whole : Bool) (a b : Seen) → IsBegun first now c path whole a b
@@ -444,14 +444,14 @@ module _ (c : Against) (top : Forest) (path : Path) (left : ℕ) (items : List I
 
 -- nothing of it could be listed
 pub put_not : (F : Type 0) (c : Against) (path : Path) (left : ℕ) (inside : Forest) (a b : Seen) (reason : List ℕ) (further : List (List ℕ)) → F
-    → Puts (of_unlisted c path (reason ∷ further)) a b → IsPut F c path left inside a b
+    → Puts (of_unlisted path (reason ∷ further)) a b → IsPut F c path left inside a b
 put_not F c path left inside a b reason further failed puts =
-    record { told = of_unlisted c path (reason ∷ further); may = told_not c path left inside reason further failed; puts = puts }
+    record { told = of_unlisted path (reason ∷ further); may = told_not c path left inside reason further failed; puts = puts }
 
 pub front_not : (F : Type 0) (c : Against) (path : Path) (left : ℕ) (inside : Forest) (old end : Option (List ℕ)) (reason : List ℕ)
-    (further : List (List ℕ)) → F → AppendsFront old end (texts (of_unlisted c path (reason ∷ further))) → IsFront F c path left inside old end
+    (further : List (List ℕ)) → F → AppendsFront old end (texts (of_unlisted path (reason ∷ further))) → IsFront F c path left inside old end
 front_not F c path left inside old end reason further failed part =
-    record { told = of_unlisted c path (reason ∷ further); may = told_not c path left inside reason further failed; part = part }
+    record { told = of_unlisted path (reason ∷ further); may = told_not c path left inside reason further failed; part = part }
 
 -- and where nothing was put
 pub front_still : (F : Type 0) (c : Against) (path : Path) (left : ℕ) (inside : Forest) (old end : Option (List ℕ)) → end ≡ old

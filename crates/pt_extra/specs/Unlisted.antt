@@ -2,7 +2,6 @@
 use Rattle.std.specs.Prelude.{◌≡◌, ◌+◌, ◌-◌, ℕ, cond, List, [], ◌∷◌, ◌++◌, map}
 use Rattle.pt_extra.specs.Findings.{Against, is_part, of_folder, of_folder_by, of_leaf}
 use Rattle.pt_extra.specs.Lines.{ExtraFinding, Unlisted}
-use Rattle.pt_name.specs.Share.{is_first}
 use Rattle.pt_object.specs.WellKnown.{known_text}
 use Rattle.pt_object.specs.declared.well_known.WellKnownName.TheVariants as known
 use Rattle.pt_plan.specs.Roots.{storage_root}
@@ -12,13 +11,9 @@ use Rattle.pt_tree.specs.Path.{Path}
 use Rattle.pt_tree.specs.declared.kind.Kind.TheVariants as kind
 use Rattle.pt_walk.specs.Left.{inside_at}
 
--- that a folder couldn't be listed whole, for each of these reasons
-abbrev pub for_each : Path → List (List ℕ) → List ExtraFinding
-for_each path reasons = map (λ reason. Unlisted reason path) reasons
-
--- what is told of it then: the first share tells it alone, as what has no identifier
-abbrev pub of_unlisted : Against → Path → List (List ℕ) → List ExtraFinding
-of_unlisted c path reasons = cond (is_first c.job.share) (for_each path reasons) []
+-- that a folder couldn't be listed whole, for each of these reasons. Each share tells it, as what is missed below may be of any
+abbrev pub of_unlisted : Path → List (List ℕ) → List ExtraFinding
+of_unlisted path reasons = map (λ reason. Unlisted reason path) reasons
 
 -- what is told of a folder, by what is told of its entries: just what is found; or, only where the root failed, that it couldn't be listed whole,
 -- for a reason or more, and behind that what is found of those of its entries that have names, by which a bare one isn't stray once more; or
@@ -26,8 +21,8 @@ of_unlisted c path reasons = cond (is_first c.job.share) (for_each path reasons)
 pub data IsOfFolder (failed : Type 0) (c : Against) (path : Path) (left : ℕ) (inside : Forest) (entries told : List ExtraFinding) : Type 0 where
   Listed : told ≡ of_folder c path left inside entries → IsOfFolder failed c path left inside entries told
   InPart : failed → (reason : List ℕ) → (further : List (List ℕ))
-      → told ≡ of_unlisted c path (reason ∷ further) ++ of_folder_by c path left inside [] entries → IsOfFolder failed c path left inside entries told
-  NotAtAll : failed → (reason : List ℕ) → (further : List (List ℕ)) → told ≡ of_unlisted c path (reason ∷ further)
+      → told ≡ of_unlisted path (reason ∷ further) ++ of_folder_by c path left inside [] entries → IsOfFolder failed c path left inside entries told
+  NotAtAll : failed → (reason : List ℕ) → (further : List (List ℕ)) → told ≡ of_unlisted path (reason ∷ further)
       → IsOfFolder failed c path left inside entries told
 
 -- what is told of the entries of a folder at this path, below which so many names lead to an object, and of all that stands in them: what is found,

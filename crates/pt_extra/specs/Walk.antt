@@ -11,7 +11,7 @@ use Rattle.pt_extra.specs.Counting.{with_findings}
 use Rattle.pt_extra.specs.Findings.{Against, found_at, of_object, of_unnamed}
 use Rattle.pt_extra.specs.Inventories.{id_of}
 use Rattle.pt_extra.specs.Lines.{ExtraFinding, texts}
-use Rattle.pt_extra.specs.Unlisted.{IsToldAt, for_each, of_unlisted}
+use Rattle.pt_extra.specs.Unlisted.{IsToldAt, of_unlisted}
 use Rattle.pt_extra.specs.declared.numbers.ExtraNumbers.{ExtraNumbers}
 use Rattle.pt_extra.specs.declared.walking.Extras.{Extras}
 use Rattle.pt_object.specs.WellKnown.{known_text}
@@ -70,11 +70,7 @@ found_bare path whole c tree = cond whole (of_unnamed c path) []
 
 -- of a folder that couldn't be listed whole, for these reasons
 abbrev pub found_unlisted : Path → List (List ℕ) → Against → Forest → List ExtraFinding
-found_unlisted path reasons c tree = of_unlisted c path reasons
-
--- the same in the first share
-abbrev pub found_each : Path → List (List ℕ) → Against → Forest → List ExtraFinding
-found_each path reasons c tree = for_each path reasons
+found_unlisted path reasons c tree = of_unlisted path reasons
 
 -- that one thing
 abbrev pub found_one : ExtraFinding → Against → Forest → List ExtraFinding

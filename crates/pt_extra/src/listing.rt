@@ -3,7 +3,7 @@ ghost use Rattle.std.specs.Prelude.{◌≡◌, ◌∷◌, cond, false, map, stri
 ghost use Rattle.std.specs.Option.{ForSome};
 ghost use Rattle.pt_extra.specs.Lines.{Unlisted};
 ghost use Rattle.pt_extra.specs.Walk.{Fails, FailsPast, Keeps, Tells, TellsFront, TellsReasons, TellsReasonsFront};
-ghost use Rattle.pt_extra.specs.Walk.{TellsUnlisted, TellsUnlistedFront, found_each, found_one, found_unlisted};
+ghost use Rattle.pt_extra.specs.Walk.{TellsUnlisted, TellsUnlistedFront, found_one, found_unlisted};
 ghost use Rattle.pt_tree.specs.Forest.{dir_at, listing_at};
 ghost use Rattle.pt_tree.specs.Source.{tree_in};
 
@@ -79,7 +79,7 @@ impl<S: Source, R: Source, L: Log, E: Explains<R> + Drop> Extras<S, R, L, E> {
         } = self
             .explains
             .explain_listing(self.alloc, &mut self.root, folder)?;
-        self.meet_unlisted(path, reason.as_str(), &further)?;
+        self.tell_reasons(path, reason.as_str(), &further)?;
         match listing {
             Some(listing) => Ok(Some(Found {
                 listing,
@@ -89,8 +89,8 @@ impl<S: Source, R: Source, L: Log, E: Explains<R> + Drop> Extras<S, R, L, E> {
         }
     }
 
-    // The folder at a path can't be listed whole, for these reasons: the first share tells it.
-    fn meet_unlisted(
+    // Tells that the folder at a path can't be listed whole, for these reasons.
+    fn tell_reasons(
         &mut self,
         path: &NamePath,
         reason: &str,
@@ -103,18 +103,15 @@ impl<S: Source, R: Source, L: Log, E: Explains<R> + Drop> Extras<S, R, L, E> {
         ensures keeps { Keeps S.Source R.Source L.Log self.old self.new }
         ensures fails { Fails S.Source R.Source L.Log self.old self.new result }
     {
-        if !self.job.share.is_first() {
-            return Ok(());
-        }
         self.tell_unlisted(path, reason)?;
         self.tell_each(path, further)
     }
 
     // Tells that the folder at a path can't be listed whole, for each of these reasons.
     fn tell_each(&mut self, path: &NamePath, reasons: &[String]) -> Result<(), Fault>
-        ensures told { OnOk result (Tells S.Source R.Source L.Log (found_each path.now
+        ensures told { OnOk result (Tells S.Source R.Source L.Log (found_unlisted path.now
             (map (λ reason. string_bytes reason) reasons.now)) self.old self.new) }
-        ensures stops { OnErr result (TellsFront S.Source R.Source L.Log (found_each path.now
+        ensures stops { OnErr result (TellsFront S.Source R.Source L.Log (found_unlisted path.now
             (map (λ reason. string_bytes reason) reasons.now)) self.old self.new) }
         ensures keeps { Keeps S.Source R.Source L.Log self.old self.new }
         ensures fails { Fails S.Source R.Source L.Log self.old self.new result }

@@ -25,8 +25,8 @@ returns-in-Some-clause-told g c =
     let further = map (λ reason. string_bytes reason) c.deref.result.now in (
       reason,
       further,
-      told_from g.S.Source g.R.Source g.L.Log (found_unlisted c.args.path.now (reason ∷ further)) old mid c.meet_unlisted.new.self kept
-          c.in_ok-meet_unlisted.ensures.told,
+      told_from g.S.Source g.R.Source g.L.Log (found_unlisted c.args.path.now (reason ∷ further)) old mid c.tell_reasons.new.self kept
+          c.in_ok-tell_reasons.ensures.told,
     )
 
 pub returns-in-Some-clause-keeps : goal.returns-in-Some-clause-keeps
@@ -37,12 +37,12 @@ returns-in-Some-clause-keeps g c =
     let kept = keeps_root g.S.Source g.R.Source g.L.Log g.met.S.Source.is_kept g.met.L.Log.is_kept old root c.explain_listing.ensures.keeps
     (ap tree_in c.explain_listing.ensures.same) in
     keeps_on g.S.Source g.R.Source g.L.Log g.met.S.Source.keeps_on g.met.R.Source.keeps_on g.met.L.Log.keeps_on old mid
-    c.meet_unlisted.new.self kept c.meet_unlisted.ensures.keeps
+    c.tell_reasons.new.self kept c.tell_reasons.ensures.keeps
 
 pub returns-in-Some-clause-fails : goal.returns-in-Some-clause-fails
 returns-in-Some-clause-fails g c =
     let old = c.args.self.now in
-    (g.R.Source.failed c.explain_listing.new.source, c.explain_listing.ensures.failures, c.in_ok-meet_unlisted.ensures.fails)
+    (g.R.Source.failed c.explain_listing.new.source, c.explain_listing.ensures.failures, c.in_ok-tell_reasons.ensures.fails)
 
 pub returns-clause-told : goal.returns-clause-told
 returns-clause-told g c =
@@ -55,8 +55,8 @@ returns-clause-told g c =
     let further = map (λ reason. string_bytes reason) c.deref.result.now in (
       reason,
       further,
-      told_from g.S.Source g.R.Source g.L.Log (found_unlisted c.args.path.now (reason ∷ further)) old mid c.meet_unlisted.new.self kept
-          c.in_ok-meet_unlisted.ensures.told,
+      told_from g.S.Source g.R.Source g.L.Log (found_unlisted c.args.path.now (reason ∷ further)) old mid c.tell_reasons.new.self kept
+          c.in_ok-tell_reasons.ensures.told,
     )
 
 pub returns-clause-keeps : goal.returns-clause-keeps
@@ -67,34 +67,34 @@ returns-clause-keeps g c =
     let kept = keeps_root g.S.Source g.R.Source g.L.Log g.met.S.Source.is_kept g.met.L.Log.is_kept old root c.explain_listing.ensures.keeps
     (ap tree_in c.explain_listing.ensures.same) in
     keeps_on g.S.Source g.R.Source g.L.Log g.met.S.Source.keeps_on g.met.R.Source.keeps_on g.met.L.Log.keeps_on old mid
-    c.meet_unlisted.new.self kept c.meet_unlisted.ensures.keeps
+    c.tell_reasons.new.self kept c.tell_reasons.ensures.keeps
 
 pub returns-clause-fails : goal.returns-clause-fails
 returns-clause-fails g c =
     let old = c.args.self.now in
-    (g.R.Source.failed c.explain_listing.new.source, c.explain_listing.ensures.failures, c.in_ok-meet_unlisted.ensures.fails)
+    (g.R.Source.failed c.explain_listing.new.source, c.explain_listing.ensures.failures, c.in_ok-tell_reasons.ensures.fails)
 
-pub returns-in_err-meet_unlisted-clause-keeps : goal.returns-in_err-meet_unlisted-clause-keeps
-returns-in_err-meet_unlisted-clause-keeps g c =
+pub returns-in_err-tell_reasons-clause-keeps : goal.returns-in_err-tell_reasons-clause-keeps
+returns-in_err-tell_reasons-clause-keeps g c =
     let old = c.args.self.now in
     let root = c.explain_listing.new.source in
     let mid = record old { root = root } in
     let kept = keeps_root g.S.Source g.R.Source g.L.Log g.met.S.Source.is_kept g.met.L.Log.is_kept old root c.explain_listing.ensures.keeps
     (ap tree_in c.explain_listing.ensures.same) in
     keeps_on g.S.Source g.R.Source g.L.Log g.met.S.Source.keeps_on g.met.R.Source.keeps_on g.met.L.Log.keeps_on old mid
-    c.meet_unlisted.new.self kept c.meet_unlisted.ensures.keeps
+    c.tell_reasons.new.self kept c.tell_reasons.ensures.keeps
 
-pub returns-in_err-meet_unlisted-clause-fails : goal.returns-in_err-meet_unlisted-clause-fails
-returns-in_err-meet_unlisted-clause-fails g c =
+pub returns-in_err-tell_reasons-clause-fails : goal.returns-in_err-tell_reasons-clause-fails
+returns-in_err-tell_reasons-clause-fails g c =
     let old = c.args.self.now in
-    past_err_of c.in_err-meet_unlisted.field-0.0 c.from_residual-in_err-meet_unlisted.result (failures_by g.S.Source g.R.Source g.L.Log old)
+    past_err_of c.in_err-tell_reasons.field-0.0 c.from_residual-in_err-tell_reasons.result (failures_by g.S.Source g.R.Source g.L.Log old)
     (failures_by g.S.Source g.R.Source g.L.Log (record old { root = c.explain_listing.new.source }))
-    (failures_by g.S.Source g.R.Source g.L.Log c.meet_unlisted.new.self)
-    (g.R.Source.failed c.explain_listing.new.source, c.explain_listing.ensures.failures, refl) c.in_err-meet_unlisted.ensures.fails
-    c.from_residual-in_err-meet_unlisted.ensures.1
+    (failures_by g.S.Source g.R.Source g.L.Log c.tell_reasons.new.self)
+    (g.R.Source.failed c.explain_listing.new.source, c.explain_listing.ensures.failures, refl) c.in_err-tell_reasons.ensures.fails
+    c.from_residual-in_err-tell_reasons.ensures.1
 
-pub returns-in_err-meet_unlisted-clause-stops : goal.returns-in_err-meet_unlisted-clause-stops
-returns-in_err-meet_unlisted-clause-stops g c =
+pub returns-in_err-tell_reasons-clause-stops : goal.returns-in_err-tell_reasons-clause-stops
+returns-in_err-tell_reasons-clause-stops g c =
     let old = c.args.self.now in
     let root = c.explain_listing.new.source in
     let mid = record old { root = root } in
@@ -102,18 +102,18 @@ returns-in_err-meet_unlisted-clause-stops g c =
     (ap tree_in c.explain_listing.ensures.same) in
     let reason = c.as_str.result.now in
     let further = map (λ reason. string_bytes reason) c.deref.result.now in
-    at_err c.from_residual-in_err-meet_unlisted.result (
+    at_err c.from_residual-in_err-tell_reasons.result (
       reason,
       further,
-      front_from g.S.Source g.R.Source g.L.Log (found_unlisted c.args.path.now (reason ∷ further)) old mid c.meet_unlisted.new.self kept
-          c.in_err-meet_unlisted.ensures.stops,
+      front_from g.S.Source g.R.Source g.L.Log (found_unlisted c.args.path.now (reason ∷ further)) old mid c.tell_reasons.new.self kept
+          c.in_err-tell_reasons.ensures.stops,
     )
 
 pub returns-in_err-reason-clause-stops : goal.returns-in_err-reason-clause-stops
 returns-in_err-reason-clause-stops g c =
     let old = c.args.self.now in
     at_err c.from_residual.result
-    ([], [], λ s is r there. front_none (g.L.Log.told old.log) (texts (of_unlisted (against old s) c.args.path.now ([] ∷ []))))
+    ([], [], λ s is r there. front_none (g.L.Log.told old.log) (texts (of_unlisted c.args.path.now ([] ∷ []))))
 
 pub returns-in_err-reason-clause-fails : goal.returns-in_err-reason-clause-fails
 returns-in_err-reason-clause-fails g c =

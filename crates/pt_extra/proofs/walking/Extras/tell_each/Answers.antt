@@ -5,7 +5,7 @@ use Rattle.pt_extra.proofs.Keeping.{at_err, front_from, keeps_on, keeps_root, to
 use Rattle.pt_extra.proofs.Reasons.{each_front, each_step}
 use Rattle.pt_extra.proofs.Telling.{puts_none}
 use Rattle.pt_extra.specs.Lines.{Unlisted}
-use Rattle.pt_extra.specs.Unlisted.{for_each}
+use Rattle.pt_extra.specs.Unlisted.{of_unlisted}
 use Rattle.pt_extra.specs.Walk.{Puts, found_one, seen_by}
 use Rattle.pt_extra.proofs.walking.Extras.tell_each.Goals as goal
 
@@ -54,6 +54,6 @@ loop-reason-init g c =
 
 pub returns-clause-told : goal.returns-clause-told
 returns-clause-told g c = λ s is r there.
-    subst (λ (l : List (String Global)). Puts (for_each c.args.path.now (map (λ reason. string_bytes reason) l)) (seen_by g.L.Log c.args.self.now)
+    subst (λ (l : List (String Global)). Puts (of_unlisted c.args.path.now (map (λ reason. string_bytes reason) l)) (seen_by g.L.Log c.args.self.now)
     (seen_by g.L.Log c.loop-reason.self)) (take_all c.loop-reason.reason-index c.args.reasons.now (omega (arith, c.loop-reason-test.false)))
     (c.loop-reason.invariant.told s is r there)
