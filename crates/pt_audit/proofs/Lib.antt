@@ -19,6 +19,7 @@ pub mod StepLeaves
 pub mod StepRules
 pub mod Twins
 pub mod Working
+pub mod StepPromises
 pub mod Steps
 mod SurveyRules
 mod Stopping

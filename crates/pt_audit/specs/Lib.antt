@@ -1,4 +1,5 @@
 pub mod AuditLaws
+pub mod AuditSteps
 pub mod Auditing
 pub mod Bounds
 pub mod Counting
@@ -9,6 +10,7 @@ pub mod Growing
 pub mod Layout
 pub mod Lines
 pub mod RootReader
+pub mod SurveySteps
 pub mod Surveying
 pub mod Surveys
 pub mod Twin

@@ -11,25 +11,26 @@
 //! destination nothing is refused; that it has ended already is never answered (`AuditSays`). It is
 //! made by steps of a survey, to the survey's end where it answers Ok (`IsMade`); what is held of
 //! the survey after each is what a survey's step says. The end line has the counts of the lines.
-ghost use Rattle.std.specs.Prelude.{◌≡◌, ◌≢◌, ℕ, IfErr, IfOk, List, OnErr, OnOk, Option, Some};
-ghost use Rattle.pt_audit.specs.Auditing.{FrontToldAs, GivesBack, GoesOn, HasSeenAll, IsFoundAtHand, IsSeen};
-ghost use Rattle.pt_audit.specs.Auditing.{IsTwinAtHand, IsUnderWay, LogsAs, StopsSeen, StopsUnderWay, TellsItems};
+ghost use Rattle.std.specs.Prelude.{◌≡◌, IfErr, IfOk, OnErr, OnOk, Some};
+ghost use Rattle.pt_audit.specs.AuditSteps.{FailsRightly, KeepsAll, StepsOn, TellsObject, TellsStep};
+ghost use Rattle.pt_audit.specs.AuditSteps.{audit_states};
+ghost use Rattle.pt_audit.specs.Auditing.{FrontToldAs, GivesBack, HasSeenAll, IsFoundAtHand};
+ghost use Rattle.pt_audit.specs.Auditing.{IsTwinAtHand, LogsAs, StopsUnderWay, TellsItems};
 ghost use Rattle.pt_audit.specs.Auditing.{counted, last_text, start_over};
 ghost use Rattle.pt_audit.specs.declared.counts.Counts.{Counts};
-ghost use Rattle.std.specs.Bool.{OnFalse, OnTrue};
 ghost use Rattle.std.specs.Option.{ForSome};
 ghost use Rattle.std.specs.Io.KnownBytes.{Appends};
 ghost use Rattle.pt_tree.specs.Log.{AppendsFront};
 ghost use Rattle.pt_audit.specs.RootReader.{Begins, Follows, FollowsOn, Saw};
 ghost use Rattle.pt_audit.specs.Bounds.{IsMade, IsMadeFrom, counts_in};
-ghost use Rattle.pt_audit.specs.Failing.{AuditSays, BlamesRightly, FailsAs, TellFails, failures};
+ghost use Rattle.pt_audit.specs.Failing.{AuditSays, BlamesRightly, FailsAs, failures};
 ghost use Rattle.pt_audit.specs.Layout.{IsOfLayout};
 ghost use Rattle.pt_compare.specs.Root.{KeepsRoot};
 ghost use Rattle.pt_tree.specs.Source.{tree_in};
 ghost use Rattle.pt_state.specs.States.{job_of};
-ghost use Rattle.pt_plan.specs.declared.phase.Phase.TheVariants as phase;
 ghost use Rattle.pt_audit.specs.Growing.{KeepsLog, KeepsSides};
-ghost use Rattle.pt_audit.specs.Surveying.{GoesOn as SurveyGoesOn, IsHand, IsSurvey, Steps, Surveys, sight_at};
+ghost use Rattle.pt_audit.specs.SurveySteps.{MovesOn};
+ghost use Rattle.pt_audit.specs.Surveying.{IsHand, Steps, Surveys, sight_at};
 ghost use Rattle.pt_audit.specs.declared.survey.SurveyEvent.TheVariants as sight;
 
 use crate::Counts;
@@ -182,14 +183,11 @@ impl Auditor {
             (tree_in (R.told root.old)) (L.told log.old)) (L.told log.new) counts self.new.survey
             × (self.new.survey.state.job ≡ self.old.survey.state.job)) }
         ensures made { IsMadeFrom (tree_in (S.told source.old)) self.old.survey result }
-        ensures sides { KeepsSides S.told S.keeps R.told R.keeps (source.old, root.old)
-            (source.new, root.new) }
-        ensures log { KeepsLog L.told L.keeps log.old log.new }
-        ensures blames { BlamesRightly
-            (failures (S.failed source.old) (R.failed root.old) (L.failed log.old))
-            (failures (S.failed source.new) (R.failed root.new) (L.failed log.new)) result }
-        ensures says { IfErr result (AuditSays self.old.survey.state.job
-            (tree_in (S.told source.old)) (tree_in (R.told root.old))) }
+        ensures keeps { KeepsAll S.Source R.Source L.Log (source.old, root.old, log.old)
+            (source.new, root.new, log.new) }
+        ensures blamed { FailsRightly self.old.survey.state.job
+            (audit_states S.Source R.Source L.Log (source.old, root.old, log.old))
+            (audit_states S.Source R.Source L.Log (source.new, root.new, log.new)) result }
         ensures stops { OnErr result (FrontToldAs (job_of self.old.survey.state.job)
             (start_over (tree_in (S.told source.old)) (tree_in (R.told root.old)) (L.told log.old))
             (L.told log.new)) }
@@ -220,27 +218,11 @@ impl Auditor {
     ) -> Result<bool, Fault>
         requires { FollowsOn (S.told source.old) (R.told root.old)
             self.old.beside self.old.survey }
-        ensures on { (first : Option (List ℕ)) → IsUnderWay (S.told source.old)
-            (start_over (tree_in (S.told source.old)) (tree_in (R.told root.old)) first)
-            (L.told log.old) self.old.counts self.old.survey
-            → IfOk result (λ more. GoesOn more (S.told source.new)
-            (start_over (tree_in (S.told source.old)) (tree_in (R.told root.old)) first)
-            (L.told log.new) self.new.counts self.new.survey) }
-        ensures still { IfOk result (λ more. Steps (tree_in (S.told source.old))
-            self.old.survey self.new.survey
-            × Follows (S.told source.new) (R.told root.new) self.new.beside self.new.survey
-            × OnFalse more (self.new.survey.phase ≡ phase.End)
-            × OnTrue more (self.new.survey.phase ≢ phase.End)) }
-        ensures sides { KeepsSides S.told S.keeps R.told R.keeps (source.old, root.old)
-            (source.new, root.new) }
-        ensures log { KeepsLog L.told L.keeps log.old log.new }
-        ensures blames { BlamesRightly
-            (failures (S.failed source.old) (R.failed root.old) (L.failed log.old))
-            (failures (S.failed source.new) (R.failed root.new) (L.failed log.new)) result }
-        ensures says { IfErr result (AuditSays self.old.survey.state.job
-            (tree_in (S.told source.old)) (tree_in (R.told root.old))) }
-        ensures stops { OnErr result (StopsUnderWay (S.told source.old) (tree_in (R.told root.old))
-            (L.told log.old) self.old.counts self.old.survey (L.told log.new)) }
+        ensures made { StepsOn self.old self.new
+            (audit_states S.Source R.Source L.Log (source.old, root.old, log.old))
+            (audit_states S.Source R.Source L.Log (source.new, root.new, log.new)) result }
+        ensures keeps { KeepsAll S.Source R.Source L.Log (source.old, root.old, log.old)
+            (source.new, root.new, log.new) }
     {
         let sight = see(&mut self.survey, &mut self.beside, source, root, log)?;
         let told = self.tell(sight, source, root, log)?;
@@ -257,25 +239,11 @@ impl Auditor {
         log: &mut L,
     ) -> Result<StepTold, Fault>
         requires { Saw (S.told source.old) (R.told root.old) self.now.beside sight self.now.survey }
-        ensures on { (first : Option (List ℕ)) → IsSeen (S.told source.old)
-            (start_over (tree_in (S.told source.old)) (tree_in (R.told root.old)) first)
-            (L.told log.old) self.now.counts self.now.survey
-            → IfOk result (λ it. GoesOn it.more (S.told source.new)
-            (start_over (tree_in (S.told source.old)) (tree_in (R.told root.old)) first)
-            (L.told log.new) it.counts self.now.survey) }
-        ensures still { IfOk result (λ it. Follows (S.told source.new) (R.told root.new)
-            self.now.beside self.now.survey × OnFalse it.more (self.now.survey.phase ≡ phase.End)
-            × OnTrue it.more (self.now.survey.phase ≢ phase.End)) }
-        ensures sides { KeepsSides S.told S.keeps R.told R.keeps (source.old, root.old)
-            (source.new, root.new) }
-        ensures log { KeepsLog L.told L.keeps log.old log.new }
-        ensures fails { TellFails result
-            (failures (S.failed source.old) (R.failed root.old) (L.failed log.old))
-            (failures (S.failed source.new) (R.failed root.new) (L.failed log.new)) }
-        ensures says { IfErr result (λ why. AuditSays self.now.survey.state.job
-            (tree_in (S.told source.old)) (tree_in (R.told root.old)) why) }
-        ensures stops { OnErr result (StopsSeen (S.told source.old) (tree_in (R.told root.old))
-            (L.told log.old) self.now.counts self.now.survey (L.told log.new)) }
+        ensures told { TellsStep self.now
+            (audit_states S.Source R.Source L.Log (source.old, root.old, log.old))
+            (audit_states S.Source R.Source L.Log (source.new, root.new, log.new)) result }
+        ensures keeps { KeepsAll S.Source R.Source L.Log (source.old, root.old, log.old)
+            (source.new, root.new, log.new) }
     {
         match sight {
             SurveyEvent::More | SurveyEvent::Scan | SurveyEvent::Opened | SurveyEvent::Block => {
@@ -312,21 +280,11 @@ impl Auditor {
         requires paced { Follows (S.told source.old) (R.told root.old)
             self.now.beside self.now.survey }
         requires at_hand { sight_at self.now.survey.phase ≡ sight.Object }
-        ensures on { (first : Option (List ℕ)) → IsSeen (S.told source.old)
-            (start_over (tree_in (S.told source.old)) (tree_in (R.told root.old)) first)
-            (L.told log.old) self.now.counts self.now.survey
-            → IfOk result (λ counts. IsUnderWay (S.told source.new)
-            (start_over (tree_in (S.told source.old)) (tree_in (R.told root.old)) first)
-            (L.told log.new) counts self.now.survey) }
-        ensures still { OnOk result (Surveys (S.told source.new) self.now.survey) }
-        ensures sides { KeepsSides S.told S.keeps R.told R.keeps (source.old, root.old)
-            (source.new, root.new) }
-        ensures log { KeepsLog L.told L.keeps log.old log.new }
-        ensures fails { FailsAs result
-            (failures (S.failed source.old) (R.failed root.old) (L.failed log.old))
-            (failures (S.failed source.new) (R.failed root.new) (L.failed log.new)) }
-        ensures stops { OnErr result (StopsSeen (S.told source.old) (tree_in (R.told root.old))
-            (L.told log.old) self.now.counts self.now.survey (L.told log.new)) }
+        ensures told { TellsObject self.now
+            (audit_states S.Source R.Source L.Log (source.old, root.old, log.old))
+            (audit_states S.Source R.Source L.Log (source.new, root.new, log.new)) result }
+        ensures keeps { KeepsAll S.Source R.Source L.Log (source.old, root.old, log.old)
+            (source.new, root.new, log.new) }
     {
         let Some(hand) = self.survey.at_hand()? else {
             unreachable!()
@@ -408,19 +366,15 @@ fn see<S: Source, R: Source, L: Log>(
     log: &mut L,
 ) -> Result<SurveyEvent, Fault>
     requires { FollowsOn (S.told source.old) (R.told root.old) beside.old survey.old }
-    ensures on { (count : ℕ) → IsSurvey (S.told source.old) count survey.old
-        → OnOk result (SurveyGoesOn (S.told source.old, L.told log.old)
-        (S.told source.new, L.told log.new) count survey.old survey.new) }
+    ensures on { MovesOn (S.told source.old, L.told log.old) (S.told source.new, L.told log.new)
+        survey.old (λ sight. survey.new) result }
     ensures saw { IfOk result (λ what. Steps (tree_in (S.told source.old)) survey.old survey.new
         × Saw (S.told source.new) (R.told root.new) beside.new what survey.new) }
-    ensures sides { KeepsSides S.told S.keeps R.told R.keeps (source.old, root.old)
-        (source.new, root.new) }
-    ensures log { KeepsLog L.told L.keeps log.old log.new }
-    ensures blames { BlamesRightly
-        (failures (S.failed source.old) (R.failed root.old) (L.failed log.old))
-        (failures (S.failed source.new) (R.failed root.new) (L.failed log.new)) result }
-    ensures says { IfErr result (AuditSays survey.old.state.job
-        (tree_in (S.told source.old)) (tree_in (R.told root.old))) }
+    ensures keeps { KeepsAll S.Source R.Source L.Log (source.old, root.old, log.old)
+        (source.new, root.new, log.new) }
+    ensures blamed { FailsRightly survey.old.state.job
+        (audit_states S.Source R.Source L.Log (source.old, root.old, log.old))
+        (audit_states S.Source R.Source L.Log (source.new, root.new, log.new)) result }
     ensures stops { OnErr result ((counts : Counts) → StopsUnderWay (S.told source.old)
         (tree_in (R.told root.old)) (L.told log.old) counts survey.old (L.told log.new)) }
 {

@@ -22,19 +22,19 @@
 #![tactic(auto, using(crate::proofs::SurveyRules::survey_rules))]
 
 ghost use Rattle.std.specs.Option.{ForSome};
-ghost use Rattle.std.specs.Prelude.{◌≡◌, ◌≢◌, ℕ, true, length, Option, Some, None, IfErr, OnErr, OnOk, IfOk};
+ghost use Rattle.std.specs.Prelude.{◌≡◌, ◌≢◌, true, length, Option, Some, None, IfErr, IfOk};
 ghost use Rattle.std.specs.String.{string_bytes};
 ghost use Rattle.pt_move.specs.Bounds.{most_calls};
 ghost use Rattle.pt_move.specs.Running.{IsNew, TypeInvariant};
 ghost use Rattle.pt_plan.specs.Answer.{phase_after};
 ghost use Rattle.pt_audit.specs.Growing.{BlamesRightly, KeepsDevices, KeepsLog, KeepsTree, Leaves};
 ghost use Rattle.pt_state.specs.Counting.{AtMostCalls};
-ghost use Rattle.pt_state.specs.States.{job_of};
 ghost use Rattle.pt_move.specs.Turning.{CountedTurn};
 ghost use Rattle.pt_plan.specs.declared.phase.Phase.TheVariants as phase;
 ghost use Rattle.pt_scan.specs.Blocks.{ReadsNext};
 ghost use Rattle.pt_audit.specs.Files.{ComesTo, IsOpened, MakesStep};
-ghost use Rattle.pt_audit.specs.Surveying.{GoesOn, IsHand, IsReady, IsSurvey, StopsAt, SurveySays};
+ghost use Rattle.pt_audit.specs.SurveySteps.{BreaksOff, MovesOn, standing};
+ghost use Rattle.pt_audit.specs.Surveying.{IsHand, IsReady, IsSurvey, SurveySays};
 ghost use Rattle.pt_audit.specs.Surveying.{Surveys, bare_states, is_at_hand as is_at_hand_there};
 ghost use Rattle.pt_audit.specs.Surveying.{is_looking, passed as passed_phase, sight_at, unlogged_states};
 ghost use Rattle.pt_tree.specs.Forest.{is_proper};
@@ -152,9 +152,8 @@ impl Survey {
         log: &mut L,
     ) -> Result<SurveyEvent, Fault>
         requires { Surveys (S.told source.old) self.old }
-        ensures on { (count : ℕ) → IsSurvey (S.told source.old) count self.old
-            → OnOk result (GoesOn (S.told source.old, L.told log.old)
-            (S.told source.new, L.told log.new) count self.old self.new) }
+        ensures on { MovesOn (S.told source.old, L.told log.old) (S.told source.new, L.told log.new)
+            self.old (λ sight. self.new) result }
         ensures came { IfOk result (ComesTo (S.told source.old) (S.told source.new)
             self.old self.new) }
         ensures source { KeepsTree S.told S.keeps source.old source.new
@@ -165,10 +164,8 @@ impl Survey {
             (L.failed log.old) (L.failed log.new) result }
         ensures says { IfErr result (SurveySays self.old.state.job self.old.phase
             (tree_in (S.told source.old))) }
-        ensures stops { (count : ℕ) → IsSurvey (S.told source.old) count self.old
-            → OnErr result (ForSome (tree_in (S.told source.old))
-            (λ s. StopsAt (job_of self.old.state.job) s count self.old.phase
-            (L.told log.old) (L.told log.new))) }
+        ensures stops { BreaksOff (S.told source.old) self.old (L.told log.old) (L.told log.new)
+            result }
     {
         let here = match mem::replace(&mut self.phase, Phase::Ended) {
             Phase::Ended | Phase::End => return Err(Fault::Ended),
@@ -271,23 +268,17 @@ fn step_phase<S: Source, L: Log>(
 ) -> Result<Phase, Fault>
     requires ready { IsReady (S.told source.old) here state.old }
     requires more { here ≢ phase.End }
-    ensures on { (count : ℕ)
-        → IsSurvey (S.told source.old) count (record { phase = here; state = state.old })
-        → IfOk result (λ next. GoesOn (S.told source.old, L.told log.old)
-        (S.told source.new, L.told log.new) count (record { phase = here; state = state.old })
-        (record { phase = next; state = state.new })) }
+    ensures on { MovesOn (S.told source.old, L.told log.old) (S.told source.new, L.told log.new)
+        (standing here state.old) (λ next. standing next state.new) result }
     ensures well { TypeInvariant (record { phase = phase_after result; state = state.new }) }
     ensures leaves { Leaves (bare_states S.Source L.Log source.old log.old)
         (bare_states S.Source L.Log source.new log.new) state.old.job result }
     ensures made { IfOk result (λ next. MakesStep (S.told source.old) (S.told source.new)
-        (record { phase = here; state = state.old })
-        (record { phase = next; state = state.new })) }
+        (standing here state.old) (standing next state.new)) }
     ensures keeps { KeepsDevices S.Source L.Log (most_calls here)
         (source.old, log.old) (source.new, log.new) }
-    ensures stops { (count : ℕ)
-        → IsSurvey (S.told source.old) count (record { phase = here; state = state.old })
-        → OnErr result (ForSome (tree_in (S.told source.old))
-        (λ s. StopsAt (job_of state.old.job) s count here (L.told log.old) (L.told log.new))) }
+    ensures stops { BreaksOff (S.told source.old) (standing here state.old)
+        (L.told log.old) (L.told log.new) result }
 {
     if is_at_hand(&here) {
         Ok(pass_making(pass(state, here, source)?))

@@ -1,11 +1,15 @@
 use Rattle.std.proofs.Common.{◌∙◌, rules, subst}
+use Rattle.std.specs.Prelude.{IfErr}
 use Rattle.std.specs.Option.{ForSome}
 use Rattle.pt_audit.specs.Auditing.{AllToldAs, FrontToldAs, start_over}
+use Rattle.pt_audit.specs.Failing.{AuditSays}
 use Rattle.pt_audit.specs.Layout.{IsOfLayout}
+use Rattle.pt_audit.specs.declared.counts.Counts.{Counts}
 use Rattle.pt_tree.specs.Source.{tree_in}
 use Rattle.pt_state.specs.States.{job_of}
 use Rattle.pt_state.specs.declared.job.Job.{Job}
 use Rattle.pt_audit.proofs.Bounding.{made_stopped, made_within}
+use Rattle.pt_audit.proofs.StepPromises.{fails_err}
 use Rattle.pt_audit.proofs.ToldSteps.{first_step, surveys_first}
 use Rattle.pt_audit.proofs.Pacing.{follows_first}
 use Rattle.pt_audit.proofs.Saying.{begun_is_not_over}
@@ -46,3 +50,31 @@ returns-clause-layout g c =
 
 pub returns-clause-made : goal.returns-clause-made
 returns-clause-made g c = made_within c.start.ensures.new c.in_ok-counts.ensures.made
+
+pub returns-in_err-counts-clause-sides : goal.returns-in_err-counts-clause-sides
+returns-in_err-counts-clause-sides g c = c.in_err-counts.ensures.keeps.sides
+
+pub returns-in_err-counts-clause-log : goal.returns-in_err-counts-clause-log
+returns-in_err-counts-clause-log g c = c.in_err-counts.ensures.keeps.log
+
+pub returns-clause-sides : goal.returns-clause-sides
+returns-clause-sides g c = c.in_ok-counts.ensures.keeps.sides
+
+pub returns-clause-log : goal.returns-clause-log
+returns-clause-log g c = c.in_ok-counts.ensures.keeps.log
+
+pub returns-in_err-counts-clause-blames : goal.returns-in_err-counts-clause-blames
+returns-in_err-counts-clause-blames g c =
+    (fails_err {T = Counts} c.from_residual.result c.in_err-counts.field-0.0 (search rules) c.in_err-counts.ensures.blamed).blames
+
+pub returns-in_err-counts-clause-says : goal.returns-in_err-counts-clause-says
+returns-in_err-counts-clause-says g c =
+    let store = tree_in (g.S.Source.told c.args.source.now) in
+    let root = tree_in (g.R.Source.told c.args.root.now) in
+    subst (λ (job : Job). IfErr c.from_residual.result (AuditSays job store root)) c.start.ensures.new.job_is
+    (fails_err {T = Counts} c.from_residual.result c.in_err-counts.field-0.0 (search rules) c.in_err-counts.ensures.blamed).says
+
+pub returns-clause-blames : goal.returns-clause-blames
+returns-clause-blames g c =
+    let went = c.in_ok-counts.ensures.blamed.blames in
+    record { source = went.source; root = went.root; log = went.log }

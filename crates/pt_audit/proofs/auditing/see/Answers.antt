@@ -1,19 +1,48 @@
-use Rattle.std.proofs.Common.{rules}
+use Rattle.std.proofs.Common.{refl, rules}
 use Rattle.pt_audit.proofs.Pacing.{behind, holds_its_fields}
-use Rattle.pt_audit.proofs.Saying.{says_fault, says_read, says_survey}
+use Rattle.pt_audit.proofs.Saying.{read_fails, says_read, says_survey}
+use Rattle.pt_audit.proofs.StepPromises.{fails_err, never_dest}
 use Rattle.pt_audit.proofs.ToldSteps.{surveys_on}
 use Rattle.pt_audit.proofs.ToldFront.{at_err, follow_stops, step_stops}
+use Rattle.pt_audit.specs.declared.survey.SurveyEvent.{SurveyEvent}
 use Rattle.pt_audit.proofs.auditing.see.Goals as goal
 
-pub returns-in_err-follow-clause-says : goal.returns-in_err-follow-clause-says
-returns-in_err-follow-clause-says g c =
-    says_fault c.from_residual-in_err-follow.result c.in_err-follow.field-0.0 _ _ _ (search rules)
-    (says_read _ _ _ c.in_err-follow.field-0.0 _ _ c.in_err-follow.ensures.failures)
+pub returns-in_err-follow-clause-keeps : goal.returns-in_err-follow-clause-keeps
+returns-in_err-follow-clause-keeps g c =
+    record { sides = record { source = c.in_ok-sight.ensures.source.0; root = c.in_err-follow.ensures.root }; log = c.in_ok-sight.ensures.log }
 
-pub returns-in_err-sight-clause-says : goal.returns-in_err-sight-clause-says
-returns-in_err-sight-clause-says g c =
-    says_fault c.from_residual.result c.in_err-sight.field-0.0 _ _ _ (search rules)
-    (says_survey _ _ _ _ c.in_err-sight.field-0.0 c.requires.more c.in_err-sight.ensures.says)
+pub returns-in_err-sight-clause-keeps : goal.returns-in_err-sight-clause-keeps
+returns-in_err-sight-clause-keeps g c =
+    record { sides = record { source = c.in_err-sight.ensures.source.0; root = (g.met.R.Source.is_kept _, refl) }; log = c.in_err-sight.ensures.log }
+
+pub returns-clause-keeps : goal.returns-clause-keeps
+returns-clause-keeps g c =
+    record { sides = record { source = c.in_ok-sight.ensures.source.0; root = c.in_ok-follow.ensures.root }; log = c.in_ok-sight.ensures.log }
+
+pub returns-in_err-follow-clause-blamed : goal.returns-in_err-follow-clause-blamed
+returns-in_err-follow-clause-blamed g c =
+    let why = c.in_err-follow.field-0.0 in
+    let sight = c.in_ok-sight.ensures.blames in
+    fails_err {T = SurveyEvent} c.from_residual-in_err-follow.result why (search rules) (record {
+      blames = read_fails why _ _ _ _ _ _ sight.source_is sight.log_is c.in_err-follow.ensures.failures;
+      says = says_read _ _ _ why _ _ c.in_err-follow.ensures.failures;
+    })
+
+pub returns-in_err-sight-clause-blamed : goal.returns-in_err-sight-clause-blamed
+returns-in_err-sight-clause-blamed g c =
+    let why = c.in_err-sight.field-0.0 in
+    let sight = c.in_err-sight.ensures.blames in
+    fails_err {T = SurveyEvent} c.from_residual.result why (search rules) (record {
+      blames = record { source = sight.source_is; root = never_dest SurveyEvent why _ sight.no_dest; log = sight.log_is };
+      says = says_survey _ _ _ _ why c.requires.more c.in_err-sight.ensures.says;
+    })
+
+pub returns-clause-blamed : goal.returns-clause-blamed
+returns-clause-blamed g c =
+    let sight = c.in_ok-sight.ensures.blames in record {
+      blames = record { source = sight.source_is; root = c.in_ok-follow.ensures.failures; log = sight.log_is };
+      says = tt;
+    }
 
 pub returns-clause-saw : goal.returns-clause-saw
 returns-clause-saw g c =
