@@ -1,8 +1,8 @@
 #!/usr/bin/env python3
 """What the guide does with storage roots that pairtree2ocfl made. Python 3.8 or later on Linux, and nothing else.
 
-ROOT and OTHER are folders `ocfl` that pairtree2ocfl made, all with the same tuples. No link is followed, and nothing is written over,
-copied or deleted.
+ROOT and OTHER are folders `ocfl` that pairtree2ocfl made, all with the same tuples. No link is followed, but for LOG, and nothing is
+written over, copied or deleted.
 
 `damaged` reads every file. An object is whole where its two inventories and their sidecars agree and exactly the files stand there
 that the inventory has, with their digests. Only folders below tuple folders that belong to their names are listed. What can't be read,
@@ -11,14 +11,21 @@ an object of another version of OCFL, and one that has more than one version, ar
 `join` reads no file's content but the inventories. It holds the locks of the folders that ROOT and each OTHER stand in, as a run does,
 and moves nothing to another file system. Stopped at any moment, it goes on when the same command is given again.
 
+`sums` writes a list that `sha512sum -c`, or `sha256sum -c` of such a root, reads in ROOT: of each object, in the order of their places, the content
+files of its manifest with their digests there, of all its versions. Inventories, sidecars and declarations aren't listed, and no content file is
+opened. With LOGs, of runs or audits, it is one for the store: of each object that a line `done`, `present` or `same` tells of, the files of its last
+version as they are named in the store, with pairtree_root in front. Of twins it lists the one that was carried. One algorithm is listed: that of the
+first object, or that of --digest. It holds one object at a time, and of LOGs two paths of each.
+
 Where standard error is a terminal, a line there shows how far it is: a count of objects, and by their places the share of the root. Paths are told
 as the program tells them: control and format characters, blanks that are no space and blanks at an end of a line as \\u{..}, bytes that aren't
-UTF-8 as \\xe9, a \\ doubled.
+UTF-8 as \\xe9, a \\ doubled. The list of `sums` has names as they are, unless it goes to a terminal.
 
 The status of `damaged` is 0 where every object is whole and nothing else is there, and 1 where it listed those that aren't whole. That of `join`
-is 0 where all was moved and nothing is left but the roots' own files and empty folders, and 1 where the places that it lists were taken. Both
-are 2 where something was refused, or could not be judged or moved, or isn't the program's and was left out, or the output can't be written.
-Standard error says what; what can be listed and moved is, also at status 2.
+is 0 where all was moved and nothing is left but the roots' own files and empty folders, and 1 where the places that it lists were taken. That of
+`sums` is 0 where each object is listed, and 1 where some aren't, since no LOG tells of them or their digests are of another algorithm, or where one
+that a LOG tells of isn't there. Each is 2 where something was refused, or could not be judged or moved, or isn't the program's and was left out,
+or the output can't be written. Standard error says what; what can be listed and moved is, also at status 2.
 """
 
 import argparse
@@ -30,7 +37,8 @@ import sys
 sys.dont_write_bytecode = True
 
 from roots_joining import join
-from roots_objects import Foreign, Root, Unlike, look_at
+from roots_objects import ALGORITHMS, Foreign, Root, Unlike, look_at
+from roots_sums import sums
 from roots_telling import PROGRESS, Refused, Unwritten, reason, say, show
 
 
@@ -63,19 +71,28 @@ def parser():
     """The words that the script takes."""
     how = {"formatter_class": argparse.RawDescriptionHelpFormatter, "allow_abbrev": False}
     whole = Parser(prog="roots.py", description=__doc__, **how)
-    commands = whole.add_subparsers(dest="command", metavar="damaged|join", required=True, parser_class=Parser)
+    commands = whole.add_subparsers(dest="command", metavar="damaged|join|sums", required=True, parser_class=Parser)
     one = commands.add_parser("damaged", help="lists the places in ROOT of objects that aren't whole, a line each, and says why on standard error", **how)
     one.add_argument("root", metavar="ROOT", help="the root that is looked at")
     one = commands.add_parser("join", help="renames the objects of the other roots into ROOT, and lists those whose place is taken; they stay", **how)
     one.add_argument("root", metavar="ROOT", help="the root that the objects are moved into")
     one.add_argument("others", metavar="OTHER", nargs="+", help="a root whose objects are moved")
+    one = commands.add_parser("sums", help="lists the content files of ROOT or, by LOGs, the files of the store, with their digests", **how)
+    one.add_argument("--digest", choices=ALGORITHMS, help="lists only objects with digests of this algorithm")
+    one.add_argument("root", metavar="ROOT", help="the root that is listed")
+    one.add_argument("logs", metavar="LOG", nargs="*", help="a log of a run or an audit; several in their order")
     return whole
 
 
 def run(words):
     """Does what the words ask for, and gives the status."""
     asked = parser().parse_args(words)
-    status = damaged(asked.root) if asked.command == "damaged" else join([asked.root, *asked.others])
+    if asked.command == "damaged":
+        status = damaged(asked.root)
+    elif asked.command == "join":
+        status = join([asked.root, *asked.others])
+    else:
+        status = sums(asked.root, asked.logs, asked.digest)
     PROGRESS.clear()
     return status
 

@@ -47,25 +47,20 @@ def agree(roots):
             raise Refused(f"{root} has other tuples than {first}")
         if root.device != first.device:
             raise Refused(f"{root} is on another file system than {first}: copy its folder there first, by cp -a, and join the copy")
-        above = os.path.realpath(root.path)
-        while above != os.path.dirname(above):
-            above = os.path.dirname(above)
-            found = os.stat(above)
-            if (found.st_dev, found.st_ino) in keys:
-                raise Refused(f"{root} lies in another of the roots")
+        if root.lies_below(keys):
+            raise Refused(f"{root} lies in another of the roots")
 
 
-def stands(root, names):
-    """Whether something stands at a place."""
+def found_at(root, names):
+    """What stands at a place, as the system tells it; `None` where nothing does."""
     with contextlib.ExitStack() as last:
         above = root.fd
         try:
             for name in names[:-1]:
                 above = last.enter_context(folder(name, above))
-            os.stat(names[-1], dir_fd=above, follow_symlinks=False)
+            return os.stat(names[-1], dir_fd=above, follow_symlinks=False)
         except FileNotFoundError:
-            return False
-    return True
+            return None
 
 
 @contextlib.contextmanager
@@ -90,7 +85,7 @@ def made(root, names):
 def move(root, place, above):
     """Renames a whole object of another root into a root. False where its place is taken."""
     *tuples, name = place.split("/")
-    if stands(root, [*tuples, name]):
+    if found_at(root, [*tuples, name]) is not None:
         return False
     look_at(name, above, reads=False)
     with made(root, tuples) as to:

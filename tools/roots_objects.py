@@ -19,10 +19,13 @@ LAYOUT = (
     f'"extension":"{EXTENSION}"}}'
 ).encode()
 DECLARATION = "0=ocfl_object_1.1"
+ALGORITHMS = ("sha512", "sha256")
 NAME = re.compile("(?=.{1,100}$)(?:[A-Za-z0-9_-]|%[0-9a-f]{2})+")
 LONG_NAME = re.compile("[A-Za-z0-9_%-]{100}-([0-9a-f]{64})")
 FOLDER = os.O_RDONLY | os.O_DIRECTORY | os.O_NOFOLLOW | os.O_CLOEXEC
 FILE = os.O_RDONLY | os.O_NOFOLLOW | os.O_NONBLOCK | os.O_CLOEXEC
+# What is raised where an inventory's text isn't JSON, or its members aren't what they must be.
+BROKEN = (ValueError, KeyError, TypeError, AttributeError, RecursionError)
 
 
 class Unlike(Exception):
@@ -73,8 +76,8 @@ def digest_of(path, above, algorithm):
     return digest.hexdigest()
 
 
-class Root:
-    """A storage root that the program made: where it is, how its places are cut, and the folder, open."""
+class Opened:
+    """A folder that the command line names, open; it may be no link."""
 
     def __init__(self, path, last):
         self.path = path.rstrip("/") or "/"
@@ -84,6 +87,26 @@ class Root:
             raise Refused(f"{path} is no folder, or a link: name the folder itself") from error
         found = os.fstat(self.fd)
         self.device, self.key = found.st_dev, (found.st_dev, found.st_ino)
+
+    def __str__(self):
+        return self.path
+
+    def lies_below(self, keys):
+        """Whether one of the folders above it, links resolved, has one of these keys."""
+        above = os.path.realpath(self.path)
+        while above != os.path.dirname(above):
+            above = os.path.dirname(above)
+            found = os.stat(above)
+            if (found.st_dev, found.st_ino) in keys:
+                return True
+        return False
+
+
+class Root(Opened):
+    """A storage root that the program made: where it is, how its places are cut, and the folder, open."""
+
+    def __init__(self, path, last):
+        super().__init__(path, last)
         self.size, self.count = self.tuples()
         self.unjudged = self.strays = 0
 
@@ -109,8 +132,10 @@ class Root:
             raise Refused(*faults)
         return int(found[2]), int(found[1])
 
-    def __str__(self):
-        return self.path
+    def place_of(self, identifier):
+        """The place of an identifier, given by its bytes."""
+        digits = hashlib.sha256(identifier).hexdigest()
+        return "/".join((*(digits[at * self.size : (at + 1) * self.size] for at in range(self.count)), last_name_of(identifier)))
 
     def places(self, names=(), above=None):
         """The folders at objects' places, by place, last name and the tuple folder, open. What can't be listed is told and counted."""
@@ -191,29 +216,42 @@ def files_below(top):
     return found
 
 
-def inventory_of(top, name):
-    """The digest algorithm and the manifest of an object, by its inventory, which has to be the program's with its sidecar."""
-    names = os.listdir(top)
+def see_first(names):
+    """`Foreign` where these names, which stand at the top of an object, aren't those of the first version, by the program's version of OCFL."""
     other = [it for it in names if it.startswith("0=ocfl_object_") and it != DECLARATION]
     if other or any(re.fullmatch("v0*([2-9]|[1-9][0-9]+)", it) for it in names):
         raise Foreign("it is of another version of OCFL, or has later versions")
     if {"logs", "extensions"} & set(names):
         raise Foreign("another program has written in it")
+
+
+def parsed(text, name):
+    """An inventory by its text: `Unlike` where it isn't one of the object of this last name, `Foreign` where its digests aren't of the program's."""
+    try:
+        inventory = json.loads(text)
+        if last_name_of(inventory["id"].encode()) != name:
+            raise Unlike("its inventory has the identifier of another place")
+        if inventory["digestAlgorithm"] not in ALGORITHMS:
+            raise Foreign("its digests aren't the program's")
+    except BROKEN as error:
+        raise Unlike("its inventory isn't whole") from error
+    return inventory
+
+
+def inventory_of(top, name):
+    """The digest algorithm and the manifest of an object, by its inventory, which has to be the program's with its sidecar."""
+    see_first(os.listdir(top))
     if content(DECLARATION, top) != b"ocfl_object_1.1\n":
         raise Unlike("its declaration isn't whole")
     text = content("inventory.json", top)
+    inventory = parsed(text, name)
     try:
-        inventory = json.loads(text)
         if inventory["head"] != "v1" or list(inventory["versions"]) != ["v1"]:
             raise Foreign("it has later versions, or isn't the program's")
-        if last_name_of(inventory["id"].encode()) != name:
-            raise Unlike("its inventory has the identifier of another place")
         algorithm, manifest = inventory["digestAlgorithm"], inventory["manifest"]
-        if algorithm not in ("sha512", "sha256"):
-            raise Foreign("its digests aren't the program's")
         stored = {path: digest for digest, paths in manifest.items() for path in paths}
         sidecar = f"{hashlib.new(algorithm, text).hexdigest()} inventory.json\n".encode()
-    except (ValueError, KeyError, TypeError, AttributeError, RecursionError) as error:
+    except BROKEN as error:
         raise Unlike("its inventory isn't whole") from error
     for above in ("", "v1/"):
         if content(f"{above}inventory.json", top) != text:

@@ -66,7 +66,27 @@ def say(text):
 def show(text):
     """A line on standard output. `Unwritten` where it can't be written; a part of it may be."""
     PROGRESS.clear()
-    left = line_of(text) + b"\n"
+    write(line_of(text) + b"\n")
+
+
+def put(lines):
+    """The same of lines of a list that another program reads, given with their ends: names as they are, unless they go to a terminal. They are
+    written in blocks of whole lines."""
+    block, is_seen = bytearray(), os.isatty(1)
+    for line in lines:
+        if is_seen:
+            show(line[:-1])
+            continue
+        block += line
+        if len(block) > 1 << 16:
+            write(bytes(block))
+            block.clear()
+    write(bytes(block))
+
+
+def write(text):
+    """Bytes on standard output."""
+    left = memoryview(text)
     try:
         while left:
             left = left[os.write(1, left) :]

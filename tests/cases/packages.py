@@ -30,7 +30,8 @@ INSTALLED = {
     "share/fish/vendor_completions.d/pairtree2ocfl.fish",
     "share/pairtree2ocfl/roots.py",
     "share/pairtree2ocfl/shares.py",
-    *(f"share/pairtree2ocfl/{name}.py" for name in ("roots_joining", "roots_objects", "roots_telling", "shown")),
+    *(f"share/pairtree2ocfl/roots_{name}.py" for name in ("joining", "logs", "objects", "sums", "telling")),
+    "share/pairtree2ocfl/shown.py",
     "share/pairtree2ocfl/report.py",
     *(f"share/pairtree2ocfl/report_{name}.py" for name in ("log", "page", "sums", "verdict", "words")),
 }

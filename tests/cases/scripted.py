@@ -2,6 +2,7 @@
 """
 
 import fcntl
+import glob
 import itertools
 import json
 import os
@@ -271,7 +272,7 @@ def stuck_staging(program, folder):
     nobody = lambda: (os.setgroups([]), os.setgid(65534), os.setuid(65534))
     copy = shutil.copy(program, f"{folder}/program")
     os.chmod(copy, 0o755)
-    for name in ("shares.py", "roots.py", "roots_joining.py", "roots_objects.py", "roots_telling.py", "shown.py"):
+    for name in ("shares.py", "shown.py", "roots.py", *glob.glob("roots_*.py", root_dir=f"{TOP}/tools")):
         shutil.copy(f"{TOP}/tools/{name}", folder)
     status, out, said = by_script(copy, folder, "here", "3", script=f"{folder}/shares.py", ROOTS=None, user=nobody)
     told_it = re.findall(r"^shares.py: share 2 of 3: (.*)$", said, re.MULTILINE)

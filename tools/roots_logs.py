@@ -1,0 +1,59 @@
+"""The lines of logs of pairtree2ocfl that tell of objects of the store, as roots.py reads them."""
+
+import json
+
+from roots_objects import BROKEN
+from roots_telling import Refused, say
+
+# The kinds of lines of an audit's log and, with the others, of a run's.
+AUDIT = ("absent", "differs", "end", "extra", "same", "skip", "stray")
+ANY = (*AUDIT, "done", "present")
+# Those that tell of an object of the store: its identifier, the folder of its files in the store, and its place in the root.
+OF_OBJECTS = ("absent", "differs", "done", "present", "same")
+
+
+class Log:
+    """A log that the command line names, open; it may be a link or a pipe."""
+
+    def __init__(self, path, last):
+        self.path = path
+        self.file = last.enter_context(open(path, "rb", buffering=1 << 18))
+        self.is_torn, self.has_end = False, False
+
+    def __str__(self):
+        return self.path
+
+    def entries(self, kinds):
+        """The lines that tell of objects, where all have one of these kinds. A last line that was never finished is told, and is none."""
+        for number, line in enumerate(self.file, 1):
+            if not line.endswith(b"\n"):
+                self.is_torn = True
+                say(f"{self}: its last line was never finished, and is left out")
+                continue
+            try:
+                entry = entry_of(line)
+            except BROKEN as error:
+                raise Refused(f"{self}:{number}: it is no line of a log") from error
+            if entry["as"] not in kinds:
+                raise Refused(f"{self}:{number}: it is no line of the log of {'an audit' if kinds == AUDIT else 'a run or an audit'}")
+            self.has_end = entry["as"] == "end"
+            if entry["as"] in OF_OBJECTS:
+                yield entry
+
+
+def entry_of(line):
+    """The members of a line of a log; one of `BROKEN` where it is none."""
+    entry = json.loads(line.decode())
+    if not isinstance(entry["as"], str):
+        raise ValueError
+    if entry["as"] in OF_OBJECTS:
+        entry["id"].encode()
+        if not (is_path(entry["at"]) and is_path(entry["to"])) or (entry["as"] == "differs" and not isinstance(entry["why"], str)):
+            raise ValueError
+    return entry
+
+
+def is_path(text):
+    """Whether a text is a path of names from somewhere on, that leads to nothing above."""
+    text.encode()
+    return "\0" not in text and all(name not in ("", ".", "..") for name in text.split("/"))
