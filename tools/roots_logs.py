@@ -1,6 +1,8 @@
 """The lines of logs of pairtree2ocfl that tell of objects of the store, as roots.py reads them."""
 
 import json
+import os
+import stat
 
 from roots_objects import BROKEN
 from roots_telling import Refused, say
@@ -39,6 +41,20 @@ class Log:
             self.has_end = entry["as"] == "end"
             if entry["as"] in OF_OBJECTS:
                 yield entry
+
+    def see_file(self):
+        """Sees to it that the log can be read twice."""
+        if not stat.S_ISREG(os.fstat(self.file.fileno()).st_mode):
+            raise Refused(f"{self} is no file: it is read twice")
+
+    def again(self):
+        """The lines that tell of objects, once more. What was told isn't told again."""
+        self.file.seek(0)
+        for line in self.file:
+            if line.endswith(b"\n"):
+                entry = entry_of(line)
+                if entry["as"] in OF_OBJECTS:
+                    yield entry
 
 
 def entry_of(line):

@@ -15,7 +15,7 @@ sys.dont_write_bytecode = True
 
 import stores
 
-CALLS = ("open", "mkdir", "rename", "stat", "fstat", "listdir", "read", "write", "close")
+CALLS = ("open", "mkdir", "rename", "rmdir", "stat", "fstat", "listdir", "read", "write", "close")
 WORDS = ["join", "a/ocfl", "b/ocfl", "c/ocfl"]
 
 
@@ -52,19 +52,18 @@ class Counted:
             os.kill(os.getpid(), signal.SIGKILL)
 
 
-def joined(module, folder, last):
-    """Joins the roots of a folder in a process of its own, which ends at that moment, and gives how it ended and the calls it made."""
+def ran(module, folder, last, words=WORDS, output=os.devnull):
+    """Does what these words say in a folder, in a process of its own, which ends at that moment, and gives how it ended and the calls it made."""
     reading, writing = os.pipe()
     child = os.fork()
     if child == 0:
         os.chdir(folder)
-        null = os.open(os.devnull, os.O_WRONLY)
-        os.dup2(null, 1)
-        os.dup2(null, 2)
+        os.dup2(os.open(output, os.O_WRONLY | os.O_CREAT | os.O_TRUNC, 0o644), 1)
+        os.dup2(os.open(os.devnull, os.O_WRONLY), 2)
         tell, calls = os.write, Counted(last)
         for name in CALLS:
             setattr(os, name, calls.wrap(name))
-        status = module.run(WORDS)
+        status = module.run(words)
         tell(writing, b"%d" % calls.count)
         os._exit(status)
     os.close(writing)
@@ -102,17 +101,17 @@ def main():
     module, folder, count = loaded(sys.argv[1]), sys.argv[2], int(sys.argv[3])
     before = stores.read_tree(f"{folder}/before")
     shutil.copytree(f"{folder}/before", f"{folder}/whole", symlinks=True)
-    status, calls = joined(module, f"{folder}/whole", 0)
+    status, calls = ran(module, f"{folder}/whole", 0)
     wanted = stores.read_tree(f"{folder}/whole")
     if status != 1 or files_of(wanted) == files_of(before):
         print(f"undisturbed it ends with {status}")
     for number in range(count):
         last = 1 + number * calls // count
         shutil.copytree(f"{folder}/before", f"{folder}/now", symlinks=True)
-        ended = joined(module, f"{folder}/now", last)[0]
+        ended = ran(module, f"{folder}/now", last)[0]
         if ended != "killed" or not same_objects(before, stores.read_tree(f"{folder}/now")):
             print(f"at {last} of {calls}: ended {ended}, or an object isn't whole")
-        again = joined(module, f"{folder}/now", 0)[0]
+        again = ran(module, f"{folder}/now", 0)[0]
         found = stores.read_tree(f"{folder}/now")
         if again != status or found != wanted:
             print(f"at {last} of {calls}: the run after it ends with {again}: {list(stores.differences(found, wanted))[:3]}")
