@@ -22,7 +22,7 @@ def set_aside(path, to, paths):
     """Moves the objects of a root that differ by these logs to the same places below another folder, and lists the identifiers of all that are
     there then; gives the status."""
     with contextlib.ExitStack() as last:
-        root, away, logs = Root(path, last), Opened(to, last), [Log(one, last) for one in paths]
+        root, away, logs = Root(path, last), Opened(to, last), [Log(one) for one in paths]
         see_apart(root, away)
         for log in logs:
             log.see_file()

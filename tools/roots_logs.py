@@ -15,19 +15,22 @@ OF_OBJECTS = ("absent", "differs", "done", "present", "same")
 
 
 class Log:
-    """A log that the command line names, open; it may be a link or a pipe."""
+    """A log that the command line names; it may be a link or a pipe, and is open only while it is read."""
 
-    def __init__(self, path, last):
-        self.path = path
-        self.file = last.enter_context(open(path, "rb", buffering=1 << 18))
-        self.is_torn, self.has_end = False, False
+    def __init__(self, path):
+        self.path, self.is_torn, self.has_end = path, False, False
 
     def __str__(self):
         return self.path
 
+    def numbered(self):
+        """The lines, each with its number."""
+        with open(self.path, "rb", buffering=1 << 18) as file:
+            yield from enumerate(file, 1)
+
     def entries(self, kinds):
         """The lines that tell of objects, where all have one of these kinds. A last line that was never finished is told, and is none."""
-        for number, line in enumerate(self.file, 1):
+        for number, line in self.numbered():
             if not line.endswith(b"\n"):
                 self.is_torn = True
                 say(f"{self}: its last line was never finished, and is left out")
@@ -44,13 +47,12 @@ class Log:
 
     def see_file(self):
         """Sees to it that the log can be read twice."""
-        if not stat.S_ISREG(os.fstat(self.file.fileno()).st_mode):
+        if not stat.S_ISREG(os.stat(self.path).st_mode):
             raise Refused(f"{self} is no file: it is read twice")
 
     def again(self):
         """The lines that tell of objects, once more. What was told isn't told again."""
-        self.file.seek(0)
-        for line in self.file:
+        for _, line in self.numbered():
             if line.endswith(b"\n"):
                 entry = entry_of(line)
                 if entry["as"] in OF_OBJECTS:

@@ -95,7 +95,7 @@ def sites_of(logs):
 def sums(path, paths, algorithm):
     """Lists the files of a root's objects or, by logs, those of the store that they were made of, and gives the status."""
     with contextlib.ExitStack() as last:
-        root, logs = Root(path, last), [Log(one, last) for one in paths]
+        root, logs = Root(path, last), [Log(one) for one in paths]
         listing = Listing(algorithm, sites_of(logs) if logs else None)
         for place, name, above in root.places():
             try:

@@ -5,6 +5,7 @@ import fcntl
 import json
 import os
 import pty
+import resource
 import subprocess
 import sys
 
@@ -75,6 +76,8 @@ def moves(program, folder):
     build(folder, {"audit.log": GONE, "1.log": audit(line("same", "aa"), differing("ee")), "2.log": audit(differing("ff"))})
     faults += differs(shares=(set_aside(folder, "1.log", "2.log"), (0, sorted(("ee", "ff"), key=place), [])))
     build(folder, {"none.log": audit(line("same", "aa"))})
+    few = {"preexec_fn": lambda: resource.setrlimit(resource.RLIMIT_NOFILE, (30, 30))}
+    faults += differs(many=(set_aside(folder, *(["none.log"] * 40), **few), (0, [], [])))
     return faults + differs(none=(set_aside(folder, "none.log"), (0, [], [])), left=("0=ocfl_1.1" in below(folder, "ocfl"), True))
 
 
@@ -165,7 +168,7 @@ def refusals(program, folder):
         ("ocfl", "audit.log", "audit.log"): "no folder, or a link",
         ("ocfl", "none", "audit.log"): "none: No such file",
         ("ocfl", "away", "none"): "none: No such file",
-        ("ocfl", "away", "away"): "away: Is a directory",
+        ("ocfl", "away", "away"): "away is no file: it is read twice",
         ("ocfl", "away", "audit.log", "run.log"): "run.log:2: it is no line of the log of an audit",
         ("ocfl", "away", "bad.log"): "bad.log:3: it is no line of a log",
         ("ocfl", "away", "why.log"): "why.log:1: it is no line of a log",

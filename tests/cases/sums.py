@@ -144,6 +144,9 @@ def logs_of_several(program, folder):
     ):
         wanted = b"".join(it for name in sorted(sites, key=place) for it in by_hand(f"pairtree_root/{sites[name]}/", {"f": name[:1].encode()}))
         faults += differs(**{" ".join(words): (sums(folder, "ocfl", *words), (status, wanted, said))})
+    few = {"preexec_fn": lambda: resource.setrlimit(resource.RLIMIT_NOFILE, (30, 30))}
+    listed = roots(folder, "sums", "ocfl", *(["one", "two"] * 20), **few)
+    faults += differs(many=((listed[0], len(listed[1]), listed[2]), (0, 3, "")))
     for bad, said in {b"x\n": "no line of a log", b"[]\n": "no line of a log", b'{"as":"other"}\n': "no line of the log of a run or an audit"}.items():
         build(folder, {"bad": rows["one"] + bad})
         faults += differs(**{repr(bad): (sums(folder, "ocfl", "bad"), (2, b"", f"roots.py: bad:4: it is {said}\n"))})
