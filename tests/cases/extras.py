@@ -268,7 +268,7 @@ def as_another(program, folder, *words):
 
 
 def unreadable(program, folder):
-    """A folder that can't be listed is stray with the reason, and the walk goes on behind it; below it nothing is told."""
+    """A folder that can't be listed is stray with the reason, in each share, and the walk goes on behind it; below it nothing is told."""
     migrate(program, folder)
     build(f"{folder}/d", {"ocfl/a": b"", "ocfl/y/x/f": b"", "ocfl/y/z/f": b"", "ocfl/z": b""})
     subprocess.run(["chmod", "-R", "a+rX", folder], check=True)
@@ -279,8 +279,9 @@ def unreadable(program, folder):
     shares = [as_another(program, folder, "--share", f"{number}/2") for number in (1, 2)]
     os.chmod(f"{folder}/d/ocfl/y/x", 0o755)
     told_by = [[line for line in map(json.loads, out.splitlines()) if line["as"] == "stray"] for _, out, _ in shares]
+    second = [unlisted("y/x", DENIED)]
     faults = differs(status=(status, 0), unreadable=(found, (1, with_extras(plain, entries), b"")))
-    return faults + differs(shares=(told_by, [entries, []]), statuses=([share[0] for share in shares], [1, 0]))
+    return faults + differs(shares=(told_by, [entries, second]), statuses=([share[0] for share in shares], [1, 1]))
 
 
 def unreadable_file(program, folder):
@@ -295,13 +296,13 @@ def unreadable_file(program, folder):
 
 
 def unnamed(program, folder):
-    """Names that aren't UTF-8 are told by the first share alone; in an object that is compared one is fault 2, with extras and without."""
+    """Names that aren't UTF-8 are told by each share; in an object that is compared one is fault 2, with extras and without."""
     migrate(program, folder)
     build(f"{folder}/d", {f"ocfl/{CAFE}": b"", f"ocfl/x/{CAFE}": b"", "ocfl/x/f": b""})
     entries = [unlisted(""), unlisted("x"), stray("x/f")]
     faults = told(program, folder, "whole", entries)
     for number in (1, 2):
-        faults += told(program, folder, f"share {number}", entries if number == 1 else [], "--share", f"{number}/2")
+        faults += told(program, folder, f"share {number}", entries if number == 1 else entries[:2], "--share", f"{number}/2")
     build(f"{folder}/d", {f"ocfl/{place('abc')}/{CAFE}": b""})
     return faults + differs(compared=([audit(program, folder, *words)[0] for words in ((), ("--extra",))], [3, 3]))
 

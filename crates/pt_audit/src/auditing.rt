@@ -12,7 +12,8 @@
 //! made by steps of a survey, to the survey's end where it answers Ok (`IsMade`); what is held of
 //! the survey after each is what a survey's step says. The end line has the counts of the lines.
 ghost use Rattle.std.specs.Prelude.{◌≡◌, IfErr, IfOk, OnErr, OnOk, Some};
-ghost use Rattle.pt_audit.specs.AuditSteps.{FailsRightly, KeepsAll, StepsOn, TellsObject, TellsStep};
+ghost use Rattle.pt_audit.specs.AuditSteps.{FailsRightly, KeepsAll, StepsOn, TellsObject};
+ghost use Rattle.pt_audit.specs.AuditSteps.{TellsStep};
 ghost use Rattle.pt_audit.specs.AuditSteps.{audit_states};
 ghost use Rattle.pt_audit.specs.Auditing.{FrontToldAs, GivesBack, HasSeenAll, IsFoundAtHand};
 ghost use Rattle.pt_audit.specs.Auditing.{IsTwinAtHand, LogsAs, StopsUnderWay, TellsItems};

@@ -3,7 +3,8 @@
 //! On an audit after a run (`HasRun`): of each object that the run carried nothing is found but
 //! that it stands (`what_was_carried_is_the_same`). So an audit's log has only what stands and what
 //! is passed over, where the run found no place taken (`audit_after_run_is_sound`).
-ghost use Rattle.pt_audit.specs.AuditLaws.{AuditAfterRunIsSound, SoundAuditMeansAllStand, WhatWasCarriedIsTheSame};
+ghost use Rattle.pt_audit.specs.AuditLaws.{AuditAfterRunIsSound, SoundAuditMeansAllStand};
+ghost use Rattle.pt_audit.specs.AuditLaws.{WhatWasCarriedIsTheSame};
 
 /// Where an audit's log has no object that is absent or differs, each object of the store that a
 /// run would carry stands in the root, byte for byte, but for what its inventory says of its

@@ -7,7 +7,8 @@
 //! held beside the survey are three paths, two numbers and a block, and nothing else
 //! (`BesideFields`).
 ghost use Rattle.std.specs.Prelude.{◌≡◌, ◌++◌, IfOk, OnOk, Option, is_some};
-ghost use Rattle.pt_audit.specs.RootReader.{CanFollow, HasBegun, IsAlikeAt, IsAtObject, IsBehind, IsPaced};
+ghost use Rattle.pt_audit.specs.RootReader.{CanFollow, HasBegun, IsAlikeAt, IsAtObject, IsBehind};
+ghost use Rattle.pt_audit.specs.RootReader.{IsPaced};
 ghost use Rattle.pt_audit.specs.Failing.{ReadFailsAs};
 ghost use Rattle.pt_object.specs.Object.{in_content};
 ghost use Rattle.pt_compare.specs.Root.{KeepsRoot};

@@ -6,8 +6,10 @@
 
 ghost use Rattle.std.specs.Prelude.{◌≡◌, IfOk, drop, length};
 ghost use Rattle.std.specs.Option.{ForSome};
-ghost use Rattle.pt_audit.specs.Twin.{has_object as has_object_finding, is_second as is_second_site};
-ghost use Rattle.pt_audit.specs.Twin.{object_stands as object_stands_in, proper_site as proper_site_of};
+ghost use Rattle.pt_audit.specs.Twin.{has_object as has_object_finding};
+ghost use Rattle.pt_audit.specs.Twin.{is_second as is_second_site};
+ghost use Rattle.pt_audit.specs.Twin.{object_stands as object_stands_in};
+ghost use Rattle.pt_audit.specs.Twin.{proper_site as proper_site_of};
 ghost use Rattle.pt_compare.specs.Root.{Stands};
 ghost use Rattle.pt_tree.specs.Forest.{kind_at as kind_there};
 ghost use Rattle.pt_tree.specs.Source.{tree_in};

@@ -2,9 +2,11 @@ ghost use Rattle.std.specs.Prelude.{◌≡◌, false, IfOk, map};
 ghost use Rattle.std.specs.Result.{IsOkAnd};
 ghost use Rattle.clap.specs.Words.{AddsSubcommand, app_of};
 ghost use Rattle.clap.specs.declared.builder.command.Command.TheViews.{out-Command};
-ghost use Rattle.pt_cli.specs.Grammar.{IsAuditApp, IsMigrateApp, IsProgram, check_app, names_app, top_app};
+ghost use Rattle.pt_cli.specs.Grammar.{IsAuditApp, IsMigrateApp, IsProgram, check_app, names_app};
+ghost use Rattle.pt_cli.specs.Grammar.{top_app};
 ghost use Rattle.pt_cli.specs.Grammar.{flag_rule, number_rule, option_rule};
-ghost use Rattle.pt_cli.specs.ArgSpec.{IsLocal, IsTaker, TakesToo, defaulted_rule, needed_rule, place_rule};
+ghost use Rattle.pt_cli.specs.ArgSpec.{IsLocal, IsTaker, TakesToo, defaulted_rule, needed_rule};
+ghost use Rattle.pt_cli.specs.ArgSpec.{place_rule};
 ghost use Rattle.pt_cli.specs.ArgSpec.{repeated_rule, repeated_text_rule, rule_of_taken, word_rule};
 
 use crate::help::{AUDIT_AND_STATUS, LOG_AND_STATUS, TROUBLES_AND_STATUS};

@@ -7,7 +7,8 @@
 
 ghost use Rattle.std.specs.Prelude.{◌≡◌, ◌∷◌, [], MatchResult, Err};
 ghost use Rattle.std.specs.Io.BufRead.{strip_last};
-ghost use Rattle.pt_cli.specs.Listing.{EndsLine, ReadsIdentifiers, TakesBytes, TakesEnd, listed_fault, texts_of};
+ghost use Rattle.pt_cli.specs.Listing.{EndsLine, ReadsIdentifiers, TakesBytes, TakesEnd};
+ghost use Rattle.pt_cli.specs.Listing.{listed_fault, texts_of};
 ghost use Rattle.pt_cli.specs.declared.list_fault.FileFault.TheVariants.{Line};
 
 use crate::name_list::{LONGEST, identifier_in};

@@ -6,7 +6,8 @@
 ghost use Rattle.std.specs.Prelude.{◌≡◌, ◌⊎◌, IfOk, map};
 ghost use Rattle.std.specs.String.{string_bytes};
 ghost use Rattle.pt_cli.specs.Inputs.{file_words};
-ghost use Rattle.pt_cli.specs.Listing.{IsListing, IsUnread, ReadsList, TakesIdentifiers, TakesList, texts_of};
+ghost use Rattle.pt_cli.specs.Listing.{IsListing, IsUnread, ReadsList, TakesIdentifiers, TakesList};
+ghost use Rattle.pt_cli.specs.Listing.{texts_of};
 
 use crate::identifier_lines::read_identifiers;
 use crate::{FileFault, Text};

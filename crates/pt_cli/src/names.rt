@@ -3,7 +3,8 @@
 //! For every layout and prefix, over every output that tells what it holds: where `names_to`
 //! answers Ok, exactly the two lines were added; after `Write` a front of them was; after the other
 //! refusals nothing was. `Empty` is answered exactly for the empty identifier.
-ghost use Rattle.std.specs.Prelude.{◌≡◌, ◌↔◌, ◌++◌, ◌∷◌, [], IfOk, IfErr, OnOk, length, ◌<◌, IsErrOf};
+ghost use Rattle.std.specs.Prelude.{◌≡◌, ◌↔◌, ◌++◌, ◌∷◌, [], IfOk, IfErr, OnOk, length, ◌<◌};
+ghost use Rattle.std.specs.Prelude.{IsErrOf};
 ghost use Rattle.std.specs.Io.KnownBytes.{Appends};
 ghost use Rattle.pt_cli.specs.Names.{names_text, names_number, LeavesWritten};
 

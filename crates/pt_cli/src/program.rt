@@ -16,7 +16,8 @@ ghost use Rattle.std.specs.Process.{exit_status};
 ghost use Rattle.pt_messages.specs.Expected.{AsksEnd};
 ghost use Rattle.pt_cli.specs.Calls.{IsToldAs, TellsAsked, TellsNames, TellsText, names_status};
 ghost use Rattle.pt_cli.specs.Inputs.{beside, file_words};
-ghost use Rattle.pt_cli.specs.Statuses.{Declines, Ends, EndsWith, IsWordless, MakesAudit, MakesRun, Obeys};
+ghost use Rattle.pt_cli.specs.Statuses.{Declines, Ends, EndsWith, IsWordless, MakesAudit, MakesRun};
+ghost use Rattle.pt_cli.specs.Statuses.{Obeys};
 ghost use Rattle.pt_host.specs.Checking.{ChecksStore, check_call};
 
 use crate::input::{HasInput, InputMachine};

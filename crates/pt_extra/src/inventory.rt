@@ -1,13 +1,15 @@
 //! The identifier in the text of an inventory, of which nothing else is kept: the text is read as
 //! `serde_json` reads it into a value, and each value is passed over.
-ghost use Rattle.std.specs.Prelude.{◌≡◌, ◌<◌, ◌==◌, ℕ, IfOk, IfSome, IsTrue, List, OnErr, OnOk, None, Some, is_some, length, slice_index};
+ghost use Rattle.std.specs.Prelude.{◌≡◌, ◌<◌, ◌==◌, ℕ, IfOk, IfSome, IsTrue, List, OnErr, OnOk};
+ghost use Rattle.std.specs.Prelude.{None, Some, is_some, length, slice_index};
 ghost use Rattle.std.specs.Option.{option_and_then, option_map, unwrap_or};
 ghost use Rattle.std.specs.String.{string_bytes};
 ghost use Rattle.json.specs.Json.{items, members, value};
 ghost use Rattle.pt_extra.specs.Inventories.{id_by, text_in};
 ghost use Rattle.serde_json.specs.Data.{Data, Items, Members, no_members, null, object, put};
 ghost use Rattle.serde_json.specs.Find.{as_str};
-ghost use Rattle.serde_json.specs.Read.{converted, max_depth, number_of, number_from, of_items, of_json, of_members, read};
+ghost use Rattle.serde_json.specs.Read.{converted, max_depth, number_of, number_from, of_items};
+ghost use Rattle.serde_json.specs.Read.{of_json, of_members, read};
 
 use fast_float::Numeral;
 use json::{Invalid, Reader, Scratch, Token};

@@ -17,10 +17,12 @@
 //! - `run`, where it answers Ok, and the trees of store and root and the log are told: the log has
 //!   got the lines of just what is found (`found_in`), in the order of the names, a folder's before
 //!   what comes behind it; and the numbers are those of the lines. After a fault it has got a front
-//!   of these.
+//!   of these. Only where the root failed may a folder have lines of why it couldn't be listed in
+//!   place of what is found of it (`IsToldIn`).
 //! - Store and root are the same, with the same trees, and what stood in the log stands (`Keeps`).
-//!   A device is blamed exactly where it failed (`Fails`); `Dest` is the root's fault, and else
-//!   `Memory` alone is answered, where a growth was refused.
+//!   A device is blamed only where it failed, and one that failed is, but for a root that couldn't
+//!   list a folder and told so (`FailsPast`); `Dest` is the root's fault, and else `Memory` is
+//!   answered only where a growth was refused.
 //! - What it holds are the listings on the way to where it stands, of which there are no more than
 //!   34, and one inventory, with as much room again.
 //!

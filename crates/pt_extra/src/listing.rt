@@ -1,8 +1,10 @@
 //! How a walk lists a folder, and tells that it can't.
-ghost use Rattle.std.specs.Prelude.{◌≡◌, ◌∷◌, cond, false, map, string_bytes, IfOk, IfSome, IsSome, MatchOption, OnErr, OnOk, Some};
+ghost use Rattle.std.specs.Prelude.{◌≡◌, ◌∷◌, cond, false, map, string_bytes, IfOk, IfSome, IsSome};
+ghost use Rattle.std.specs.Prelude.{MatchOption, OnErr, OnOk, Some};
 ghost use Rattle.std.specs.Option.{ForSome};
 ghost use Rattle.pt_extra.specs.Lines.{Unlisted};
-ghost use Rattle.pt_extra.specs.Walk.{Fails, FailsPast, Keeps, Tells, TellsFront, TellsReasons, TellsReasonsFront};
+ghost use Rattle.pt_extra.specs.Walk.{Fails, FailsPast, Keeps, Tells, TellsFront, TellsReasons};
+ghost use Rattle.pt_extra.specs.Walk.{TellsReasonsFront};
 ghost use Rattle.pt_extra.specs.Walk.{TellsUnlisted, TellsUnlistedFront, found_one, found_unlisted};
 ghost use Rattle.pt_tree.specs.Forest.{dir_at, listing_at};
 ghost use Rattle.pt_tree.specs.Source.{tree_in};

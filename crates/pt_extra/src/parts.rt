@@ -1,7 +1,9 @@
 //! What of a root is its own, and what is an object.
 ghost use Rattle.std.specs.Prelude.{◌≡◌};
 ghost use Rattle.std.specs.Str.{bytes_eq};
-ghost use Rattle.pt_extra.specs.Findings.{is_copy as is_copy_name, is_object as is_object_of, is_own as is_own_entry, is_part as is_part_of, is_text as is_text_name};
+ghost use Rattle.pt_extra.specs.Findings.{is_copy as is_copy_name, is_object as is_object_of};
+ghost use Rattle.pt_extra.specs.Findings.{is_own as is_own_entry, is_part as is_part_of};
+ghost use Rattle.pt_extra.specs.Findings.{is_text as is_text_name};
 ghost use Rattle.pt_object.specs.WellKnown.{known_text};
 
 use pt_object::WellKnownName;

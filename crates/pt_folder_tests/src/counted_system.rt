@@ -1,7 +1,9 @@
 //! A system that counts its calls: looks, changes and syncs. Of these one kind may fail.
 ghost use Rattle.std.specs.Prelude.{⊤, refl};
-ghost use Rattle.pt_folder.specs.Untold.{no_forest, no_kept, unknown, untold_dir, untold_file, untold_kind, untold_look, untold_move, untold_names};
-ghost use Rattle.pt_folder.specs.Untold.{untold_open, untold_peek, untold_proper, untold_tree, untold_write};
+ghost use Rattle.pt_folder.specs.Untold.{no_forest, no_kept, unknown, untold_dir, untold_file};
+ghost use Rattle.pt_folder.specs.Untold.{untold_kind, untold_look, untold_move, untold_names};
+ghost use Rattle.pt_folder.specs.Untold.{untold_open, untold_peek, untold_proper, untold_tree};
+ghost use Rattle.pt_folder.specs.Untold.{untold_write};
 
 use pt_folder::{HostFile, System};
 use pt_tree::Kind;

@@ -5,7 +5,8 @@
 //! any answer that system keeps the same tree, what stood in the output stands, the destination's
 //! system is as it was, and the status follows from the answer (`ChecksOver`).
 ghost use Rattle.std.specs.Prelude.{◌≡◌};
-ghost use Rattle.pt_host.specs.Checking.{ChecksOver, ChecksStore, check_call, check_status, wants_of as wants_of_options};
+ghost use Rattle.pt_host.specs.Checking.{ChecksOver, ChecksStore, check_call, check_status};
+ghost use Rattle.pt_host.specs.Checking.{wants_of as wants_of_options};
 ghost use Rattle.pt_host.specs.Machine.{host_io_words};
 
 use crate::devices::Lent;

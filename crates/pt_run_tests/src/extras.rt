@@ -237,7 +237,7 @@ const IN_PART: Row = Row {
     numbers: ExtraNumbers { extra: 1, stray: 7 },
 };
 
-// The first share alone tells it.
+// Each share tells what it couldn't list: below that may be objects of any.
 const FIRST_SPOILED: Row = Row {
     entries: "",
     prefix: "",
@@ -261,10 +261,14 @@ const SECOND_SPOILED: Row = Row {
     root: SHARED,
     spoiled: &["ocfl", "ocfl/x"],
     further: &["again"],
-    log: r#"{"as":"extra","id":"abc","to":"ba7/816/bf8/abc"}
+    log: r#"{"as":"stray","reason":"it failed","to":""}
+{"as":"stray","reason":"again","to":""}
+{"as":"extra","id":"abc","to":"ba7/816/bf8/abc"}
+{"as":"stray","reason":"it failed","to":"x"}
+{"as":"stray","reason":"again","to":"x"}
 {"as":"stray","to":"x"}
 "#,
-    numbers: ExtraNumbers { extra: 1, stray: 1 },
+    numbers: ExtraNumbers { extra: 1, stray: 5 },
 };
 
 const ROWS: [Row; 13] = [

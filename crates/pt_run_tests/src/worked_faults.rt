@@ -1,5 +1,7 @@
 //! What a fault leaves of the worked stores, computed from the definitions by the prover.
-ghost use Rattle.pt_run_tests.specs.WorkedFaults.{EmptyStoreTells, OneIdentifierCounts, OneObjectHasTuples, RerunCarriesTheObject, TwoTuplesStand};
+ghost use Rattle.pt_run_tests.specs.WorkedFaults.{EmptyStoreTells, OneIdentifierCounts};
+ghost use Rattle.pt_run_tests.specs.WorkedFaults.{OneObjectHasTuples, RerunCarriesTheObject};
+ghost use Rattle.pt_run_tests.specs.WorkedFaults.{TwoTuplesStand};
 
 fn faults()
     ensures tuples { OneObjectHasTuples }

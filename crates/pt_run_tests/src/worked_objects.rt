@@ -1,5 +1,7 @@
 //! The worked objects, computed from the definitions by the prover.
-ghost use Rattle.pt_run_tests.specs.WorkedObjects.{EqualContentsPaths, FourFilesStored, NoFilesPaths, OneFileObject, OneFileScript, RootStands, SharedFolders};
+ghost use Rattle.pt_run_tests.specs.WorkedObjects.{EqualContentsPaths, FourFilesStored};
+ghost use Rattle.pt_run_tests.specs.WorkedObjects.{NoFilesPaths, OneFileObject, OneFileScript};
+ghost use Rattle.pt_run_tests.specs.WorkedObjects.{RootStands, SharedFolders};
 
 fn one_file()
     ensures object { OneFileObject }

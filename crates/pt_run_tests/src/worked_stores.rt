@@ -1,10 +1,18 @@
 //! The worked stores, computed from the definitions by the prover.
-ghost use Rattle.pt_run_tests.specs.WorkedRuns.{BadNamesLog, BoundOfEmptyStore, BoundOfEqualContents, BoundOfGathering, DepthsAreLimited};
-ghost use Rattle.pt_run_tests.specs.WorkedRuns.{DepthsOfChains, DividedLog, DividedSitesAreGathered, EmptyDirectoriesAreCounted, EmptyStoreLog};
-ghost use Rattle.pt_run_tests.specs.WorkedRuns.{ExtensionsLog, FirstBadEntryCounts, LengthsAreLimited, LineFeedLog, LinesComeInOrder};
-ghost use Rattle.pt_run_tests.specs.WorkedRuns.{OneIdentifierFlatLog, OneObjectFlatLog, OneObjectIsCarried, OneObjectIsNamed, OneObjectLog};
-ghost use Rattle.pt_run_tests.specs.WorkedRuns.{PrefixIsRead, PresentComesFirst, SecondRunCarriesNothing, StoresAreKnown, StraysLog};
-ghost use Rattle.pt_run_tests.specs.WorkedRuns.{UsableRootsAreTold, WaysAreTold, WorkOfFirstRuns, WorkOfGathering, WorkOfSecondRun, WorkOfSkips};
+ghost use Rattle.pt_run_tests.specs.WorkedRuns.{BadNamesLog, BoundOfEmptyStore};
+ghost use Rattle.pt_run_tests.specs.WorkedRuns.{BoundOfEqualContents, BoundOfGathering};
+ghost use Rattle.pt_run_tests.specs.WorkedRuns.{DepthsAreLimited};
+ghost use Rattle.pt_run_tests.specs.WorkedRuns.{DepthsOfChains, DividedLog};
+ghost use Rattle.pt_run_tests.specs.WorkedRuns.{DividedSitesAreGathered};
+ghost use Rattle.pt_run_tests.specs.WorkedRuns.{EmptyDirectoriesAreCounted, EmptyStoreLog};
+ghost use Rattle.pt_run_tests.specs.WorkedRuns.{ExtensionsLog, FirstBadEntryCounts};
+ghost use Rattle.pt_run_tests.specs.WorkedRuns.{LengthsAreLimited, LineFeedLog, LinesComeInOrder};
+ghost use Rattle.pt_run_tests.specs.WorkedRuns.{OneIdentifierFlatLog, OneObjectFlatLog};
+ghost use Rattle.pt_run_tests.specs.WorkedRuns.{OneObjectIsCarried, OneObjectIsNamed, OneObjectLog};
+ghost use Rattle.pt_run_tests.specs.WorkedRuns.{PrefixIsRead, PresentComesFirst};
+ghost use Rattle.pt_run_tests.specs.WorkedRuns.{SecondRunCarriesNothing, StoresAreKnown, StraysLog};
+ghost use Rattle.pt_run_tests.specs.WorkedRuns.{UsableRootsAreTold, WaysAreTold, WorkOfFirstRuns};
+ghost use Rattle.pt_run_tests.specs.WorkedRuns.{WorkOfGathering, WorkOfSecondRun, WorkOfSkips};
 ghost use Rattle.pt_run_tests.specs.WorkedRuns.{WorkWithOtherTuples};
 ghost use Rattle.pt_run_tests.specs.WorkedTurns.{EmptyStoreTurns, OneObjectTurns};
 

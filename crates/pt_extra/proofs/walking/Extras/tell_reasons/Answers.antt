@@ -17,7 +17,7 @@ returns-clause-told g c =
     let further = map (λ reason. string_bytes reason) c.args.further.now in
     on_ok_weaker c.tell_each.result
     (λ tells s is r there.
-        (puts_on one (of_unlisted path further) (seen_by g.L.Log old) (seen_by g.L.Log mid) (seen_by g.L.Log c.tell_each.new.self)
+    (puts_on one (of_unlisted path further) (seen_by g.L.Log old) (seen_by g.L.Log mid) (seen_by g.L.Log c.tell_each.new.self)
     (c.in_ok-tell_unlisted.ensures.told s is r there)
     (told_from g.S.Source g.R.Source g.L.Log (found_unlisted path further) old mid c.tell_each.new.self c.tell_unlisted.ensures.keeps tells s is r there)))
     c.tell_each.ensures.told
@@ -31,7 +31,7 @@ returns-clause-stops g c =
     let further = map (λ reason. string_bytes reason) c.args.further.now in
     on_err_weaker c.tell_each.result
     (λ front s is r there.
-        (subst (AppendsFront (g.L.Log.told old.log) (g.L.Log.told c.tell_each.new.self.log)) (sym (texts_on one (of_unlisted path further)))
+    (subst (AppendsFront (g.L.Log.told old.log) (g.L.Log.told c.tell_each.new.self.log)) (sym (texts_on one (of_unlisted path further)))
     (front_on (g.L.Log.told old.log) (g.L.Log.told mid.log) (g.L.Log.told c.tell_each.new.self.log) (texts one) (texts (of_unlisted path further))
     (c.in_ok-tell_unlisted.ensures.told s is r there).held
     (front_from g.S.Source g.R.Source g.L.Log (found_unlisted path further) old mid c.tell_each.new.self c.tell_unlisted.ensures.keeps front s is r there))))
@@ -50,6 +50,6 @@ returns-in_err-tell_unlisted-clause-stops g c =
     let further = map (λ reason. string_bytes reason) c.args.further.now in
     at_err c.from_residual.result
     (λ s is r there.
-        (subst (AppendsFront (g.L.Log.told old.log) (g.L.Log.told c.tell_unlisted.new.self.log)) (sym (texts_on one (of_unlisted path further)))
+    (subst (AppendsFront (g.L.Log.told old.log) (g.L.Log.told c.tell_unlisted.new.self.log)) (sym (texts_on one (of_unlisted path further)))
     (front_more (g.L.Log.told old.log) (g.L.Log.told c.tell_unlisted.new.self.log) (texts one) (texts (of_unlisted path further))
     (c.in_err-tell_unlisted.ensures.stops s is r there))))
