@@ -41,16 +41,79 @@ fn stop_audit(rt: &HostRuntime, case: &Case, told: &Expected, passing: u64) -> O
     })
 }
 
+// How the line of a folder that couldn't be listed begins.
+const UNLISTED: &str = "{\"as\":\"stray\",\"reason\":\"";
+
+// How the line of anything stray begins, and the end line; and what counts them there.
+const STRAY: &str = "{\"as\":\"stray\"";
+
+const END: &str = "{\"absent\"";
+
+const COUNT: &str = "\"stray\":";
+
 impl Expected {
-    // An audit that is stopped tells a front of the lines, and never the end line.
+    // An audit that is stopped tells a front of the lines, and never the end line. Where it is the
+    // listing of a folder of the root that fails first, that is told instead, and so is each folder
+    // that is still met, as no call passes any more; and the audit ends.
     fn check_stopped(&self, audited: &AuditResult) -> Option<Stop> {
-        let (lines, _) = self.log.as_str().rsplit_once("{\"absent\"")?;
-        Some(if audited.status != 3 {
-            Stop::Otherwise("a call fails and the status is another")
-        } else if !lines.as_bytes().starts_with(audited.log.as_slice()) {
-            Stop::Otherwise("a call fails and the log is no front of the lines")
+        let (lines, _) = self.log.as_str().rsplit_once(END)?;
+        let log = str::from_utf8(audited.log.as_slice()).ok()?;
+        let Some((front, _)) = log.split_once(UNLISTED) else {
+            return Some(check_front(lines, log, audited.status, 3));
+        };
+        let rest = log.strip_prefix(front)?;
+        Some(if ends_with_unlisted(rest, front) {
+            check_front(lines, front, audited.status, 1)
         } else {
-            Stop::Well
+            Stop::Otherwise("a listing fails and the log goes on otherwise")
         })
     }
+}
+
+// Whether a log is a front of some lines, and the status this.
+fn check_front(lines: &str, log: &str, status: u8, wanted: u8) -> Stop {
+    if status != wanted {
+        Stop::Otherwise("a call fails and the status is another")
+    } else if !lines.starts_with(log) {
+        Stop::Otherwise("a call fails and the log is no front of the lines")
+    } else {
+        Stop::Well
+    }
+}
+
+// Whether this are lines of folders that couldn't be listed, and an end line that counts them as
+// stray with those of the front.
+fn ends_with_unlisted(rest: &str, front: &str) -> bool {
+    let mut stray = strays_in(front);
+    let mut rest = rest;
+    for _ in 0..10_000u32 {
+        let Some(line) = rest.strip_prefix(UNLISTED) else {
+            return rest.starts_with(END) && counted(rest) == Some(stray);
+        };
+        let Some((_, behind)) = line.split_once('\n') else {
+            return false;
+        };
+        stray = stray.wrapping_add(1);
+        rest = behind;
+    }
+    false
+}
+
+// How many stray lines there are.
+fn strays_in(lines: &str) -> u32 {
+    let (mut rest, mut stray) = (lines, 0u32);
+    for _ in 0..10_000u32 {
+        let Some((_, behind)) = rest.split_once(STRAY) else {
+            return stray;
+        };
+        stray = stray.wrapping_add(1);
+        rest = behind;
+    }
+    stray
+}
+
+// How many the end line counts.
+fn counted(end: &str) -> Option<u32> {
+    let (_, number) = end.split_once(COUNT)?;
+    number.strip_suffix("}\n")?.parse().ok()
 }
