@@ -289,7 +289,7 @@ isn't told here, so leave its log out."""
         return self.listed("unlike", self.report.unlike, title, heads, lambda *values: cells(*map(told, values)))
 
     def lacking(self):
-        title = f"In the root alone: What stands in the root and the store lacks. {self.link('after', 'What to do.')}"
+        title = f"In the root alone: What stands in the root and the store lacks, and its folders that couldn't be listed whole. {self.link('after', 'What to do.')}"
         return self.listed("lacking", self.report.lacking, title, ["Identifier", "Place", "What"], lambda *values: cells(*map(told, values)))
 
     def twins(self):

@@ -189,6 +189,8 @@ class Report:
     def __init__(self, paths, recorded, most):
         self.logs, self.recorded, self.most = [Log(path) for path in paths], recorded, most
         self.skipped, self.unlike, self.lacking, self.lost, self.twins, self.missing, self.troubles = (Rows(most) for _ in range(7))
+        # Of the folders of the root that couldn't be listed whole, and of each with a reason, the hashes.
+        self.unlisted, self.reasons = set(), set()
         sites, cut = Sites(), {}
         twins = Keys(set().union(*parts) for parts in zip(*[self.read(log, sites, cut).parts for log in self.logs]))
         if twins:
@@ -225,15 +227,23 @@ class Report:
         elif kind in TROUBLES:
             self.troubles.add(values[0], kind, b"".join(values[1:]), log)
         elif kind not in ID_AT:
-            extra = kind == "extra"
-            why = values[0] if not extra else b""
-            self.lacking.add(values[0] if extra else b"", values[-1], b": ".join(filter(None, (kind.encode(), why))), log)
+            self.take_extra(kind, *values, log)
         else:
             twins.note(values[ID_AT[kind]], values[0])
             if kind in MEASURED:
                 self.take_object(log, *values)
             elif kind != "present":
                 self.take_unlike(log, dict(zip(KEYS[kind], values)))
+
+    def take_extra(self, kind, said, place, log):
+        """Takes a line of what the store lacks: an object with its identifier, or what is stray. A folder that couldn't be listed has its reason;
+        each share tells it, so it counts once."""
+        if kind == "extra" or not said:
+            self.lacking.add(said, place, kind, log)
+        elif hash((place, said)) not in self.reasons:
+            self.reasons.add(hash((place, said)))
+            self.unlisted.add(hash(place))
+            self.lacking.add(b"", place or b".", b"stray: " + said, log)
 
     def take_skip(self, log, at, cause):
         cause = cause.decode()

@@ -79,7 +79,9 @@ class Verdict:
              "{} identifiers have several folders, of which one each was carried"),
             (0 if report.twins.count else state.unknown, "{} folder is <code>present</code> alone: what stands at its place wasn't compared",
              "{} folders are <code>present</code> alone: what stands at their places wasn't compared"),
-            (report.lacking.count, "{} path of the root is of nothing in the store", "{} paths of the root are of nothing in the store"),
+            (report.lacking.count - len(report.reasons), "{} path of the root is of nothing in the store",
+             "{} paths of the root are of nothing in the store"),
+            (len(report.unlisted), "{} folder of the root couldn't be listed whole", "{} folders of the root couldn't be listed whole"),
             (report.troubles.count if not self.runs else 0, "the check told {} line", "the check told {} lines"),
             (self.broken(), "the last event has a fault or no end", ""),
         )

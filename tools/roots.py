@@ -29,7 +29,7 @@ UTF-8 as \\xe9, a \\ doubled. The lists of `sums` and `set-aside` have names as 
 
 The status of `damaged` is 0 where every object is whole and nothing else is there, and 1 where it listed those that aren't whole. That of `join`
 is 0 where all was moved and nothing is left but the roots' own files and empty folders, and 1 where the places that it lists were taken. That of
-`sums` is 0 where each object is listed, and 1 where some aren't, since no LOG tells of them or their digests are of another algorithm, or where one
+`sums` is 0 where each object is listed, or each of --digest, and 1 where some aren't, since no LOG tells of them or their digests are of another algorithm, or where one
 that a LOG tells of isn't there. That of `set-aside` is 0 where all that differ are in AWAY and listed, and 1 where some stay. Each is 2 where
 something was refused, or could not be judged or moved, or isn't the program's and was left out, where an audit's LOG breaks off for `set-aside`, or
 the output can't be written. Standard error says what; what can be listed and moved is, also at status 2.

@@ -46,11 +46,13 @@ def set_aside(path, to, paths):
 
 
 def see_apart(root, away):
-    """Sees to it that objects of a root can be renamed into a folder, which neither holds the root nor lies in it."""
+    """Sees to it that objects of a root can be renamed into a folder, which is no root, and neither holds this one nor lies in it."""
     if away.key == root.key or away.lies_below({root.key}) or root.lies_below({away.key}):
         raise Refused(f"{root} and {away} lie in one another")
     if away.device != root.device:
         raise Refused(f"{away} is on another file system than {root}: name a folder on that of {root}")
+    if any(name.startswith("0=ocfl_") for name in os.listdir(away.fd)):
+        raise Refused(f"{away} is a storage root or an object itself: name a folder that is none")
 
 
 def differing(logs):

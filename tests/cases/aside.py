@@ -164,6 +164,7 @@ def refusals(program, folder):
         ("ocfl", "ocfl", "audit.log"): "lie in one another",
         ("ocfl", "ocfl/extensions/in", "audit.log"): "lie in one another",
         ("ocfl", ".", "audit.log"): "lie in one another",
+        ("ocfl", "other/ocfl", "audit.log"): "other/ocfl is a storage root",
         ("ocfl", "link", "audit.log"): "no folder, or a link",
         ("ocfl", "audit.log", "audit.log"): "no folder, or a link",
         ("ocfl", "none", "audit.log"): "none: No such file",

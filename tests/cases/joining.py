@@ -341,8 +341,8 @@ def tells(program, folder):
 def helps(program, folder):
     """Help is asked for with status 0, and says the statuses; wrong words are refused with the usage."""
     faults = []
-    parts = {("--help",): "The status of `damaged`", ("-h",): "That of `join`", ("join", "--help"): "OTHER", ("damaged", "-h"): "ROOT"}
-    for words, part in {**parts, ("sums", "-h"): "[LOG ...]", ("set-aside", "--help"): "AWAY", ("--help",): "`set-aside` is 0"}.items():
+    parts = [(("--help",), "The status of `damaged`"), (("-h",), "That of `join`"), (("join", "--help"), "OTHER"), (("damaged", "-h"), "ROOT")]
+    for words, part in (*parts, (("sums", "-h"), "[LOG ...]"), (("set-aside", "--help"), "AWAY"), (("--help",), "`set-aside` is 0")):
         status, lines, said = roots(folder, *words)
         faults += differs(**{" ".join(words): ((status, any(part in line for line in lines), said), (0, True, ""))})
     wrong = ((), ("join",), ("join", "a/ocfl"), ("damaged",), ("damaged", "a", "b"), ("other", "a"), ("join", "--force", "a", "b"), ("sums",))

@@ -179,6 +179,11 @@ def one_audit_with_extras(program, folder):
     lacking = [["ab", stores.place("ab"), "extra"], ["", "a b", "stray"], ["", "x", f"stray: {denied}"], ["", "y", "stray: " + bad.replace("\\", "\\\\")]]
     faults = differs(said=(said, (0, "")), numbers=(found.table("numbers"), [["audit.log", "audit", "end line", "1", "1", "5", "0"]]))
     faults += differs(lacking=(found.table("lacking"), lacking), notes=(found.notes, ["Each log has its end line, and as many lines of each kind as that counts."]))
+    share = lines(*({**entry, "to": to} for entry in unlisted for to in ("", "x")), {"as": "end", **counts, "extra": 0, "same": 0, "stray": 4})
+    shares, _ = page(folder, *logs(folder, one=share, two=share))
+    wanted = [["", to, f"stray: {why}", "one.log"] for why in (denied, bad.replace("\\", "\\\\")) for to in (".", "x")]
+    open_parts = re.findall(r"\d+ folders of the root[^,.;]*", "".join(shares.texts["verdict"]))
+    faults += differs(shares=((shares.table("lacking"), open_parts), (wanted, ["2 folders of the root couldn't be listed whole"])))
     again, _ = page(folder, *names, *logs(folder, run=whole_log(skip("ab", "split"))))
     faults += differs(missing=(again.table("missing"), [["ab", "split", "run.log"]]))
     made = list(csv.DictReader(io.StringIO(report(folder, "--csv", *names)[1].decode())))
