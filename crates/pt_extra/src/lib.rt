@@ -12,13 +12,14 @@
 //!
 //! - `audit`, with extras: behind the lines of all objects of the store (`IsAllTold` of pt_audit)
 //!   the log has got those of just what is found, and then the end line, with the numbers of all
-//!   (`IsExtraLog`). After a fault it has got a front of that (`IsExtraLogSoFar`). Without them it
-//!   is an audit of pt_audit. Its other promises are those of an audit either way.
+//!   (`IsExtraLog`). After a fault it has got a front of that (`IsExtraLogSoFar`). Only where the
+//!   root failed may a folder have lines of why it couldn't be listed in place of what is found of
+//!   it (`IsToldIn`). Without extras it is an audit of pt_audit. Its other promises are those of an
+//!   audit either way, but that the root may have failed so without a fault (`AuditBlames`).
 //! - `run`, where it answers Ok, and the trees of store and root and the log are told: the log has
 //!   got the lines of just what is found (`found_in`), in the order of the names, a folder's before
 //!   what comes behind it; and the numbers are those of the lines. After a fault it has got a front
-//!   of these. Only where the root failed may a folder have lines of why it couldn't be listed in
-//!   place of what is found of it (`IsToldIn`).
+//!   of these. A folder that couldn't be listed is told as by `audit`.
 //! - Store and root are the same, with the same trees, and what stood in the log stands (`Keeps`).
 //!   A device is blamed only where it failed, and one that failed is, but for a root that couldn't
 //!   list a folder and told so (`FailsPast`); `Dest` is the root's fault, and else `Memory` is

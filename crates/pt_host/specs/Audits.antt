@@ -63,7 +63,8 @@ root_seen words call host_io = root_tree (words.folder host_io.folder call.folde
 
 -- an audit was made over these folders of the systems, with what `audit` of pt_extra promises of it: where it ended well the
 -- output got its log, of both trees as they stood, and the root is one that a run could go on with; after a fault it got a front of what
--- is told; and they stand. With extras what is told of the root goes by whether reading it failed.
+-- is told; and they stand. With extras, folders of the root may have lines that they couldn't be listed in place of what is found of
+-- them: how often the root failed isn't known here, so any number may be meant, but where no folder has such a line nothing is missing
 pub record AuditsOver {S D W : Type 0} (words : HostIoWords S D W (Option Forest)) (call : AuditCall)
     (old new : HostIo S D W) (status : ℕ) : Type 0 where
   pub ran : Result AuditCounts Fault

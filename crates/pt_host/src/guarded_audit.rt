@@ -115,9 +115,8 @@ where
     let Sides { source, root, log } = both_sides(alloc, lent, options.ignored, folders);
     let watch = Watch::new(rt, alloc, &tally, watching);
     let log = CountedLog::new(log, watch.sums() | telling.records);
-    let source = Watched::new(source, watch);
     let devices = ExtraDevices {
-        store: source,
+        store: Watched::new(source, watch),
         root,
         log,
         explains: LastFailure,

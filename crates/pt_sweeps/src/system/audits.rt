@@ -1,4 +1,5 @@
-//! Audits of a root that has more than the store: stopped at each call, and whole.
+//! Audits of a root that has more than the store: whole, and with all calls failing from each one
+//! on.
 use crate::system::case::Case;
 use crate::system::expected::Expected;
 use crate::system::machine::{AuditResult, audit};
@@ -11,34 +12,40 @@ use std::alloc::AllocGlobal;
 /// Audits that are stopped after no call, after one, after two and so on, until one isn't stopped.
 pub fn check_audits(rt: &HostRuntime, case: &Case) -> Option<Found> {
     let told = case.tells_audit(rt.alloc())?;
+    let mut unlisted = 0u32;
     for passing in 0..10_000u64 {
-        match stop_audit(rt, case, &told, passing)? {
-            Stop::Well => {}
+        let (status, stop) = stop_audit(rt, case, &told, passing)?;
+        match stop {
+            Stop::Well => unlisted = unlisted.wrapping_add(u32::from(status == 1)),
             Stop::Otherwise(why) => return Some(Found::Otherwise(why)),
-            Stop::Past => return Some(Found::Well),
+            Stop::Past => return Some(if unlisted > 0 {
+                Found::Well
+            } else {
+                Found::Otherwise("no folder of the root is told as one that can't be listed")
+            }),
         }
     }
     Some(Found::Otherwise("the audit never ends"))
 }
 
-// An audit of which so many calls pass.
-fn stop_audit(rt: &HostRuntime, case: &Case, told: &Expected, passing: u64) -> Option<Stop> {
+// The status of an audit of which so many calls pass, and what of it.
+fn stop_audit(rt: &HostRuntime, case: &Case, told: &Expected, passing: u64) -> Option<(u8, Stop)> {
     let alloc = rt.alloc();
     let mut store = MemSource::new(alloc);
     add(alloc, &mut store, case.store).ok()?;
     let faults = Faults::new();
     faults.fail_after(Some(passing));
     let audited = audit(rt, &faults, store, case.root_with_more(alloc)?)?;
-    if faults.calls() > passing {
-        return told.check_stopped(&audited);
-    }
-    Some(if audited.status != told.status {
+    let stop = if faults.calls() > passing {
+        told.check_stopped(&audited)?
+    } else if audited.status != told.status {
         Stop::Otherwise("no call fails, and the status is another")
     } else if audited.log.as_slice() != told.log.as_bytes() {
         Stop::Otherwise("no call fails, and the log is another")
     } else {
         Stop::Past
-    })
+    };
+    Some((audited.status, stop))
 }
 
 // How the line of a folder that couldn't be listed begins.
@@ -81,7 +88,7 @@ fn check_front(lines: &str, log: &str, status: u8, wanted: u8) -> Stop {
     }
 }
 
-// Whether this are lines of folders that couldn't be listed, and an end line that counts them as
+// Whether these are lines of folders that couldn't be listed, and an end line that counts them as
 // stray with those of the front.
 fn ends_with_unlisted(rest: &str, front: &str) -> bool {
     let mut stray = strays_in(front);

@@ -2,7 +2,8 @@
 //! the program.
 
 /// An object that no store here has, with what an audit reads of it; a file below a folder that no
-/// object has, and an empty folder.
+/// object has, and an empty folder. No file is stray beside a folder and behind it, so that where
+/// one can't be listed, and none after it, nothing else is stray from there on.
 pub const PLANTED: &[(&str, &str)] = &[
     (
         "ocfl/a52/d15/9f2/abd/0=ocfl_object_1.1",
