@@ -51,11 +51,13 @@ fn stop_audit(rt: &HostRuntime, case: &Case, told: &Expected, passing: u64) -> O
 // How the line of a folder that couldn't be listed begins.
 const UNLISTED: &str = "{\"as\":\"stray\",\"reason\":\"";
 
-// How the line of anything stray begins, and the end line; and what counts them there.
+// How the line of anything stray begins.
 const STRAY: &str = "{\"as\":\"stray\"";
 
+// How the end line begins.
 const END: &str = "{\"absent\"";
 
+// What stands there in front of the number of stray lines.
 const COUNT: &str = "\"stray\":";
 
 impl Expected {
