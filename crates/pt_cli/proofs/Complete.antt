@@ -157,7 +157,13 @@ module _ (spelled others : Spelled) where
                                       (refl, refl, refl),
                                       (
                                         (refl, refl, refl),
-                                        ((refl, refl, refl), ((refl, refl, refl), ((refl, refl, refl), ((refl, refl, refl), ((refl, refl, refl), ((refl, refl, refl), tt)))))),
+                                        (
+                                          (refl, refl, refl),
+                                          (
+                                            (refl, refl, refl),
+                                            ((refl, refl, refl), ((refl, refl, refl), ((refl, refl, refl), ((refl, refl, refl), tt)))),
+                                          ),
+                                        ),
                                       ),
                                     ),
                                   ),

@@ -172,7 +172,8 @@ module _ (rows : List Row) where
       → first_of (codes "message") rows ≡ Some message → IsThere (meta_in rows)
   meta_there created name message e1 e2 e3 = rw (e1, e2, e3) (described_there _ (meta_refusal created name))
 
-  pub job_there : (meta : MetaParts) (digest : Text) (algorithm : Algorithm) → first_of (codes "digest") rows ≡ Some digest → algorithm_of digest ≡ Some algorithm
+  pub job_there : (meta : MetaParts) (digest : Text) (algorithm : Algorithm) → first_of (codes "digest") rows ≡ Some digest
+      → algorithm_of digest ≡ Some algorithm
       → IsThere (layout_in rows) → IsThere (job_in meta rows)
   job_there meta digest algorithm e1 e2 cuts =
       rw (e1, e2) (then_there (layout_in rows) _ cuts (λ tuples. then_there (judged unread.Share (share_asked (first_of (codes "share") rows))) _

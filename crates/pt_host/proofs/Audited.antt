@@ -37,11 +37,11 @@ module _ {S : Type 0} (forest : S → List ℕ → Option Forest) where
   root_is {own = own} {path = path} reading same at = tree_of_root (forest own path) reading ∙ (λ i. root_tree (forest (same i) (at i)))
 
 -- an audit ends as it did, whatever its trees and its log are called, over a root that hadn't failed
-pub ends_as : (extra : Bool) (ran : Result AuditCounts Fault) (job : Job) {before failed : ℕ} {source store root folder : Option Forest}
+pub ends_as : (extra : Bool) (ran : Result AuditCounts Fault) (job : Job) (before failed : ℕ) {source store root folder : Option Forest}
     {first begun now last : Option (List ℕ)} → before ≡ 0
     → source ≡ store → root ≡ folder → first ≡ begun → now ≡ last → AuditLogs extra (HasRisen before failed) job (start_over source root first) now ran
     → AuditLogs extra (HasRisen 0 failed) job (start_over store folder begun) last ran
-ends_as extra ran job {before} {failed} {source} {store} {root} {folder} {first} {begun} {now} {last} unfailed source_is root_is first_is now_is ends =
+ends_as extra ran job before failed {source} {store} {root} {folder} {first} {begun} {now} {last} unfailed source_is root_is first_is now_is ends =
     subst (λ (n : ℕ). AuditLogs extra (HasRisen n failed) job (start_over store folder begun) last ran) unfailed
     (subst (λ (l : Option (List ℕ)). AuditLogs extra (HasRisen before failed) job (start_over store folder begun) l ran) now_is
     (subst (λ (l : Option (List ℕ)). AuditLogs extra (HasRisen before failed) job (start_over store folder l) now ran) first_is

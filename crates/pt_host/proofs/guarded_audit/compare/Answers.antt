@@ -15,7 +15,7 @@ returns g c =
     let folders = g.D.System.forest in
     let contents = g.W.Write.contents in
     let job = c.args.options.job in
-    let ignoring = c.new-source.ensures in
+    let ignoring = c.new.ensures in
     let names = ap (λ w. w.names) ignoring ∙ c.both_sides-source.ensures.left_out in
     let system = ap (λ w. w.source.syscalls.system) ignoring ∙ c.both_sides-source.ensures.store.0 in
     let path = ap (λ w. w.source.folder.path.now) ignoring ∙ c.both_sides-source.ensures.store.1 in
@@ -29,7 +29,8 @@ returns g c =
     record {
       ran = ran;
       failed = c.audit-ran.result.devices.root.failures;
-      ends = ends_as c.args.options.extra ran (job_of job) c.both_sides-source.ensures.unread store folder first (ap contents (sym output)) made.ends;
+      ends = ends_as c.args.options.extra ran (job_of job) _ c.audit-ran.result.devices.root.failures c.both_sides-source.ensures.unread store folder first
+          (ap contents (sym output)) made.ends;
       layout = subst (λ t. OnOk ran (ForSome t (IsOfLayout (job_of job)))) folder made.layout;
       says = says_as ran job store folder made.says;
       store_stays = sym later ∙ made.sides.source.1 ∙ store;
