@@ -10,10 +10,10 @@
 //!
 //! What it promises, over any source and any log:
 //!
-//! - Where it ends well and the source tells (`Checks`), pairtree_root and each entry of each folder
-//!   in it that could be listed was visited once (`Visits`), and at each exactly what there is to
-//!   tell of it was told (`Tells`). What can't be listed, opened or read is told with a reason, and
-//!   the walk goes on with the next entry.
+//! - Where it ends well and the source tells (`Checks`), pairtree_root and each entry of each
+//!   folder in it that could be listed was visited once (`Visits`), and at each exactly what there
+//!   is to tell of it was told (`Tells`). What can't be listed, opened or read is told with a
+//!   reason, and the walk goes on with the next entry.
 //! - Where it told nothing there is nothing to tell of the store, and no call of the source failed
 //!   (`QuietCheckMeansCleanStore`). No run over such a store passes an object over for `other`
 //!   (`NoRunSkipsForOther`). None with the greatest limits of pt_walk, which the check holds things

@@ -5,10 +5,10 @@
 //!
 //! In one turn the trail enters at most one listing or leaves inner ones (`Moves`), rows and
 //! contents gain at most one record or are emptied (`Gains`), and at most one line is counted. The
-//! source is called at most once, twice where the prefix is read, or three times where the run looks
-//! whether it is a store. What stands in the destination is asked at most once, twice where a file
-//! of the root is compared, four times where that is the layout's configuration, and in most turns
-//! never (`most_looks`).
+//! source is called at most once, twice where the prefix is read, or three times where the run
+//! looks whether it is a store. What stands in the destination is asked at most once, twice where a
+//! file of the root is compared, four times where that is the layout's configuration, and in most
+//! turns never (`most_looks`).
 ghost use Rattle.std.specs.Prelude.{◌≡◌, ◌+◌, length};
 ghost use Rattle.pt_invariant.specs.RunInvariant.{AreStates, Start, start_of};
 ghost use Rattle.pt_plan.specs.DeviceStates.{DeviceStates};
