@@ -10,6 +10,10 @@ These do the parts of it, on another cluster than Slurm's too:
    {called} share K N [-- OPTION..]   carries share K of N, as a task does
    {called} join N                    joins the roots of the shares, and looks whether each object is whole, as the job behind it does
 
+This changes nothing, and needs only OUT:
+
+   {called} status N [-- OPTION..]    tells which shares are done, under way, stopped or not begun, how far the join is, and what is to be given
+
 From the environment come STORE, OUT (a folder on the file system that the root is to lie on), CREATED and NAME, and, if they are set,
 PROGRAM (pairtree2ocfl on the PATH unless given), ROOTS (where roots.py is, beside this script unless given) and JOBS.
 
@@ -23,8 +27,12 @@ What was stopped at any moment goes on by the same command. The staging that a s
 Where this script alone is killed its runs go on, and until they end the same command says which folder another run has. Once the join has
 begun, which OUT/joining tells, no share is carried any more. One share is the whole, and isn't joined. No link in OUT is followed.
 
+By `status` a share is done where its last log ends with the end line, and under way where a run has its folder. With the `--event` that the shares
+had it names faults too. Where a log has no end it shares the folder's lock for a moment: a run that begins just then is refused, and to be given again.
+
 The status is 0 where all was done, 2 where something was refused before anything was made, and 3 where a share wasn't carried or the join
-couldn't be begun. From the join on it is that of roots.py, `join` and then `damaged`. Standard error says what.
+couldn't be begun. From the join on it is that of roots.py, `join` and then `damaged`, which OUT/joining notes. That of `status` is 0 where all
+shares are done, 1 where some aren't, and 2 where it can't tell. Standard error says what.
 """
 
 import collections
@@ -43,17 +51,17 @@ import sys
 
 sys.dont_write_bytecode = True
 
+from shares_status import JOINING, NO_LOCKS, Shares, tell
 from shown import shown
 
 CALLED = os.path.basename(sys.argv[0])
 SCRIPT = os.path.realpath(__file__)
 MOST = 4096
-JOINING = "joining"
-NO_LOCKS = (errno.ENOLCK, errno.ENOSYS, errno.EOPNOTSUPP)
 FOLDER = os.O_RDONLY | os.O_DIRECTORY | os.O_CLOEXEC
 NEW = os.O_WRONLY | os.O_APPEND | os.O_CREAT | os.O_EXCL | os.O_NOFOLLOW | os.O_CLOEXEC
 STOPS = (signal.SIGINT, signal.SIGTERM, signal.SIGHUP)
 OLD = os.O_RDWR | os.O_NOFOLLOW | os.O_NONBLOCK | os.O_CLOEXEC
+MORE = os.O_WRONLY | os.O_APPEND | os.O_NOFOLLOW | os.O_NONBLOCK | os.O_CLOEXEC
 
 
 class Refused(Exception):
@@ -96,6 +104,14 @@ def mode_of(name, above):
         return os.stat(name, dir_fd=above, follow_symlinks=False).st_mode
     except FileNotFoundError:
         return 0
+
+
+def joins(out, path):
+    """Whether the join has begun, by what stands in the open folder OUT at a path that is shown so."""
+    mode = mode_of(JOINING, out)
+    if mode and not stat.S_ISREG(mode):
+        raise Fault(f"{path} is no file, or a link")
+    return bool(mode)
 
 
 def number_in(text, name, most=MOST):
@@ -297,10 +313,7 @@ class Store:
 
     def joins(self, out):
         """Whether the join has begun."""
-        mode = mode_of(JOINING, out)
-        if mode and not stat.S_ISREG(mode):
-            raise Fault(f"{self.at(JOINING)} is no file, or a link")
-        return bool(mode)
+        return joins(out, self.at(JOINING))
 
     def see_roots(self, out):
         """Sees to it that each share has a root, behind no link."""
@@ -316,10 +329,24 @@ class Store:
             self.see_roots(out)
             if not self.joins(out):
                 os.close(os.open(JOINING, NEW, 0o666, dir_fd=out))
-            status = self.by_roots("join", *names)
+            status = self.noted(out, "join", *names)
             if status:
                 return status
-        return self.by_roots("damaged", names[0])
+        return self.noted(out, "damaged", names[0])
+
+    def noted(self, out, *words):
+        """The status of roots.py, which is noted in OUT/joining, where that stands."""
+        status = self.by_roots(*words)
+        try:
+            if self.joins(out):
+                fd = os.open(JOINING, MORE, dir_fd=out)
+                try:
+                    os.write(fd, b"%s ended with status %d\n" % (words[0].encode(), status))
+                finally:
+                    os.close(fd)
+        except (Fault, OSError) as error:
+            say(f"{self.at(JOINING)}: how the join ended isn't noted: {reason(error)}")
+        return status
 
     def by_roots(self, *words):
         """The status of roots.py, in OUT."""
@@ -407,6 +434,19 @@ def one_share(store, number):
         return 0 if store.carry([number], 1, out) else 3
 
 
+def status(count, options):
+    """Tells how far the shares are, and gives the status."""
+    path = os.environ.get("OUT", "")
+    if not path:
+        raise Refused("OUT is not set: --help says what it is")
+    try:
+        with folder(path) as out:
+            has_begun = joins(out, shown(f"{path}/{JOINING}"))
+            return tell(Shares(out, count, has_begun, lambda mark: marked(options, mark)[1]), shown(CALLED))
+    except (Fault, OSError) as error:
+        raise Refused(reason(error)) from error
+
+
 def usage():
     """How the script is called, and what it does."""
     return __doc__.replace("{called}", CALLED)
@@ -420,10 +460,12 @@ def run(words):
         os.write(1, usage().encode())
         return 0
     command, *numbers = own or [""]
-    wanted = {"here": 1, "cluster": 1, "share": 2, "join": 1}.get(command)
+    wanted = {"here": 1, "cluster": 1, "share": 2, "join": 1, "status": 1}.get(command)
     if wanted is None or len(numbers) > wanted or (command == "join" and options):
         raise Refused(f"the words are wrong\n\n{usage()}")
     numbers += [""] * (wanted - len(numbers))
+    if command == "status":
+        return status(number_in(numbers[-1], "N"), options)
     store = Store(number_in(numbers[-1], "N"), options)
     if command == "share":
         return one_share(store, number_in(numbers[0], "K", store.count))

@@ -108,8 +108,8 @@ def known(program, folder):
 def told_once(program, folder):
     """An option that the grammar gets is in the man page and the completions, of its command alone; what can't be read is refused, and so is a text on none."""
     row = 'ArgSpec {\n        id: NEW,\n        form: Form::Word("W", &["one", "two"], "two"),\n        help: "It\'s [new]: so",\n        more: Some(\n            "It\'s [new]:\\nso it is",\n        ),\n    },\n    '
-    grammar = fill.grammar_text().replace("\npub(crate) const MIGRATE_TAKES", '\nconst NEW: &str = "brand-new";\n\nconst MIGRATE_TAKES')
-    made = fill.made(grammar.replace("const AUDIT_TAKES: &[ArgSpec] = &[\n    ", f"const AUDIT_TAKES: &[ArgSpec] = &[\n    {row}"))
+    grammar = fill.grammar_text().replace("\npub(crate) const MIGRATE_SPECS", '\nconst NEW: &str = "brand-new";\n\nconst MIGRATE_SPECS')
+    made = fill.made(grammar.replace("const AUDIT_SPECS: &[ArgSpec] = &[\n    ", f"const AUDIT_SPECS: &[ArgSpec] = &[\n    {row}"))
     lines = {
         fill.PAGE: '.TP\n.BI \\-\\-brand\\-new " W"\nIt\'s [new]: so it is: \\fBone\\fR or \\fBtwo\\fR (the default).\n',
         fill.BASH: "--brand-new) mapfile -t COMPREPLY < <(compgen -P \"$front\" -W 'one two' -- \"$current\") && return ;;\n",

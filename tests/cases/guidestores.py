@@ -4,11 +4,12 @@ import os
 import re
 import subprocess
 
+import sshd
 import stores
 from alone import Alone, differs
 from guide import guide_block, identifiers, migrate, roots, with_program
-from stores import DIR, build, read_tree, store
-from tally import needs
+from stores import DIR, GONE, build, read_tree, store
+from tally import Skipped, needs
 
 
 def many_stores(program, folder):
@@ -112,6 +113,37 @@ def store_in_shares(program, folder):
     return faults
 
 
+def over_hosts(program, folder):
+    """By the guide's command GNU parallel carries the shares over hosts, each of which carries some, and what is joined is what one run leaves. Where a
+    share ends with a fault the others are carried, none is joined, and `status` names it."""
+    needs("bash", "parallel", "sshd", "ssh", "ssh-keygen")
+    if b"GNU" not in subprocess.run(["parallel", "--version"], stdin=subprocess.DEVNULL, capture_output=True, timeout=60).stdout:
+        raise Skipped("parallel isn't GNU's here")
+    build(folder, {f"data/store/{path}": held for path, held in identifiers(*(f"a{it}" for it in "abcdefgh")).items()})
+    export = re.search("^    export .*", guide_block("One store in shares", "here 4"), re.MULTILINE)[0]
+    command = guide_block("One store in shares", "--sshlogin").replace("64", "6")
+    script = f"{export}\n{command}".replace("/data", f"{folder}/data")
+    environment, faults = with_program(program, folder), []
+    build(folder, {"home": DIR, "data/out/2/ocfl": b"", "data/out": DIR})
+    with sshd.Hosts(("node1", "node2"), {"PATH": environment["PATH"], "PARALLEL_HOME": f"{folder}/home"}) as hosts:
+        told = {"PATH": f"{hosts.folder}/bin:{environment['PATH']}", "PARALLEL_HOME": f"{folder}/home", "PARALLEL": f"--joblog {folder}/jobs"}
+        look = export.replace("/data", f"{folder}/data") + "\npairtree2ocfl-shares status 6"
+        for status, share in ((1, "2"), (0, None)):
+            done, looked = (
+                subprocess.run(["bash", "-u", "-c", it], cwd=folder, env={**environment, **told}, stdin=subprocess.DEVNULL, capture_output=True, timeout=240)
+                for it in (script, look)
+            )
+            failed = re.findall("^stopped, or ended with a fault: (.*)$", looked.stdout.decode(), re.MULTILINE)
+            faults += differs(**{f"share {share}": ((done.returncode, looked.returncode, failed), (status, status, [share] if share else []))})
+            build(f"{folder}/data/out/2", {"ocfl": GONE} if share else {})
+    with open(f"{folder}/jobs", encoding="utf-8") as file:
+        faults += differs(hosts=({line.split("\t")[1] for line in file.readlines()[1:]}, {"node1", "node2"}))
+    os.mkdir(f"{folder}/whole")
+    words = ["--created", "2024-05-01T12:00:00Z", "--name", "Ada Lovelace", "data/store", "whole"]
+    subprocess.run([program, "migrate", *words], cwd=folder, stdout=subprocess.DEVNULL, check=True, timeout=120)
+    return faults + list(stores.differences(read_tree(f"{folder}/data/out/1"), read_tree(f"{folder}/whole")))[:3]
+
+
 def audit_in_shares(program, folder):
     """The guide's audit in shares, side by side: the lines are those of one audit, each in one share's log, and the status tells of a fault."""
     needs("bash")
@@ -142,4 +174,5 @@ CASES = [
     Alone("roots of other tuples are not joined", other_tuples),
     Alone("the guide's audit in shares", audit_in_shares),
     Alone("the guide's store in shares", store_in_shares),
+    Alone("the guide's store in shares, over hosts", over_hosts),
 ]
