@@ -11,6 +11,7 @@ use Rattle.pt_tree.specs.Path.{Path}
 use Rattle.pt_walk.specs.Trail.{current_entry, is_dir_entry, is_trail, names_to}
 use Rattle.pt_walk.specs.declared.frame.Frame.{Frame}
 use Rattle.pt_plan.specs.Job.{Job}
+use Rattle.pt_plan.specs.RootNumbers.{root_file_count, root_item_count}
 use Rattle.pt_plan.specs.Run.{Held}
 use Rattle.pt_plan.specs.TurnMake.{text_of_inventory}
 use Rattle.pt_plan.specs.TurnScan.{own_listings}
@@ -120,8 +121,8 @@ ScansInOrder _ held = ⊤
 
 -- each is one of those that there are: items of the root's script, files of the layout, tuples, rows
 abbrev pub NumbersAt : Job → Phase → Held → Type 0
-NumbersAt job (phase.Opening (opening.RootMake number)) held = number < 6
-NumbersAt job (phase.Opening (opening.RootCheck number)) held = number < 3
+NumbersAt job (phase.Opening (opening.RootMake number)) held = number < root_item_count
+NumbersAt job (phase.Opening (opening.RootCheck number)) held = number < root_file_count
 NumbersAt job (phase.Carrying object (stage.Make (part.Content position))) held = IsAtRow held.rows position
 NumbersAt job (phase.Carrying object (stage.Copy position left)) held = IsAtStoredRow held position
 NumbersAt job (phase.Carrying object (stage.Tuples number)) held = number < job.tuples.count

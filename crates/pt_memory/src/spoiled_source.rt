@@ -146,8 +146,7 @@ impl Source for SpoiledSource {
             path.now result }
         ensures opened { OnOk result (source_told self.new.source
             ≡ option_map (after_open path.now) (source_told self.old.source)) }
-        ensures same { OnErr result (source_told self.new.source
-            ≡ source_told self.old.source) }
+        ensures same { OnErr result (source_told self.new.source ≡ source_told self.old.source) }
         ensures fails { OpensAs (spoiled_failing self.old) (spoiled_failing self.new)
             path.now result }
         ensures failures { IsCounted self.old.source.fuse.failures
@@ -171,8 +170,7 @@ impl Source for SpoiledSource {
             (λ _. block.new.items ≡ []) }
         ensures moved { OnOk result (source_told self.new.source
             ≡ option_map after_next (source_told self.old.source)) }
-        ensures same { OnErr result (source_told self.new.source
-            ≡ source_told self.old.source) }
+        ensures same { OnErr result (source_told self.new.source ≡ source_told self.old.source) }
         ensures fails { ReadsAs (spoiled_failing self.old) (spoiled_failing self.new)
             block.new.items result }
         ensures failures { IsCounted self.old.source.fuse.failures

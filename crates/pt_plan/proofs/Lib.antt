@@ -9,8 +9,8 @@ pub mod Kept
 pub mod LaterRoots
 pub mod LaterTrees
 pub mod Levels
-mod LineTexts
 mod ListedKinds
+mod MemberTexts
 pub mod MovedIn
 pub mod NextObject
 pub mod OtherTurns

@@ -14,9 +14,11 @@ pub mod Items
 pub mod Job
 pub mod Lines
 pub mod ListedKinds
+pub mod Members
 pub mod Object
 pub mod PlaceLaws
 pub mod RerunLaws
+pub mod RootNumbers
 pub mod Roots
 pub mod Run
 pub mod RunFaults

@@ -15,7 +15,8 @@
 //! What it promises:
 //!
 //! - The lines of a log as texts (`done_line`, `present_line`, `skip_line`, `end_line`): exactly
-//!   `line_text` of what they tell.
+//!   `line_text` of what they tell. Those of the other logs too are made by `line_with`: of members
+//!   in their order (`members_tree`).
 //! - Laws (laws.rt): what is carried and told grows item by item (`carried_grows`, `text_grows`,
 //!   `after_grows`), and each line is counted once (`each_line_is_counted`).
 //! - Each object that is carried stands at its place in the root, path by path, and nothing else
@@ -38,6 +39,7 @@ mod fault;
 pub mod kinds;
 pub mod laws;
 pub mod lines;
+pub mod members;
 pub mod names;
 mod object;
 mod phase;

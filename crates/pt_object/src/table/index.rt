@@ -13,7 +13,7 @@ use std::cmp::Ordering;
 // Where a digest is: the position of its item, or the place in the index where it belongs; and how
 // many digests were compared to find that.
 #[derive(Drop)]
-pub(crate) struct Searched {
+pub(crate) struct SearchResult {
     pub(crate) found: Result<usize, usize>,
     pub(crate) comparisons: u32,
 }
@@ -25,7 +25,7 @@ pub(crate) fn search(
     keys: &[u32],
     index: &SortedIndex,
     digest: &Digest,
-) -> Searched
+) -> SearchResult
     requires index { IsIndex items.now index.now }
     requires keys { keys.now ≡ keys_of items.now }
     ensures known { is_ok result.found ≡ is_noted items.now digest.now }
@@ -50,7 +50,7 @@ pub(crate) fn search(
         ) {
             Ordering::Less => low = middle + 1,
             Ordering::Equal => {
-                return Searched {
+                return SearchResult {
                     found: Ok(position),
                     comparisons,
                 };
@@ -58,7 +58,7 @@ pub(crate) fn search(
             Ordering::Greater => high = middle,
         }
     }
-    Searched {
+    SearchResult {
         found: Err(low),
         comparisons,
     }
