@@ -54,7 +54,7 @@ use Rattle.pt_plan.specs.TurnMake.{MakesFolder, OpensCopy, PassesRow, behind, st
 use Rattle.pt_state.proofs.Together.{did_nothing, none_of_file}
 use Rattle.pt_state.proofs.Turns.{keeps_same, left_some, went}
 use Rattle.pt_make.specs.Making.{DigestTells, IsNextCopy, IsNextFolder, IsPassed, content_phase, copy_phase}
-use Rattle.pt_make.specs.declared.contents.Copied.{Copied}
+use Rattle.pt_make.specs.declared.contents.FileCopy.{FileCopy}
 use Rattle.pt_make.specs.declared.contents.ObjectContent.{ObjectContent}
 
 -- ---- what is next
@@ -125,10 +125,10 @@ made_folder s a b object position path did (row, (at, stored, less, few, is)) =
 
 -- ---- a file, and the one that it is copied from
 
-pub may_create : (s : State) (reading : Option Reading) (writing : Option Writing) (content : ObjectContent) (copied : Copied)
-    → MayMakeContent reading writing content.object (held_of s []) content.position → IsNextCopy s content copied → MayMake writing copied.to
+pub may_create : (s : State) (reading : Option Reading) (writing : Option Writing) (content : ObjectContent) (copy : FileCopy)
+    → MayMakeContent reading writing content.object (held_of s []) content.position → IsNextCopy s content copy → MayMake writing copy.to
 unfolding MayMakeContent IsNextCopy
-may_create s reading writing content copied may (row, (at, stored, most, there, here, same)) = rw there ((may row at stored).1 most).0
+may_create s reading writing content copy may (row, (at, stored, most, there, here, same)) = rw there ((may row at stored).1 most).0
 
 pub can_open_still : (a b : DeviceStates) (to from : Path) → CanOpen a.source from → Did (does (Creates to)) a b → CanOpen b.source from
 unfolding Did Answers
@@ -149,11 +149,11 @@ both_did to from a b c made opened = (
   opened.1 ∙ made.1,
 )
 
-pub copy_opened : (s s' : State) (a b c : DeviceStates) (content : ObjectContent) (copied : Copied) → Did (does (Creates copied.to)) a b
-    → Did (asks (Opens copied.from)) b c → IsNextCopy s content copied → HasBeenFed s.job.algorithm s'.hasher [] → KeepsAll s s'
-    → Turned (content_phase content) s s' a c (Ok (copy_phase content copied.length))
+pub copy_opened : (s s' : State) (a b c : DeviceStates) (content : ObjectContent) (copy : FileCopy) → Did (does (Creates copy.to)) a b
+    → Did (asks (Opens copy.from)) b c → IsNextCopy s content copy → HasBeenFed s.job.algorithm s'.hasher [] → KeepsAll s s'
+    → Turned (content_phase content) s s' a c (Ok (copy_phase content copy.length))
 unfolding IsNextCopy
-copy_opened s s' a b c content copied created opened (row, (at, stored, most, there, here, same)) started keeps =
+copy_opened s s' a b c content copy created opened (row, (at, stored, most, there, here, same)) started keeps =
     rw same
     (went a c (λ _. []) (λ fed _. Make (OpensCopy _ content.object content.position row at stored most))
     (both_did _ _ a b c (rw there at created) (rw here at opened)) refl (λ _ _. started) keeps)
@@ -173,18 +173,18 @@ left_new to from f a b c created stays = (
   stays.4,
 )
 
-pub copy_unopened : (s s' : State) (a b c : DeviceStates) (content : ObjectContent) (copied : Copied) (f : Fault) (result : Answer)
-    → IsErrAnd result (λ h. h ≡ f) → Did (does (Creates copied.to)) a b → FailsUnchanged f b c → IsNextCopy s content copied → KeepsAll s s'
+pub copy_unopened : (s s' : State) (a b c : DeviceStates) (content : ObjectContent) (copy : FileCopy) (f : Fault) (result : Answer)
+    → IsErrAnd result (λ h. h ≡ f) → Did (does (Creates copy.to)) a b → FailsUnchanged f b c → IsNextCopy s content copy → KeepsAll s s'
     → Turned (content_phase content) s s' a c result
 unfolding IsNextCopy
-copy_unopened s s' a b c content copied f result is created stays (row, (at, stored, most, there, here, same)) keeps =
+copy_unopened s s' a b c content copy f result is created stays (row, (at, stored, most, there, here, same)) keeps =
     left_some a c f result is (λ fed. Make (OpensCopy _ content.object content.position row at stored most))
     (left_new _ _ f a b c (rw there at created) stays) keeps
 
-pub may_open_copy : (s : State) (w : DeviceStates) (content : ObjectContent) (copied : Copied)
-    → MayMakeContent w.source w.dest content.object (held_of s []) content.position → IsNextCopy s content copied → CanOpen w.source copied.from
+pub may_open_copy : (s : State) (w : DeviceStates) (content : ObjectContent) (copy : FileCopy)
+    → MayMakeContent w.source w.dest content.object (held_of s []) content.position → IsNextCopy s content copy → CanOpen w.source copy.from
 unfolding MayMakeContent MayOpenRow IsNextCopy
-may_open_copy s w content copied may (row, (at, stored, most, there, here, same)) = rw here ((may row at stored).1 most).1
+may_open_copy s w content copy may (row, (at, stored, most, there, here, same)) = rw here ((may row at stored).1 most).1
 
 pub ruleset next_parts = (
   told_stored,

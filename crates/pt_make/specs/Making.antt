@@ -23,7 +23,7 @@ use Rattle.pt_plan.specs.DeviceStates.{Calls, Makes, does}
 use Rattle.pt_plan.specs.declared.phase.Phase.{Phase}
 use Rattle.pt_plan.specs.declared.phase.Phase.TheVariants as phase
 use Rattle.pt_plan.specs.declared.phase.Stage.TheVariants as stage
-use Rattle.pt_make.specs.declared.contents.Copied.{Copied}
+use Rattle.pt_make.specs.declared.contents.FileCopy.{FileCopy}
 use Rattle.pt_make.specs.declared.contents.ObjectContent.{ObjectContent}
 use Rattle.pt_make.specs.declared.contents.Step.{Step}
 use Rattle.pt_make.specs.declared.contents.Step.TheVariants as step
@@ -73,20 +73,20 @@ IsNextFolder s position path =
     × (path ≡ staged_content (take position.directories row.path)))
 
 -- its file is next
-unfoldable pub IsNextCopy : State → ObjectContent → Copied → Type 0
-IsNextCopy s content copied =
+unfoldable pub IsNextCopy : State → ObjectContent → FileCopy → Type 0
+IsNextCopy s content copy =
     (row : Row) × ((slice_get s.rows content.position.row ≡ Some row)
     × (is_stored s.contents content.position.stored row.path ≡ true)
     × (nat_lt content.position.directories (length row.path) ≡ false)
-    × (copied.to ≡ staged_content row.path)
-    × (copied.from ≡ in_pairtree (path_of_source content.object s.trail ++ row.path))
-    × (copied.length ≡ row.length))
+    × (copy.to ≡ staged_content row.path)
+    × (copy.from ≡ in_pairtree (path_of_source content.object s.trail ++ row.path))
+    × (copy.length ≡ row.length))
 
 -- this is next of the content
 abbrev pub IsStep : State → ObjectContent → Step → Type 0
 IsStep s content (step.Pass next) = IsPassed s content.position next
 IsStep s content (step.Folder path) = IsNextFolder s content.position path
-IsStep s content (step.File copied) = IsNextCopy s content copied
+IsStep s content (step.File copy) = IsNextCopy s content copy
 
 -- what was read is as the row at the position says, and this is next
 unfoldable pub IsAsRead : List Row → List Content → Position → ℕ → List ℕ → Part → Type 0

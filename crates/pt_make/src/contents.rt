@@ -28,7 +28,7 @@ pub struct ObjectContent {
 
 // The file of a content that is next to be made, with the one that it is copied from.
 #[derive(Drop)]
-struct Copied {
+struct FileCopy {
     to: NamePath,
     from: NamePath,
     length: u64,
@@ -42,7 +42,7 @@ enum Step {
     // The folder of this path is made.
     Folder(NamePath),
     // The file is made.
-    File(Copied),
+    File(FileCopy),
 }
 
 /// Passes a row whose content is stored already; else makes the next folder of its content path, or
@@ -61,7 +61,7 @@ pub(crate) fn make_content<O: Io>(
     match next_step(state, &content)? {
         Step::Pass(next) => Ok(Phase::Carrying(content.object, Stage::Make(next))),
         Step::Folder(path) => make_folder(state, content, &path, out),
-        Step::File(copied) => open_copy(state, content, &copied, out),
+        Step::File(copy) => open_copy(state, content, &copy, out),
     }
 }
 
@@ -88,7 +88,7 @@ fn next_step(state: &State, content: &ObjectContent) -> Result<Step, MemoryFault
     let to = staged_content_path(state.alloc, &row.path, names)?;
     let from = source_path(state.alloc, &content.object, &state.trail, &row.path)?;
     let length = row.length;
-    Ok(Step::File(Copied { to, from, length }))
+    Ok(Step::File(FileCopy { to, from, length }))
 }
 
 /// The part at a position: the content there, or what follows the contents.
@@ -141,18 +141,18 @@ fn make_folder<O: Io>(
 fn open_copy<O: Io>(
     state: &mut State,
     content: ObjectContent,
-    copied: &Copied,
+    copy: &FileCopy,
     out: &mut O,
 ) -> Result<Phase, Fault>
-    requires next { IsNextCopy state.old content copied.now }
-    requires may { MayMake (O.states out.old).dest copied.now.to
-        × CanOpen (O.states out.old).source copied.now.from }
+    requires next { IsNextCopy state.old content copy.now }
+    requires may { MayMake (O.states out.old).dest copy.now.to
+        × CanOpen (O.states out.old).source copy.now.from }
     ensures turn { TakesTurn O.Io (1, 0) (content_phase content)
         (state.old, out.old) (state.new, out.new) result }
 {
-    out.create(&copied.to)?;
-    out.open(&copied.from)?;
+    out.create(&copy.to)?;
+    out.open(&copy.from)?;
     state.hasher = Hasher::start(state.job.algorithm);
     let ObjectContent { object, position } = content;
-    Ok(Phase::Carrying(object, Stage::Copy(position, copied.length)))
+    Ok(Phase::Carrying(object, Stage::Copy(position, copy.length)))
 }

@@ -7,6 +7,8 @@ ghost use Rattle.pt_name.specs.Tuples.{Tuples};
 ghost use Rattle.pt_object.specs.Script.{MakeFile, MakeFolder};
 ghost use Rattle.pt_object.specs.Scripts.{staging as staging_path};
 ghost use Rattle.pt_plan.specs.Enabled.{MayMakeRootItem};
+ghost use Rattle.pt_plan.specs.RootNumbers.{configuration_number, root_file_count};
+ghost use Rattle.pt_plan.specs.RootNumbers.{root_folder_count, root_item_count};
 ghost use Rattle.pt_plan.specs.Roots.{storage_root};
 ghost use Rattle.pt_plan.specs.TurnStart.{after_file as after_file_of, after_item as after_item_of};
 ghost use Rattle.pt_plan.specs.declared.phase.Opening.TheVariants as opening;
@@ -28,8 +30,18 @@ use pt_state::{Io, State};
 use pt_tree::{Kind, MemoryFault, NamePath};
 use std::alloc::Global;
 
+// The items that a storage root is made of: first the folders on the way to the layout's
+// configuration, then the files.
+const FOLDERS: u8 = 3;
+
+const FILES: u8 = 3;
+
+const LAST_ITEM: u8 = FOLDERS + FILES - 1;
+
 // The number of the layout's configuration among the files of a root: it is the last one.
 const CONFIGURATION: usize = 2;
+
+const LAST_FILE: usize = CONFIGURATION;
 
 /// Asks whether `staging` is there.
 ///
@@ -69,16 +81,16 @@ pub fn look_at_root<O: Io>(state: &State, out: &mut O) -> Result<Phase, Fault>
 /// file that was begun may be left then.
 pub fn make_root<O: Io>(state: &State, item: u8, out: &mut O) -> Result<Phase, Fault>
     requires may { MayMakeRootItem (O.states out.old).dest state.now.job.layout item }
-    requires item { item < 6 }
+    requires item { item < root_item_count }
     ensures turn { TakesTurn O.Io (0, 0) (phase.Opening (opening.RootMake item))
         (state.now, out.old) (state.now, out.new) result }
 {
-    if item < 3 {
+    if item < FOLDERS {
         let path = root_folder(state.alloc, item)?;
         return make_folder(state, item, &path, out);
     }
     let files = root_files(state.alloc, state.job.layout)?;
-    let Some((path, bytes)) = files.get((5 - item) as usize) else {
+    let Some((path, bytes)) = files.get((LAST_ITEM - item) as usize) else {
         unreachable!()
     };
     let whole = in_staging(state.alloc, path)?;
@@ -113,7 +125,7 @@ fn create_file<O: Io>(
 
 // The path in `staging` of a directory of a storage root.
 fn root_folder(alloc: Global, item: u8) -> Result<NamePath, MemoryFault>
-    requires { item < 3 }
+    requires { item < root_folder_count }
     ensures { (tuples : Tuples) → IfOk result (λ path. IsRootItem tuples item (MakeFolder path)) }
 {
     if item == 0 {
@@ -134,10 +146,10 @@ fn root_folder(alloc: Global, item: u8) -> Result<NamePath, MemoryFault>
 
 // What follows an item.
 fn after_item(item: u8) -> Phase
-    requires { item < 6 }
+    requires { item < root_item_count }
     ensures { result ≡ after_item_of item }
 {
-    if item == 5 {
+    if item == LAST_ITEM {
         Phase::Opening(Opening::RootRename)
     } else {
         Phase::Opening(Opening::RootMake(item + 1))
@@ -165,7 +177,7 @@ pub fn rename_root<O: Io>(state: &State, out: &mut O) -> Result<Phase, Fault>
 /// asked or the file not be read, and for `Memory` where a growth is refused. What is held stays
 /// then, but for the block.
 pub fn check_root<O: Io>(state: &mut State, file: usize, out: &mut O) -> Result<Phase, Fault>
-    requires { file < 3 }
+    requires { file < root_file_count }
     ensures turn { TakesTurn O.Io (0, looks_at_file file) (phase.Opening (opening.RootCheck file))
         (state.old, out.old) (state.new, out.new) result }
 {
@@ -189,8 +201,8 @@ fn check_configuration<O: Io>(
     bytes: &[u8],
     out: &mut O,
 ) -> Result<Phase, Fault>
-    requires here { IsFileAt state.old.job.layout 2 path.now bytes.now }
-    ensures turn { TakesTurn O.Io (0, 4) (phase.Opening (opening.RootCheck 2))
+    requires here { IsFileAt state.old.job.layout configuration_number path.now bytes.now }
+    ensures turn { TakesTurn O.Io (0, 4) (phase.Opening (opening.RootCheck configuration_number))
         (state.old, out.old) (state.new, out.new) result }
 {
     let outer = NamePath::of_known(
@@ -259,10 +271,10 @@ fn compare<O: Io>(
 
 // What follows a file.
 fn after_file(file: usize) -> Phase
-    requires { file < 3 }
+    requires { file < root_file_count }
     ensures { result ≡ after_file_of file }
 {
-    if file == 2 {
+    if file == LAST_FILE {
         Phase::Opening(Opening::OpenRoot)
     } else {
         Phase::Opening(Opening::RootCheck(file + 1))

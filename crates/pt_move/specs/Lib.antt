@@ -6,6 +6,7 @@ pub mod Leaving
 pub mod Lines
 pub mod Mending
 pub mod Migrates
+pub mod MigratesOver
 pub mod Movers
 pub mod Outcome
 pub mod Promises

@@ -1,6 +1,7 @@
 -- What the turn of a phase needs of what a run holds, and of its numbers, so that its code can be run.
 use Rattle.std.specs.Prelude.{◌≡◌, ◌<◌, ◌≤◌, ◌^◌, [], IsSome, IsTrue, false, length, ⊤}
 use Rattle.pt_walk.specs.Trail.{current_entry, is_dir_entry}
+use Rattle.pt_plan.specs.RootNumbers.{root_file_count, root_item_count}
 use Rattle.pt_plan.specs.TurnPlace.{bytes_in_rows}
 use Rattle.pt_plan.specs.TurnScan.{own_listings}
 use Rattle.pt_plan.specs.declared.phase.Phase.{Phase}
@@ -13,8 +14,8 @@ use Rattle.pt_state.specs.declared.state.State.{State}
 
 -- where it stands: the trail is in the object under way, and rows and tuples of these numbers are there
 abbrev pub Stands : Phase → State → Type 0
-Stands (phase.Opening (opening.RootMake item)) s = item < 6
-Stands (phase.Opening (opening.RootCheck file)) s = file < 3
+Stands (phase.Opening (opening.RootMake item)) s = item < root_item_count
+Stands (phase.Opening (opening.RootCheck file)) s = file < root_file_count
 Stands (phase.Opening opening.OpenRoot) s = s.trail ≡ []
 Stands (phase.Carrying object stage.Open) s =
     IsSite object s.trail

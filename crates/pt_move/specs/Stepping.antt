@@ -1,22 +1,16 @@
 -- What one step answers, and what it leaves.
-use Rattle.std.specs.Prelude.{◌≡◌, ◌≢◌, ◌+◌, ◌<◌, ◌==◌, ◌≤◌, ℕ, IfErr, IfOk, Result, Ok, Err, cond, ⊤}
-use Rattle.pt_plan.specs.Answer.{Answer, phase_after}
-use Rattle.pt_plan.specs.RunFaults.{IsOfTurn}
+use Rattle.std.specs.Prelude.{◌≡◌, ◌≢◌, ◌+◌, ◌<◌, ◌==◌, ◌≤◌, ℕ, IfOk, Result, Ok, Err, cond, ⊤}
 use Rattle.pt_plan.specs.DeviceStates.{DeviceStates}
 use Rattle.pt_tree.specs.Source.{tree_in}
 use Rattle.pt_plan.specs.declared.fault.Fault.{Fault}
-use Rattle.pt_plan.specs.declared.phase.Phase.{Phase}
 use Rattle.pt_plan.specs.declared.phase.Phase.TheVariants as phase
 use Rattle.pt_state.specs.States.{counts_of}
-use Rattle.pt_state.specs.declared.outside.Io.{Ghosts as OfOutside}
-use Rattle.pt_state.specs.declared.state.State.{State}
 use Rattle.pt_move.specs.Bounds.{lines_put}
 use Rattle.pt_move.specs.Turning.{CountedTurn}
 use Rattle.pt_move.specs.Counting.{Counts}
 use Rattle.pt_move.specs.Held.{Gains, Moves}
-use Rattle.pt_move.specs.Leaving.{TurnLeaves}
 use Rattle.pt_move.specs.Lines.{FinishTold, Tells}
-use Rattle.pt_move.specs.Running.{BeganSomewhere, TypeInvariant, Running}
+use Rattle.pt_move.specs.Running.{Running}
 use Rattle.pt_plan.specs.declared.fault.Fault.TheVariants as fault
 use Rattle.pt_move.specs.declared.mover.Turn.{Turn}
 use Rattle.pt_move.specs.declared.mover.Turn.TheVariants as turn
@@ -25,12 +19,6 @@ use Rattle.pt_move.specs.declared.mover.Turn.TheVariants as turn
 pub record IsTurn (old : Running) : Type 0 where
   pub going : old.phase ≢ phase.Ended
   pub within : old.state.counts.turns < old.state.job.limits.turns
-
--- and it began at some start over these states
-pub record IsReady (states : DeviceStates) (r : Running) : Type 0 where
-  pub begun : BeganSomewhere states r
-  pub well : TypeInvariant r
-  pub turn : IsTurn r
 
 -- the answer is given in its states alone: Ended after the end, Turns where the limit of turns was made before it, and any other after a turn; unless
 -- there is more to do, the run has ended
@@ -108,19 +96,6 @@ pub record Left (old new : DeviceStates) (before after : Running) (result : Resu
 -- what one step leaves outside, and of what is held
 unfoldable pub StepLeaves : DeviceStates → DeviceStates → Running → Running → Result Turn Fault → Type 0
 StepLeaves old new before after result = Left old new before after result
-
--- ---- the turn of a step
-
--- a turn at this phase, over all devices as one: it was counted, and this is what it leaves
-pub record Made {O : Type 0} (of : OfOutside O) (most : ℕ × ℕ) (here : Phase) (old new : State × O)
-    (answer : Answer) : Type 0 where
-  pub tree : tree_in (of.states new.1).source ≡ tree_in (of.states old.1).source
-  pub turn : CountedTurn here old.0 new.0 (of.states old.1) (of.states new.1) answer
-  pub own : IfErr answer IsOfTurn
-  pub well : TypeInvariant (record { phase = phase_after answer; state = new.0 })
-  pub leaves : TurnLeaves old.0 new.0 (of.states old.1).log (of.states new.1).log
-      (of.states old.1).failures (of.states new.1).failures answer
-  pub few : of.within most.0 most.1 old.1 new.1
 
 -- ---- a step over three devices
 

@@ -18,6 +18,6 @@ mod anew;
 mod ending;
 mod owning;
 
-pub use anew::{Attempts, Jobs, Mended, carry_through};
+pub use anew::{Attempts, Jobs, Mendable, carry_through};
 pub use ending::{carries_all, lines_told};
 pub use owning::{Most, Run};

@@ -9,9 +9,10 @@
 //! What it promises, over any source, destination and log; docs/GUARANTEES.md has it clause by
 //! clause:
 //!
-//! - `migrate_observed` asks for nothing. `Migrates` is what it promises, each clause by its name,
-//!   and which devices have to tell. An observer gets the report after each turn that goes on
-//!   (`Observer`). `migrate` is that without one, with the same promises.
+//! - `migrate_observed` asks for nothing. It promises `MigratesOver`: each device stays, a source
+//!   fails only where a run asks, and `Migrates` has the rest, each clause by its name, and which
+//!   devices have to tell. An observer gets the report after each turn that goes on (`Observer`).
+//!   `migrate` is that without one.
 //! - `Mover::step` asks that the devices are those of the earlier steps, as those left them. It
 //!   promises the same after each answer, against the start at which the run began (`Keeps`), and
 //!   besides that what is held is within the bound, that it is the fields that are listed and

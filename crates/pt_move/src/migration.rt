@@ -1,13 +1,12 @@
 //! A whole run.
 //!
-//! Beside `Migrates` a run promises of a source that tells where it fails: if a call of it failed,
-//! it does so at what a run asks for, or at the file that was open (`FailsOnlyWhereAsked` of
-//! pt_plan). Each step promises the same.
+//! What it promises of the three devices is `MigratesOver`: by what they tell `Migrates`; that each
+//! stays; and of a source that tells where it fails, that if a call of it failed, it did so at what
+//! a run asks for, or at the file that was open (`FailsOnlyWhereAsked` of pt_plan). Each step
+//! promises the same.
 ghost use Rattle.std.specs.Prelude.{ℕ};
-ghost use Rattle.pt_plan.specs.SourceFailures.{FailsOnlyWhereAsked};
-ghost use Rattle.pt_state.specs.Outside.{states_of};
-ghost use Rattle.pt_state.specs.SourceFailures.{source_view};
 ghost use Rattle.pt_move.specs.Migrates.{Migrates};
+ghost use Rattle.pt_move.specs.MigratesOver.{MigratesOver};
 
 use crate::{Fault, Mover, NoObserver, Observer, Turn};
 use pt_state::{Devices, Io, Job, Report};
@@ -29,7 +28,7 @@ use std::alloc::Global;
 /// other fault comes where its variant of `Fault` says. Each device stays the one that it is, as
 /// its calls keep it. Where the source's count of failures changed, and it tells where it fails, it
 /// does so at its top, the file of its prefix, or something at `pairtree_root` or below, or at the
-/// file that was open in it before (`source_fails`).
+/// file that was open in it before (`source_fails` of `MigratesOver`).
 pub fn migrate<S: Source, D: Dest, L: Log>(
     alloc: Global,
     source: &mut S,
@@ -37,13 +36,8 @@ pub fn migrate<S: Source, D: Dest, L: Log>(
     log: &mut L,
     job: Job,
 ) -> Result<Report, Fault>
-    ensures promises { Migrates job (states_of S.Source D.Dest L.Log source.old dest.old log.old)
-        (states_of S.Source D.Dest L.Log source.new dest.new log.new) result }
-    ensures source_stays { S.keeps source.old source.new }
-    ensures source_fails { FailsOnlyWhereAsked (source_view S.Source source.old)
-        (source_view S.Source source.new) }
-    ensures dest_stays { D.keeps dest.old dest.new }
-    ensures log_stays { L.keeps log.old log.new }
+    ensures { MigratesOver S.Source D.Dest L.Log job
+        ((source.old, dest.old, log.old), (source.new, dest.new, log.new)) result }
 {
     migrate_observed(alloc, source, dest, log, job, &NoObserver)
 }
@@ -59,13 +53,8 @@ pub fn migrate_observed<S: Source, D: Dest, L: Log, O: Observer<Report>>(
     job: Job,
     observer: &O,
 ) -> Result<Report, Fault>
-    ensures promises { Migrates job (states_of S.Source D.Dest L.Log source.old dest.old log.old)
-        (states_of S.Source D.Dest L.Log source.new dest.new log.new) result }
-    ensures source_stays { S.keeps source.old source.new }
-    ensures source_fails { FailsOnlyWhereAsked (source_view S.Source source.old)
-        (source_view S.Source source.new) }
-    ensures dest_stays { D.keeps dest.old dest.new }
-    ensures log_stays { L.keeps log.old log.new }
+    ensures { MigratesOver S.Source D.Dest L.Log job
+        ((source.old, dest.old, log.old), (source.new, dest.new, log.new)) result }
 {
     run(alloc, &mut Devices { source, dest, log }, job, observer)
 }

@@ -10,7 +10,7 @@
 //! file of the root is compared, four times where that is the layout's configuration, and in most
 //! turns never (`most_looks`).
 ghost use Rattle.std.specs.Prelude.{◌≡◌, ◌+◌, length};
-ghost use Rattle.pt_invariant.specs.RunInvariant.{AreStates, Start, start_of};
+ghost use Rattle.pt_invariant.specs.RunInvariant.{AreStates, start_of};
 ghost use Rattle.pt_plan.specs.DeviceStates.{DeviceStates};
 ghost use Rattle.pt_state.specs.Counting.{AtMostCalls};
 ghost use Rattle.pt_plan.specs.SourceFailures.{FailsOnlyWhereAsked};
@@ -18,9 +18,9 @@ ghost use Rattle.pt_state.specs.Outside.{states_of};
 ghost use Rattle.pt_state.specs.SourceFailures.{source_view};
 ghost use Rattle.pt_walk.specs.Trail.{entries_held};
 ghost use Rattle.pt_move.specs.Bounds.{most_looks};
-ghost use Rattle.pt_move.specs.Promises.{TakesStep, TurnKeeps};
+ghost use Rattle.pt_move.specs.Promises.{TakesStep};
 ghost use Rattle.pt_move.specs.Running.{BeganSomewhere, HasBegun, IsBegun, IsNew, TypeInvariant};
-ghost use Rattle.pt_move.specs.Stepping.{Any, IsReady, Made, SameDevice, most_calls_at};
+ghost use Rattle.pt_move.specs.Stepping.{Any, SameDevice, most_calls_at};
 
 use crate::turning::{new_state, turn};
 use pt_plan::{Fault, Opening, Phase};
@@ -135,7 +135,7 @@ impl Mover {
         if self.state.counts.turns >= self.state.job.limits.turns() {
             return Err(Fault::Turns);
         }
-        match made_turn(&mut self.state, phase, out)? {
+        match turn(&mut self.state, phase, out)? {
             Phase::Ended => Ok(Turn::Finished),
             next => {
                 self.phase = next;
@@ -172,19 +172,4 @@ impl Mover {
     {
         self.state.counts
     }
-}
-
-// Makes the turn of a phase, and gives the next one. `turn` is promised of every state that permits
-// it, a survey's too; here it is said what it comes to for a run in progress, so that `advance`
-// isn't proved by what each turn does.
-fn made_turn<O: Io>(state: &mut State, here: Phase, out: &mut O) -> Result<Phase, Fault>
-    requires { IsReady (O.states out.old) (record { phase = here; state = state.old }) }
-    ensures keeps { (start : Start)
-        → IsBegun start (O.states out.old) (record { phase = here; state = state.old })
-        → TurnKeeps start (O.states out.old) (O.states out.new) state.old state.new result }
-    ensures made { Made O.Io
-        (most_calls_at (record { phase = here; state = state.old }), most_looks here) here
-        (state.old, out.old) (state.new, out.new) result }
-{
-    turn(state, here, out)
 }

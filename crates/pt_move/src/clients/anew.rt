@@ -13,7 +13,7 @@ use pt_tree::{Dest, Log, Source};
 use std::alloc::Global;
 
 /// A destination in which what a fault left can be taken away.
-pub trait Mended: Dest {
+pub trait Mendable: Dest {
     /// Takes away what stands at `staging`, with all below; whether that was done, or nothing stood
     /// there.
     fn take_staging_away(&mut self) -> bool
@@ -43,7 +43,7 @@ pub struct Attempts<J> {
 /// Makes a run, and after each fault takes `staging` away and makes another, so many in all:
 /// whether one came to its end. Whatever faults there were, and wherever they came: where all three
 /// tell and a run could end well, the destination then holds what one undisturbed run leaves.
-pub fn carry_through<S: Source, D: Mended, L: Log, J: Jobs + Drop>(
+pub fn carry_through<S: Source, D: Mendable, L: Log, J: Jobs + Drop>(
     alloc: Global,
     source: &mut S,
     dest: &mut D,
