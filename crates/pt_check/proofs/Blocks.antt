@@ -31,7 +31,7 @@ use Rattle.std.proofs.lemmas.List.{length-append, take-append-drop}
 use Rattle.std.specs.Option.{ForSome, option_map}
 use Rattle.std.specs.Prelude.{IsSome, Option, None, Some, unwrap_or}
 use Rattle.pt_check.specs.Counting.{plus, with_bytes}
-use Rattle.pt_check.specs.Visits.{GoesAt, Opens, Seen, TellsIf, counting, size_trouble}
+use Rattle.pt_check.specs.Visits.{GoesAt, Opens, CheckState, TellsIf, counting, size_trouble}
 use Rattle.pt_check.specs.declared.trouble.Trouble.{Trouble}
 use Rattle.pt_check.specs.declared.trouble.Trouble.TheVariants as trouble
 use Rattle.pt_tree.specs.Failures.{greatest_count}
@@ -44,11 +44,6 @@ use Rattle.pt_tree.specs.Source.{Reading, CanOpen, CanRead, IsRead, after_next, 
 pub may_open : (told : Option Reading) (path : Path) → ForSome (tree_in told) (λ tree. IsSome (file_at tree path)) → CanOpen told path
 unfolding CanOpen
 may_open told path there s is = there s.tree (ap tree_in is)
-
--- the tree is the same then
-pub open_stays : (old new : Option Reading) (path : Path) → new ≡ option_map (after_open path) old → tree_in new ≡ tree_in old
-open_stays None new path is = ap tree_in is
-open_stays (Some s) new path is = ap tree_in is
 
 -- and where a block is read
 pub next_stays : (old new : Option Reading) → new ≡ option_map after_next old → tree_in new ≡ tree_in old
@@ -187,11 +182,11 @@ same_sum : (total n : ℕ) → plus total (min n greatest_count) ≡ plus total 
 same_sum total n = omega arith
 
 -- a file was opened, its bytes counted up to the greatest number, and told if they are too many
-pub opens_step : (here : Option Forest) (reads : Bool) (path : Path) (n : ℕ) (told : Option Trouble) (a m b : Seen)
+pub opens_step : (here : Option Forest) (reads : Bool) (path : Path) (n : ℕ) (told : Option Trouble) (a m b : CheckState)
     → ForSome here (λ tree. n ≡ cond reads (min (length (bytes_at tree path)) greatest_count) 0) → told ≡ size_trouble n → m ≡ counting (with_bytes n) a
     → TellsIf path told m b → (reads ≡ true → n < greatest_count → GoesAt path a) → ForSome here (λ tree. Opens reads path (bytes_at tree path) a b)
 opens_step here reads path n told a m b bytes told_is counted tells goes tree is =
-    let start : TellsIf path told (counting (with_bytes n) a) b = subst (λ (s : Seen). TellsIf path told s b) counted tells in
+    let start : TellsIf path told (counting (with_bytes n) a) b = subst (λ (s : CheckState). TellsIf path told s b) counted tells in
     let named : TellsIf path (size_trouble n) (counting (with_bytes n) a) b = subst (λ (o : Option Trouble). TellsIf path o (counting (with_bytes n) a) b)
     told_is start in
     by reads goes (bytes tree is) named

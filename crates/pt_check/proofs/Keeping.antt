@@ -1,7 +1,7 @@
 -- What a check keeps of its source and its log.
 use Rattle.std.proofs.Common.{◌≡◌, ℕ, List, refl, sym, ap, ◌∙◌, subst}
 use Rattle.std.specs.Prelude.{Option}
-use Rattle.pt_check.specs.Visits.{Keeps, seen_by}
+use Rattle.pt_check.specs.Visits.{Keeps, check_state}
 use Rattle.pt_tree.specs.Log.{Grows}
 use Rattle.pt_check.specs.declared.checking.Check.{Check}
 use Rattle.pt_check.specs.declared.numbers.Numbers.{Numbers}
@@ -59,6 +59,6 @@ ends_on {S} {L} {E} told keeps held is_kept a b n is =
 
 -- and that is how far it is then
 pub recounted : {S L E : Type 0} (source : OfSource S) (log : OfLog L) (a b : Check S L E) (n : Numbers) → b ≡ record a { numbers = b.numbers } → b.numbers ≡ n
-    → seen_by source log b ≡ record (seen_by source log a) { numbers = n }
+    → check_state source log b ≡ record (check_state source log a) { numbers = n }
 recounted {S} {L} {E} source log a b n rest is =
-    ap (λ (s : Check S L E). seen_by source log s) rest ∙ ap (λ (m : Numbers). record (seen_by source log a) { numbers = m }) is
+    ap (λ (s : Check S L E). check_state source log s) rest ∙ ap (λ (m : Numbers). record (check_state source log a) { numbers = m }) is

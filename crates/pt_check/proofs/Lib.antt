@@ -3,7 +3,6 @@ mod FilesHeld
 mod Keeping
 mod Kept
 mod NamesRead
-pub mod LineTexts
 mod Blocks
 mod Stepping
 mod Parts

@@ -3,17 +3,17 @@ use Rattle.std.proofs.Common.{◌≡◌, ◌<◌, ◌+◌, ◌∙◌, ℕ, List,
 use Rattle.std.proofs.lemmas.List.{map_more}
 use Rattle.std.specs.Global.{Global}
 use Rattle.pt_check.specs.Lines.{Unreadable}
-use Rattle.pt_check.specs.Visits.{Seen, Tells, TellsEach}
+use Rattle.pt_check.specs.Visits.{CheckState, Tells, TellsEach}
 use Rattle.pt_tree.specs.Path.{Path}
 
 -- one reason more
-each_more : (path : Path) (reasons : List (List ℕ)) (reason : List ℕ) (a m b : Seen) → TellsEach path reasons a m → Tells (Unreadable path reason) m b
+each_more : (path : Path) (reasons : List (List ℕ)) (reason : List ℕ) (a m b : CheckState) → TellsEach path reasons a m → Tells (Unreadable path reason) m b
     → TellsEach path (reasons ++ reason ∷ []) a b
-each_more path [] reason a m b same tells = (b, subst (λ (s : Seen). Tells (Unreadable path reason) s b) same tells, refl)
+each_more path [] reason a m b same tells = (b, subst (λ (s : CheckState). Tells (Unreadable path reason) s b) same tells, refl)
 each_more path (x ∷ xs) reason a m b (n, first, each) tells = (n, first, each_more path xs reason n m b each tells)
 
 -- the next of them was told
-pub each_step : (path : Path) (reasons : List (String Global)) (i : ℕ) (reason d : String Global) (text : List ℕ) (a m b : Seen) → i < length reasons
+pub each_step : (path : Path) (reasons : List (String Global)) (i : ℕ) (reason d : String Global) (text : List ℕ) (a m b : CheckState) → i < length reasons
     → reason ≡ get_or reasons i d
     → text ≡ string_bytes reason → TellsEach path (map (λ r. string_bytes r) (take i reasons)) a m → Tells (Unreadable path text) m b
     → TellsEach path (map (λ r. string_bytes r) (take (i + 1) reasons)) a b

@@ -44,7 +44,7 @@ use Rattle.pt_check.specs.Visits.{
   LooksAll,
   ReadsPrefix,
   Says,
-  Seen,
+  CheckState,
   Tells,
   TellsUnlisted,
   Visits,
@@ -91,18 +91,19 @@ use Rattle.pt_check.proofs.QuietSteps.{
 }
 
 -- where files are read whole, its source fails at no directory and no file of a folder at this path
-abbrev Goes : Wants → Path → Forest → Seen → Type 0
+abbrev Goes : Wants → Path → Forest → CheckState → Type 0
 Goes wants path tree s = wants.reads ≡ true → GoesIn s.failing path tree
 
-still_goes_in : (wants : Wants) (path : Path) (tree : Forest) (a b : Seen) → source_of b ≡ source_of a → Goes wants path tree a → Goes wants path tree b
+still_goes_in : (wants : Wants) (path : Path) (tree : Forest) (a b : CheckState) → source_of b ≡ source_of a → Goes wants path tree a → Goes wants path tree b
 still_goes_in wants path tree a b same goes reads =
     subst (λ (w : Option (Path → Bool)). GoesIn w path tree) (sym (ap (λ (x : Option (Path → Bool) × ℕ). x.0) same)) (goes reads)
 
 -- of the entries that were visited
-abbrev Visited : Wants → Folder → Bool → Forest → Seen → Seen → Type 0
+abbrev Visited : Wants → Folder → Bool → Forest → CheckState → CheckState → Type 0
 Visited wants folder holds tree a b = Quiet a b × IsClean wants folder holds tree × Fills folder.here (file_count tree) a b × Goes wants folder.path tree b
 
-quiet : (says : Says) (wants : Wants) (folder : Folder) (holds : Bool) (tree : Forest) (a b : Seen) → Visits says wants folder holds tree a b → told_by b ≡ 0
+quiet : (says : Says) (wants : Wants) (folder : Folder) (holds : Bool) (tree : Forest) (a b : CheckState) → Visits says wants folder holds tree a b
+    → told_by b ≡ 0
     → Visited wants folder holds tree a b
 quiet says wants folder holds none a b same nothing =
     ((ap told_by (sym same) ∙ nothing, ap source_of same), tt, no_fill folder.here a b (ap held_by same), λ reads. tt)
@@ -175,11 +176,11 @@ read_whole bytes silent =
     take_all 8192 bytes (omega (arith, few, long))
 
 -- what was met at the name of the prefix
-abbrev ReadPrefix : Option Node → Option Kind → List ℕ → List ℕ → Seen → Seen → Type 0
+abbrev ReadPrefix : Option Node → Option Kind → List ℕ → List ℕ → CheckState → CheckState → Type 0
 ReadPrefix o k bytes prefix a b = IsCleanPrefix k bytes × Quiet a b × (prefix ≡ prefix_in o) × (k ≡ Some kind.File → GoesAt prefix_path a)
 
 -- the prefix that is known is that of a run
-prefix_read : (o : Option Node) (k : Option Kind) (bytes prefix : List ℕ) (a b : Seen) → k ≡ option_map kind_of o
+prefix_read : (o : Option Node) (k : Option Kind) (bytes prefix : List ℕ) (a b : CheckState) → k ≡ option_map kind_of o
     → bytes ≡ unwrap_or (option_and_then as_file o) []
     → ReadsPrefix k bytes prefix a b → told_by b ≡ 0 → ReadPrefix o k bytes prefix a b
 prefix_read None None bytes prefix a b is all (same, none_is) nothing = (tt, (ap told_by (sym same) ∙ nothing, ap source_of same), none_is, (λ e. absurd (cc)))
@@ -210,18 +211,18 @@ bytes_found (Some (Dir inside)) = refl
 bytes_found (Some Other) = refl
 
 -- what was listed and read of a store, where its files are read whole
-pub record GoesInStore (wants : Wants) (tree : Forest) (s : Seen) : Type 0 where
+pub record GoesInStore (wants : Wants) (tree : Forest) (s : CheckState) : Type 0 where
   pub top : GoesAt [] s
   pub prefix : kind_in (listing_of tree) prefix_file ≡ Some kind.File → GoesAt prefix_path s
   pub root : GoesAt (pairtree_root ∷ []) s
   pub inside : Goes wants (pairtree_root ∷ []) (below_root tree) s
 
 -- what such a check has met
-pub store_met : (says : Says) (wants : Wants) (tree : Forest) (numbers : Numbers) (a b : Seen) → Checks says wants tree numbers a b → numbers.told ≡ 0
+pub store_met : (says : Says) (wants : Wants) (tree : Forest) (numbers : Numbers) (a b : CheckState) → Checks says wants tree numbers a b → numbers.told ≡ 0
     → IsCleanStore wants tree × (b.failed ≡ a.failed) × GoesInStore wants tree a
 store_met says wants tree numbers a b checks nothing = by checks.whole checks.first checks.looks
   where
-    last : Seen
+    last : CheckState
     last = checks.last
 
     quiet_last : told_by last ≡ 0
@@ -239,7 +240,7 @@ store_met says wants tree numbers a b checks nothing = by checks.whole checks.fi
     root_path : Path
     root_path = pairtree_root ∷ []
 
-    visited : (prefix : List ℕ) (m : Seen) (t : Bool) → cond t (VisitsFolder says wants (root_folder prefix) inside m last)
+    visited : (prefix : List ℕ) (m : CheckState) (t : Bool) → cond t (VisitsFolder says wants (root_folder prefix) inside m last)
         (Tells (Told root_path trouble.Missing) m last)
         → (t ≡ true) × AreClean prefix × Quiet m last × GoesAt root_path m × Goes wants root_path inside last
     visited prefix m true enters =
@@ -250,7 +251,7 @@ store_met says wants tree numbers a b checks nothing = by checks.whole checks.fi
         (refl, (all.0, all.2.2.0), all.1, all.3, all.2.2.1)
     visited prefix m false tells = absurd (puts_told _ m last tells quiet_last)
 
-    looked : (first : Seen) → LooksAll says wants tree first last → IsCleanStore wants tree × Quiet first last × (GoesAt [] first
+    looked : (first : CheckState) → LooksAll says wants tree first last → IsCleanStore wants tree × Quiet first last × (GoesAt [] first
         → GoesInStore wants tree first)
     looked first (n, prefix, reads, (m, version, rest)) =
         let root = visited prefix m (is_dir_kind (kind_in (listing_of tree) pairtree_root)) rest in
@@ -277,13 +278,13 @@ store_met says wants tree numbers a b checks nothing = by checks.whole checks.fi
           }),
         )
 
-    by : (whole : Bool) (first : Seen) → (Finds says [] whole a first × LooksAll says wants tree first last) ⊎ TellsUnlisted says [] false a last
+    by : (whole : Bool) (first : CheckState) → (Finds says [] whole a first × LooksAll says wants tree first last) ⊎ TellsUnlisted says [] false a last
         → IsCleanStore wants tree × (b.failed ≡ a.failed) × GoesInStore wants tree a
     by whole first (inr fails) = absurd (unlisted_told says [] false a last fails quiet_last)
     by true first (inl ((same, goes), looks)) =
         let it = looked first looks in
         let failed = ap (λ (x : Option (Path → Bool) × ℕ). x.1) it.1.1 in
-        (it.0, checks.failed ∙ failed ∙ ap (λ (s : Seen). s.failed) same, subst (GoesInStore wants tree) same (it.2 (subst (GoesAt []) (sym same) goes)))
+        (it.0, checks.failed ∙ failed ∙ ap (λ (s : CheckState). s.failed) same, subst (GoesInStore wants tree) same (it.2 (subst (GoesAt []) (sym same) goes)))
     by false first (inl (tells, looks)) =
         let it = looked first looks in
         absurd (unlisted_told says [] true a first tells it.1.0)

@@ -44,7 +44,7 @@ use Rattle.pt_check.specs.Visits.{
   Opens,
   Puts,
   Says,
-  Seen,
+  CheckState,
   Tells,
   TellsEach,
   TellsFailure,
@@ -76,46 +76,46 @@ use Rattle.pt_tree.specs.declared.kind.Kind.TheVariants as kind
 use Rattle.pt_check.proofs.FilesHeld.{Fills, held_by, met_fills, one_of}
 
 -- how many lines told of something
-abbrev pub told_by : Seen → ℕ
+abbrev pub told_by : CheckState → ℕ
 told_by s = s.numbers.told
 
 -- a line is counted
 line_told : (n : ℕ) → min (n + 1) greatest_count ≡ 0 → ⊥
 line_told n e = omega (arith, e)
 
-pub puts_told : (text : List ℕ) (a b : Seen) → Puts text a b → told_by b ≡ 0 → ⊥
+pub puts_told : (text : List ℕ) (a b : CheckState) → Puts text a b → told_by b ≡ 0 → ⊥
 puts_told text a b puts nothing = line_told (told_by a) (sym (ap (λ (n : Numbers). n.told) puts.numbers) ∙ nothing)
 
-pub fails_told : (path : Path) (a b : Seen) → TellsFailure path a b → told_by b ≡ 0 → ⊥
+pub fails_told : (path : Path) (a b : CheckState) → TellsFailure path a b → told_by b ≡ 0 → ⊥
 fails_told path a b (m, same, rose, held, numbers, (reason, puts)) nothing = puts_told _ m b puts nothing
 
-each_told : (path : Path) (reasons : List (List ℕ)) (a b : Seen) → TellsEach path reasons a b → told_by b ≡ 0 → told_by a ≡ 0
+each_told : (path : Path) (reasons : List (List ℕ)) (a b : CheckState) → TellsEach path reasons a b → told_by b ≡ 0 → told_by a ≡ 0
 each_told path [] a b same nothing = ap told_by (sym same) ∙ nothing
 each_told path (reason ∷ more) a b (m, puts, each) nothing = absurd (puts_told _ a m puts (each_told path more m b each nothing))
 
-pub unlisted_told : (says : Says) (path : Path) (part : Bool) (a b : Seen) → TellsUnlisted says path part a b → told_by b ≡ 0 → ⊥
+pub unlisted_told : (says : Says) (path : Path) (part : Bool) (a b : CheckState) → TellsUnlisted says path part a b → told_by b ≡ 0 → ⊥
 unlisted_told says path part a b (m, same, rose, held, numbers, (s, still, more, holds, counts, reason, further, (n, puts, each), said)) nothing =
     puts_told _ s n puts (each_told path further n b each nothing)
 
 -- where nothing was told there was no trouble
-pub tells_if : (path : Path) (o : Option Trouble) (a b : Seen) → TellsIf path o a b → told_by b ≡ 0 → (o ≡ None) × (b ≡ a)
+pub tells_if : (path : Path) (o : Option Trouble) (a b : CheckState) → TellsIf path o a b → told_by b ≡ 0 → (o ≡ None) × (b ≡ a)
 tells_if path None a b same nothing = (refl, same)
 tells_if path (Some it) a b puts nothing = absurd (puts_told _ a b puts nothing)
 
 -- where its source fails, and how often it failed
-abbrev pub source_of : Seen → Option (Path → Bool) × ℕ
+abbrev pub source_of : CheckState → Option (Path → Bool) × ℕ
 source_of s = (s.failing, s.failed)
 
 -- of a step: nothing had been told before, and the source failed at nothing in it
-abbrev pub Quiet : Seen → Seen → Type 0
+abbrev pub Quiet : CheckState → CheckState → Type 0
 Quiet a b = (told_by a ≡ 0) × (source_of b ≡ source_of a)
 
 -- what didn't fail before doesn't now
-pub still_goes : (path : Path) (a b : Seen) → source_of b ≡ source_of a → GoesAt path a → GoesAt path b
+pub still_goes : (path : Path) (a b : CheckState) → source_of b ≡ source_of a → GoesAt path a → GoesAt path b
 still_goes path a b same goes = subst (λ (w : Option (Path → Bool)). GoesBy w path) (sym (ap (λ (x : Option (Path → Bool) × ℕ). x.0) same)) goes
 
 -- what changes numbers, and not that of the lines
-counted : (change : Numbers → Numbers) (a b : Seen) → ((n : Numbers) → (change n).told ≡ n.told) → b ≡ counting change a → told_by b ≡ 0 → Quiet a b
+counted : (change : Numbers → Numbers) (a b : CheckState) → ((n : Numbers) → (change n).told ≡ n.told) → b ≡ counting change a → told_by b ≡ 0 → Quiet a b
 counted change a b keeps same nothing = (sym (keeps a.numbers) ∙ sym (ap told_by same) ∙ nothing, ap source_of same)
 
 entry_told : (k : Kind) (bytes : ℕ) (n : Numbers) → (with_entry k bytes n).told ≡ n.told
@@ -123,7 +123,7 @@ entry_told kind.File bytes n = refl
 entry_told kind.Dir bytes n = refl
 entry_told kind.Other bytes n = refl
 
-pub met : (wants : Wants) (folder : Folder) (name : List ℕ) (k : Kind) (a m : Seen) → Meets wants (folder.path ++ name ∷ []) folder.here (name, k) a m
+pub met : (wants : Wants) (folder : Folder) (name : List ℕ) (k : Kind) (a m : CheckState) → Meets wants (folder.path ++ name ∷ []) folder.here (name, k) a m
     → told_by m ≡ 0
     → IsCleanEntry wants folder name k × Quiet a m × Fills folder.here (one_of k) a m
 met wants folder name k a m (s, crowds, n, tells, fits) nothing =
@@ -138,7 +138,7 @@ met wants folder name k a m (s, crowds, n, tells, fits) nothing =
     ((clean.0, room.0), counted (with_entry k bytes) a m (entry_told k bytes) same nothing, met_fills folder.here k bytes a m few.0 same)
 
 -- of a file that was opened
-abbrev Opened : Bool → Path → List ℕ → Seen → Seen → Type 0
+abbrev Opened : Bool → Path → List ℕ → CheckState → CheckState → Type 0
 Opened reads path bytes a b = AreCleanBytes reads bytes × Quiet a b × (b.numbers.held ≡ a.numbers.held) × (reads ≡ true → GoesAt path a)
 
 -- one that isn't too large has fewer bytes than are counted
@@ -150,7 +150,7 @@ few_bytes true bytes clean reads = by (nat_lt (2 ^ 43) (length bytes)) refl clea
     by true is e = absurd (cc)
     by false is e = let few = ltb-false (2 ^ 43) (length bytes) is in omega (arith, few)
 
-pub opened : (reads : Bool) (path : Path) (bytes : List ℕ) (a b : Seen) → Opens reads path bytes a b → told_by b ≡ 0 → Opened reads path bytes a b
+pub opened : (reads : Bool) (path : Path) (bytes : List ℕ) (a b : CheckState) → Opens reads path bytes a b → told_by b ≡ 0 → Opened reads path bytes a b
 opened reads path bytes a b (inl (tells, goes)) nothing =
     let count = cond reads (length bytes) 0 in
     let clean = tells_if path (size_trouble count) (counting (with_bytes count) a) b tells nothing in
@@ -169,7 +169,8 @@ folder_held within.Past holds n = refl
 folder_held (within.Object before) holds n = refl
 folder_held within.Beside holds n = refl
 
-judged : (wants : Wants) (folder : Folder) (items : List Item) (a m : Seen) → Judges wants (folder.path, folder.prefix) folder.here items a m → told_by m ≡ 0
+judged : (wants : Wants) (folder : Folder) (items : List Item) (a m : CheckState) → Judges wants (folder.path, folder.prefix) folder.here items a m
+    → told_by m ≡ 0
     → ((folder_trouble folder.here (finding_of folder.here items) folder.path ≡ None)
     × (reserved_trouble wants.layout folder.prefix (finding_of folder.here items) folder.path ≡ None)) × Quiet a m × (m.numbers.held ≡ a.numbers.held)
 judged wants folder items a m (n, judges, places) nothing =
@@ -184,16 +185,18 @@ judged wants folder items a m (n, judges, places) nothing =
     )
 
 -- of a folder that was entered
-abbrev Entered : Wants → Folder → List Item → (Seen → Type 0) → Seen → Seen → Type 0
-Entered wants folder items P a b = IsCleanFolder wants folder items × Quiet a b × ((m : Seen) × (m.numbers.held ≡ a.numbers.held) × P m) × GoesAt folder.path a
+abbrev Entered : Wants → Folder → List Item → (CheckState → Type 0) → CheckState → CheckState → Type 0
+Entered wants folder items P a b = IsCleanFolder wants folder items × Quiet a b × ((m : CheckState) × (m.numbers.held ≡ a.numbers.held) × P m)
+    × GoesAt folder.path a
 
-pub entered : (says : Says) (wants : Wants) (folder : Folder) (items : List Item) (visits : Bool → Seen → Seen → Type 0) (P : Bool → Seen → Type 0) (a b : Seen)
-    → ((holds : Bool) (m : Seen) → visits holds m b → Quiet m b × P holds m)
+pub entered : (says : Says) (wants : Wants) (folder : Folder) (items : List Item) (visits : Bool → CheckState → CheckState → Type 0) (P : Bool → CheckState
+    → Type 0) (a b : CheckState)
+    → ((holds : Bool) (m : CheckState) → visits holds m b → Quiet m b × P holds m)
     → Enters says wants folder items visits a b → told_by b ≡ 0 → Entered wants folder items (P (has_object (finding_of folder.here items))) a b
 entered says wants folder items visits P a b on enters nothing = by (folder.left == 0) refl enters
   where
     by : (t : Bool) → (folder.left == 0) ≡ t → cond t (Tells (Told folder.path trouble.Deep) a b)
-        (TellsUnlisted says folder.path false a b ⊎ ((holds : Bool) × (m : Seen) × Begins says wants folder items holds a m × visits holds m b))
+        (TellsUnlisted says folder.path false a b ⊎ ((holds : Bool) × (m : CheckState) × Begins says wants folder items holds a m × visits holds m b))
         → Entered wants folder items (P (has_object (finding_of folder.here items))) a b
     by true is tells = absurd (puts_told _ a b tells nothing)
     by false is (inl fails) = absurd (unlisted_told says folder.path false a b fails nothing)

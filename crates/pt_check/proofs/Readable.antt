@@ -4,7 +4,7 @@ use Rattle.std.specs.Option.{option_and_then, option_map}
 use Rattle.std.specs.Prelude.{◌⊎◌, unwrap_or}
 use Rattle.pt_check.specs.Clean.{IsCleanPrefix, IsCleanStore, NoRunFailsForSource, QuietCheckMeansCleanStore, QuietCheckMeansReadableStore}
 use Rattle.pt_check.specs.Goes.{GoesBy}
-use Rattle.pt_check.specs.Visits.{GoesAt, Seen, prefix_path}
+use Rattle.pt_check.specs.Visits.{GoesAt, CheckState, prefix_path}
 use Rattle.pt_check.proofs.Goes.{GoesIn, StandsFrom, file_ends, goes_there, none_stands, other_ends}
 use Rattle.pt_check.proofs.Quiet.{GoesInStore, store_met}
 use Rattle.pt_plan.proofs.FoundKinds.{kind_listed}
@@ -33,7 +33,7 @@ below_goes w (Some (Dir tree)) (x ∷ q) root inside stands = goes_there w (pair
 below_goes w (Some Other) q root inside stands = absurd (other_ends q stands)
 
 -- and of the file of the prefix
-prefix_goes : (o : Option Node) (k : Option Kind) (bytes : List ℕ) (a : Seen) → k ≡ option_map kind_of o → IsCleanPrefix k bytes
+prefix_goes : (o : Option Node) (k : Option Kind) (bytes : List ℕ) (a : CheckState) → k ≡ option_map kind_of o → IsCleanPrefix k bytes
     → (k ≡ Some kind.File → GoesAt prefix_path a)
     → StandsFrom o [] → GoesAt prefix_path a
 prefix_goes o (Some kind.File) bytes a is clean goes stands = goes refl

@@ -13,7 +13,7 @@ use Rattle.pt_check.specs.Visits.{
   ReadsFront,
   ReadsPrefix,
   Says,
-  Seen,
+  CheckState,
   Tells,
   TellsIf,
   TellsUnlisted,
@@ -43,7 +43,7 @@ lists_top t items lists = let same : Some (listing_of t) ≡ Some items = lists 
 
 -- what a store must have was looked for, and `pairtree_root` visited
 pub looked : (says : Says) (here there : Option Forest) (wants again : Wants) (prefix : List ℕ) (items : List Item) (version root : Path) (left : ℕ)
-    (a m b : Seen)
+    (a m b : CheckState)
     → ForSome here (λ t. listing_at t [] ≡ Some items) → version ≡ version_file ∷ [] → root ≡ pairtree_root ∷ [] → left ≡ 601
     → TellsIf version (missing (is_file_kind (kind_in items version_file))) a m → is_dir_kind (kind_in items pairtree_root) ≡ true → there ≡ here
     → again ≡ wants
@@ -72,7 +72,7 @@ looked says here there wants again prefix items version root left a m b lists ve
     by false d whole = absurd (cc)
 
 -- the file of the prefix was read
-pub prefix_step : (here : Option Forest) (what : Option Kind) (path : Path) (prefix : List ℕ) (a b : Seen) → what ≡ Some kind.File → path ≡ prefix_path
+pub prefix_step : (here : Option Forest) (what : Option Kind) (path : Path) (prefix : List ℕ) (a b : CheckState) → what ≡ Some kind.File → path ≡ prefix_path
     → ForSome here (λ t. ReadsFront path (take 8192 (bytes_at t path)) prefix a b)
     → ForSome here (λ t. ReadsPrefix what (bytes_at t prefix_path) prefix a b)
 prefix_step here what path prefix a b is path_is reads t told =
@@ -81,7 +81,7 @@ prefix_step here what path prefix a b is path_is reads t told =
     subst (λ (k : Option Kind). ReadsPrefix k (bytes_at t prefix_path) prefix a b) (sym is) named
 
 -- the prefix was looked at before
-pub looked_all : (says : Says) (here there : Option Forest) (wants again : Wants) (prefix : List ℕ) (items : List Item) (m n last : Seen)
+pub looked_all : (says : Says) (here there : Option Forest) (wants again : Wants) (prefix : List ℕ) (items : List Item) (m n last : CheckState)
     → ForSome here (λ t. listing_at t [] ≡ Some items)
     → there ≡ here → again ≡ wants
     → ForSome here (λ t. ReadsPrefix (kind_in items prefix_file) (bytes_at t prefix_path) prefix m n) → ForSome there (λ t. Looks says again prefix t n last)
@@ -96,7 +96,7 @@ looked_all says here there wants again prefix items m n last lists same same_wan
     )
 
 -- then the numbers were told
-pub checked : (says : Says) (here there : Option Forest) (wants again : Wants) (numbers : Numbers) (whole : Bool) (a first last b : Seen) → there ≡ here
+pub checked : (says : Says) (here there : Option Forest) (wants again : Wants) (numbers : Numbers) (whole : Bool) (a first last b : CheckState) → there ≡ here
     → again ≡ wants → Finds says [] whole a first
     → ForSome there (λ t. LooksAll says again t first last) → numbers ≡ last.numbers → b.failing ≡ last.failing → b.failed ≡ last.failed
     → b.numbers ≡ last.numbers
@@ -116,7 +116,7 @@ checked says here there wants again numbers whole a first last b same same_wants
     }
 
 -- and so they were where the top couldn't be listed
-pub checked_nothing : (says : Says) (here : Option Forest) (wants : Wants) (numbers : Numbers) (a last b : Seen) → TellsUnlisted says [] false a last
+pub checked_nothing : (says : Says) (here : Option Forest) (wants : Wants) (numbers : Numbers) (a last b : CheckState) → TellsUnlisted says [] false a last
     → numbers ≡ last.numbers → b.failing ≡ last.failing → b.failed ≡ last.failed
     → b.numbers ≡ last.numbers → Appends last.held b.held (line_text (End last.numbers)) → ForSome here (λ t. Checks says wants t numbers a b)
 checked_nothing says here wants numbers a last b fails is failing failed counted held t told = record {

@@ -41,7 +41,7 @@ use Rattle.pt_check.specs.Visits.{
   Opens,
   OpensIf,
   Says,
-  Seen,
+  CheckState,
   Tells,
   TellsUnlisted,
   Visits,
@@ -74,8 +74,9 @@ abbrev pub IsProperTold : Option Reading → Type 0
 IsProperTold told = ForSome told (λ s. is_proper s.tree ≡ true)
 
 -- of the folder at this path what was visited up to a place leads on: whatever visiting the rest comes to, visiting all comes to it
-abbrev pub VisitedTo : Says → Wants → Folder → Bool → Forest → ℕ → Seen → Seen → Type 0
-VisitedTo says wants folder holds top place first now = (last : Seen) → Visits says wants folder holds (entries_from place (inside_at top folder.path)) now last
+abbrev pub VisitedTo : Says → Wants → Folder → Bool → Forest → ℕ → CheckState → CheckState → Type 0
+VisitedTo says wants folder holds top place first now = (last : CheckState)
+    → Visits says wants folder holds (entries_from place (inside_at top folder.path)) now last
     → Visits says wants folder holds (inside_at top folder.path) first last
 
 -- a file that is listed stands there
@@ -87,7 +88,7 @@ file_stands top path items place name proper listed at =
 
 -- a file was met and opened
 pub visited_file : (says : Says) (wants : Wants) (folder : Folder) (holds : Bool) (top : Forest) (items : List Item) (place : ℕ) (name : List ℕ)
-    (first now met opened : Seen)
+    (first now met opened : CheckState)
     → is_proper top ≡ true → listing_at top folder.path ≡ Some items → slice_get items place ≡ Some (name, kind.File)
     → VisitedTo says wants folder holds top place first now
     → Meets wants (folder.path ++ name ∷ []) folder.here (name, kind.File) now met
@@ -99,7 +100,7 @@ visited_file says wants folder holds top items place name first now met opened p
 
 -- what is neither a file nor a directory was met
 pub visited_other : (says : Says) (wants : Wants) (folder : Folder) (holds : Bool) (top : Forest) (items : List Item) (place : ℕ) (name : List ℕ)
-    (first now met : Seen)
+    (first now met : CheckState)
     → is_proper top ≡ true → listing_at top folder.path ≡ Some items → slice_get items place ≡ Some (name, kind.Other)
     → VisitedTo says wants folder holds top place first now
     → Meets wants (folder.path ++ name ∷ []) folder.here (name, kind.Other) now met
@@ -110,7 +111,7 @@ visited_other says wants folder holds top items place name first now met proper 
 
 -- a folder was met and visited
 pub visited_dir : (says : Says) (wants : Wants) (folder : Folder) (holds : Bool) (top : Forest) (items : List Item) (place : ℕ) (name : List ℕ)
-    (first now met left : Seen)
+    (first now met left : CheckState)
     → is_proper top ≡ true → listing_at top folder.path ≡ Some items → slice_get items place ≡ Some (name, kind.Dir)
     → VisitedTo says wants folder holds top place first now
     → Meets wants (folder.path ++ name ∷ []) folder.here (name, kind.Dir) now met
@@ -131,7 +132,7 @@ goes_past items place less is = by (slice_get_cases items place).1
     by (inr (past, none_is)) = omega (arith, less, past)
 
 -- at the end of the listing all was visited
-pub visited_all : (says : Says) (wants : Wants) (folder : Folder) (holds : Bool) (top : Forest) (items : List Item) (place : ℕ) (first now : Seen)
+pub visited_all : (says : Says) (wants : Wants) (folder : Folder) (holds : Bool) (top : Forest) (items : List Item) (place : ℕ) (first now : CheckState)
     → listing_at top folder.path ≡ Some items → slice_get items place ≡ None
     → VisitedTo says wants folder holds top place first now → Visits says wants folder holds (inside_at top folder.path) first now
 visited_all says wants folder holds top items place first now listed at to =
@@ -140,7 +141,7 @@ visited_all says wants folder holds top items place first now listed at to =
 
 -- an entry that is no folder was met, and opened if it is a file
 pub visited_leaf : (says : Says) (wants : Wants) (folder : Folder) (holds : Bool) (top : Forest) (items : List Item) (place : ℕ) (name : List ℕ) (here : Kind)
-    (first now met left : Seen)
+    (first now met left : CheckState)
     → is_proper top ≡ true → listing_at top folder.path ≡ Some items → slice_get items place ≡ Some (name, here) → (here ≡ kind.Dir → ⊥)
     → VisitedTo says wants folder holds top place first now
     → Meets wants (folder.path ++ name ∷ []) folder.here (name, here) now met
@@ -150,7 +151,7 @@ visited_leaf says wants folder holds top items place name kind.File first now me
     visited_file says wants folder holds top items place name first now met left proper listed at to meets opens
 visited_leaf says wants folder holds top items place name kind.Dir first now met left proper listed at leaf to meets opens = absurd (leaf refl)
 visited_leaf says wants folder holds top items place name kind.Other first now met left proper listed at leaf to meets opens =
-    subst (λ (s : Seen). VisitedTo says wants folder holds top (place + 1) first s) (sym opens)
+    subst (λ (s : CheckState). VisitedTo says wants folder holds top (place + 1) first s) (sym opens)
     (visited_other says wants folder holds top items place name first now met proper listed at to meets)
 
 -- what is no folder may be opened if it is a file
@@ -200,30 +201,32 @@ pub in_same : (P : Forest → Type 0) (old new : Option Forest) → new ≡ old 
 in_same P old new same holds tree is = holds tree (sym same ∙ is)
 
 -- a folder that isn't too deep is told as unreadable, or begun and visited
-pub enters : (says : Says) (wants : Wants) (folder : Folder) (items : List Item) (visits : Bool → Seen → Seen → Type 0) (a b : Seen) → (folder.left ≡ 0 → ⊥)
-    → TellsUnlisted says folder.path false a b ⊎ ((holds : Bool) × (m : Seen) × Begins says wants folder items holds a m × visits holds m b)
+pub enters : (says : Says) (wants : Wants) (folder : Folder) (items : List Item) (visits : Bool → CheckState → CheckState → Type 0) (a b : CheckState)
+    → (folder.left ≡ 0 → ⊥)
+    → TellsUnlisted says folder.path false a b ⊎ ((holds : Bool) × (m : CheckState) × Begins says wants folder items holds a m × visits holds m b)
     → Enters says wants folder items visits a b
 enters says wants folder items visits a b some does = by (folder.left == 0) (ne_eqb folder.left 0 some)
   where
     by : (t : Bool) → t ≡ false → cond t (Tells (Told folder.path trouble.Deep) a b)
-        (TellsUnlisted says folder.path false a b ⊎ ((holds : Bool) × (m : Seen) × Begins says wants folder items holds a m × visits holds m b))
+        (TellsUnlisted says folder.path false a b ⊎ ((holds : Bool) × (m : CheckState) × Begins says wants folder items holds a m × visits holds m b))
     by true is = absurd (cc)
     by false is = does
 
 -- a folder was found, and judged where it was listed whole
-pub begins : (says : Says) (wants : Wants) (folder : Folder) (items : List Item) (whole holds : Bool) (a m b : Seen) → Finds says folder.path whole a m
+pub begins : (says : Says) (wants : Wants) (folder : Folder) (items : List Item) (whole holds : Bool) (a m b : CheckState) → Finds says folder.path whole a m
     → cond whole (Judges wants (folder.path, folder.prefix) folder.here items m b) (b ≡ m)
     → holds ≡ cond whole (has_object (finding_of folder.here items)) false
     → Begins says wants folder items holds a b
 begins says wants folder items true holds a m b (same, goes) judges holds_is =
-    inl (subst (λ (s : Seen). Judges wants (folder.path, folder.prefix) folder.here items s b) same judges, holds_is, goes)
+    inl (subst (λ (s : CheckState). Judges wants (folder.path, folder.prefix) folder.here items s b) same judges, holds_is, goes)
 begins says wants folder items false holds a m b tells same holds_is = inr
-    (subst (λ (s : Seen). TellsUnlisted says folder.path true a s) (sym same) tells, holds_is)
+    (subst (λ (s : CheckState). TellsUnlisted says folder.path true a s) (sym same) tells, holds_is)
 
 -- a folder among the entries was met and visited
 pub dir_step : (says : Says) (told : Option Reading) → IsProperTold told
     → (wants again : Wants) (folder : Folder) (holds : Bool) (items : List Item) (place : ℕ) (name : List ℕ) (what : Kind) (entry : Path)
-    (inside : Within) (first now met start after final : Seen) (there : Option Forest) → ForSome (tree_in told) (λ t. listing_at t folder.path ≡ Some items)
+    (inside : Within) (first now met start after final : CheckState) (there : Option Forest)
+    → ForSome (tree_in told) (λ t. listing_at t folder.path ≡ Some items)
     → slice_get items place ≡ Some (name, what) → what ≡ kind.Dir → entry ≡ folder.path ++ name ∷ []
     → inside ≡ below folder.here holds name (length (joined entry))
     → ForSome (tree_in told) (λ t. VisitedTo says wants folder holds t place first now) → Meets wants entry folder.here (name, what) now met
@@ -255,17 +258,17 @@ dir_step says told proper wants again folder holds items place name what entry i
     start_is ∙ ap (λ (w : Within). counting (begun w folder.here) met) whole in
     let from_start : VisitsFolder says wants (folder_in folder holds name) (inside_at tree path)
     (counting (begun (folder_in folder holds name).here folder.here) met) after =
-    subst (λ (s : Seen). VisitsFolder says wants (folder_in folder holds name) (inside_at tree path) s after) begins below_it in
+    subst (λ (s : CheckState). VisitsFolder says wants (folder_in folder holds name) (inside_at tree path) s after) begins below_it in
     let ends : final ≡ counting (ended (folder_in folder holds name).here folder.here met.numbers.bytes) after =
     final_is ∙ ap (λ (w : Within). counting (ended w folder.here met.numbers.bytes) after) whole in
-    subst (λ (s : Seen). VisitedTo says wants folder holds tree (place + 1) first s) (sym ends)
+    subst (λ (s : CheckState). VisitedTo says wants folder holds tree (place + 1) first s) (sym ends)
     (visited_dir says wants folder holds tree items place name first now met after (proper_in told proper tree is) (listed tree is) at_dir (to tree is) met_it
     from_start)
 
 -- another entry was met, and opened if it is a file
 pub leaf_step : (says : Says) (told : Option Reading) → IsProperTold told
     → (wants again : Wants) (folder : Folder) (holds : Bool) (items : List Item) (place : ℕ) (name : List ℕ) (here : Kind) (entry : Path)
-    (first now met after : Seen) (there : Option Forest) → ForSome (tree_in told) (λ t. listing_at t folder.path ≡ Some items)
+    (first now met after : CheckState) (there : Option Forest) → ForSome (tree_in told) (λ t. listing_at t folder.path ≡ Some items)
     → slice_get items place ≡ Some (name, here) → (here ≡ kind.Dir → ⊥) → entry ≡ folder.path ++ name ∷ []
     → ForSome (tree_in told) (λ t. VisitedTo says wants folder holds t place first now) → Meets wants entry folder.here (name, here) now met
     → there ≡ tree_in told
@@ -306,7 +309,7 @@ leaf_there told proper path entry items place name what there listed at entry_is
     (listed tree here) at is_file)
 
 -- at the end of its listing a folder was visited
-pub all_step : (says : Says) (told : Option Reading) (wants : Wants) (folder : Folder) (holds : Bool) (items : List Item) (place : ℕ) (a first now : Seen)
+pub all_step : (says : Says) (told : Option Reading) (wants : Wants) (folder : Folder) (holds : Bool) (items : List Item) (place : ℕ) (a first now : CheckState)
     → ForSome (tree_in told) (λ t. listing_at t folder.path ≡ Some items) → length items ≤ place → (folder.left ≡ 0 → ⊥)
     → Begins says wants folder items holds a first
     → ForSome (tree_in told) (λ t. VisitedTo says wants folder holds t place first now)

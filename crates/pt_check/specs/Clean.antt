@@ -6,7 +6,7 @@ use Rattle.pt_check.specs.Visits.{
   Folder,
   GoesAt,
   Says,
-  Seen,
+  CheckState,
   entry_trouble,
   finding_of,
   folder_in,
@@ -108,13 +108,13 @@ pub record IsCleanStore (wants : Wants) (tree : Forest) : Type 0 where
 -- a check of a store that ended well and told nothing met one of which there is nothing to tell, and its source failed at nothing
 abbrev pub QuietCheckMeansCleanStore : Type 0
 QuietCheckMeansCleanStore =
-    (says : Says) (wants : Wants) (tree : Forest) (numbers : Numbers) (a b : Seen) → Checks says wants tree numbers a b
+    (says : Says) (wants : Wants) (tree : Forest) (numbers : Numbers) (a b : CheckState) → Checks says wants tree numbers a b
     → numbers.told ≡ 0 → IsCleanStore wants tree × (b.failed ≡ a.failed)
 
 -- and where it read files whole, that source, if it tells where it fails, fails at nothing that a run asks it for
 abbrev pub QuietCheckMeansReadableStore : Type 0
 QuietCheckMeansReadableStore =
-    (says : Says) (wants : Wants) (tree : Forest) (numbers : Numbers) (a b : Seen) → Checks says wants tree numbers a b
+    (says : Says) (wants : Wants) (tree : Forest) (numbers : Numbers) (a b : CheckState) → Checks says wants tree numbers a b
     → numbers.told ≡ 0 → wants.reads ≡ true → (p : Path) → IsAskedFor p → StandsAt tree p → GoesAt p a
 
 -- ---- what follows for a run
@@ -123,7 +123,7 @@ QuietCheckMeansReadableStore =
 -- asks, if no file is open at which it fails
 abbrev pub NoRunFailsForSource : Type 0
 NoRunFailsForSource =
-    (says : Says) (wants : Wants) (tree : Forest) (numbers : Numbers) (a b : Seen) → Checks says wants tree numbers a b
+    (says : Says) (wants : Wants) (tree : Forest) (numbers : Numbers) (a b : CheckState) → Checks says wants tree numbers a b
     → numbers.told ≡ 0 → wants.reads ≡ true → (old new : SourceView) → tree_in old.told ≡ Some tree
     → failing_paths old.failing ≡ a.failing → (FailsAtOpen old → ⊥) → FailsOnlyWhereAsked old new → new.failed ≡ old.failed
 

@@ -1,6 +1,7 @@
 pub mod Clean
 pub mod Counting
 pub mod Faults
+pub mod FolderListing
 pub mod Goes
 pub mod Lines
 pub mod Prefix

@@ -73,15 +73,15 @@ use Rattle.pt_walk.specs.declared.site.Form.TheVariants as form
 
 -- how far a check is: at which paths its source fails, if it tells that, and how often it failed; what its log holds, and what it
 -- has counted
-pub record Seen : Type 0 where
+pub record CheckState : Type 0 where
   pub failing : Option (Path → Bool)
   pub failed : ℕ
   pub held : Option (List ℕ)
   pub numbers : Numbers
 
 -- how far this one is, by the words of its source and its log
-abbrev pub seen_by : {S L E : Type 0} → OfSource S → OfLog L → Check S L E → Seen
-seen_by source log check =
+abbrev pub check_state : {S L E : Type 0} → OfSource S → OfLog L → Check S L E → CheckState
+check_state source log check =
     record {
       failing = failing_paths (source.failing check.source);
       failed = source.failed check.source;
@@ -90,7 +90,7 @@ seen_by source log check =
     }
 
 -- its source doesn't fail at this path, if it tells where it does
-abbrev pub GoesAt : Path → Seen → Type 0
+abbrev pub GoesAt : Path → CheckState → Type 0
 GoesAt path a = GoesBy a.failing path
 
 -- the tree of its source, if that tells
@@ -108,38 +108,38 @@ pub record Keeps {S L E : Type 0} (told : S → Option Reading) (keeps : S → S
 -- ---- what is told
 
 -- this text of a line is put into the log and counted, and nothing fails
-pub record Puts (text : List ℕ) (a b : Seen) : Type 0 where
+pub record Puts (text : List ℕ) (a b : CheckState) : Type 0 where
   pub failing : b.failing ≡ a.failing
   pub failed : b.failed ≡ a.failed
   pub numbers : b.numbers ≡ with_line a.numbers
   pub held : Appends a.held b.held text
 
 -- a line is told
-abbrev pub Tells : Line → Seen → Seen → Type 0
+abbrev pub Tells : Line → CheckState → CheckState → Type 0
 Tells line = Puts (line_text line)
 
 -- it is told of this path that it can't be read, with a reason
-abbrev pub TellsUnread : Path → Seen → Seen → Type 0
+abbrev pub TellsUnread : Path → CheckState → CheckState → Type 0
 TellsUnread path a b = (reason : List ℕ) × Tells (Unreadable path reason) a b
 
 -- the same of a trouble at this path, if there is one
-abbrev pub TellsIf : Path → Option Trouble → Seen → Seen → Type 0
+abbrev pub TellsIf : Path → Option Trouble → CheckState → CheckState → Type 0
 TellsIf path None a b = b ≡ a
 TellsIf path (Some trouble) a b = Tells (Told path trouble) a b
 
 -- the source failed, and that is told of this path with a reason
-abbrev pub TellsFailure : Path → Seen → Seen → Type 0
+abbrev pub TellsFailure : Path → CheckState → CheckState → Type 0
 TellsFailure path a b =
-    (m : Seen) × (m.failing ≡ a.failing) × HasRisen a.failed m.failed × (m.held ≡ a.held)
+    (m : CheckState) × (m.failing ≡ a.failing) × HasRisen a.failed m.failed × (m.held ≡ a.held)
     × (m.numbers ≡ a.numbers) × TellsUnread path m b
 
 -- it is told of this path once more for each of these reasons
-abbrev pub TellsEach : Path → List (List ℕ) → Seen → Seen → Type 0
+abbrev pub TellsEach : Path → List (List ℕ) → CheckState → CheckState → Type 0
 TellsEach path [] a b = b ≡ a
-TellsEach path (reason ∷ more) a b = (m : Seen) × Tells (Unreadable path reason) a m × TellsEach path more m b
+TellsEach path (reason ∷ more) a b = (m : CheckState) × Tells (Unreadable path reason) a m × TellsEach path more m b
 
 -- with other numbers
-abbrev pub counting : (Numbers → Numbers) → Seen → Seen
+abbrev pub counting : (Numbers → Numbers) → CheckState → CheckState
 counting change a = record a { numbers = change a.numbers }
 
 -- ---- a folder
@@ -210,10 +210,10 @@ with_folder (within.Object before) holds numbers = numbers
 with_folder within.Beside holds numbers = numbers
 
 -- a folder at a path in a store of this prefix, which are a pair, that lists these entries is judged: it is counted, and told if there is trouble
-abbrev pub Judges : Wants → Path × List ℕ → Within → List Item → Seen → Seen → Type 0
+abbrev pub Judges : Wants → Path × List ℕ → Within → List Item → CheckState → CheckState → Type 0
 Judges wants at here items a b =
     let what = finding_of here items in
-    (m : Seen)
+    (m : CheckState)
     × TellsIf at.0 (folder_trouble here what at.0) (counting (with_folder here (has_object what)) a) m
     × TellsIf at.0 (reserved_trouble wants.layout at.1 what at.0) m b
 
@@ -255,12 +255,12 @@ room_trouble (Some most) (within.Object before) kind.File bytes =
 room_trouble _ _ _ bytes = None
 
 -- an entry at this path is met: it is counted, and told if there is trouble
-abbrev pub Meets : Wants → Path → Within → Item → Seen → Seen → Type 0
+abbrev pub Meets : Wants → Path → Within → Item → CheckState → CheckState → Type 0
 Meets wants path here item a b =
     let bytes = length (joined path) in
-    (m : Seen)
+    (m : CheckState)
     × TellsIf path (count_trouble here item.1 a.numbers.held) (counting (with_entry item.1 bytes) a) m
-    × (n : Seen) × TellsIf path (entry_trouble here item.0 item.1 bytes) m n
+    × (n : CheckState) × TellsIf path (entry_trouble here item.0 item.1 bytes) m n
     × TellsIf path (room_trouble wants.room here item.1 bytes) n b
 
 -- what is told of a file of which so many bytes were read
@@ -269,14 +269,14 @@ size_trouble bytes = cond (nat_lt greatest_limits.file_bytes bytes) (Some troubl
 
 -- a file with these bytes is opened, read whole if that is wanted, and told if it is too large; or it is told that it can't be. Where it
 -- was read whole, and has fewer bytes than the greatest count, the source doesn't fail there.
-abbrev pub Opens : Bool → Path → List ℕ → Seen → Seen → Type 0
+abbrev pub Opens : Bool → Path → List ℕ → CheckState → CheckState → Type 0
 Opens reads path bytes a b =
     let count = cond reads (length bytes) 0 in
     TellsIf path (size_trouble count) (counting (with_bytes count) a) b
     × (reads ≡ true → length bytes < greatest_count → GoesAt path a) ⊎ TellsFailure path a b
 
 -- the same of an entry of this kind, if it is a file
-abbrev pub OpensIf : Bool → Path → Kind → List ℕ → Seen → Seen → Type 0
+abbrev pub OpensIf : Bool → Path → Kind → List ℕ → CheckState → CheckState → Type 0
 OpensIf reads path kind.File bytes a b = Opens reads path bytes a b
 OpensIf reads path kind.Dir bytes a b = b ≡ a
 OpensIf reads path kind.Other bytes a b = b ≡ a
@@ -317,56 +317,56 @@ Says = Path → List (List ℕ) → Bool → Bool
 module _ (says : Says) where
   -- however often the source fails in it, what is at this path is told with a reason or more: all that is said of it. What has names
   -- can be listed, or not.
-  abbrev pub TellsReasons : Path → Bool → Seen → Seen → Type 0
+  abbrev pub TellsReasons : Path → Bool → CheckState → CheckState → Type 0
   TellsReasons path part a b =
-      (m : Seen) × (m.failing ≡ a.failing) × (a.failed ≤ m.failed) × (m.held ≡ a.held) × (m.numbers ≡ a.numbers)
+      (m : CheckState) × (m.failing ≡ a.failing) × (a.failed ≤ m.failed) × (m.held ≡ a.held) × (m.numbers ≡ a.numbers)
       × (reason : List ℕ) × (further : List (List ℕ)) × TellsEach path (reason ∷ further) m b
       × (says path (reason ∷ further) part ≡ true)
 
   -- the source failed to list what is at this path, and that is told so
-  abbrev pub TellsUnlisted : Path → Bool → Seen → Seen → Type 0
+  abbrev pub TellsUnlisted : Path → Bool → CheckState → CheckState → Type 0
   TellsUnlisted path part a b =
-      (m : Seen) × (m.failing ≡ a.failing) × HasRisen a.failed m.failed × (m.held ≡ a.held) × (m.numbers ≡ a.numbers)
+      (m : CheckState) × (m.failing ≡ a.failing) × HasRisen a.failed m.failed × (m.held ≡ a.held) × (m.numbers ≡ a.numbers)
       × TellsReasons path part m b
 
   -- a folder was listed whole, or what has names in it was, and that is told
-  abbrev pub Finds : Path → Bool → Seen → Seen → Type 0
+  abbrev pub Finds : Path → Bool → CheckState → CheckState → Type 0
   Finds path whole a b = cond whole ((b ≡ a) × GoesAt path a) (TellsUnlisted path true a b)
 
   -- a folder that was listed whole, with these entries, is judged, and has an object or not; or it can't be listed whole, and that is
   -- told in its place: it counts as no site, and is taken for one without an object
-  abbrev pub Begins : Wants → Folder → List Item → Bool → Seen → Seen → Type 0
+  abbrev pub Begins : Wants → Folder → List Item → Bool → CheckState → CheckState → Type 0
   Begins wants folder items holds a b = (Judges wants (folder.path, folder.prefix) folder.here items a b
       × (holds ≡ has_object (finding_of folder.here items)) × GoesAt folder.path a) ⊎ (TellsUnlisted folder.path true a b × (holds ≡ false))
 
   -- a folder is met that lists these entries, by what is then done with them: it is too deep and told so, nothing of it can be listed
   -- and that is told, or it is begun and its entries are visited. Where it can't be listed whole these are those that have names, and
   -- in a tree that is told each has one.
-  abbrev pub Enters : Wants → Folder → List Item → (Bool → Seen → Seen → Type 0) → Seen → Seen → Type 0
+  abbrev pub Enters : Wants → Folder → List Item → (Bool → CheckState → CheckState → Type 0) → CheckState → CheckState → Type 0
   Enters wants folder items visits a b = cond (folder.left == 0) (Tells (Told folder.path trouble.Deep) a b)
       (TellsUnlisted folder.path false a b
-      ⊎ ((holds : Bool) × (m : Seen) × Begins wants folder items holds a m × visits holds m b))
+      ⊎ ((holds : Bool) × (m : CheckState) × Begins wants folder items holds a m × visits holds m b))
 
   -- the entries of a folder, which has an object or not, are visited one after another, each once, and all that stands in them
-  abbrev pub Visits : Wants → Folder → Bool → Forest → Seen → Seen → Type 0
+  abbrev pub Visits : Wants → Folder → Bool → Forest → CheckState → CheckState → Type 0
   Visits wants folder holds none a b = b ≡ a
   Visits wants folder holds (file name bytes after) a b =
       let path = folder.path ++ name ∷ [] in
-      (m : Seen) × Meets wants path folder.here (name, kind.File) a m
-      × (n : Seen) × Opens wants.reads path bytes m n
+      (m : CheckState) × Meets wants path folder.here (name, kind.File) a m
+      × (n : CheckState) × Opens wants.reads path bytes m n
       × Visits wants folder holds after n b
   Visits wants folder holds (other name after) a b =
-      (m : Seen) × Meets wants (folder.path ++ name ∷ []) folder.here (name, kind.Other) a m
+      (m : CheckState) × Meets wants (folder.path ++ name ∷ []) folder.here (name, kind.Other) a m
       × Visits wants folder holds after m b
   Visits wants folder holds (dir name inside after) a b =
       let it = folder_in folder holds name in
-      (m : Seen) × Meets wants it.path folder.here (name, kind.Dir) a m
-      × (n : Seen) × Enters wants it (listing_of inside) (λ holds_it. Visits wants it holds_it inside)
+      (m : CheckState) × Meets wants it.path folder.here (name, kind.Dir) a m
+      × (n : CheckState) × Enters wants it (listing_of inside) (λ holds_it. Visits wants it holds_it inside)
       (counting (begun it.here folder.here) m) n
       × Visits wants folder holds after (counting (ended it.here folder.here m.numbers.bytes) n) b
 
   -- a folder of the store and all that stands in it are visited
-  abbrev pub VisitsFolder : Wants → Folder → Forest → Seen → Seen → Type 0
+  abbrev pub VisitsFolder : Wants → Folder → Forest → CheckState → CheckState → Type 0
   VisitsFolder wants folder inside =
       Enters wants folder (listing_of inside) (λ holds. Visits wants folder holds inside)
 
@@ -387,9 +387,9 @@ root_folder prefix = record {
 }
 
 -- at the top of a store stand the version's file and `pairtree_root` (Pairtree 0.1): it is told where one doesn't, and the second is visited
-abbrev pub Looks : Says → Wants → List ℕ → Forest → Seen → Seen → Type 0
+abbrev pub Looks : Says → Wants → List ℕ → Forest → CheckState → CheckState → Type 0
 Looks says wants prefix tree a b =
-    (m : Seen) × TellsIf (version_file ∷ []) (missing (is_file_kind (kind_in (listing_of tree) version_file))) a m
+    (m : CheckState) × TellsIf (version_file ∷ []) (missing (is_file_kind (kind_in (listing_of tree) version_file))) a m
     × cond (is_dir_kind (kind_in (listing_of tree) pairtree_root))
     (VisitsFolder says wants (root_folder prefix) (inside_at tree (pairtree_root ∷ [])) m b)
     (Tells (Told (pairtree_root ∷ []) trouble.Missing) m b)
@@ -400,31 +400,31 @@ prefix_path = prefix_file ∷ []
 
 -- the front of a file of a prefix is read, and told by what it is; or it is told that it can't be. The prefix that is then known is empty
 -- where the front is none. Where the front doesn't fill a block, the source doesn't fail there.
-abbrev pub ReadsFront : Path → List ℕ → List ℕ → Seen → Seen → Type 0
+abbrev pub ReadsFront : Path → List ℕ → List ℕ → CheckState → CheckState → Type 0
 ReadsFront path front prefix a b =
     TellsIf path (prefix_trouble front) a b × (prefix ≡ prefix_in (Some (File front)))
     × (length front < 8192 → GoesAt path a)
     ⊎ TellsFailure path a b × (prefix ≡ [])
 
 -- where a file stands at the name of the prefix, its front is read. What is no file there is told, and no prefix.
-abbrev pub ReadsPrefix : Option Kind → List ℕ → List ℕ → Seen → Seen → Type 0
+abbrev pub ReadsPrefix : Option Kind → List ℕ → List ℕ → CheckState → CheckState → Type 0
 ReadsPrefix None bytes prefix a b = (b ≡ a) × (prefix ≡ [])
 ReadsPrefix (Some kind.File) bytes prefix a b = ReadsFront prefix_path (take 8192 bytes) prefix a b
 ReadsPrefix (Some kind.Dir) bytes prefix a b = Tells (Told prefix_path trouble.Prefix) a b × (prefix ≡ [])
 ReadsPrefix (Some kind.Other) bytes prefix a b = Tells (Told prefix_path trouble.Prefix) a b × (prefix ≡ [])
 
 -- what the top lists is looked at: the prefix, and then what a store must have
-abbrev pub LooksAll : Says → Wants → Forest → Seen → Seen → Type 0
+abbrev pub LooksAll : Says → Wants → Forest → CheckState → CheckState → Type 0
 LooksAll says wants tree a b =
-    (m : Seen) × (prefix : List ℕ)
+    (m : CheckState) × (prefix : List ℕ)
     × ReadsPrefix (kind_in (listing_of tree) prefix_file) (bytes_at tree prefix_path) prefix a m
     × Looks says wants prefix tree m b
 
 -- a store is checked whole: what its top lists is looked at, if it lists all or what has names, or that can't be listed and is told; and
 -- at the end stands the line of these numbers
-pub record Checks (says : Says) (wants : Wants) (tree : Forest) (numbers : Numbers) (a b : Seen) : Type 0 where
-  pub last : Seen
-  pub first : Seen
+pub record Checks (says : Says) (wants : Wants) (tree : Forest) (numbers : Numbers) (a b : CheckState) : Type 0 where
+  pub last : CheckState
+  pub first : CheckState
   pub whole : Bool
   pub looks : (Finds says [] whole a first × LooksAll says wants tree first last) ⊎ TellsUnlisted says [] false a last
   pub numbers_are : numbers ≡ last.numbers

@@ -19,11 +19,12 @@
 //! names than its own, and is told, since a site's names follow from the text that they join to.
 //! And between two entries a check holds the listings on the way to where it stands, and numbers:
 //! nothing grows with the objects.
-ghost use Rattle.std.specs.Prelude.{◌≡◌, [], cond, is_some, false, length, string_bytes, take};
-ghost use Rattle.std.specs.Prelude.{IfOk, IfSome, IsSome, OnOk, MatchOption, Some};
+ghost use Rattle.std.specs.Prelude.{◌≡◌, [], cond, false, length, string_bytes, take};
+ghost use Rattle.std.specs.Prelude.{IfOk, IsSome, OnOk, Some};
 ghost use Rattle.std.specs.Option.{ForSome};
 ghost use Rattle.pt_check.specs.Counting.{no_numbers};
 ghost use Rattle.pt_check.specs.Faults.{LogFailsAs};
+ghost use Rattle.pt_check.specs.FolderListing.{IfEntries, MatchListing, has_entries};
 ghost use Rattle.pt_plan.specs.Store.{prefix_file};
 ghost use Rattle.pt_plan.specs.TurnStart.{kind_in as kind_in_items};
 ghost use Rattle.pt_tree.specs.Path.{joined};
@@ -31,7 +32,7 @@ ghost use Rattle.pt_check.specs.Visits.{Checks, Finds, Judges, Keeps, Looks, Mee
 ghost use Rattle.pt_check.specs.Visits.{ReadsFront, ReadsPrefix, TellsReasons, TellsUnlisted};
 ghost use Rattle.pt_check.specs.Visits.{VisitsFolder, begun, ended, finding_of as finding_of_items};
 ghost use Rattle.pt_check.specs.Visits.{has_object as has_object_in, missing as missing_by};
-ghost use Rattle.pt_check.specs.Visits.{prefix_path, seen_by, tree_by, with_folder};
+ghost use Rattle.pt_check.specs.Visits.{prefix_path, check_state, tree_by, with_folder};
 ghost use Rattle.pt_tree.specs.Forest.{dir_at, file_at, listing_at};
 ghost use Rattle.pt_tree.specs.declared.kind.Kind.TheVariants as kind;
 ghost use Rattle.pt_walk.specs.Left.{bytes_at, inside_at};
@@ -62,9 +63,18 @@ pub struct Check<S, L, E> {
     pub(crate) alloc: Global,
 }
 
-// What of a folder could be listed: all of its entries, or those that have names.
+// What of a folder could be listed.
 #[derive(Drop)]
-struct Found {
+enum FolderListing {
+    // Entries of it.
+    Entries(ListedEntries),
+    // Nothing.
+    Nothing,
+}
+
+// All entries of a folder, or those that have names.
+#[derive(Drop)]
+struct ListedEntries {
     listing: Listing,
     is_whole: bool,
 }
@@ -110,18 +120,18 @@ impl<S: Source, L: Log, E: Explains<S> + Drop> Check<S, L, E> {
     pub fn run(&mut self) -> Result<Numbers, Fault>
         ensures checked { IfOk result (λ numbers. ForSome (tree_by S.told self.old)
             (λ tree. Checks E.says self.old.wants tree numbers
-            (seen_by S.Source L.Log self.old) (seen_by S.Source L.Log self.new))) }
+            (check_state S.Source L.Log self.old) (check_state S.Source L.Log self.new))) }
         ensures keeps { Keeps S.told S.keeps L.told self.old self.new }
         ensures fault { LogFailsAs (L.failed self.old.log) (L.failed self.new.log) result }
     {
         let top = NamePath::new(self.alloc);
         match self.list(&top)? {
-            Some(found) => {
+            FolderListing::Entries(found) => {
                 let prefix = self.look_at_prefix(&found.listing)?;
                 self.look(&found.listing, prefix.as_str())?;
                 self.tell_numbers()
             }
-            None => self.tell_numbers(),
+            FolderListing::Nothing => self.tell_numbers(),
         }
     }
 
@@ -141,7 +151,7 @@ impl<S: Source, L: Log, E: Explains<S> + Drop> Check<S, L, E> {
         ensures looked { IfOk result (λ prefix. ForSome (tree_by S.told self.old)
             (λ tree. ReadsPrefix (kind_in_items listing.now prefix_file) (bytes_at tree prefix_path)
             (string_bytes prefix)
-            (seen_by S.Source L.Log self.old) (seen_by S.Source L.Log self.new))) }
+            (check_state S.Source L.Log self.old) (check_state S.Source L.Log self.new))) }
         ensures keeps { Keeps S.told S.keeps L.told self.old self.new }
         ensures fault { LogFailsAs (L.failed self.old.log) (L.failed self.new.log) result }
     {
@@ -162,7 +172,7 @@ impl<S: Source, L: Log, E: Explains<S> + Drop> Check<S, L, E> {
         requires { ForSome (tree_by S.told self.old) (λ tree. IsSome (file_at tree file.now)) }
         ensures read { IfOk result (λ prefix. ForSome (tree_by S.told self.old)
             (λ tree. ReadsFront file.now (take 8192 (bytes_at tree file.now)) (string_bytes prefix)
-            (seen_by S.Source L.Log self.old) (seen_by S.Source L.Log self.new))) }
+            (check_state S.Source L.Log self.old) (check_state S.Source L.Log self.new))) }
         ensures keeps { Keeps S.told S.keeps L.told self.old self.new }
         ensures fault { LogFailsAs (L.failed self.old.log) (L.failed self.new.log) result }
     {
@@ -185,7 +195,7 @@ impl<S: Source, L: Log, E: Explains<S> + Drop> Check<S, L, E> {
             (λ tree. listing_at tree [] ≡ Some listing.now) }
         ensures looked { OnOk result (ForSome (tree_by S.told self.old)
             (λ tree. Looks E.says self.old.wants prefix.now tree
-            (seen_by S.Source L.Log self.old) (seen_by S.Source L.Log self.new))) }
+            (check_state S.Source L.Log self.old) (check_state S.Source L.Log self.new))) }
         ensures keeps { Keeps S.told S.keeps L.told self.old self.new }
         ensures fault { LogFailsAs (L.failed self.old.log) (L.failed self.new.log) result }
     {
@@ -220,20 +230,20 @@ impl<S: Source, L: Log, E: Explains<S> + Drop> Check<S, L, E> {
             (λ tree. VisitsFolder E.says self.old.wants
             (record { path = path.now; prefix = prefix.now; here = within; left = left })
             (inside_at tree path.now)
-            (seen_by S.Source L.Log self.old) (seen_by S.Source L.Log self.new))) }
+            (check_state S.Source L.Log self.old) (check_state S.Source L.Log self.new))) }
         ensures keeps { Keeps S.told S.keeps L.told self.old self.new }
         ensures fault { LogFailsAs (L.failed self.old.log) (L.failed self.new.log) result }
     {
         if left == 0 {
             return self.tell(path, Trouble::Deep);
         }
-        let Some(found) = self.list(path)? else {
+        let FolderListing::Entries(found) = self.list(path)? else {
             return Ok(());
         };
         let has_object = self.judge_found(path, prefix, within, &found)?;
         for i in 0..found.listing.len() {
             let Some((name, kind)) = found.listing.get(i) else {
-                continue;
+                unreachable!()
             };
             let entry = path.child(name)?;
             let bytes = self.meet(&entry, within, name, kind)?;
@@ -255,7 +265,7 @@ impl<S: Source, L: Log, E: Explains<S> + Drop> Check<S, L, E> {
             (λ tree. here ≡ kind.File → IsSome (file_at tree path.now)) }
         ensures opened { OnOk result (ForSome (tree_by S.told self.old)
             (λ tree. OpensIf self.old.wants.reads path.now here (bytes_at tree path.now)
-            (seen_by S.Source L.Log self.old) (seen_by S.Source L.Log self.new))) }
+            (check_state S.Source L.Log self.old) (check_state S.Source L.Log self.new))) }
         ensures keeps { Keeps S.told S.keeps L.told self.old self.new }
         ensures fault { LogFailsAs (L.failed self.old.log) (L.failed self.new.log) result }
     {
@@ -305,12 +315,12 @@ impl<S: Source, L: Log, E: Explains<S> + Drop> Check<S, L, E> {
         path: &NamePath,
         prefix: &str,
         within: Within,
-        found: &Found,
+        found: &ListedEntries,
     ) -> Result<bool, Fault>
         ensures judged { OnOk result (cond found.now.is_whole
             (Judges self.old.wants (path.now, prefix.now) within found.now.listing
-            (seen_by S.Source L.Log self.old) (seen_by S.Source L.Log self.new))
-            (seen_by S.Source L.Log self.new ≡ seen_by S.Source L.Log self.old)) }
+            (check_state S.Source L.Log self.old) (check_state S.Source L.Log self.new))
+            (check_state S.Source L.Log self.new ≡ check_state S.Source L.Log self.old)) }
         ensures object { IfOk result (λ holds. holds ≡ cond found.now.is_whole
             (has_object_in (finding_of_items within found.now.listing)) false) }
         ensures keeps { Keeps S.told S.keeps L.told self.old self.new }
@@ -334,7 +344,7 @@ impl<S: Source, L: Log, E: Explains<S> + Drop> Check<S, L, E> {
     ) -> Result<bool, Fault>
         ensures judged { OnOk result (Judges self.old.wants
             (path.now, prefix.now) within listing.now
-            (seen_by S.Source L.Log self.old) (seen_by S.Source L.Log self.new)) }
+            (check_state S.Source L.Log self.old) (check_state S.Source L.Log self.new)) }
         ensures object { IfOk result (λ holds. holds
             ≡ has_object_in (finding_of_items within listing.now)) }
         ensures keeps { Keeps S.told S.keeps L.told self.old self.new }
@@ -361,7 +371,7 @@ impl<S: Source, L: Log, E: Explains<S> + Drop> Check<S, L, E> {
         kind: Kind,
     ) -> Result<u64, Fault>
         ensures met { OnOk result (Meets self.old.wants path.now within (name.now, kind)
-            (seen_by S.Source L.Log self.old) (seen_by S.Source L.Log self.new)) }
+            (check_state S.Source L.Log self.old) (check_state S.Source L.Log self.new)) }
         ensures length { IfOk result (λ bytes. bytes ≡ length (joined path.now)) }
         ensures keeps { Keeps S.told S.keeps L.told self.old self.new }
         ensures fault { LogFailsAs (L.failed self.old.log) (L.failed self.new.log) result }
@@ -376,23 +386,23 @@ impl<S: Source, L: Log, E: Explains<S> + Drop> Check<S, L, E> {
         Ok(bytes)
     }
 
-    // What of a folder can be listed, and None where nothing can. That not all of it can is told.
+    // What of a folder can be listed. That not all of it can is told.
     #[tactic(auto, using(pt_tree::proofs::Told::listed_in))]
-    fn list(&mut self, path: &NamePath) -> Result<Option<Found>, Fault>
+    fn list(&mut self, path: &NamePath) -> Result<FolderListing, Fault>
         requires { ForSome (tree_by S.told self.old) (λ tree. IsSome (dir_at tree path.now)) }
-        ensures listed { IfOk result (λ found. MatchOption found
-            (TellsUnlisted E.says path.now false (seen_by S.Source L.Log self.old)
-            (seen_by S.Source L.Log self.new))
+        ensures listed { IfOk result (λ found. MatchListing found
+            (TellsUnlisted E.says path.now false (check_state S.Source L.Log self.old)
+            (check_state S.Source L.Log self.new))
             (λ found. ForSome (tree_by S.told self.old)
             (λ tree. listing_at tree path.now ≡ Some found.listing))) }
-        ensures found { IfOk result (λ found. IfSome found
+        ensures found { IfOk result (λ found. IfEntries found
             (λ found. Finds E.says path.now found.is_whole
-            (seen_by S.Source L.Log self.old) (seen_by S.Source L.Log self.new))) }
+            (check_state S.Source L.Log self.old) (check_state S.Source L.Log self.new))) }
         ensures keeps { Keeps S.told S.keeps L.told self.old self.new }
         ensures fault { LogFailsAs (L.failed self.old.log) (L.failed self.new.log) result }
     {
         match self.source.list(path) {
-            Ok(listing) => Ok(Some(Found {
+            Ok(listing) => Ok(FolderListing::Entries(ListedEntries {
                 listing,
                 is_whole: true,
             })),
@@ -404,14 +414,14 @@ impl<S: Source, L: Log, E: Explains<S> + Drop> Check<S, L, E> {
     // Tells that the source failed to list a folder, by a line for each reason. Gives what of it
     // can be listed all the same.
     #[tactic(auto, using(pt_tree::proofs::Told::listed_in))]
-    fn list_part(&mut self, path: &NamePath) -> Result<Option<Found>, Fault>
+    fn list_part(&mut self, path: &NamePath) -> Result<FolderListing, Fault>
         requires { ForSome (tree_by S.told self.old) (λ tree. IsSome (dir_at tree path.now)) }
-        ensures listed { IfOk result (λ found. IfSome found
+        ensures listed { IfOk result (λ found. IfEntries found
             (λ found. ForSome (tree_by S.told self.old)
             (λ tree. listing_at tree path.now ≡ Some found.listing))) }
-        ensures part { IfOk result (λ found. IfSome found (λ found. found.is_whole ≡ false)) }
-        ensures told { IfOk result (λ found. TellsReasons E.says path.now (is_some found)
-            (seen_by S.Source L.Log self.old) (seen_by S.Source L.Log self.new)) }
+        ensures part { IfOk result (λ found. IfEntries found (λ found. found.is_whole ≡ false)) }
+        ensures told { IfOk result (λ found. TellsReasons E.says path.now (has_entries found)
+            (check_state S.Source L.Log self.old) (check_state S.Source L.Log self.new)) }
         ensures keeps { Keeps S.told S.keeps L.told self.old self.new }
         ensures fault { LogFailsAs (L.failed self.old.log) (L.failed self.new.log) result }
     {
@@ -425,11 +435,11 @@ impl<S: Source, L: Log, E: Explains<S> + Drop> Check<S, L, E> {
         self.tell_reason(path, reason.as_str())?;
         self.tell_each(path, &further)?;
         match listing {
-            Some(listing) => Ok(Some(Found {
+            Some(listing) => Ok(FolderListing::Entries(ListedEntries {
                 listing,
                 is_whole: false,
             })),
-            None => Ok(None),
+            None => Ok(FolderListing::Nothing),
         }
     }
 
@@ -438,7 +448,7 @@ impl<S: Source, L: Log, E: Explains<S> + Drop> Check<S, L, E> {
         requires { ForSome (tree_by S.told self.old) (λ tree. IsSome (file_at tree path.now)) }
         ensures opened { OnOk result (ForSome (tree_by S.told self.old)
             (λ tree. Opens self.old.wants.reads path.now (bytes_at tree path.now)
-            (seen_by S.Source L.Log self.old) (seen_by S.Source L.Log self.new))) }
+            (check_state S.Source L.Log self.old) (check_state S.Source L.Log self.new))) }
         ensures keeps { Keeps S.told S.keeps L.told self.old self.new }
         ensures fault { LogFailsAs (L.failed self.old.log) (L.failed self.new.log) result }
     {

@@ -1,16 +1,14 @@
 //! The lines of a check: each one compact JSON object with its keys in byte order, and LF.
-#![tactic(auto, using(crate::proofs::LineTexts::texts))]
-
 ghost use Rattle.std.specs.Prelude.{◌≡◌, IfOk};
 ghost use Rattle.std.specs.String.{string_bytes};
 ghost use Rattle.pt_check.specs.Lines.{line_text};
 ghost use Rattle.pt_check.specs.Lines as line;
 
 use crate::{Numbers, Trouble};
-use pt_object::members::{put_number, put_text};
-use pt_plan::lines::{line_of, text_of};
+use pt_plan::lines::text_of;
+use pt_plan::members::Member::{Number, Path, Text};
+use pt_plan::members::line_with;
 use pt_tree::{MemoryFault, NamePath};
-use serde_json::{Map, Value};
 use std::alloc::Global;
 
 /// The line of a trouble at a path.
@@ -21,11 +19,8 @@ pub(crate) fn trouble_line(
 ) -> Result<String, MemoryFault>
     ensures { IfOk result (λ text. string_bytes text ≡ line_text (line.Told path.now trouble)) }
 {
-    let path = text_of(path)?;
-    let mut members = Map::new(alloc);
-    put_text(&mut members, alloc, "as", trouble.word())?;
-    put_text(&mut members, alloc, "path", path.as_str())?;
-    line_of(alloc, &Value::from(members))
+    let members = [Text("as", trouble.word()), Path("path", text_of(path)?)];
+    line_with(alloc, &members)
 }
 
 /// The line of a path that couldn't be read, for this reason.
@@ -37,27 +32,28 @@ pub(crate) fn unreadable_line(
     ensures { IfOk result (λ text. string_bytes text
         ≡ line_text (line.Unreadable path.now reason.now)) }
 {
-    let path = text_of(path)?;
-    let mut members = Map::new(alloc);
-    put_text(&mut members, alloc, "as", "unreadable")?;
-    put_text(&mut members, alloc, "path", path.as_str())?;
-    put_text(&mut members, alloc, "reason", reason)?;
-    line_of(alloc, &Value::from(members))
+    let members = [
+        Text("as", "unreadable"),
+        Path("path", text_of(path)?),
+        Text("reason", reason),
+    ];
+    line_with(alloc, &members)
 }
 
 /// The line of the numbers at the end.
 pub(crate) fn end_line(alloc: Global, numbers: &Numbers) -> Result<String, MemoryFault>
     ensures { IfOk result (λ text. string_bytes text ≡ line_text (line.End numbers.now)) }
 {
-    let mut members = Map::new(alloc);
-    put_text(&mut members, alloc, "as", "end")?;
-    put_number(&mut members, alloc, "bytes", numbers.bytes)?;
-    put_number(&mut members, alloc, "files", numbers.files)?;
-    put_number(&mut members, alloc, "folders", numbers.folders)?;
-    put_number(&mut members, alloc, "largest", numbers.largest)?;
-    put_number(&mut members, alloc, "longest", numbers.longest)?;
-    put_number(&mut members, alloc, "objects", numbers.objects)?;
-    put_number(&mut members, alloc, "sites", numbers.sites)?;
-    put_number(&mut members, alloc, "told", numbers.told)?;
-    line_of(alloc, &Value::from(members))
+    let members = [
+        Text("as", "end"),
+        Number("bytes", numbers.bytes),
+        Number("files", numbers.files),
+        Number("folders", numbers.folders),
+        Number("largest", numbers.largest),
+        Number("longest", numbers.longest),
+        Number("objects", numbers.objects),
+        Number("sites", numbers.sites),
+        Number("told", numbers.told),
+    ];
+    line_with(alloc, &members)
 }

@@ -4,7 +4,7 @@ ghost use Rattle.std.specs.Prelude.{◌≡◌, map, string_bytes, IfOk, OnOk};
 ghost use Rattle.pt_check.specs.Faults.{LogFailsAs};
 ghost use Rattle.pt_check.specs.Lines.{End, Told, Unreadable, line_text};
 ghost use Rattle.pt_check.specs.Visits.{Keeps, Puts, Tells, TellsEach, TellsIf, TellsUnread};
-ghost use Rattle.pt_check.specs.Visits.{seen_by};
+ghost use Rattle.pt_check.specs.Visits.{check_state};
 
 use crate::checking::Check;
 use crate::lines::{end_line, trouble_line, unreadable_line};
@@ -34,7 +34,7 @@ impl<S: Source, L: Log, E: Explains<S> + Drop> Check<S, L, E> {
     // Tells of a trouble at a path, if there is one.
     pub(crate) fn tell_if(&mut self, path: &NamePath, trouble: Option<Trouble>) -> Result<(), Fault>
         ensures told { OnOk result (TellsIf path.now trouble
-            (seen_by S.Source L.Log self.old) (seen_by S.Source L.Log self.new)) }
+            (check_state S.Source L.Log self.old) (check_state S.Source L.Log self.new)) }
         ensures source { self.new.source ≡ self.old.source }
         ensures keeps { Keeps S.told S.keeps L.told self.old self.new }
         ensures fault { LogFailsAs (L.failed self.old.log) (L.failed self.new.log) result }
@@ -48,7 +48,7 @@ impl<S: Source, L: Log, E: Explains<S> + Drop> Check<S, L, E> {
     // Tells of a trouble at a path.
     pub(crate) fn tell(&mut self, path: &NamePath, trouble: Trouble) -> Result<(), Fault>
         ensures told { OnOk result (Tells (Told path.now trouble)
-            (seen_by S.Source L.Log self.old) (seen_by S.Source L.Log self.new)) }
+            (check_state S.Source L.Log self.old) (check_state S.Source L.Log self.new)) }
         ensures source { self.new.source ≡ self.old.source }
         ensures keeps { Keeps S.told S.keeps L.told self.old self.new }
         ensures fault { LogFailsAs (L.failed self.old.log) (L.failed self.new.log) result }
@@ -60,7 +60,7 @@ impl<S: Source, L: Log, E: Explains<S> + Drop> Check<S, L, E> {
     // Tells that the source failed at a path.
     pub(crate) fn tell_failure(&mut self, path: &NamePath) -> Result<(), Fault>
         ensures told { OnOk result (TellsUnread path.now
-            (seen_by S.Source L.Log self.old) (seen_by S.Source L.Log self.new)) }
+            (check_state S.Source L.Log self.old) (check_state S.Source L.Log self.new)) }
         ensures source { self.new.source ≡ self.old.source }
         ensures keeps { Keeps S.told S.keeps L.told self.old self.new }
         ensures fault { LogFailsAs (L.failed self.old.log) (L.failed self.new.log) result }
@@ -72,7 +72,7 @@ impl<S: Source, L: Log, E: Explains<S> + Drop> Check<S, L, E> {
     // Tells of a path that it can't be read, for this reason.
     pub(crate) fn tell_reason(&mut self, path: &NamePath, reason: &str) -> Result<(), Fault>
         ensures told { OnOk result (Tells (Unreadable path.now reason.now)
-            (seen_by S.Source L.Log self.old) (seen_by S.Source L.Log self.new)) }
+            (check_state S.Source L.Log self.old) (check_state S.Source L.Log self.new)) }
         ensures source { self.new.source ≡ self.old.source }
         ensures keeps { Keeps S.told S.keeps L.told self.old self.new }
         ensures fault { LogFailsAs (L.failed self.old.log) (L.failed self.new.log) result }
@@ -85,7 +85,7 @@ impl<S: Source, L: Log, E: Explains<S> + Drop> Check<S, L, E> {
     pub(crate) fn tell_each(&mut self, path: &NamePath, reasons: &[String]) -> Result<(), Fault>
         ensures told { OnOk result (TellsEach path.now
             (map (λ reason. string_bytes reason) reasons.now)
-            (seen_by S.Source L.Log self.old) (seen_by S.Source L.Log self.new)) }
+            (check_state S.Source L.Log self.old) (check_state S.Source L.Log self.new)) }
         ensures source { self.new.source ≡ self.old.source }
         ensures keeps { Keeps S.told S.keeps L.told self.old self.new }
         ensures fault { LogFailsAs (L.failed self.old.log) (L.failed self.new.log) result }
@@ -99,7 +99,7 @@ impl<S: Source, L: Log, E: Explains<S> + Drop> Check<S, L, E> {
     // Puts a line, and counts it.
     fn put(&mut self, line: &str) -> Result<(), Fault>
         ensures put { OnOk result (Puts line.now
-            (seen_by S.Source L.Log self.old) (seen_by S.Source L.Log self.new)) }
+            (check_state S.Source L.Log self.old) (check_state S.Source L.Log self.new)) }
         ensures source { self.new.source ≡ self.old.source }
         ensures keeps { Keeps S.told S.keeps L.told self.old self.new }
         ensures fault { LogFailsAs (L.failed self.old.log) (L.failed self.new.log) result }

@@ -31,7 +31,6 @@ use Rattle.pt_compare.proofs.Findings.{
   stopped_late,
 }
 use Rattle.pt_compare.proofs.Going.{Answer, all_both, all_met-append, err_of, stops_first, stops_later}
-use Rattle.pt_compare.proofs.Made.{kind_none}
 use Rattle.pt_compare.proofs.Steps.{all_met_noted}
 use Rattle.pt_folder.specs.Calls.{change_of}
 use Rattle.pt_object.proofs.ObjectScripts.{in_order_apart}
@@ -55,9 +54,6 @@ use Rattle.pt_walk.specs.Left.{bytes_at}
 
 seen_kind : (f : Forest) (place : Path) (here : Option Kind) → kind_at f place ≡ here → kind_in (inside f place) [] ≡ here
 seen_kind f place here is = kind_same (node_at (Dir f) (place ++ [])) ∙ ap (kind_at f) (append-nil place) ∙ is
-
-pub absent_found : (sought : Sought) (f : Forest) (place : Path) → kind_at f place ≡ None → IsFound sought (inside f place) finding.Absent
-absent_found sought f place is = kind_none (inside f place) [] (seen_kind f place None is)
 
 pub first_noted_is : (f : Forest) (place p : Path) (k : Kind) (marks : Marks) → kind_at f place ≡ Some k → p ≡ [] → marks ≡ with_mark p k no_marks
     → marks ≡ at_first (inside f place)
@@ -316,11 +312,6 @@ inventory_then tree next place p algorithm text_with now old mid new stands r sa
           (file_first (inside f place) version_inventory (string_bytes stands) here.0) here.2 copies,
     )
     by f (Err (stop.Fault why)) here copies = tt
-
--- what is found is right where both sides tell, as it is where one doesn't
-pub found_absent : (src tree : Option Forest) (place : Path) (sought : Forest → Sought) → IsSeen tree place None
-    → ForSome src (λ s. ForSome tree (λ f. IsFound (sought s) (inside f place) finding.Absent))
-found_absent src tree place sought seen = λ s read f told. absent_found (sought s) f place (seen f told)
 
 module _ (src tree next : Option Forest) (place top : Path) (sought : Forest → Sought) (order : (s : Forest)
     → part_in_order (paths_of (sought s).stored) ≡ true) (k : Kind) (old : Marks) (same : next ≡ tree) (seen : IsSeen tree place (Some k)) (at : top ≡ [])

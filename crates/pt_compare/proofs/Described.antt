@@ -67,23 +67,14 @@ not_empty is = cc
 -- ---- whether it is made
 
 -- with a description that a run can be given the inventory is made
-made_with : (text_with : MetaParts → List ℕ) (inventory : List ℕ) (meta : Option MetaParts) → IsUtf8 inventory → ((m : MetaParts) → meta ≡ Some m → IsGiven m)
+made_with : (text_with : MetaParts → List ℕ) (inventory : List ℕ) (meta : MetaParts) → IsUtf8 inventory → IsGiven meta
     → is_text_with text_with inventory meta ≡ true → IsMade text_with inventory
-made_with text_with inventory None text given is = absurd (true≢false (sym is))
-made_with text_with inventory (Some m) text given is = record {
-  is_text = text;
-  meta = m;
-  given = given m refl;
-  is = same_text inventory (text_with m)
-      (sym is);
-}
+made_with text_with inventory meta text given is =
+    record { is_text = text; meta = meta; given = given; is = same_text inventory (text_with meta) (sym is) }
 
-if_given : (meta : Option MetaParts) → IfSome meta IsGiven → (m : MetaParts) → meta ≡ Some m → IsGiven m
-if_given meta given m is = subst (λ o. IfSome o IsGiven) is given
-
-pub tells_made : (text_with : MetaParts → List ℕ) (inventory : List ℕ) (meta : Option MetaParts) (made : Bool) → IsUtf8 inventory → IfSome meta IsGiven
+pub tells_made : (text_with : MetaParts → List ℕ) (inventory : List ℕ) (meta : MetaParts) (made : Bool) → IsUtf8 inventory → IsGiven meta
     → made ≡ true → made ≡ is_text_with text_with inventory meta → TellsMade text_with inventory true
-tells_made text_with inventory meta made text given is told = (λ t. made_with text_with inventory meta text (if_given meta given) (sym told ∙ is), λ m. refl)
+tells_made text_with inventory meta made text given is told = (λ t. made_with text_with inventory meta text given (sym told ∙ is), λ m. refl)
 
 -- what the inventory of some files says of its version
 module _ (id : List ℕ) (rows : List Row) (algorithm : Algorithm) where
@@ -111,18 +102,31 @@ module _ (id : List ℕ) (rows : List Row) (algorithm : Algorithm) where
       by true is = refl
       by false is = absurd (other_text text text (sym is) refl)
 
-  made_read : (inventory : List ℕ) (meta : Option MetaParts) → meta ≡ description_in (unwrap_or (read inventory) null) → IsMade texts inventory
+  -- an inventory that is made says just the description that it is made with
+  made_says : (inventory : List ℕ) (made : IsMade texts inventory) → description_in (unwrap_or (read inventory) null) ≡ Some made.meta
+  made_says inventory made = ap (λ b. description_in (unwrap_or (read b) null)) made.is ∙ read_back made.meta made.given
+
+  made_read : (inventory : List ℕ) (meta : MetaParts) → Some meta ≡ description_in (unwrap_or (read inventory) null) → IsMade texts inventory
       → is_text_with texts inventory meta ≡ true
   made_read inventory meta told made =
-      let found : meta ≡ Some made.meta = told ∙ ap (λ b. description_in (unwrap_or (read b) null)) made.is ∙ read_back made.meta made.given in
-      ap (is_text_with texts inventory) found ∙ ap (λ b. bytes_eq b (texts made.meta)) made.is ∙ same_as_itself (texts made.meta)
+      let found : Some meta ≡ Some made.meta = told ∙ made_says inventory made in
+      let same : meta ≡ made.meta = cc in
+      ap (is_text_with texts inventory) same ∙ ap (λ b. bytes_eq b (texts made.meta)) made.is ∙ same_as_itself (texts made.meta)
 
-  pub tells_by_json : (inventory : List ℕ) (meta : Option MetaParts) (r : Result Bool MemoryFault) → IsUtf8 inventory
-      → meta ≡ description_in (unwrap_or (read inventory) null) → IfOk r (λ made. made ≡ is_text_with texts inventory meta) → IfOk r (TellsMade texts inventory)
+  pub tells_by_json : (inventory : List ℕ) (meta : MetaParts) (r : Result Bool MemoryFault) → IsUtf8 inventory
+      → Some meta ≡ description_in (unwrap_or (read inventory) null) → IfOk r (λ made. made ≡ is_text_with texts inventory meta)
+      → IfOk r (TellsMade texts inventory)
   tells_by_json inventory meta (Err e) text told is = tt
   tells_by_json inventory meta (Ok made) text told is = (
-    λ t. made_with texts inventory meta text (λ m some. given_of (texts_in_inventory (unwrap_or (read inventory) null)) m (sym told ∙ some)) (sym is ∙ t),
+    λ t. made_with texts inventory meta text (given_of (texts_in_inventory (unwrap_or (read inventory) null)) meta (sym told)) (sym is ∙ t),
     λ m. is ∙ made_read inventory meta told m,
+  )
+
+  -- one that says no description isn't made
+  pub tells_unmade : (inventory : List ℕ) → None ≡ description_in (unwrap_or (read inventory) null) → TellsMade texts inventory false
+  tells_unmade inventory told = (
+    λ t. absurd (true≢false (sym t)),
+    λ m. let none : None ≡ Some m.meta = told ∙ made_says inventory m in absurd (cc),
   )
 
 -- what is said of an answer, where it is known

@@ -95,9 +95,6 @@ module _ (sought : Sought) (order : part_in_order (paths_of sought.stored) ≡ t
   pub are_items : (inventory : List ℕ) → object_items sought.algorithm inventory sought.stored ≡ all_items sought inventory
   are_items inventory = items_are sought.algorithm inventory sought.stored order
 
-  first_marks : Marks
-  first_marks = met t (MakeFolder []) (at_first t)
-
   start : Tree
   start = on_way [] []
 

@@ -129,12 +129,6 @@ contents_at (suc i) (x ∷ contents) content is = contents_at i contents content
 contents_next : (i : ℕ) (contents : List Content) (content : Content) → slice_get contents i ≡ Some content → drop i contents ≡ content ∷ drop (i + 1) contents
 contents_next i contents content is = contents_at i contents content is ∙ ap (λ n. content ∷ drop n contents) (sym (add-one i))
 
-pub none_after : (i : ℕ) (contents : List Content) → slice_get contents i ≡ None → drop i contents ≡ []
-none_after zero [] is = refl
-none_after (suc i) [] is = refl
-none_after zero (x ∷ contents) is = absurd (cc)
-none_after (suc i) (x ∷ contents) is = none_after i contents is
-
 pub one_of_all : (P : Content → Type 0) (i : ℕ) (contents : List Content) (content : Content) → slice_get contents i ≡ Some content → All P contents → P content
 one_of_all P i [] content is all = absurd (cc)
 one_of_all P zero (x ∷ contents) content is all = let same : x ≡ content = cc in subst P same (All-head P x contents all)

@@ -155,16 +155,6 @@ opens before after place p whole old new here noted was file taken opened at = (
         let same : r.tree ≡ f = cc in
         (there.0, there.1, ap left_in is ∙ ap (λ (g : Forest). file_at g (place ++ p)) same ∙ there.2)
 
-pub wrong_file : (before after : Option Reading) (place p q : Path) (old new : Marks) (here : Option Kind) (e : Stop)
-    → e ≡ stop.Differs (record { path = q; why = why_for here }) → q ≡ p → here ≡ old p → is_kind_of kind.File here ≡ false
-    → OpensIn before after place p (change_of old new) (Err e)
-wrong_file before after place p q old new here e is at was other = subst (λ (e : Stop). OpensIn before after place p (change_of old new) (Err e)) (sym is)
-    (at, by here was other)
-  where
-    by : (here : Option Kind) → here ≡ old p → is_kind_of kind.File here ≡ false → IsWrongFile old p (why_for here)
-    by None was other = sym was
-    by (Some k) was other = (k, sym was, kind_other kind.File k other)
-
 pub as_item : (t : Tree) (marks : Marks) (p : Path) (bytes : List ℕ) (w : Why) → IsWrongFile marks p w → IsWrongItem t marks (MakeFile p bytes) w
 as_item t marks p bytes why.Missing wrong = wrong
 as_item t marks p bytes why.Kind wrong = wrong
@@ -199,7 +189,8 @@ unfolding MeetsIn TellsRest
 bytes_met before mid place p bytes old new same answer is opened rest taken_so = λ f told.
     let there = opened.2 f told in
     subst (Meets {T = Unit {0}} (inside f place) (MakeFile p bytes ∷ []) old new) (sym is) (
-      one_stands (inside f place) (MakeFile p bytes) (there.1 ∙ ap (λ (b : List ℕ). Some (Bytes b)) (same_left there.0 bytes (taken_so ∙ rest there.0 there.2))),
+      one_stands (inside f place) (MakeFile p bytes)
+          (there.1 ∙ ap (λ (b : List ℕ). Some (Bytes b)) (same_left there.0 bytes (taken_so ∙ rest there.0 there.2))),
       opened.1,
     )
 

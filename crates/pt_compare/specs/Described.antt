@@ -1,5 +1,5 @@
 -- What an inventory says of its version, and the inventories that a run could make of the same files.
-use Rattle.std.specs.Prelude.{◌≡◌, ◌↔◌, Bool, true, false, ℕ, List, codes, Option, None, Some}
+use Rattle.std.specs.Prelude.{◌≡◌, ◌↔◌, Bool, true, ℕ, List, codes, Option, None, Some}
 use Rattle.std.specs.Option.{option_and_then, option_map}
 use Rattle.std.specs.Str.{IsUtf8, bytes_eq}
 use Rattle.pt_compare.specs.declared.inventories.Texts.{Texts}
@@ -36,9 +36,8 @@ abbrev pub TellsMade : (MetaParts → List ℕ) → List ℕ → Bool → Type 0
 TellsMade text_with inventory made = (made ≡ true) ↔ IsMade text_with inventory
 
 -- it has with this description
-abbrev pub is_text_with : (MetaParts → List ℕ) → List ℕ → Option MetaParts → Bool
-is_text_with text_with inventory None = false
-is_text_with text_with inventory (Some meta) = bytes_eq inventory (text_with meta)
+abbrev pub is_text_with : (MetaParts → List ℕ) → List ℕ → MetaParts → Bool
+is_text_with text_with inventory meta = bytes_eq inventory (text_with meta)
 
 -- ---- what an inventory says
 

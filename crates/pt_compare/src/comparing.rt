@@ -184,7 +184,7 @@ fn meet_contents<S: Source, R: Source>(
     let mut last = None;
     for i in 0..object.contents.len() {
         let Some(content) = object.contents.get(i) else {
-            return Ok(());
+            unreachable!()
         };
         meet_way(
             alloc,

@@ -100,7 +100,7 @@ pub(crate) fn note(
 {
     for i in 0..listing.len() {
         let Some((name, kind)) = listing.get(i) else {
-            return Ok(());
+            unreachable!()
         };
         note_entry(entries, path, name, kind)?;
     }

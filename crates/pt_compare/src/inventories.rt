@@ -58,34 +58,34 @@ fn is_made(alloc: Global, stands: &str, object: &ScannedObject<'_>) -> Result<bo
     requires { object.now.contents.now ≡ map content_of_row (distinct object.now.rows.now) }
     ensures { IfOk result (TellsMade (texts_of_object object.now) stands.now) }
 {
-    let meta = meta_by_text(alloc, stands)?;
-    if is_text(alloc, object, meta, stands)? {
-        return Ok(true);
+    if let Some(meta) = meta_by_text(alloc, stands)? {
+        if is_text(alloc, object, &meta, stands)? {
+            return Ok(true);
+        }
     }
-    let meta = meta_by_json(alloc, stands)?;
-    is_text(alloc, object, meta, stands)
+    let Some(meta) = meta_by_json(alloc, stands)? else {
+        return Ok(false);
+    };
+    is_text(alloc, object, &meta, stands)
 }
 
-// Whether this is the text of the object's inventory with a description of its version.
+// Whether this is the text of the object's inventory with this description of its version.
 fn is_text(
     alloc: Global,
     object: &ScannedObject<'_>,
-    meta: Option<Meta>,
+    meta: &Meta,
     text: &str,
 ) -> Result<bool, MemoryFault>
     requires { object.now.contents.now ≡ map content_of_row (distinct object.now.rows.now) }
     ensures { IfOk result (λ same. same
-        ≡ is_text_with (texts_of_object object.now) text.now meta) }
+        ≡ is_text_with (texts_of_object object.now) text.now meta.now) }
 {
-    let Some(meta) = meta else {
-        return Ok(false);
-    };
     let made = inventory(
         alloc,
         object.id,
         object.rows,
         object.contents,
-        &meta,
+        meta,
         object.algorithm,
     )?;
     Ok(text == made.as_str())

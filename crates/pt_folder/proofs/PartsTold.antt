@@ -26,7 +26,7 @@ use Rattle.pt_folder.specs.Listing.{FailsToLook, LooksAt, dir_front, most_entrie
 use Rattle.pt_folder.specs.Parting.{FailsToListPast, GivesApart, HasParts, IsListedPast, IsOneTooMany}
 use Rattle.pt_folder.specs.Taking.{GetsAll}
 use Rattle.pt_folder.specs.SourceLaws.{NamesLaw, names_of}
-use Rattle.pt_folder.specs.declared.parting.Parted.{Parted}
+use Rattle.pt_folder.specs.declared.parting.Partition.{Partition}
 use Rattle.pt_folder.specs.declared.system.Input.{Ghosts as OfInput}
 use Rattle.pt_folder.specs.declared.system.System.{Ghosts as OfSystem}
 use Rattle.pt_folder.proofs.Listed.{Asks, read_fails, read_whole}
@@ -62,7 +62,7 @@ module _ {S D : Type 0} (kept : S → List ℕ → Option Forest) (input : OfInp
     (folder : List ℕ) (p : Path) (old mid : S) (text : List ℕ) (path : IsPath p) (is : text ≡ entry_text folder p)
     (can : ForSome (kept old folder) (λ f. IsSome (dir_at f p))) where
   -- the names among what it gives are those of the directory
-  pub parted_given : (parted : Parted) (done : Unit {0}) → ((f : Forest) → kept old folder ≡ Some f → is_proper f ≡ true)
+  pub parted_given : (parted : Partition) (done : Unit {0}) → ((f : Forest) → kept old folder ≡ Some f → is_proper f ≡ true)
       → ((reply : Result D Error) × opens old text reply mid × MatchResult reply (λ d. (after : D) × GetsAll input HasParts d parted after)
       (λ e. let r : Result (Unit {0}) TreeFault = Ok done in r ≡ Err (fault_of e)))
       → ForSome (kept old folder) (λ f. (d : Forest) → dir_at f p ≡ Some d → IsPermutation parted.names.items (names_of d))
@@ -77,16 +77,16 @@ module _ {S D : Type 0} (kept : S → List ℕ → Option Forest) (input : OfInp
 module _ {S F D : Type 0} (sys : OfSystem S F D) (input : OfInput D) (folder : List ℕ) (p : Path) (old mid new : S) (text : List ℕ) (is : text
     ≡ entry_text folder p) where
   -- it was read so
-  abbrev AsksParted : Parted → Result (Unit {0}) TreeFault → Type 0
+  abbrev AsksParted : Partition → Result (Unit {0}) TreeFault → Type 0
   AsksParted parted result = Asks sys input folder p old mid text is HasParts IsOneTooMany parted result
 
   -- it isn't read to its end
-  pub parted_fails : (parted : Parted) (refused : List (Vec ℕ Global)) (fault : TreeFault) → AsksParted parted (Err fault)
+  pub parted_fails : (parted : Partition) (refused : List (Vec ℕ Global)) (fault : TreeFault) → AsksParted parted (Err fault)
       → FailsToListPast sys input (entry_in folder p) (change_of old mid) (change_of refused refused) fault
   parted_fails parted refused Memory asked = inl refl
   parted_fails parted refused Device asked = inl (refl, read_fails sys input folder p old mid text is HasParts IsOneTooMany parted asked)
 
-  module _ (parted : Parted) (done : Unit {0}) (asked : AsksParted parted (Ok done)) (refused : List (Vec ℕ Global))
+  module _ (parted : Partition) (done : Unit {0}) (asked : AsksParted parted (Ok done)) (refused : List (Vec ℕ Global))
       (others : IsPermutation parted.refused.items refused) (order_is : IsSorted (λ x y. slice_cmp nat_cmp x.items y.items) refused) where
     whole : (dir : D) × (after : D) × sys.opens_dir old (entry_text folder p) (Ok dir) mid × GetsAll input HasParts dir parted after
     whole = read_whole sys input folder p old mid text is HasParts IsOneTooMany parted done asked

@@ -1,5 +1,7 @@
 -- How a directory is listed.
-use Rattle.std.specs.Prelude.{◌≡◌, ◌⊎◌, ◌-◌, ◌^◌, ℕ, false, length, List, [], ◌∷◌, ◌++◌, ◌≤◌, map, IfSome, IsPermutation, Result, Ok, Err, Vec}
+use Rattle.std.specs.Prelude.{◌≡◌, ◌⊎◌, ◌-◌, ◌^◌, ℕ, false, length, List, [], ◌∷◌, ◌++◌, ◌≤◌, map, IfSome, IsPermutation, IsSome}
+use Rattle.std.specs.Prelude.{Option, Result, Ok, Err, Some, Vec}
+use Rattle.std.specs.Option.{ForSome}
 use Rattle.std.specs.Global.{Global}
 use Rattle.std.specs.List.{FoldsTo}
 use Rattle.std.specs.List.Sorted.{IsSorted}
@@ -9,6 +11,7 @@ use Rattle.std.specs.declared.io.Error.{Error}
 use Rattle.pt_tree.specs.declared.faults.TreeFault.{TreeFault}
 use Rattle.pt_tree.specs.declared.faults.TreeFault.TheVariants.{Device, Memory}
 use Rattle.pt_tree.specs.declared.kind.Kind.{Kind}
+use Rattle.pt_tree.specs.Forest.{Forest, dir_at, listing_at}
 use Rattle.pt_tree.specs.Listing.{Item, can_follow}
 use Rattle.pt_tree.specs.Path.{Path}
 use Rattle.pt_folder.specs.Folder.{FolderEntry, entry_text}
@@ -21,6 +24,14 @@ use Rattle.pt_folder.specs.Runs.{GivesPiece, Reads}
 -- the greatest number of a directory's entries
 abbrev pub most_entries : ℕ
 most_entries = 16777216
+
+-- a directory stands at this path of a tree, where that is told
+abbrev pub HasDir : Option Forest → Path → Type 0
+HasDir tree path = ForSome tree (λ f. IsSome (dir_at f path))
+
+-- and this is what is listed there
+abbrev pub IsListingOf : Option Forest → Path → List Item → Type 0
+IsListingOf tree path listing = ForSome tree (λ f. listing_at f path ≡ Some listing)
 
 -- these are all that was given, and no more than a directory may have
 pub record AreAll (names : Vec (List ℕ) Global) (all : List (List ℕ)) : Type 0 where

@@ -9,7 +9,7 @@ use Rattle.pt_tree.specs.declared.faults.TreeFault.{TreeFault}
 use Rattle.pt_tree.specs.declared.faults.TreeFault.TheVariants.{Device, Memory}
 use Rattle.pt_tree.specs.Listing.{Item}
 use Rattle.pt_tree.specs.Name.{is_name}
-use Rattle.pt_folder.specs.declared.parting.Parted.{Parted}
+use Rattle.pt_folder.specs.declared.parting.Partition.{Partition}
 use Rattle.pt_folder.specs.declared.system.Input.{Ghosts as OfInput}
 use Rattle.pt_folder.specs.declared.system.System.{Ghosts as OfSystem}
 use Rattle.pt_folder.specs.Calls.{Change, change_of}
@@ -27,12 +27,12 @@ abbrev pub bytes_in : List (Vec ℕ Global) → List (List ℕ)
 bytes_in refused = map (λ (name : Vec ℕ Global). name.items) refused
 
 -- there are no more of either than a directory may have
-pub record IsFew (parted : Parted) : Type 0 where
+pub record IsFew (parted : Partition) : Type 0 where
   pub named : length parted.names.items ≤ most_entries
   pub refused : length parted.refused.items ≤ most_entries
 
 -- these are the names among all that was given, in its order, and the bytes that are none
-pub record HasParts (parted : Parted) (all : List (List ℕ)) : Type 0 where
+pub record HasParts (parted : Partition) (all : List (List ℕ)) : Type 0 where
   pub named : parted.names.items ≡ filter is_name all
   pub refused : bytes_in parted.refused.items ≡ filter is_no_name all
   pub few : IsFew parted
@@ -43,7 +43,7 @@ HasNoRoom names refused name =
     (is_entry name ≡ true) × ((most_entries ≤ names) ⊎ (most_entries ≤ refused))
 
 -- the same behind these
-abbrev pub IsBeyond : Parted → List ℕ → Type 0
+abbrev pub IsBeyond : Partition → List ℕ → Type 0
 IsBeyond parted name = HasNoRoom (length parted.names.items) (length parted.refused.items) name
 
 -- the same behind all that was given
@@ -52,7 +52,7 @@ IsOneTooMany all name = HasNoRoom (length (filter is_name all)) (length (filter 
 
 -- the directory is opened once, and gives names and bytes that are none by its reads; the bytes are put into their order
 pub record GivesApart {S F D : Type 0} (sys : OfSystem S F D) (input : OfInput D) (at : FolderEntry)
-    (system : Change S) (parted : Parted) (refused : List (Vec ℕ Global)) : Type 0 where
+    (system : Change S) (parted : Partition) (refused : List (Vec ℕ Global)) : Type 0 where
   pub dir : D
   pub after : D
   pub opened : sys.opens_dir system.old (entry_text at.folder at.path) (Ok dir) system.new
@@ -65,7 +65,7 @@ pub record GivesApart {S F D : Type 0} (sys : OfSystem S F D) (input : OfInput D
 pub record IsListedPast {S F D : Type 0} (sys : OfSystem S F D) (input : OfInput D) (at : FolderEntry)
     (system : Change S) (refused : List (Vec ℕ Global)) (listing : List Item) : Type 0 where
   pub mid : S
-  pub parted : Parted
+  pub parted : Partition
   pub apart : GivesApart sys input at (change_of system.old mid) parted refused
   pub named : IsPermutation parted.names.items (map (λ item. item.0) listing)
   pub looked : FoldsTo (LooksAt sys.looks (dir_front at.folder at.path)) mid listing system.new
@@ -74,7 +74,7 @@ pub record IsListedPast {S F D : Type 0} (sys : OfSystem S F D) (input : OfInput
 pub record FailsPast {S F D : Type 0} (sys : OfSystem S F D) (input : OfInput D) (at : FolderEntry)
     (system : Change S) (refused : List (Vec ℕ Global)) : Type 0 where
   pub mid : S
-  pub parted : Parted
+  pub parted : Partition
   pub order : List (List ℕ)
   pub apart : GivesApart sys input at (change_of system.old mid) parted refused
   pub named : IsPermutation parted.names.items order
@@ -89,5 +89,5 @@ FailsToListPast sys input at system refused Device =
     ((refused.new ≡ refused.old) × FailsToReadDir sys input IsOneTooMany at system)
     ⊎ FailsPast sys input at system refused.new
 FailsToListPast {S} sys input at system refused Memory = (refused.new ≡ refused.old)
-    ⊎ ((mid : S) × (parted : Parted)
+    ⊎ ((mid : S) × (parted : Partition)
     × GivesApart sys input at (change_of system.old mid) parted refused.new)

@@ -1,9 +1,7 @@
 //! Listing a directory of a folder.
 ghost use Rattle.std.specs.Prelude.{◌≡◌, ◌≤◌, ◌++◌, ◌∷◌, [], true, false, if◌then◌else◌, map};
 ghost use Rattle.std.specs.Prelude.{length, string_bytes};
-ghost use Rattle.std.specs.Prelude.{IfErr, IfOk, IfSome, IsSome, IsTrue, OnErr, OnOk, Some};
-ghost use Rattle.std.specs.Option.{ForSome};
-ghost use Rattle.pt_tree.specs.Forest.{dir_at, listing_at};
+ghost use Rattle.std.specs.Prelude.{IfErr, IfOk, IfSome, IsTrue, OnErr, OnOk};
 ghost use Rattle.pt_tree.specs.Listing.{names_rise};
 ghost use Rattle.pt_tree.specs.Name.{is_name};
 ghost use Rattle.pt_folder.specs.Seeing.{SeesAt};
@@ -13,8 +11,8 @@ ghost use Rattle.pt_folder.specs.Failure.{OnDevice};
 ghost use Rattle.pt_folder.specs.Folder.{entry_in};
 ghost use Rattle.pt_tree.specs.Listing.{can_follow};
 ghost use Rattle.pt_folder.specs.Calls.{IsDueTo, change_of};
-ghost use Rattle.pt_folder.specs.Listing.{AreAll, FailsToList, FailsToLook, IsListedBy, LooksAt};
-ghost use Rattle.pt_folder.specs.Listing.{LooksIn, most_entries};
+ghost use Rattle.pt_folder.specs.Listing.{AreAll, FailsToList, FailsToLook, HasDir, IsListedBy};
+ghost use Rattle.pt_folder.specs.Listing.{IsListingOf, LooksAt, LooksIn, most_entries};
 ghost use Rattle.pt_folder.specs.Names.{IsRefusedName, is_entry};
 
 use crate::bytes::ReadBuffer;
@@ -42,13 +40,11 @@ pub fn list<S: System>(
     path: &NamePath,
     piece: &mut ReadBuffer,
 ) -> Result<Listing, TreeFault>
-    requires { ForSome (S.forest syscalls.old.system folder.now.path.now)
-        (λ f. IsSome (dir_at f path.now)) }
+    requires { HasDir (S.forest syscalls.old.system folder.now.path.now) path.now }
     ensures same { S.forest syscalls.new.system folder.now.path.now
         ≡ S.forest syscalls.old.system folder.now.path.now }
-    ensures told { IfOk result (λ listing.
-        ForSome (S.forest syscalls.old.system folder.now.path.now)
-        (λ f. listing_at f path.now ≡ Some listing)) }
+    ensures told { IfOk result (IsListingOf
+        (S.forest syscalls.old.system folder.now.path.now) path.now) }
     ensures most { IfOk result (λ listing. length listing ≤ most_entries) }
     ensures listed { IfOk result (IsListedBy S.System S.Dir.Input
         (entry_in folder.now.path.now path.now)

@@ -1,13 +1,11 @@
 //! Listing a directory past what there has none of the names that an entry may have.
 ghost use Rattle.std.specs.Prelude.{◌≡◌, ◌≤◌, ◌++◌, ◌∷◌, ◌&&◌, [], if◌then◌else◌, length, IfErr};
-ghost use Rattle.std.specs.Prelude.{IfOk, IfSome, IsSome, OnOk, Some};
-ghost use Rattle.std.specs.Option.{ForSome};
-ghost use Rattle.pt_tree.specs.Forest.{dir_at, listing_at};
+ghost use Rattle.std.specs.Prelude.{IfOk, IfSome, OnOk};
 ghost use Rattle.pt_tree.specs.Name.{is_name};
 ghost use Rattle.pt_folder.specs.Calls.{IsDueTo, change_of};
 ghost use Rattle.pt_folder.specs.Failure.{IsOfNames, KeepsListing, OnDevice};
 ghost use Rattle.pt_folder.specs.Folder.{entry_in};
-ghost use Rattle.pt_folder.specs.Listing.{most_entries};
+ghost use Rattle.pt_folder.specs.Listing.{HasDir, IsListingOf, most_entries};
 ghost use Rattle.pt_folder.specs.Names.{is_entry};
 ghost use Rattle.pt_folder.specs.Parting.{FailsToListPast, HasParts, IsBeyond, IsFew, IsListedPast};
 ghost use Rattle.pt_folder.specs.Parting.{IsOneTooMany, bytes_in, is_no_name};
@@ -24,7 +22,7 @@ use std::alloc::Global;
 
 /// What a directory gives: names that an entry may have, and bytes that are none.
 #[derive(Drop)]
-pub struct Parted {
+pub struct Partition {
     pub names: Vec<Name>,
     pub refused: Vec<Vec<u8>>,
 }
@@ -42,13 +40,11 @@ pub fn list_named<S: System>(
     piece: &mut ReadBuffer,
     refused: &mut Vec<Vec<u8>>,
 ) -> Result<Listing, TreeFault>
-    requires { ForSome (S.forest syscalls.old.system folder.now.path.now)
-        (λ f. IsSome (dir_at f path.now)) }
+    requires { HasDir (S.forest syscalls.old.system folder.now.path.now) path.now }
     ensures same { S.forest syscalls.new.system folder.now.path.now
         ≡ S.forest syscalls.old.system folder.now.path.now }
-    ensures told { IfOk result (λ listing. ForSome
-        (S.forest syscalls.old.system folder.now.path.now)
-        (λ f. listing_at f path.now ≡ Some listing)) }
+    ensures told { IfOk result (IsListingOf
+        (S.forest syscalls.old.system folder.now.path.now) path.now) }
     ensures most { IfOk result (λ listing. length listing ≤ most_entries) }
     ensures listed { IfOk result (IsListedPast S.System S.Dir.Input
         (entry_in folder.now.path.now path.now)
@@ -61,9 +57,9 @@ pub fn list_named<S: System>(
         (KeepsListing S.looks folder.now.path.now path.now syscalls.new.last.failure) }
 {
     let mut text = folder.text_with_room(path, LONGEST_NAME + 1, &mut syscalls.last)?;
-    let mut parted = Parted::new(syscalls.last.alloc);
+    let mut parted = Partition::new(syscalls.last.alloc);
     take_dir(syscalls, text.as_str(), piece, &mut parted)?;
-    let Parted {
+    let Partition {
         mut names,
         refused: mut others,
     } = parted;
@@ -76,12 +72,12 @@ pub fn list_named<S: System>(
     with_kinds(syscalls, text, names)
 }
 
-impl Parted {
+impl Partition {
     /// Nothing yet.
-    fn new(alloc: Global) -> Parted
+    fn new(alloc: Global) -> Partition
         ensures { HasParts result [] }
     {
-        Parted {
+        Partition {
             names: Vec::new(alloc),
             refused: Vec::new(alloc),
         }
@@ -89,7 +85,7 @@ impl Parted {
 }
 
 // What is no name goes to `refused`.
-impl Takes for Parted {
+impl Takes for Partition {
     ghost has = { HasParts };
 
     ghost refuses = { IsOneTooMany };

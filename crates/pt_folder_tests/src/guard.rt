@@ -2,7 +2,9 @@
 //! and the lock can be had.
 ghost use Rattle.std.specs.Prelude.{⊤};
 
-use pt_guard::{Claim, FileFault, FileId, GuardFault, LockAttempt, Places, begin, judge_file};
+use pt_guard::{
+    Claim, FileFault, FileId, FolderLock, GuardFault, LockAttempt, Places, begin, judge_file,
+};
 use std::alloc::Global;
 use std::cell::Cell;
 use std::io;
@@ -109,19 +111,22 @@ fn make_places(leads: Leads, numbers: Numbers, lock: Lock) -> FakePlaces {
 }
 
 // What comes of a run between the two folders `s` and `d`.
-fn begin_run(alloc: Global, paths: &FakePlaces) -> Result<io::Result<u8>, GuardFault> {
+fn begin_run(alloc: Global, paths: &FakePlaces) -> Result<FolderLock<u8>, GuardFault> {
     begin(&mut &*paths, alloc, Claim::Alone, "s", "d")
 }
 
 // What comes of an audit of them.
-fn begin_audit(alloc: Global, paths: &FakePlaces) -> Result<io::Result<u8>, GuardFault> {
+fn begin_audit(alloc: Global, paths: &FakePlaces) -> Result<FolderLock<u8>, GuardFault> {
     begin(&mut &*paths, alloc, Claim::Shared, "s", "d")
 }
 
 // What comes of it where the lock can be had: the lock that it begins with, if it has one, or what
 // it is refused for.
 fn find_lock(alloc: Global, leads: Leads, numbers: Numbers) -> Result<Option<u8>, GuardFault> {
-    begin_run(alloc, &make_places(leads, numbers, Lock::Held)).map(io::Result::ok)
+    match begin_run(alloc, &make_places(leads, numbers, Lock::Held))? {
+        FolderLock::Held(lock) => Ok(Some(lock)),
+        FolderLock::Unheld(_) => Ok(None),
+    }
 }
 
 // Whether it is refused as an overlap, before the lock is asked for.
@@ -138,15 +143,15 @@ fn begins_by_its_lock(alloc: Global, leads: Leads, numbers: Numbers) -> bool {
     let unknown = begin_run(alloc, &make_places(leads, numbers, Lock::Unknown));
     let wanting = begin_run(alloc, &make_places(leads, numbers, Lock::Wanting));
     let refused = (taken.err(), wanting.err());
-    matches!(held, Ok(Ok(7)))
+    matches!(held, Ok(FolderLock::Held(7)))
         && refused == (Some(GuardFault::Taken), Some(GuardFault::Memory))
         && is_denied(unknown)
 }
 
 // Whether it begins without its lock, which it wasn't let ask for.
-fn is_denied(answer: Result<io::Result<u8>, GuardFault>) -> bool {
+fn is_denied(answer: Result<FolderLock<u8>, GuardFault>) -> bool {
     match answer {
-        Ok(Err(error)) => error.kind() == ErrorKind::PermissionDenied,
+        Ok(FolderLock::Unheld(error)) => error.kind() == ErrorKind::PermissionDenied,
         _ => false,
     }
 }
@@ -189,7 +194,7 @@ fn a_shared_lock_keeps_runs_out_and_lets_audits_in(rt: HostRuntime) {
         let run = begin_run(rt.alloc(), &shared);
         let audit = begin_audit(rt.alloc(), &shared);
         assert!(rt; run.err() == Some(GuardFault::Taken), "{leads:?}");
-        assert!(rt; matches!(audit, Ok(Ok(7))), "{leads:?}");
+        assert!(rt; matches!(audit, Ok(FolderLock::Held(7))), "{leads:?}");
         let taken = begin_audit(rt.alloc(), &make_places(leads, numbers, Lock::Taken));
         assert!(rt; taken.err() == Some(GuardFault::Taken), "{leads:?}");
     }

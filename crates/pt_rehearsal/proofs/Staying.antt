@@ -25,8 +25,8 @@ use Rattle.pt_tree.specs.declared.faults.TreeFault.{TreeFault}
 use Rattle.pt_folder.specs.EntryCodes.{entry_once}
 use Rattle.pt_rehearsal.specs.SameFolder.{SameFolder}
 use Rattle.pt_rehearsal.specs.Fitting.{Fits, FitsTold, told_over}
-use Rattle.pt_rehearsal.specs.Seeing.{Becomes, View, made_dir, made_file, moved_to, nothing, seen_at}
-use Rattle.pt_rehearsal.specs.declared.remembered.Seen.TheVariants as seen
+use Rattle.pt_rehearsal.specs.Seeing.{Becomes, View, made_dir, made_file, moved_to, nothing, recall_at}
+use Rattle.pt_rehearsal.specs.declared.remembered.Recall.TheVariants as recall
 use Rattle.pt_rehearsal.proofs.Fitted.{fits_added, fits_finished}
 use Rattle.pt_rehearsal.proofs.Steps.{fits_dir, fits_file, fits_move, fits_nothing, folder_stands, stands_still}
 
@@ -87,12 +87,12 @@ module _ {S F D : Type 0} {sys : OfSystem S F D} {handle : OfHandle F} {file : O
 
 module _ (told : Option Writing) (v : View) (steps : List Step) (p : Path) (names : AreNames p) (fits : ∥ FitsTold told v steps ∥₁) where
   -- where a directory is remembered, one stands
-  folder_told : seen_at v p ≡ seen.Folder → (w : Writing) → told ≡ Some w → (played steps w.tree).tree p ≡ Some Folder
+  folder_told : recall_at v p ≡ recall.Folder → (w : Writing) → told ≡ Some w → (played steps w.tree).tree p ≡ Some Folder
   folder_told is = ∥∥₁_elim fits
       (λ a b i w of. entry_once ((played steps w.tree).tree p) (Some Folder) (a w of) (b w of) i)
       (λ f w of. folder_stands v w.tree (played steps w.tree) p names is (f w of))
 
-  pub kind_of_folder : seen_at v p ≡ seen.Folder → IsKindAt (told_over told steps) p (Some Dir)
+  pub kind_of_folder : recall_at v p ≡ recall.Folder → IsKindAt (told_over told steps) p (Some Dir)
   unfolding IsKindAt
   kind_of_folder is = by told (folder_told is)
     where
@@ -104,7 +104,7 @@ module _ (told : Option Writing) (v : View) (steps : List Step) (p : Path) (name
           subst (λ (s : Writing). option_map kind_of_entry (s.tree p) ≡ Some Dir) same (ap (option_map kind_of_entry) (stands w refl))
 
   -- where nothing is remembered, it is as in the folder
-  module _ (is : seen_at v p ≡ seen.Standing) where
+  module _ (is : recall_at v p ≡ recall.Standing) where
     still_told : (w : Writing) → told ≡ Some w → (played steps w.tree).tree p ≡ w.tree p
     still_told = ∥∥₁_elim fits
         (λ a b i w of. entry_once ((played steps w.tree).tree p) (w.tree p) (a w of) (b w of) i)

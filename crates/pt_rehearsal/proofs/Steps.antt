@@ -54,37 +54,38 @@ use Rattle.pt_rehearsal.specs.Seeing.{
   moved_to,
   nothing,
   renamed_to,
-  seen_at,
-  seen_by,
+  recall_at,
+  recall_by,
   with_met,
 }
-use Rattle.pt_rehearsal.specs.declared.remembered.Seen.{Seen}
-use Rattle.pt_rehearsal.specs.declared.remembered.Seen.TheVariants as seen
+use Rattle.pt_rehearsal.specs.declared.remembered.Recall.{Recall}
+use Rattle.pt_rehearsal.specs.declared.remembered.Recall.TheVariants as recall
 use Rattle.pt_rehearsal.specs.Fitting.{Fits}
 use Rattle.pt_rehearsal.proofs.Changes.{or_later}
 use Rattle.pt_rehearsal.proofs.Fitted.{fits_begun, fits_hidden, fits_noted, itself_is, some_inj}
 use Rattle.pt_rehearsal.proofs.Moves.{KnowsOn, fits_moved}
 
 -- what is said of a path, and why
-seen_is : (folder hidden : Bool) → seen_by folder hidden ≡ seen.Standing → (folder ≡ false) × (hidden ≡ false)
+seen_is : (folder hidden : Bool) → recall_by folder hidden ≡ recall.Standing → (folder ≡ false) × (hidden ≡ false)
 seen_is true hidden is = absurd (cc)
 seen_is false true is = absurd (cc)
 seen_is false false is = (refl, refl)
 
-pub folder_is : (folder hidden : Bool) → seen_by folder hidden ≡ seen.Folder → folder ≡ true
+pub folder_is : (folder hidden : Bool) → recall_by folder hidden ≡ recall.Folder → folder ≡ true
 folder_is true hidden is = refl
 folder_is false true is = absurd (cc)
 folder_is false false is = absurd (cc)
 
-pub standing_is : (v : View) (p : Path) → seen_at v p ≡ seen.Standing → (is_folder v p ≡ false) × (is_hidden v p ≡ false)
+pub standing_is : (v : View) (p : Path) → recall_at v p ≡ recall.Standing → (is_folder v p ≡ false) × (is_hidden v p ≡ false)
 standing_is v p is = seen_is (is_folder v p) (is_hidden v p) is
 
 -- where a directory is remembered one stands
-pub folder_stands : (v : View) (base : Tree) (now : Writing) (p : Path) → AreNames p → seen_at v p ≡ seen.Folder → Fits v base now → now.tree p ≡ Some Folder
+pub folder_stands : (v : View) (base : Tree) (now : Writing) (p : Path) → AreNames p → recall_at v p ≡ recall.Folder → Fits v base now
+    → now.tree p ≡ Some Folder
 folder_stands v base now p names is f = f.folders p names (folder_is (is_folder v p) (is_hidden v p) is)
 
 -- where nothing is remembered it is as in the folder
-pub stands_still : (v : View) (base : Tree) (now : Writing) (p : Path) → AreNames p → seen_at v p ≡ seen.Standing → Fits v base now → now.tree p ≡ base p
+pub stands_still : (v : View) (base : Tree) (now : Writing) (p : Path) → AreNames p → recall_at v p ≡ recall.Standing → Fits v base now → now.tree p ≡ base p
 stands_still v base now p names is f = let so = standing_is v p is in f.stands p names so.0 so.1
 
 -- nothing is remembered
@@ -105,7 +106,7 @@ inside_of false v next p is = absurd (cc)
 -- a directory
 pub fits_dir : (v next : View) (base : Tree) (now : Writing) (p : Path) → AreNames p → CanMake now.tree p → made_dir v p ≡ Some next → Fits v base now
     → Fits next base (after_mkdir p now)
-fits_dir v next base now p names can is f = by (seen_at v p) refl is
+fits_dir v next base now p names can is f = by (recall_at v p) refl is
   where
     known : (p : Path) → AreNames p → CanMake now.tree p → is_folder v p ≡ false → is_hidden v p ≡ false → made_known v p ≡ Some next
         → Fits next base (after_mkdir p now)
@@ -120,22 +121,22 @@ fits_dir v next base now p names can is f = by (seen_at v p) refl is
         subst (λ next. Fits next base (after_mkdir (n ∷ m ∷ rest) now)) (some_inj _ next is)
         (fits_noted v base now n m rest names (or_parts (is_inside v.filling (n ∷ m ∷ rest)) _ shown).0 can f)
 
-    by : (s : Seen) → seen_at v p ≡ s → made_dir_as s v p ≡ Some next → Fits next base (after_mkdir p now)
-    by seen.Folder said is = absurd (cc)
-    by seen.Hidden said is =
+    by : (s : Recall) → recall_at v p ≡ s → made_dir_as s v p ≡ Some next → Fits next base (after_mkdir p now)
+    by recall.Folder said is = absurd (cc)
+    by recall.Hidden said is =
         let so = inside_of (is_inside v.filling p) v next p is in
         subst (λ next. Fits next base (after_mkdir p now)) so.1 (fits_hidden v base now p Folder now.writing so.0 can f.opened f)
-    by seen.Standing said is = let so = standing_is v p said in known p names can so.0 so.1 is
+    by recall.Standing said is = let so = standing_is v p said in known p names can so.0 so.1 is
 
 -- a file
 pub fits_file : (v next : View) (base : Tree) (now : Writing) (p : Path) → CanMake now.tree p → made_file v p ≡ Some next → Fits v base now
     → Fits next base (after_create p now)
-fits_file v next base now p can is f = by (seen_at v p) is
+fits_file v next base now p can is f = by (recall_at v p) is
   where
-    by : (s : Seen) → made_file_as s v p ≡ Some next → Fits next base (after_create p now)
-    by seen.Folder is = absurd (cc)
-    by seen.Standing is = absurd (cc)
-    by seen.Hidden is =
+    by : (s : Recall) → made_file_as s v p ≡ Some next → Fits next base (after_create p now)
+    by recall.Folder is = absurd (cc)
+    by recall.Standing is = absurd (cc)
+    by recall.Hidden is =
         let so = inside_of (is_inside v.filling p) v next p is in
         subst (λ next. Fits next base (after_create p now)) so.1
         (fits_hidden v base now p (Bytes []) (Some p) so.0 can (λ q same.
@@ -250,20 +251,20 @@ module _ (v next : View) (base : Tree) (now : Writing) (to : Path) (names : AreN
             (length (n ∷ m ∷ rest));
       }
 
-  seen_so : (s : Seen) → seen_at v to ≡ s → moved_as s v to ≡ Some next → AfterMove next
-  seen_so seen.Folder said is = absurd (cc)
-  seen_so seen.Hidden said is = absurd (cc)
-  seen_so seen.Standing said is = let so = standing_is v to said in known to refl so.0 so.1 is
+  seen_so : (s : Recall) → recall_at v to ≡ s → moved_as s v to ≡ Some next → AfterMove next
+  seen_so recall.Folder said is = absurd (cc)
+  seen_so recall.Hidden said is = absurd (cc)
+  seen_so recall.Standing said is = let so = standing_is v to said in known to refl so.0 so.1 is
 
 pub fits_move : (v next : View) (base : Tree) (now : Writing) (from to : Path) → AreNames to → CanMove now.tree from to → moved_to v from to ≡ Some next
     → Fits v base now → Fits next base (after_rename from to now)
 fits_move v next base now from to names can is f = by v.filling refl (is_itself v.filling from) refl is
   where
-    by : (o : Option Within) → v.filling ≡ o → (b : Bool) → is_itself v.filling from ≡ b → cond b (moved_as (seen_at v to) v to) None ≡ Some next
+    by : (o : Option Within) → v.filling ≡ o → (b : Bool) → is_itself v.filling from ≡ b → cond b (moved_as (recall_at v to) v to) None ≡ Some next
         → Fits next base (after_rename from to now)
     by o filled false off is = absurd (cc)
     by None filled true on is = absurd (true≢false (sym on ∙ ap (λ o. is_itself o from) filled))
     by (Some w) filled true on is =
         let itself : from ≡ w.name ∷ [] = itself_is w from (sym (ap (λ o. is_itself o from) filled) ∙ on) in
         subst (λ (from : Path). Fits next base (after_rename from to now)) (sym itself)
-        (seen_so v next base now to names f w filled (subst (λ (from : Path). CanMove now.tree from to) itself can) (seen_at v to) refl is)
+        (seen_so v next base now to names f w filled (subst (λ (from : Path). CanMove now.tree from to) itself can) (recall_at v to) refl is)

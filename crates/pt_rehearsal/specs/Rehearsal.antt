@@ -13,29 +13,29 @@ use Rattle.pt_folder.specs.declared.system.Handle.{Ghosts as OfHandle}
 use Rattle.pt_folder.specs.declared.system.Input.{Ghosts as OfInput}
 use Rattle.pt_folder.specs.declared.system.System.{Ghosts as OfSystem}
 use Rattle.pt_rehearsal.specs.Fitting.{told_over}
-use Rattle.pt_rehearsal.specs.Seeing.{seen_at, view}
+use Rattle.pt_rehearsal.specs.Seeing.{recall_at, view}
 use Rattle.pt_rehearsal.specs.SameFolder.{SameFolder}
 use Rattle.pt_rehearsal.specs.declared.rehearsal.Rehearsal.{Rehearsal}
-use Rattle.pt_rehearsal.specs.declared.remembered.Seen.{Seen}
-use Rattle.pt_rehearsal.specs.declared.remembered.Seen.TheVariants as seen
+use Rattle.pt_rehearsal.specs.declared.remembered.Recall.{Recall}
+use Rattle.pt_rehearsal.specs.declared.remembered.Recall.TheVariants as recall
 
 -- the answer to a look, where the system isn't asked: a directory that is remembered, and a refusal of what isn't; memory
 -- may be wanting for the path's text
-abbrev pub IsFromMemory : Seen → Result (Option Kind) TreeFault → Type 0
-IsFromMemory seen.Folder (Ok kind) = kind ≡ Some Dir
-IsFromMemory seen.Hidden (Ok kind) = ⊥
-IsFromMemory seen.Standing (Ok kind) = ⊥
-IsFromMemory seen.Folder (Err Device) = ⊥
-IsFromMemory seen.Hidden (Err Device) = ⊤
-IsFromMemory seen.Standing (Err Device) = ⊥
+abbrev pub IsFromMemory : Recall → Result (Option Kind) TreeFault → Type 0
+IsFromMemory recall.Folder (Ok kind) = kind ≡ Some Dir
+IsFromMemory recall.Hidden (Ok kind) = ⊥
+IsFromMemory recall.Standing (Ok kind) = ⊥
+IsFromMemory recall.Folder (Err Device) = ⊥
+IsFromMemory recall.Hidden (Err Device) = ⊤
+IsFromMemory recall.Standing (Err Device) = ⊥
 IsFromMemory _ (Err Memory) = ⊤
 
 -- the answer to a wish for first bytes, where the system isn't asked: a refusal of what is remembered or hidden
-abbrev pub IsNotPeeked : Seen → Result (Unit {0}) TreeFault → Type 0
+abbrev pub IsNotPeeked : Recall → Result (Unit {0}) TreeFault → Type 0
 IsNotPeeked _ (Ok x) = ⊥
-IsNotPeeked seen.Standing (Err Device) = ⊥
-IsNotPeeked seen.Folder (Err Device) = ⊤
-IsNotPeeked seen.Hidden (Err Device) = ⊤
+IsNotPeeked recall.Standing (Err Device) = ⊥
+IsNotPeeked recall.Folder (Err Device) = ⊤
+IsNotPeeked recall.Hidden (Err Device) = ⊤
 IsNotPeeked _ (Err Memory) = ⊤
 
 module _ {S F D : Type 0} {sys : OfSystem S F D} {handle : OfHandle F} {file : OfInput F}
@@ -58,12 +58,12 @@ module _ {S F D : Type 0} {sys : OfSystem S F D} {handle : OfHandle F} {file : O
   abbrev pub LooksUnlessKnown : (old new : Rehearsal S F D sys handle file dir) → Path
       → Result (Option Kind) TreeFault → Type 0
   LooksUnlessKnown old new p result =
-      ((system_of new.dest ≡ system_of old.dest) × IsFromMemory (seen_at (view old.remembered) p) result)
-      ⊎ ((seen_at (view old.remembered) p ≡ seen.Standing) × Looks LeadsToKind old.dest new.dest p result)
+      ((system_of new.dest ≡ system_of old.dest) × IsFromMemory (recall_at (view old.remembered) p) result)
+      ⊎ ((recall_at (view old.remembered) p ≡ recall.Standing) × Looks LeadsToKind old.dest new.dest p result)
 
   -- the same of first bytes
   abbrev pub PeeksUnlessKnown : (old new : Rehearsal S F D sys handle file dir) → Path → List ℕ
       → Result (Unit {0}) TreeFault → Type 0
   PeeksUnlessKnown old new p block result =
-      ((system_of new.dest ≡ system_of old.dest) × IsNotPeeked (seen_at (view old.remembered) p) result)
-      ⊎ ((seen_at (view old.remembered) p ≡ seen.Standing) × Peeks old.dest new.dest p block result)
+      ((system_of new.dest ≡ system_of old.dest) × IsNotPeeked (recall_at (view old.remembered) p) result)
+      ⊎ ((recall_at (view old.remembered) p ≡ recall.Standing) × Peeks old.dest new.dest p block result)

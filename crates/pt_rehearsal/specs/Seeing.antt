@@ -6,8 +6,8 @@ use Rattle.pt_tree.specs.Path.{Path, joined}
 use Rattle.pt_rehearsal.specs.Texts.{has, with_text}
 use Rattle.pt_rehearsal.specs.declared.remembered.Inner.{Inner}
 use Rattle.pt_rehearsal.specs.declared.remembered.Remembered.{Remembered}
-use Rattle.pt_rehearsal.specs.declared.remembered.Seen.{Seen}
-use Rattle.pt_rehearsal.specs.declared.remembered.Seen.TheVariants as seen
+use Rattle.pt_rehearsal.specs.declared.remembered.Recall.{Recall}
+use Rattle.pt_rehearsal.specs.declared.remembered.Recall.TheVariants as recall
 
 -- a directory at the top that was made, and the names that were made in it
 pub record Within : Type 0 where
@@ -71,14 +71,14 @@ abbrev pub is_hidden : View → Path → Bool
 is_hidden v p = is_inside v.filling p || (is_met v.filled p || nat_lt v.least (length p))
 
 -- a directory, something hidden, or what stands in the folder
-abbrev pub seen_by : Bool → Bool → Seen
-seen_by true hidden = seen.Folder
-seen_by false true = seen.Hidden
-seen_by false false = seen.Standing
+abbrev pub recall_by : Bool → Bool → Recall
+recall_by true hidden = recall.Folder
+recall_by false true = recall.Hidden
+recall_by false false = recall.Standing
 
 -- what is said of a path by what is remembered
-abbrev pub seen_at : View → Path → Seen
-seen_at v p = seen_by (is_folder v p) (is_hidden v p)
+abbrev pub recall_at : View → Path → Recall
+recall_at v p = recall_by (is_folder v p) (is_hidden v p)
 
 -- ---- what is remembered after a call, where it can be
 
@@ -113,24 +113,24 @@ abbrev pub made_inside : View → Path → Option View
 made_inside v p = cond (is_inside v.filling p) (Some (with_met p v)) None
 
 -- the same by what is said of the path
-abbrev pub made_dir_as : Seen → View → Path → Option View
-made_dir_as seen.Folder v p = None
-made_dir_as seen.Hidden v p = made_inside v p
-made_dir_as seen.Standing v p = made_known v p
+abbrev pub made_dir_as : Recall → View → Path → Option View
+made_dir_as recall.Folder v p = None
+made_dir_as recall.Hidden v p = made_inside v p
+made_dir_as recall.Standing v p = made_known v p
 
 -- what is remembered once a directory is made, where it can be
 abbrev pub made_dir : View → Path → Option View
-made_dir v p = made_dir_as (seen_at v p) v p
+made_dir v p = made_dir_as (recall_at v p) v p
 
 -- what is remembered once a file is made, by what is said of the path
-abbrev pub made_file_as : Seen → View → Path → Option View
-made_file_as seen.Folder v p = None
-made_file_as seen.Hidden v p = made_inside v p
-made_file_as seen.Standing v p = None
+abbrev pub made_file_as : Recall → View → Path → Option View
+made_file_as recall.Folder v p = None
+made_file_as recall.Hidden v p = made_inside v p
+made_file_as recall.Standing v p = None
 
 -- what is remembered once a file is made, where it can be
 abbrev pub made_file : View → Path → Option View
-made_file v p = made_file_as (seen_at v p) v p
+made_file v p = made_file_as (recall_at v p) v p
 
 -- the directory under its new name
 abbrev pub renamed_to : List ℕ → Option Within → Option Within
@@ -163,14 +163,14 @@ moved_known v (n ∷ m ∷ rest) = Some (record {
 })
 
 -- the same by what is said of the path
-abbrev pub moved_as : Seen → View → Path → Option View
-moved_as seen.Folder v to = None
-moved_as seen.Hidden v to = None
-moved_as seen.Standing v to = moved_known v to
+abbrev pub moved_as : Recall → View → Path → Option View
+moved_as recall.Folder v to = None
+moved_as recall.Hidden v to = None
+moved_as recall.Standing v to = moved_known v to
 
 -- what is remembered once something is moved, where it can be: the directory that is filled, and nothing else
 abbrev pub moved_to : View → Path → Path → Option View
-moved_to v from to = cond (is_itself v.filling from) (moved_as (seen_at v to) v to) None
+moved_to v from to = cond (is_itself v.filling from) (moved_as (recall_at v to) v to) None
 
 -- where it can be remembered it is, else nothing is changed
 abbrev pub Becomes : Option View → Bool → View → View → Type 0

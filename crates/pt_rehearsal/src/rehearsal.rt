@@ -20,7 +20,7 @@ ghost use Rattle.pt_rehearsal.specs.Seeing.{Remembers, made_dir, made_file, move
 ghost use Rattle.pt_rehearsal.specs.Seeing.{view};
 
 use crate::played::{Note, Played};
-use crate::remembered::{Remembered, Seen};
+use crate::remembered::{Recall, Remembered};
 use pt_folder::{HostDest, Input, System};
 use pt_tree::{Block, Dest, Kind, NamePath, TreeFault};
 use std::alloc::Global;
@@ -119,9 +119,9 @@ impl<'a, S: System> Dest for Rehearsal<'a, S> {
         ensures call { IsCall self.old self.new result }
     {
         match self.remembered.look_up(path)? {
-            Seen::Folder => Ok(Some(Kind::Dir)),
-            Seen::Hidden => self.dest.refuse(),
-            Seen::Standing => self.dest.kind(path),
+            Recall::Folder => Ok(Some(Kind::Dir)),
+            Recall::Hidden => self.dest.refuse(),
+            Recall::Standing => self.dest.kind(path),
         }
     }
 
@@ -136,8 +136,8 @@ impl<'a, S: System> Dest for Rehearsal<'a, S> {
     {
         block.clear();
         match self.remembered.look_up(path)? {
-            Seen::Folder | Seen::Hidden => self.dest.refuse(),
-            Seen::Standing => self.dest.peek(path, block),
+            Recall::Folder | Recall::Hidden => self.dest.refuse(),
+            Recall::Standing => self.dest.peek(path, block),
         }
     }
 

@@ -10,7 +10,7 @@ ghost use Rattle.pt_rehearsal.specs.Seeing.{Becomes, inner_of, is_inside, is_its
 ghost use Rattle.pt_rehearsal.specs.Seeing.{made_dir};
 ghost use Rattle.pt_rehearsal.specs.Seeing.{made_file, made_inside, made_known, met_in};
 ghost use Rattle.pt_rehearsal.specs.Seeing.{moved_known, moved_to};
-ghost use Rattle.pt_rehearsal.specs.Seeing.{nothing, renamed_to, seen_at, view, with_folder};
+ghost use Rattle.pt_rehearsal.specs.Seeing.{nothing, renamed_to, recall_at, view, with_folder};
 ghost use Rattle.pt_rehearsal.specs.Seeing.{with_met};
 
 use crate::text_set::TextSet;
@@ -19,7 +19,7 @@ use std::alloc::Global;
 
 /// What a rehearsal says of a path by what it remembers.
 #[derive(Clone, Copy, Drop)]
-pub(crate) enum Seen {
+pub(crate) enum Recall {
     /// A directory would stand there.
     Folder,
     /// What would stand there isn't remembered.
@@ -63,30 +63,30 @@ impl Remembered {
     }
 
     /// What is said of a path; `Memory` where its text can't be made.
-    pub fn look_up(&self, path: &NamePath) -> Result<Seen, MemoryFault>
-        ensures seen { IfOk result (λ seen. seen ≡ seen_at (view self.now) path.now) }
+    pub fn look_up(&self, path: &NamePath) -> Result<Recall, MemoryFault>
+        ensures seen { IfOk result (λ recall. recall ≡ recall_at (view self.now) path.now) }
         ensures named { OnOk result (AreNames path.now) }
     {
         let text = path.join()?;
-        Ok(self.seen_as(path, text.as_slice()))
+        Ok(self.recall_as(path, text.as_slice()))
     }
 
     // What is said of a path that has this text.
-    fn seen_as(&self, path: &NamePath, text: &[u8]) -> Seen
+    fn recall_as(&self, path: &NamePath, text: &[u8]) -> Recall
         requires { text.now ≡ joined path.now }
-        ensures { result ≡ seen_at (view self.now) path.now }
+        ensures { result ≡ recall_at (view self.now) path.now }
     {
         let names = path.names();
         if self.folders.contains(text) || is_itself(&self.filling, names) {
-            return Seen::Folder;
+            return Recall::Folder;
         }
         if is_inside(&self.filling, names)
             || is_met(&self.filled, names)
             || path.len() > self.least
         {
-            return Seen::Hidden;
+            return Recall::Hidden;
         }
-        Seen::Standing
+        Recall::Standing
     }
 
     /// A directory would have been made at a path. It answers whether that can be remembered: not
@@ -99,10 +99,10 @@ impl Remembered {
         ensures named { OnOk result (AreNames path.now) }
     {
         let text = path.join()?;
-        match self.seen_as(path, text.as_slice()) {
-            Seen::Folder => Ok(false),
-            Seen::Hidden => self.make_inside(path.names()),
-            Seen::Standing => self.make_known(path, text.as_slice()),
+        match self.recall_as(path, text.as_slice()) {
+            Recall::Folder => Ok(false),
+            Recall::Hidden => self.make_inside(path.names()),
+            Recall::Standing => self.make_known(path, text.as_slice()),
         }
     }
 
@@ -115,8 +115,8 @@ impl Remembered {
         ensures named { OnOk result (AreNames path.now) }
     {
         match self.look_up(path)? {
-            Seen::Hidden => self.make_inside(path.names()),
-            Seen::Folder | Seen::Standing => Ok(false),
+            Recall::Hidden => self.make_inside(path.names()),
+            Recall::Folder | Recall::Standing => Ok(false),
         }
     }
 
@@ -134,9 +134,9 @@ impl Remembered {
             return Ok(false);
         }
         let text = to.join()?;
-        match self.seen_as(to, text.as_slice()) {
-            Seen::Standing => self.move_known(to, text.as_slice()),
-            Seen::Folder | Seen::Hidden => Ok(false),
+        match self.recall_as(to, text.as_slice()) {
+            Recall::Standing => self.move_known(to, text.as_slice()),
+            Recall::Folder | Recall::Hidden => Ok(false),
         }
     }
 

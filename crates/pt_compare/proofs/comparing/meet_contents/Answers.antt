@@ -1,5 +1,5 @@
-use Rattle.std.proofs.Common.{arith, rules, refl, ap, sym, subst, ◌≡◌, ◌∙◌, ◌++◌}
-use Rattle.std.specs.Prelude.{None, slice_get}
+use Rattle.std.proofs.Common.{arith, refl, ap, sym, subst, ◌∙◌, ◌++◌}
+use Rattle.std.specs.Prelude.{None}
 use Rattle.pt_compare.specs.Marks.{marks_of}
 use Rattle.pt_object.specs.Object.{in_content}
 use Rattle.pt_compare.specs.Parts.{fronts, way_items}
@@ -11,7 +11,7 @@ use Rattle.pt_tree.specs.Source.{CanOpen, tree_in}
 use Rattle.std.proofs.lemmas.Bool.{ltb-true}
 use Rattle.pt_compare.proofs.Beside.{alike_at, alike_still}
 use Rattle.pt_compare.proofs.Going.{from_start, halts_from}
-use Rattle.pt_compare.proofs.OnWay.{can_still, content_met, content_stops, content_way_stops, contents_ended, ended_at, items_from, none_after, one_of_all}
+use Rattle.pt_compare.proofs.OnWay.{can_still, content_met, content_stops, content_way_stops, contents_ended, ended_at, items_from, one_of_all}
 use Rattle.pt_compare.proofs.Steps.{noted_items, noted_without}
 use Rattle.pt_compare.proofs.comparing.meet_contents.Goals as goal
 
@@ -27,13 +27,6 @@ loop-i-init g c = record {
   goes = from_start (tree_in (g.S.Source.told c.args.source.now)) (tree_in (g.R.Source.told c.args.root.now)) c.args.object.now.to.now
       (items_from c.args.object.now.from.now None c.args.object.now.contents.now) (marks_of c.args.entries.now);
 }
-
-pub returns-in_default-clause-met : goal.returns-in_default-clause-met
-returns-in_default-clause-met g c =
-    let none : slice_get c.args.object.now.contents.now c.loop-i.i ≡ None = first_of (search rules, cc, grind arith) in
-    contents_ended (tree_in (g.S.Source.told c.args.source.now)) (tree_in (g.R.Source.told c.args.root.now)) c.args.object.now.to.now c.args.object.now.from.now
-    c.args.object.now.contents.now c.loop-i.i c.loop-i.last (marks_of c.args.entries.now) (marks_of c.loop-i.entries) _ refl
-    (none_after c.loop-i.i c.args.object.now.contents.now none) c.loop-i.invariant.goes
 
 pub returns-in_err-meet_way-clause-met : goal.returns-in_err-meet_way-clause-met
 returns-in_err-meet_way-clause-met g c =

@@ -1,6 +1,6 @@
 use Rattle.std.proofs.Common.{arith, ap, sym, subst, cond, ℕ, ◌≡◌, ◌∙◌, Some}
 use Rattle.std.specs.Option.{ForSome}
-use Rattle.pt_check.specs.Visits.{Finds, Folder, Judges, Meets, ended, seen_by, tree_by}
+use Rattle.pt_check.specs.Visits.{Finds, Folder, Judges, Meets, ended, check_state, tree_by}
 use Rattle.pt_tree.specs.Source.{tree_in}
 use Rattle.pt_check.specs.Within.{below}
 use Rattle.pt_check.specs.declared.wants.Wants.{Wants}
@@ -20,9 +20,9 @@ loop-i-init g t c = record {
   visited = λ tree is last all. all;
 }
 
-pub loop-i-preserved-in_default-get : goal.loop-i-preserved-in_default-get
-loop-i-preserved-in_default-get g t c = absurd (goes_past c.in-Some.found.listing c.loop-i.i (omega (arith, c.len-i-end.ensures.len, c.loop-i-test.true))
-    (sym c.in_default-get.ensures))
+pub unreachable-requires : goal.unreachable-requires
+unreachable-requires g t c = goes_past c.in-Entries.found.listing c.loop-i.i (omega (arith, c.len-i-end.ensures.len, c.loop-i-test.true))
+    (sym c.in_default-get.ensures)
 
 pub returns-in_err-bytes-clause-keeps : goal.returns-in_err-bytes-clause-keeps
 returns-in_err-bytes-clause-keeps g t c =
@@ -31,13 +31,14 @@ returns-in_err-bytes-clause-keeps g t c =
 pub visit-requires : goal.visit-requires
 visit-requires g t c κs within =
     let here = g.S.Source.told c.args.self.now.source in
-    let listed : ForSome (tree_in here) (λ t. listing_at t c.args.path.now ≡ Some c.in-Some.found.listing) = rw c.in-Some.is at c.in_ok-found.ensures.listed in
+    let listed : ForSome (tree_in here) (λ t. listing_at t c.args.path.now ≡ Some c.in-Entries.found.listing) =
+    rw c.in-Entries.is at c.in_ok-found.ensures.listed in
     let starts = ends_on g.S.Source.told g.S.Source.keeps g.L.Log.told g.met.S.Source.is_kept c.meet.new.self c.begin-before.new.self _
     c.begin-before.ensures.rest in
     let same_tree = starts.tree ∙ c.meet.ensures.keeps.tree ∙ c.loop-i.invariant.keeps.tree in
-    let stands = dir_there here (g.met.S.Source.proper c.args.self.now.source) c.args.path.now c.in_ok-entry.entry c.in-Some.found.listing c.loop-i.i
-    c.in-Some-get.name.now c.in-Some-get.kind
-    (tree_by g.S.Source.told c.begin-before.new.self) listed (sym c.in-Some-get.ensures) c.in-Dir.is c.in_ok-entry.ensures same_tree in
+    let stands = dir_there here (g.met.S.Source.proper c.args.self.now.source) c.args.path.now c.in_ok-entry.entry c.in-Entries.found.listing c.loop-i.i
+    c.in-Some.name.now c.in-Some.kind
+    (tree_by g.S.Source.told c.begin-before.new.self) listed (sym c.in-Some.ensures) c.in-Dir.is c.in_ok-entry.ensures same_tree in
     (omega (arith, c.if-left-eq0.false, c.requires.1.0), (within.0, (within.1.0, (within.1.1, stands))))
 
 pub returns-in_err-visit-clause-keeps : goal.returns-in_err-visit-clause-keeps
@@ -54,14 +55,15 @@ loop-i-preserved-in-Dir g t c =
     let counts = recounted g.S.Source g.L.Log in
     let starts = ends c.meet.new.self c.begin-before.new.self _ c.begin-before.ensures.rest in
     let here = g.S.Source.told c.args.self.now.source in
-    let listed : ForSome (tree_in here) (λ t. listing_at t c.args.path.now ≡ Some c.in-Some.found.listing) = rw c.in-Some.is at c.in_ok-found.ensures.listed in
+    let listed : ForSome (tree_in here) (λ t. listing_at t c.args.path.now ≡ Some c.in-Entries.found.listing) =
+    rw c.in-Entries.is at c.in_ok-found.ensures.listed in
     let same_tree = starts.tree ∙ c.meet.ensures.keeps.tree ∙ c.loop-i.invariant.keeps.tree in
     let same_wants = starts.wants ∙ c.meet.ensures.keeps.wants ∙ c.loop-i.invariant.keeps.wants in
     let folder : Folder = record { path = c.args.path.now; prefix = c.args.prefix.now; here = c.args.within; left = c.args.left } in
-    let inside_is = c.of_child-inside.ensures ∙ ap (λ (n : ℕ). below c.args.within c.in_ok-has_object.has_object c.in-Some-get.name.now n)
+    let inside_is = c.of_child-inside.ensures ∙ ap (λ (n : ℕ). below c.args.within c.in_ok-has_object.has_object c.in-Some.name.now n)
     c.in_ok-bytes.ensures.length in
-    let meets = subst (λ (w : Wants). Meets w c.in_ok-entry.entry c.args.within (c.in-Some-get.name.now, c.in-Some-get.kind)
-    (seen_by g.S.Source g.L.Log c.loop-i.self) (seen_by g.S.Source g.L.Log c.meet.new.self)) c.loop-i.invariant.keeps.wants c.in_ok-bytes.ensures.met in
+    let meets = subst (λ (w : Wants). Meets w c.in_ok-entry.entry c.args.within (c.in-Some.name.now, c.in-Some.kind)
+    (check_state g.S.Source g.L.Log c.loop-i.self) (check_state g.S.Source g.L.Log c.meet.new.self)) c.loop-i.invariant.keeps.wants c.in_ok-bytes.ensures.met in
     let start_is = counts c.meet.new.self c.begin-before.new.self _ c.begin-before.ensures.rest c.begin-before.ensures.numbers in
     let end_is = counts c.visit.new.self c.end.new.self _ c.end.ensures.rest (c.end.ensures.numbers
     ∙ ap (λ (n : ℕ). ended c.of_child-inside.result c.args.within n c.visit.new.self.numbers) c.begin-before.ensures.bytes) in
@@ -71,23 +73,25 @@ loop-i-preserved-in-Dir g t c =
       unfailed = ap (λ s. g.L.Log.failed s.log) c.end.ensures.rest ∙ c.in_ok-visit.ensures.fault ∙ ap (λ s. g.L.Log.failed s.log) c.begin-before.ensures.rest
           ∙ c.in_ok-bytes.ensures.fault ∙ c.loop-i.invariant.unfailed;
       visited = dir_step g.E.Explains.says here (g.met.S.Source.proper c.args.self.now.source) c.args.self.now.wants c.begin-before.new.self.wants folder
-          c.in_ok-has_object.has_object c.in-Some.found.listing c.loop-i.i
-          c.in-Some-get.name.now c.in-Some-get.kind c.in_ok-entry.entry c.of_child-inside.result (seen_by g.S.Source g.L.Log c.judge_found.new.self)
-          (seen_by g.S.Source g.L.Log c.loop-i.self) (seen_by g.S.Source g.L.Log c.meet.new.self)
-          (seen_by g.S.Source g.L.Log c.begin-before.new.self) (seen_by g.S.Source g.L.Log c.visit.new.self) (seen_by g.S.Source g.L.Log c.end.new.self)
+          c.in_ok-has_object.has_object c.in-Entries.found.listing c.loop-i.i
+          c.in-Some.name.now c.in-Some.kind c.in_ok-entry.entry c.of_child-inside.result (check_state g.S.Source g.L.Log c.judge_found.new.self)
+          (check_state g.S.Source g.L.Log c.loop-i.self) (check_state g.S.Source g.L.Log c.meet.new.self)
+          (check_state g.S.Source g.L.Log c.begin-before.new.self) (check_state g.S.Source g.L.Log c.visit.new.self) (check_state g.S.Source g.L.Log
+          c.end.new.self)
           (tree_by g.S.Source.told c.begin-before.new.self)
-          listed (sym c.in-Some-get.ensures) c.in-Dir.is c.in_ok-entry.ensures inside_is c.loop-i.invariant.visited meets same_tree
+          listed (sym c.in-Some.ensures) c.in-Dir.is c.in_ok-entry.ensures inside_is c.loop-i.invariant.visited meets same_tree
           same_wants start_is c.in_ok-visit.ensures.visited end_is;
     }
 
 pub visit_leaf-requires : goal.visit_leaf-requires
 visit_leaf-requires g t c =
     let here = g.S.Source.told c.args.self.now.source in
-    let listed : ForSome (tree_in here) (λ t. listing_at t c.args.path.now ≡ Some c.in-Some.found.listing) = rw c.in-Some.is at c.in_ok-found.ensures.listed in
+    let listed : ForSome (tree_in here) (λ t. listing_at t c.args.path.now ≡ Some c.in-Entries.found.listing) =
+    rw c.in-Entries.is at c.in_ok-found.ensures.listed in
     let same_tree = c.meet.ensures.keeps.tree ∙ c.loop-i.invariant.keeps.tree in
-    leaf_there here (g.met.S.Source.proper c.args.self.now.source) c.args.path.now c.in_ok-entry.entry c.in-Some.found.listing c.loop-i.i c.in-Some-get.name.now
-    c.in-Some-get.kind
-    (tree_by g.S.Source.told c.meet.new.self) listed (sym c.in-Some-get.ensures) c.in_ok-entry.ensures same_tree
+    leaf_there here (g.met.S.Source.proper c.args.self.now.source) c.args.path.now c.in_ok-entry.entry c.in-Entries.found.listing c.loop-i.i
+    c.in-Some.name.now c.in-Some.kind
+    (tree_by g.S.Source.told c.meet.new.self) listed (sym c.in-Some.ensures) c.in_ok-entry.ensures same_tree
 
 pub returns-in_err-visit_leaf-clause-keeps : goal.returns-in_err-visit_leaf-clause-keeps
 returns-in_err-visit_leaf-clause-keeps g t c =
@@ -98,21 +102,22 @@ returns-in_err-visit_leaf-clause-keeps g t c =
 pub loop-i-preserved : goal.loop-i-preserved
 loop-i-preserved g t c =
     let here = g.S.Source.told c.args.self.now.source in
-    let listed : ForSome (tree_in here) (λ t. listing_at t c.args.path.now ≡ Some c.in-Some.found.listing) = rw c.in-Some.is at c.in_ok-found.ensures.listed in
+    let listed : ForSome (tree_in here) (λ t. listing_at t c.args.path.now ≡ Some c.in-Entries.found.listing) =
+    rw c.in-Entries.is at c.in_ok-found.ensures.listed in
     let same_tree = c.meet.ensures.keeps.tree ∙ c.loop-i.invariant.keeps.tree in
     let folder : Folder = record { path = c.args.path.now; prefix = c.args.prefix.now; here = c.args.within; left = c.args.left } in
-    let meets = subst (λ (w : Wants). Meets w c.in_ok-entry.entry c.args.within (c.in-Some-get.name.now, c.in-Some-get.kind)
-    (seen_by g.S.Source g.L.Log c.loop-i.self) (seen_by g.S.Source g.L.Log c.meet.new.self)) c.loop-i.invariant.keeps.wants c.in_ok-bytes.ensures.met in
+    let meets = subst (λ (w : Wants). Meets w c.in_ok-entry.entry c.args.within (c.in-Some.name.now, c.in-Some.kind)
+    (check_state g.S.Source g.L.Log c.loop-i.self) (check_state g.S.Source g.L.Log c.meet.new.self)) c.loop-i.invariant.keeps.wants c.in_ok-bytes.ensures.met in
     record {
       keeps = keeps_on g.S.Source.told g.S.Source.keeps g.L.Log.told g.met.S.Source.keeps_on _ _ _
           (keeps_on g.S.Source.told g.S.Source.keeps g.L.Log.told g.met.S.Source.keeps_on _ _ _ c.loop-i.invariant.keeps c.meet.ensures.keeps)
           c.visit_leaf.ensures.keeps;
       unfailed = c.in_ok-visit_leaf.ensures.fault ∙ c.in_ok-bytes.ensures.fault ∙ c.loop-i.invariant.unfailed;
       visited = leaf_step g.E.Explains.says here (g.met.S.Source.proper c.args.self.now.source) c.args.self.now.wants c.meet.new.self.wants folder
-          c.in_ok-has_object.has_object c.in-Some.found.listing c.loop-i.i
-          c.in-Some-get.name.now c.in-Some-get.kind c.in_ok-entry.entry (seen_by g.S.Source g.L.Log c.judge_found.new.self)
-          (seen_by g.S.Source g.L.Log c.loop-i.self) (seen_by g.S.Source g.L.Log c.meet.new.self)
-          (seen_by g.S.Source g.L.Log c.visit_leaf.new.self) (tree_by g.S.Source.told c.meet.new.self) listed (sym c.in-Some-get.ensures)
+          c.in_ok-has_object.has_object c.in-Entries.found.listing c.loop-i.i
+          c.in-Some.name.now c.in-Some.kind c.in_ok-entry.entry (check_state g.S.Source g.L.Log c.judge_found.new.self)
+          (check_state g.S.Source g.L.Log c.loop-i.self) (check_state g.S.Source g.L.Log c.meet.new.self)
+          (check_state g.S.Source g.L.Log c.visit_leaf.new.self) (tree_by g.S.Source.told c.meet.new.self) listed (sym c.in-Some.ensures)
           c.in_default-kind.not-Dir c.in_ok-entry.ensures
           c.loop-i.invariant.visited meets same_tree (c.meet.ensures.keeps.wants ∙ c.loop-i.invariant.keeps.wants) c.in_ok-visit_leaf.ensures.opened;
     }
@@ -120,18 +125,19 @@ loop-i-preserved g t c =
 pub returns-clause-visited : goal.returns-clause-visited
 returns-clause-visited g t c =
     let here = g.S.Source.told c.args.self.now.source in
-    let listed : ForSome (tree_in here) (λ t. listing_at t c.args.path.now ≡ Some c.in-Some.found.listing) = rw c.in-Some.is at c.in_ok-found.ensures.listed in
+    let listed : ForSome (tree_in here) (λ t. listing_at t c.args.path.now ≡ Some c.in-Entries.found.listing) =
+    rw c.in-Entries.is at c.in_ok-found.ensures.listed in
     let folder : Folder = record { path = c.args.path.now; prefix = c.args.prefix.now; here = c.args.within; left = c.args.left } in
-    let a = seen_by g.S.Source g.L.Log c.args.self.now in
-    let m = seen_by g.S.Source g.L.Log c.list.new.self in
-    let first = seen_by g.S.Source g.L.Log c.judge_found.new.self in
-    let items = c.in-Some.found.listing in
-    let whole = c.in-Some.found.is_whole in
-    let finds : Finds g.E.Explains.says c.args.path.now whole a m = rw c.in-Some.is at c.in_ok-found.ensures.found in
+    let a = check_state g.S.Source g.L.Log c.args.self.now in
+    let m = check_state g.S.Source g.L.Log c.list.new.self in
+    let first = check_state g.S.Source g.L.Log c.judge_found.new.self in
+    let items = c.in-Entries.found.listing in
+    let whole = c.in-Entries.found.is_whole in
+    let finds : Finds g.E.Explains.says c.args.path.now whole a m = rw c.in-Entries.is at c.in_ok-found.ensures.found in
     let judged = subst (λ (w : Wants). cond whole (Judges w (c.args.path.now, c.args.prefix.now) c.args.within items m first) (first ≡ m))
     c.list.ensures.keeps.wants c.in_ok-has_object.ensures.judged in
     all_step g.E.Explains.says here c.args.self.now.wants folder c.in_ok-has_object.has_object items c.loop-i.i a first
-    (seen_by g.S.Source g.L.Log c.loop-i.self)
+    (check_state g.S.Source g.L.Log c.loop-i.self)
     listed (omega (arith, c.len-i-end.ensures.len, c.loop-i-test.false)) c.if-left-eq0.false
     (begins g.E.Explains.says c.args.self.now.wants folder items whole c.in_ok-has_object.has_object a m first finds judged c.in_ok-has_object.ensures.object)
     c.loop-i.invariant.visited

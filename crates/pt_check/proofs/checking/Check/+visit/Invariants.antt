@@ -1,7 +1,7 @@
 use Rattle.std.specs.Option.{ForSome}
 use Rattle.std.specs.Prelude.{◌≡◌}
 use Rattle.pt_check.proofs.Visiting.{VisitedTo}
-use Rattle.pt_check.specs.Visits.{Keeps, seen_by, tree_by}
+use Rattle.pt_check.specs.Visits.{Keeps, check_state, tree_by}
 use Rattle.pt_check.proofs.checking.Check.+visit.Given as goal
 
 abbrev pub decreases-visit : goal.decreases-visit
@@ -13,5 +13,5 @@ invariant-loop-i g l = record {
   unfailed : g.L.Log.failed l.self.log ≡ g.L.Log.failed l.fn.self.log;
   visited : ForSome (tree_by g.S.Source.told l.fn.self) (λ tree. VisitedTo g.E.Explains.says l.fn.self.wants
       (record { path = l.path; prefix = l.prefix; here = l.within; left = l.left }) l.has_object tree l.i
-      (seen_by g.S.Source g.L.Log l.initial.self) (seen_by g.S.Source g.L.Log l.self));
+      (check_state g.S.Source g.L.Log l.initial.self) (check_state g.S.Source g.L.Log l.self));
 }

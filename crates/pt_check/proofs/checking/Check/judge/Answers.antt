@@ -1,6 +1,6 @@
 use Rattle.std.proofs.Common.{ap, subst, Bool, ◌≡◌, ◌∙◌}
 use Rattle.std.specs.Prelude.{Option}
-use Rattle.pt_check.specs.Visits.{Seen, TellsIf, finding_of, folder_trouble, has_object, reserved_trouble, seen_by, with_folder}
+use Rattle.pt_check.specs.Visits.{CheckState, TellsIf, finding_of, folder_trouble, has_object, reserved_trouble, check_state, with_folder}
 use Rattle.pt_check.specs.declared.trouble.Trouble.{Trouble}
 use Rattle.pt_name.specs.Tuples.{Tuples}
 use Rattle.pt_walk.specs.declared.site.Finding.{Finding}
@@ -17,10 +17,10 @@ pub returns-clause-judged : goal.returns-clause-judged
 returns-clause-judged g c =
     let path = c.args.path.now in
     let what = finding_of c.args.within c.args.listing.now in
-    let a = seen_by g.S.Source g.L.Log c.args.self.now in
-    let n = seen_by g.S.Source g.L.Log c.count.new.self in
-    let m = seen_by g.S.Source g.L.Log c.tell_if.new.self in
-    let b = seen_by g.S.Source g.L.Log c.tell_if-2.new.self in
+    let a = check_state g.S.Source g.L.Log c.args.self.now in
+    let n = check_state g.S.Source g.L.Log c.count.new.self in
+    let m = check_state g.S.Source g.L.Log c.tell_if.new.self in
+    let b = check_state g.S.Source g.L.Log c.tell_if-2.new.self in
     let holds = c.has_object-has_object.ensures ∙ ap has_object c.finding_of-finding.ensures in
     let counts = recounted g.S.Source g.L.Log c.args.self.now c.count.new.self _ c.count.ensures.rest (c.count.ensures.numbers
     ∙ ap (λ (h : Bool). with_folder c.args.within h a.numbers) holds) in
@@ -32,7 +32,7 @@ returns-clause-judged g c =
     let tells : TellsIf path (folder_trouble c.args.within what path) n m = subst (λ (o : Option Trouble). TellsIf path o n m) first
     c.in_ok-tell_if.ensures.told in (
       m,
-      subst (λ (s : Seen). TellsIf path (folder_trouble c.args.within what path) s m) counts tells,
+      subst (λ (s : CheckState). TellsIf path (folder_trouble c.args.within what path) s m) counts tells,
       subst (λ (o : Option Trouble). TellsIf path o m b) second c.in_ok-tell_if-2.ensures.told,
     )
 

@@ -2,7 +2,7 @@ use Rattle.std.proofs.Common.{ap, sym, subst, ℕ, List, true, ◌≡◌, ◌+�
 use Rattle.std.proofs.lemmas.Result.{on_ok_weaker}
 use Rattle.std.specs.Option.{ForSome}
 use Rattle.std.specs.Prelude.{IsSome, Option}
-use Rattle.pt_check.specs.Visits.{TellsIf, missing, seen_by, tree_by}
+use Rattle.pt_check.specs.Visits.{TellsIf, missing, check_state, tree_by}
 use Rattle.pt_check.specs.declared.trouble.Trouble.{Trouble}
 use Rattle.pt_plan.specs.Store.{pairtree_root, version_file}
 use Rattle.pt_plan.specs.TurnStart.{is_dir_kind, is_file_kind, kind_in}
@@ -33,9 +33,9 @@ returns-then-is_dir-clause-looked g c =
     ∙ ap is_file_kind (c.kind_in.ensures ∙ marks) in
     let lacks : c.missing.result ≡ missing (is_file_kind (kind_in c.args.listing.now version_file)) = c.missing.ensures ∙ ap missing marked in
     let left : c.depth.result + 1 ≡ 601 = ap (λ (n : ℕ). n + 1) (c.depth.ensures.value ∙ ap (λ l. l.depth) c.greatest.ensures) in
-    let a = seen_by g.S.Source g.L.Log c.args.self.now in
-    let m = seen_by g.S.Source g.L.Log c.tell_if.new.self in
-    let b = seen_by g.S.Source g.L.Log c.visit.new.self in
+    let a = check_state g.S.Source g.L.Log c.args.self.now in
+    let m = check_state g.S.Source g.L.Log c.tell_if.new.self in
+    let b = check_state g.S.Source g.L.Log c.visit.new.self in
     let tells : TellsIf c.in_ok-version.version (missing (is_file_kind (kind_in c.args.listing.now version_file))) a m =
     subst (λ (o : Option Trouble). TellsIf c.in_ok-version.version o a m) lacks c.in_ok-tell_if.ensures.told in
     on_ok_weaker c.visit.result

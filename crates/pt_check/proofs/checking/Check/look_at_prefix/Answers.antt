@@ -2,7 +2,7 @@ use Rattle.std.proofs.Common.{ap, sym, subst, ℕ, List, Some, ◌≡◌, ◌∙
 use Rattle.std.proofs.lemmas.Result.{IfOk-weaker}
 use Rattle.std.specs.Option.{ForSome}
 use Rattle.std.specs.Prelude.{IsSome, string_bytes}
-use Rattle.pt_check.specs.Visits.{seen_by, tree_by}
+use Rattle.pt_check.specs.Visits.{check_state, tree_by}
 use Rattle.pt_check.proofs.Stepping.{prefix_step}
 use Rattle.pt_check.proofs.Visiting.{file_at_top}
 use Rattle.pt_plan.specs.Store.{prefix_file}
@@ -27,4 +27,5 @@ returns-in-Some-File-clause-looked g c =
     let here : kind_in c.args.listing.now prefix_file ≡ Some kind.File = sym named ∙ c.in-Some-File.is ∙ ap Some c.in-Some-File.field-0-is in
     IfOk-weaker c.read_prefix.result _ _
     (λ prefix. prefix_step (tree_by g.S.Source.told c.args.self.now) (kind_in c.args.listing.now prefix_file) c.in_ok-path.path (string_bytes prefix)
-    (seen_by g.S.Source g.L.Log c.args.self.now) (seen_by g.S.Source g.L.Log c.read_prefix.new.self) here c.in_ok-path.ensures) c.read_prefix.ensures.read
+    (check_state g.S.Source g.L.Log c.args.self.now) (check_state g.S.Source g.L.Log c.read_prefix.new.self) here c.in_ok-path.ensures)
+    c.read_prefix.ensures.read

@@ -1,7 +1,7 @@
 use Rattle.std.proofs.Common.{ap, false, subst, ℕ, List, ◌≡◌, ◌∙◌, [], Some}
 use Rattle.std.specs.Option.{ForSome}
 use Rattle.std.specs.Prelude.{IfOk, OnOk, Result, Ok, Err, string_bytes}
-use Rattle.pt_check.specs.Visits.{Finds, Looks, TellsUnlisted, seen_by, tree_by}
+use Rattle.pt_check.specs.Visits.{Finds, Looks, TellsUnlisted, check_state, tree_by}
 use Rattle.pt_tree.specs.Failing.{failing_paths}
 use Rattle.pt_tree.specs.Forest.{Forest, listing_at}
 use Rattle.pt_tree.specs.Path.{Path}
@@ -17,77 +17,78 @@ of_answer (Err e) P R Q p q f = tt
 
 pub look_at_prefix-requires : goal.look_at_prefix-requires
 look_at_prefix-requires g c =
-    let there = rw c.in-Some.is at c.in_ok-found.ensures.listed in
-    let listed : ForSome (tree_by g.S.Source.told c.args.self.now) (λ t. listing_at t [] ≡ Some c.in-Some.found.listing) =
-    subst (λ (p : Path). ForSome (tree_by g.S.Source.told c.args.self.now) (λ t. listing_at t p ≡ Some c.in-Some.found.listing)) c.new-top.ensures there in
-    in_same (λ (t : Forest). listing_at t [] ≡ Some c.in-Some.found.listing) (tree_by g.S.Source.told c.args.self.now) (tree_by g.S.Source.told c.list.new.self)
-    c.list.ensures.keeps.tree listed
+    let there = rw c.in-Entries.is at c.in_ok-found.ensures.listed in
+    let listed : ForSome (tree_by g.S.Source.told c.args.self.now) (λ t. listing_at t [] ≡ Some c.in-Entries.found.listing) =
+    subst (λ (p : Path). ForSome (tree_by g.S.Source.told c.args.self.now) (λ t. listing_at t p ≡ Some c.in-Entries.found.listing)) c.new-top.ensures there in
+    in_same (λ (t : Forest). listing_at t [] ≡ Some c.in-Entries.found.listing) (tree_by g.S.Source.told c.args.self.now)
+    (tree_by g.S.Source.told c.list.new.self) c.list.ensures.keeps.tree listed
 
 pub look-requires : goal.look-requires
 look-requires g c =
-    let there = rw c.in-Some.is at c.in_ok-found.ensures.listed in
-    let listed : ForSome (tree_by g.S.Source.told c.args.self.now) (λ t. listing_at t [] ≡ Some c.in-Some.found.listing) =
-    subst (λ (p : Path). ForSome (tree_by g.S.Source.told c.args.self.now) (λ t. listing_at t p ≡ Some c.in-Some.found.listing)) c.new-top.ensures there in
-    in_same (λ (t : Forest). listing_at t [] ≡ Some c.in-Some.found.listing) (tree_by g.S.Source.told c.args.self.now)
+    let there = rw c.in-Entries.is at c.in_ok-found.ensures.listed in
+    let listed : ForSome (tree_by g.S.Source.told c.args.self.now) (λ t. listing_at t [] ≡ Some c.in-Entries.found.listing) =
+    subst (λ (p : Path). ForSome (tree_by g.S.Source.told c.args.self.now) (λ t. listing_at t p ≡ Some c.in-Entries.found.listing)) c.new-top.ensures there in
+    in_same (λ (t : Forest). listing_at t [] ≡ Some c.in-Entries.found.listing) (tree_by g.S.Source.told c.args.self.now)
     (tree_by g.S.Source.told c.look_at_prefix.new.self)
     (c.look_at_prefix.ensures.keeps.tree ∙ c.list.ensures.keeps.tree) listed
 
-pub returns-in_err-prefix-in-Some-clause-keeps : goal.returns-in_err-prefix-in-Some-clause-keeps
-returns-in_err-prefix-in-Some-clause-keeps g c = keeps_on g.S.Source.told g.S.Source.keeps g.L.Log.told g.met.S.Source.keeps_on _ _ _ c.list.ensures.keeps
+pub returns-in_err-prefix-in-Entries-clause-keeps : goal.returns-in_err-prefix-in-Entries-clause-keeps
+returns-in_err-prefix-in-Entries-clause-keeps g c = keeps_on g.S.Source.told g.S.Source.keeps g.L.Log.told g.met.S.Source.keeps_on _ _ _ c.list.ensures.keeps
     c.look_at_prefix.ensures.keeps
 
-pub returns-in_err-look-in-Some-clause-keeps : goal.returns-in_err-look-in-Some-clause-keeps
-returns-in_err-look-in-Some-clause-keeps g c =
+pub returns-in_err-look-in-Entries-clause-keeps : goal.returns-in_err-look-in-Entries-clause-keeps
+returns-in_err-look-in-Entries-clause-keeps g c =
     let on = keeps_on g.S.Source.told g.S.Source.keeps g.L.Log.told g.met.S.Source.keeps_on in
     on _ _ _ (on _ _ _ c.list.ensures.keeps c.look_at_prefix.ensures.keeps) c.look.ensures.keeps
 
-pub returns-in-Some-clause-checked : goal.returns-in-Some-clause-checked
-returns-in-Some-clause-checked g c =
-    let there = rw c.in-Some.is at c.in_ok-found.ensures.listed in
-    let first : ForSome (tree_by g.S.Source.told c.args.self.now) (λ t. listing_at t [] ≡ Some c.in-Some.found.listing) =
-    subst (λ (p : Path). ForSome (tree_by g.S.Source.told c.args.self.now) (λ t. listing_at t p ≡ Some c.in-Some.found.listing)) c.new-top.ensures there in
-    let listed = in_same (λ (t : Forest). listing_at t [] ≡ Some c.in-Some.found.listing) (tree_by g.S.Source.told c.args.self.now)
+pub returns-in-Entries-clause-checked : goal.returns-in-Entries-clause-checked
+returns-in-Entries-clause-checked g c =
+    let there = rw c.in-Entries.is at c.in_ok-found.ensures.listed in
+    let first : ForSome (tree_by g.S.Source.told c.args.self.now) (λ t. listing_at t [] ≡ Some c.in-Entries.found.listing) =
+    subst (λ (p : Path). ForSome (tree_by g.S.Source.told c.args.self.now) (λ t. listing_at t p ≡ Some c.in-Entries.found.listing)) c.new-top.ensures there in
+    let listed = in_same (λ (t : Forest). listing_at t [] ≡ Some c.in-Entries.found.listing) (tree_by g.S.Source.told c.args.self.now)
     (tree_by g.S.Source.told c.list.new.self) c.list.ensures.keeps.tree first in
     let looks = subst (λ (p : List ℕ). ForSome (tree_by g.S.Source.told c.look_at_prefix.new.self)
     (λ t. Looks g.E.Explains.says c.look_at_prefix.new.self.wants p t
-    (seen_by g.S.Source g.L.Log c.look_at_prefix.new.self) (seen_by g.S.Source g.L.Log c.look.new.self))) c.as_str.ensures.value
-    c.in_ok-look-in-Some.ensures.looked in
-    let finds : Finds g.E.Explains.says [] c.in-Some.found.is_whole (seen_by g.S.Source g.L.Log c.args.self.now) (seen_by g.S.Source g.L.Log c.list.new.self) =
-    subst (λ (p : Path). Finds g.E.Explains.says p c.in-Some.found.is_whole (seen_by g.S.Source g.L.Log c.args.self.now)
-    (seen_by g.S.Source g.L.Log c.list.new.self)) c.new-top.ensures (rw c.in-Some.is at c.in_ok-found.ensures.found) in
+    (check_state g.S.Source g.L.Log c.look_at_prefix.new.self) (check_state g.S.Source g.L.Log c.look.new.self))) c.as_str.ensures.value
+    c.in_ok-look-in-Entries.ensures.looked in
+    let finds : Finds g.E.Explains.says [] c.in-Entries.found.is_whole (check_state g.S.Source g.L.Log c.args.self.now)
+    (check_state g.S.Source g.L.Log c.list.new.self) =
+    subst (λ (p : Path). Finds g.E.Explains.says p c.in-Entries.found.is_whole (check_state g.S.Source g.L.Log c.args.self.now)
+    (check_state g.S.Source g.L.Log c.list.new.self)) c.new-top.ensures (rw c.in-Entries.is at c.in_ok-found.ensures.found) in
     of_answer c.tell_numbers.result _ _ _ c.tell_numbers.ensures.numbers c.tell_numbers.ensures.told
     (λ numbers is held. checked g.E.Explains.says (tree_by g.S.Source.told c.args.self.now) (tree_by g.S.Source.told c.list.new.self) c.args.self.now.wants
-    c.list.new.self.wants numbers c.in-Some.found.is_whole
-    (seen_by g.S.Source g.L.Log c.args.self.now) (seen_by g.S.Source g.L.Log c.list.new.self)
-    (seen_by g.S.Source g.L.Log c.look.new.self) (seen_by g.S.Source g.L.Log c.tell_numbers.new.self)
+    c.list.new.self.wants numbers c.in-Entries.found.is_whole
+    (check_state g.S.Source g.L.Log c.args.self.now) (check_state g.S.Source g.L.Log c.list.new.self)
+    (check_state g.S.Source g.L.Log c.look.new.self) (check_state g.S.Source g.L.Log c.tell_numbers.new.self)
     c.list.ensures.keeps.tree c.list.ensures.keeps.wants
     finds
     (looked_all g.E.Explains.says (tree_by g.S.Source.told c.list.new.self) (tree_by g.S.Source.told c.look_at_prefix.new.self) c.list.new.self.wants
-    c.look_at_prefix.new.self.wants (string_bytes c.in_ok-prefix-in-Some.prefix) c.in-Some.found.listing
-    (seen_by g.S.Source g.L.Log c.list.new.self) (seen_by g.S.Source g.L.Log c.look_at_prefix.new.self)
-    (seen_by g.S.Source g.L.Log c.look.new.self) listed
-    c.look_at_prefix.ensures.keeps.tree c.look_at_prefix.ensures.keeps.wants c.in_ok-prefix-in-Some.ensures.looked looks) is
+    c.look_at_prefix.new.self.wants (string_bytes c.in_ok-prefix-in-Entries.prefix) c.in-Entries.found.listing
+    (check_state g.S.Source g.L.Log c.list.new.self) (check_state g.S.Source g.L.Log c.look_at_prefix.new.self)
+    (check_state g.S.Source g.L.Log c.look.new.self) listed
+    c.look_at_prefix.ensures.keeps.tree c.look_at_prefix.ensures.keeps.wants c.in_ok-prefix-in-Entries.ensures.looked looks) is
     (ap (λ s. failing_paths (g.S.Source.failing s)) c.tell_numbers.ensures.source) (ap g.S.Source.failed c.tell_numbers.ensures.source)
     c.tell_numbers.ensures.counted held)
 
-pub returns-in-Some-clause-keeps : goal.returns-in-Some-clause-keeps
-returns-in-Some-clause-keeps g c =
+pub returns-in-Entries-clause-keeps : goal.returns-in-Entries-clause-keeps
+returns-in-Entries-clause-keeps g c =
     let on = keeps_on g.S.Source.told g.S.Source.keeps g.L.Log.told g.met.S.Source.keeps_on in
     on _ _ _ (on _ _ _ (on _ _ _ c.list.ensures.keeps c.look_at_prefix.ensures.keeps) c.look.ensures.keeps) c.tell_numbers.ensures.keeps
 
 pub returns-clause-checked : goal.returns-clause-checked
 returns-clause-checked g c =
-    let a = seen_by g.S.Source g.L.Log c.args.self.now in
-    let last = seen_by g.S.Source g.L.Log c.list.new.self in
-    let there = rw c.in-None.is at c.in_ok-found.ensures.listed in
+    let a = check_state g.S.Source g.L.Log c.args.self.now in
+    let last = check_state g.S.Source g.L.Log c.list.new.self in
+    let there = rw c.in-Nothing.is at c.in_ok-found.ensures.listed in
     let fails : TellsUnlisted g.E.Explains.says [] false a last = subst (λ (p : Path). TellsUnlisted g.E.Explains.says p false a last) c.new-top.ensures there
     in
-    of_answer c.tell_numbers-in-None.result _ _ _ c.tell_numbers-in-None.ensures.numbers c.tell_numbers-in-None.ensures.told
+    of_answer c.tell_numbers-in-Nothing.result _ _ _ c.tell_numbers-in-Nothing.ensures.numbers c.tell_numbers-in-Nothing.ensures.told
     (λ numbers is held. checked_nothing g.E.Explains.says (tree_by g.S.Source.told c.args.self.now) c.args.self.now.wants numbers a last
-    (seen_by g.S.Source g.L.Log c.tell_numbers-in-None.new.self) fails is
-    (ap (λ s. failing_paths (g.S.Source.failing s)) c.tell_numbers-in-None.ensures.source) (ap g.S.Source.failed c.tell_numbers-in-None.ensures.source)
-    c.tell_numbers-in-None.ensures.counted held)
+    (check_state g.S.Source g.L.Log c.tell_numbers-in-Nothing.new.self) fails is
+    (ap (λ s. failing_paths (g.S.Source.failing s)) c.tell_numbers-in-Nothing.ensures.source) (ap g.S.Source.failed c.tell_numbers-in-Nothing.ensures.source)
+    c.tell_numbers-in-Nothing.ensures.counted held)
 
 pub returns-clause-keeps : goal.returns-clause-keeps
 returns-clause-keeps g c = keeps_on g.S.Source.told g.S.Source.keeps g.L.Log.told g.met.S.Source.keeps_on _ _ _ c.list.ensures.keeps
-    c.tell_numbers-in-None.ensures.keeps
+    c.tell_numbers-in-Nothing.ensures.keeps

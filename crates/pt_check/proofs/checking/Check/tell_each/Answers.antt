@@ -1,5 +1,5 @@
 use Rattle.std.proofs.Common.{◌∙◌}
-use Rattle.pt_check.specs.Visits.{seen_by}
+use Rattle.pt_check.specs.Visits.{check_state}
 use Rattle.pt_check.proofs.Keeping.{keeps_on}
 use Rattle.pt_check.proofs.Parts.{each_step}
 use Rattle.pt_check.proofs.checking.Check.tell_each.Goals as goal
@@ -16,8 +16,8 @@ loop-reason-preserved g c =
       source = c.tell_reason.ensures.source ∙ so_far.source;
       unfailed = c.in_ok-tell_reason.ensures.fault ∙ so_far.unfailed;
       told = each_step c.args.path.now c.args.reasons.now c.loop-reason.reason-index c.reason-item.result _ c.as_str.result.now
-          (seen_by g.S.Source g.L.Log c.args.self.now)
-          (seen_by g.S.Source g.L.Log c.loop-reason.self) (seen_by g.S.Source g.L.Log c.tell_reason.new.self) c.loop-reason-test.true c.reason-item.is
+          (check_state g.S.Source g.L.Log c.args.self.now)
+          (check_state g.S.Source g.L.Log c.loop-reason.self) (check_state g.S.Source g.L.Log c.tell_reason.new.self) c.loop-reason-test.true c.reason-item.is
           c.as_str.ensures.value
           so_far.told c.in_ok-tell_reason.ensures.told;
     }

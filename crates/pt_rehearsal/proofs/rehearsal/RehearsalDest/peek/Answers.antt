@@ -5,8 +5,8 @@ use Rattle.pt_folder.specs.HostDest.{told as told_by}
 use Rattle.pt_rehearsal.specs.Fitting.{told_over}
 use Rattle.pt_rehearsal.specs.Rehearsal.{IsNotPeeked}
 use Rattle.pt_rehearsal.specs.Seeing.{view}
-use Rattle.pt_rehearsal.specs.declared.remembered.Seen.{Seen}
-use Rattle.pt_rehearsal.specs.declared.remembered.Seen.TheVariants as seen
+use Rattle.pt_rehearsal.specs.declared.remembered.Recall.{Recall}
+use Rattle.pt_rehearsal.specs.declared.remembered.Recall.TheVariants as recall
 use Rattle.pt_rehearsal.proofs.Staying.{can_peek_still, fits_still, peeked_still, told_still, unasked}
 use Rattle.pt_rehearsal.proofs.rehearsal.RehearsalDest.peek.Goals as goal
 
@@ -31,11 +31,11 @@ invariant_of-self-in-Standing g c =
           refl old.fits;
     }
 
-refused : (s said : Seen) → said ≡ s → (said ≡ seen.Folder) ⊎ (said ≡ seen.Hidden) → IsNotPeeked s (Err Device)
-refused seen.Folder said is how = tt
-refused seen.Hidden said is how = tt
-refused seen.Standing said is (inl folder) = absurd (cc)
-refused seen.Standing said is (inr hidden) = absurd (cc)
+refused : (s said : Recall) → said ≡ s → (said ≡ recall.Folder) ⊎ (said ≡ recall.Hidden) → IsNotPeeked s (Err Device)
+refused recall.Folder said is how = tt
+refused recall.Hidden said is how = tt
+refused recall.Standing said is (inl folder) = absurd (cc)
+refused recall.Standing said is (inr hidden) = absurd (cc)
 
 pub returns-in-Folder : goal.returns-in-Folder
 returns-in-Folder g c =

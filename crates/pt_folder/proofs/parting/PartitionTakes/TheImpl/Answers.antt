@@ -1,5 +1,5 @@
 use Rattle.pt_folder.proofs.Parts.{parts_refused, parts_taken}
-use Rattle.pt_folder.proofs.parting.PartedTakes.TheImpl.Goals as goal
+use Rattle.pt_folder.proofs.parting.PartitionTakes.TheImpl.Goals as goal
 
 pub take-tells : goal.take-tells
 take-tells c =
