@@ -132,8 +132,8 @@ module _ (job : Job) (source root : Forest) (start : Tree) (proper : is_proper s
       stands q =
           ap (tree_of root) (append_assoc storage_root (place_of job.tuples id) q)
           ∙ left (place_of job.tuples id ++ q)
-          ∙ of_one (StandsWhole job (after_all job source (root_in start))) (λ (m : Marked). carried_by job m.1 m.0.verdict) (marked job source (root_in start)) k
-          (item, false) it marked_so gives whole q
+          ∙ of_one (StandsWhole job (after_all job source (root_in start))) (λ (m : Marked). carried_by job m.1 m.0.verdict)
+          (marked job source (root_in start)) k (item, false) it marked_so gives whole q
 
       pub is_the_same : IsGiven job.meta → IsUtf8 (inventory_text id (rows_of job.algorithm files) job.meta job.algorithm) → (finding : Comparison)
           → IsFound (sought job id files) (inside root (in_root (place_of job.tuples id))) finding → finding ≡ found.Same

@@ -3,7 +3,7 @@ use Rattle.std.proofs.Common.{◌≡◌, ◌≤◌, ◌+◌, ◌∙◌, ℕ, ap,
 use Rattle.std.specs.Prelude.{Option, Result, Ok, Err, IfOk}
 use Rattle.std.specs.Option.{ForSome}
 use Rattle.pt_audit.specs.Bounds.{IsMade, IsMadeFrom, NoStep, OneMore, Surveyed, counts_in}
-use Rattle.pt_audit.specs.declared.auditing.Audited.{Audited}
+use Rattle.pt_audit.specs.declared.auditing.ObjectsAudit.{ObjectsAudit}
 use Rattle.pt_audit.specs.declared.counts.Counts.{Counts}
 use Rattle.pt_move.specs.Running.{IsNew, Running}
 use Rattle.pt_plan.specs.declared.fault.Fault.{Fault}
@@ -61,9 +61,9 @@ made_by (Err why) is it = record {
   work = it.work;
 }
 
-pub made_stopped : {job : own.Job} {source : Option Forest} {result : Result Counts Fault} (last : Result Audited Fault) (why : Fault) → last ≡ Err why
+pub made_stopped : {job : own.Job} {source : Option Forest} {result : Result Counts Fault} (last : Result ObjectsAudit Fault) (why : Fault) → last ≡ Err why
     → IsMade job source result → IsMade job source (counts_in last)
-made_stopped {job} {source} last why is it = subst (λ (r : Result Audited Fault). IsMade job source (counts_in r)) (sym is) (made_by (Err why) tt it)
+made_stopped {job} {source} last why is it = subst (λ (r : Result ObjectsAudit Fault). IsMade job source (counts_in r)) (sym is) (made_by (Err why) tt it)
 
 -- by the end line, which gives the counts again
 pub made_end : {job : own.Job} {source : Option Forest} {counts : Counts} (Told : Type 0) (last : Result Counts Fault)

@@ -286,19 +286,19 @@ pub record OpenedAt (r : Running) (file : OpenedFile) : Type 0 where
   pub path : file.path ≡ names_to r.state.trail
   pub places : (object : Object) → r.phase ≡ phase.Carrying object (stage.Read zero) → (file.place.now ≡ object.place) × (file.before ≡ names_before object)
 
-pub opened_at : (r : Running) (file : OpenedFile) → sight_at r.phase ≡ sight.Opened → IsOpenedFile r (Some file) → OpenedAt r file
+pub opened_at : (r : Running) (file : OpenedFile) → sight_at r.phase ≡ sight.Opened → IsOpenedFile r file → OpenedAt r file
 opened_at r file is there = by r.phase refl is there
   where
     same_object : (object other : Object) → phase.Carrying object (stage.Read zero) ≡ phase.Carrying other (stage.Read zero) → object ≡ other
     same_object object other is = cc
 
-    by : (p : Phase) → r.phase ≡ p → sight_at p ≡ sight.Opened → IsOpenedAt p r.state (Some file) → OpenedAt r file
+    by : (p : Phase) → r.phase ≡ p → sight_at p ≡ sight.Opened → IsOpenedAt p r.state file → OpenedAt r file
     by (phase.Carrying object (stage.Read zero)) here is there = record {
       path = there.1;
       places = λ other at. let same = same_object object other (sym here ∙ at) in (there.0 ∙ ap (λ (o : Object). o.place) same, there.2 ∙ ap names_before same);
     }
-    by (phase.Carrying object (stage.Read (suc bytes))) here is there = absurd (cc)
-    by _ here is there = absurd (cc)
+    by (phase.Carrying object (stage.Read (suc bytes))) here is there = absurd there
+    by _ here is there = absurd there
 
 -- the names of a path, cut in two
 pub record Cut (path : Path) (before k : ℕ) (from logical : Path) : Type 0 where

@@ -3,7 +3,6 @@ pub mod Telling
 pub mod ToldObject
 pub mod ToldSteps
 pub mod Failing
-pub mod LineTexts
 pub mod Sound
 pub mod Layouts
 pub mod Saying

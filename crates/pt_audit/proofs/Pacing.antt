@@ -417,7 +417,7 @@ at_sight it = record { under_way = it.follows.under_way; saw = it.saw }
 -- ---- the object at hand
 
 pub alike_at_hand : (source root : Option Reading) (b : RootReader) (r : Running) (hand : ObjectAtHand) (alike : ℕ) → sight_at r.phase ≡ sight.Object
-    → IsHand r (Some hand) → Follows source root b r → IsAlikeAt b hand.told.at hand.told.to.now alike
+    → IsHand r hand → Follows source root b r → IsAlikeAt b hand.told.at hand.told.to.now alike
     → AreAlikeAtHand (tree_in source) (tree_in root) hand alike
 unfolding AreAlike
 alike_at_hand source root b r hand alike is at it so = by r.phase is at it.paced
@@ -436,12 +436,12 @@ alike_at_hand source root b r hand alike is at it so = by r.phase is at it.paced
         (subst (λ f. All (Places f hand.told.to.now) (take b.alike r.state.contents)) from
         (subst (λ t. All (Places b.from t) (take b.alike r.state.contents)) place alike_is)))
 
-    by : (p : Phase) → sight_at p ≡ sight.Object → IsHandAt p r.state (Some hand) → PacedAt source root b p r.state
+    by : (p : Phase) → sight_at p ≡ sight.Object → IsHandAt p r.state hand → PacedAt source root b p r.state
         → AreAlikeAtHand (tree_in source) (tree_in root) hand alike
     by (phase.Carrying object stage.Line) is at paced = elim so.kept [ inl zero_is ↦ none zero_is | inr all ↦ same_place at.contents paced.1 all ]
-    by (phase.Carrying object (stage.Read zero)) is at paced = absurd (cc)
-    by (phase.Carrying object (stage.Read (suc bytes))) is at paced = absurd (cc)
-    by _ is at paced = absurd (cc)
+    by (phase.Carrying object (stage.Read zero)) is at paced = absurd at
+    by (phase.Carrying object (stage.Read (suc bytes))) is at paced = absurd at
+    by _ is at paced = absurd at
 
 -- so they are from where the two sides are read
 pub alike_there : (source root : Option Forest) (hand : ObjectAtHand) (alike : ℕ) (from to : Path) → from ≡ in_pairtree hand.told.at

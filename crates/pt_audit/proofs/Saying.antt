@@ -3,7 +3,7 @@ use Rattle.std.proofs.Common.{◌≡◌, ◌≢◌, ◌⊎◌, ℕ, zero, suc, B
 use Rattle.std.specs.Prelude.{IfErr, Option, Some, Result, Ok, Err}
 use Rattle.std.specs.String.{string_bytes}
 use Rattle.std.specs.Option.{ForSome}
-use Rattle.pt_audit.specs.declared.auditing.StepTold.{StepTold}
+use Rattle.pt_audit.specs.declared.auditing.StepReport.{StepReport}
 use Rattle.pt_audit.specs.Auditing.{IsAt}
 use Rattle.pt_audit.specs.Failing.{AuditSays, BlamesRightly, FailsAs, ReadFailsAs, RootFailsAs, TellFails, failures}
 use Rattle.pt_audit.specs.Layout.{IsOfAnother, TellsLayout}
@@ -65,15 +65,6 @@ says_failed job source root fault.Memory old new it = record {
   ended = λ is. absurd (cc);
 }
 says_failed job source root _ old new it = absurd it
-
--- so an answer with it says
-pub says_err : {T : Type 0} (answer : Result T Fault) (why : Fault) (job : own.Job) (source root : Option Forest) → answer ≡ Err why
-    → AuditSays job source root why → IfErr answer (λ w. AuditSays job source root w)
-says_err {T} answer why job source root is says = subst (λ (r : Result T Fault). IfErr r (λ w. AuditSays job source root w)) (sym is) says
-
-pub says_fault : {T : Type 0} (answer : Result T Fault) (f : Fault) (job : own.Job) (source root : Option Forest) → answer ≡ Err f → AuditSays job source root f
-    → IfErr answer (AuditSays job source root)
-says_fault {T} answer f job source root is says = subst (λ (r : Result T Fault). IfErr r (AuditSays job source root)) (sym is) says
 
 -- what a survey says
 pub says_survey : (job : own.Job) (here : Phase) (source root : Option Forest) (f : Fault) → here ≢ phase.End → SurveySays job here source f
@@ -148,7 +139,7 @@ says_layout told root r fault.Target old new job same at layout it = record {
 says_layout told root r _ old new job same at layout it = absurd it
 
 pub layout_fails : (why : Fault) (a b c old new : ℕ) → RootFailsAs {T = Unit {0}} (Err why) old new
-    → TellFails {T = StepTold} (Err why) (failures a old c) (failures a new c)
+    → TellFails {T = StepReport} (Err why) (failures a old c) (failures a new c)
 layout_fails fault.Dest a b c old new it = inl (refl, it, refl)
 layout_fails fault.Memory a b c old new it = inl (ap (λ (n : ℕ). failures a n c) it)
 layout_fails fault.Target a b c old new it = inr (refl, ap (λ (n : ℕ). failures a n c) it)
@@ -206,12 +197,6 @@ blames_by (Err fault.Memory) old new it = record {
 }
 blames_by (Err _) old new it = absurd it
 
--- the end line's alone
-pub end_fails : {T : Type 0} (result : Result T Fault) (a b old new : ℕ) → FailsAs result (failures 0 0 old) (failures 0 0 new)
-    → FailsAs result (failures a b old) (failures a b new)
-end_fails (Ok x) a b old new it = ap (λ (f : Failures). failures a b f.log) it
-end_fails (Err why) a b old new it = log_fails why a b old new it
-
 -- and what they say
 pub says_by : {T : Type 0} (result : Result T Fault) (job : own.Job) (source root : Option Forest) (old new : Failures) → FailsAs result old new
     → IfErr result (AuditSays job source root)
@@ -220,7 +205,8 @@ says_by (Err why) job source root old new it = says_failed job source root why o
 
 -- whom both blame
 pub blames_told : (why : Fault) (a b c a' b' c' a'' b'' c'' : ℕ) → a' ≡ a → b' ≡ b → c' ≡ c
-    → TellFails {T = StepTold} (Err why) (failures a' b' c') (failures a'' b'' c'') → BlamesRightly {T = Bool} (failures a b c) (failures a'' b'' c'') (Err why)
+    → TellFails {T = StepReport} (Err why) (failures a' b' c') (failures a'' b'' c'')
+    → BlamesRightly {T = Bool} (failures a b c) (failures a'' b'' c'') (Err why)
 blames_told why a b c a' b' c' a'' b'' c'' sa sb sc it =
     subst (λ (n : ℕ). BlamesRightly {T = Bool} (failures n b c) (failures a'' b'' c'') (Err why)) sa
     (subst (λ (n : ℕ). BlamesRightly {T = Bool} (failures a' n c) (failures a'' b'' c'') (Err why)) sb

@@ -6,7 +6,7 @@ use Rattle.pt_audit.specs.Auditing.{StopsSeen, StopsUnderWay}
 use Rattle.pt_audit.specs.Failing.{AuditSays, BlamesRightly, FailsAs, TellFails, failures}
 use Rattle.pt_audit.specs.Growing.{sides_on}
 use Rattle.pt_audit.specs.declared.auditing.Auditor.{Auditor}
-use Rattle.pt_audit.specs.declared.auditing.StepTold.{StepTold}
+use Rattle.pt_audit.specs.declared.auditing.StepReport.{StepReport}
 use Rattle.pt_audit.specs.declared.counts.Counts.{Counts}
 use Rattle.pt_move.specs.Counting.{Counts as Blames}
 use Rattle.pt_plan.specs.DeviceStates.{Failures}
@@ -104,8 +104,8 @@ beside_log _ a b a' b' count it = absurd it
 
 -- ---- what is told
 
-pub tells_err : {auditor : Auditor} {old new : AuditStates} (answer : Result StepTold Fault) (why : Fault) → answer ≡ Err why
-    → TellFails {T = StepTold} (Err why) old.failures new.failures → AuditSays auditor.survey.state.job (tree_in old.source) (tree_in old.root) why
+pub tells_err : {auditor : Auditor} {old new : AuditStates} (answer : Result StepReport Fault) (why : Fault) → answer ≡ Err why
+    → TellFails {T = StepReport} (Err why) old.failures new.failures → AuditSays auditor.survey.state.job (tree_in old.source) (tree_in old.root) why
     → StopsSeen old.source (tree_in old.root) old.log auditor.counts auditor.survey new.log → TellsStep auditor old new answer
 tells_err {auditor} {old} {new} answer why is fails says stops = subst (TellsStep auditor old new) (sym is) (record {
   on = λ first it. tt;

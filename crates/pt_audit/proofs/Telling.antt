@@ -24,8 +24,6 @@ use Rattle.pt_state.specs.declared.job.Job as own
 use Rattle.pt_audit.specs.Surveying.{
   WasAtHand,
   GoesOn,
-  IsHand,
-  IsHandAt,
   is_before_sites,
   is_before_store,
   Leads as SeesLeads,
@@ -62,11 +60,6 @@ told_store _ count is = refl
 pub looking_told : (here : Phase) (count : ℕ) → is_looking here ≡ true → items_through here count ≡ count
 looking_told (phase.Carrying object stage.Line) count is = absurd (cc)
 looking_told _ count is = refl
-
-pub no_hand : (r : Running) → sight_at r.phase ≡ sight.Object → IsHand r None → ⊥
-no_hand r is none =
-    let here = object_at_hand r.phase is in
-    subst (λ (p : Phase). IsHandAt p r.state None) here.1 none
 
 -- the survey is at its end
 pub end_at : (here : Phase) → sight_at here ≡ sight.End → here ≡ phase.End

@@ -19,7 +19,6 @@ use Rattle.pt_audit.specs.Auditing.{
   Next,
   OfItems,
   Passes,
-  StopsSeen,
   TellsItems,
   TellsOf,
   Told,
@@ -31,7 +30,7 @@ use Rattle.pt_audit.specs.Auditing.{
 use Rattle.pt_invariant.specs.RunInvariant.{items_through}
 use Rattle.pt_audit.specs.Counting.{counts_with}
 use Rattle.pt_audit.specs.Lines as audit
-use Rattle.pt_audit.specs.declared.auditing.Audited.{Audited}
+use Rattle.pt_audit.specs.declared.auditing.ObjectsAudit.{ObjectsAudit}
 use Rattle.pt_audit.specs.declared.counts.Counts.{Counts}
 use Rattle.pt_audit.specs.declared.survey.ObjectAtHand.{ObjectAtHand}
 use Rattle.pt_audit.specs.declared.survey.SurveyEvent.TheVariants as sight
@@ -124,11 +123,6 @@ pub seen_stops : {told : Option Reading} {source root : Option Forest} {first : 
     → IsSeen told (start_over source root first) now counts r → FrontToldAs (job_of r.state.job) (start_over source root first) now
 seen_stops now counts r it = λ s e o f old g. let had = it.so_far s e o f old g in front_told (job_of r.state.job) s o old had.0 now had.1 had.2
 
-pub seen_stops_any : {T : Type 0} (answer : Result T Fault) (told : Option Reading) (root : Option Forest) (now : Option (List ℕ)) (counts : Counts)
-    (r : Running) → OnErr answer (StopsSeen told root now counts r now)
-seen_stops_any (Ok x) told root now counts r = tt
-seen_stops_any (Err why) told root now counts r = λ first it. seen_stops now counts r it
-
 -- after a step of the survey the root couldn't be read as far
 pub follow_stops : (told told' : Option Reading) (root : Option Forest) (first now new : Option (List ℕ)) (counts : Counts) (before after : Running)
     → tree_in told' ≡ tree_in told → (is_before_store before.phase ≡ true → is_before_sites after.phase ≡ true)
@@ -143,7 +137,7 @@ follow_stops told told' root first now new counts before after same order on it 
 -- a front of the line of the object at hand was put
 pub object_stops : (told : Option Reading) (root : Option Forest) (first now new : Option (List ℕ)) (counts : Counts) (r : Running) (at : ObjectAtHand)
     (finding : Comparison) (twin : Bool) (text : List ℕ) (job : own.Job) → job ≡ r.state.job → sight_at r.phase ≡ sight.Object
-    → IsHand r (Some at) → IsFoundAtHand job at (tree_in told) root finding → IsTwinAtHand (tree_in told) r at.told.id.now finding twin
+    → IsHand r at → IsFoundAtHand job at (tree_in told) root finding → IsTwinAtHand (tree_in told) r at.told.id.now finding twin
     → text ≡ audit.line_text (audit.line_by (audit.told_of at.told) twin finding) → AppendsFront now new text
     → IsSeen told (start_over (tree_in told) root first) now counts r → FrontToldAs (job_of r.state.job) (start_over (tree_in told) root first) new
 object_stops told root first now new counts r at finding twin text job job_is is mine found twin_there line put it = λ s e o f old g.
@@ -187,7 +181,7 @@ tell_stops told told' root root' first now new last counts before after same sta
 
 -- ---- what a whole audit says of its log
 
-pub items_stopped : (result : Result Audited Fault) (why : Fault) (job : Job) (start : AuditStart) (now : Option (List ℕ)) → result ≡ Err why
+pub items_stopped : (result : Result ObjectsAudit Fault) (why : Fault) (job : Job) (start : AuditStart) (now : Option (List ℕ)) → result ≡ Err why
     → FrontToldAs job start now → TellsItems job start now result
 items_stopped result why job start now is front = subst (TellsItems job start now) (sym is) front
 

@@ -116,7 +116,7 @@ unfolding Surveys
 surveys_again told again r is same (count, it) = (count, source_again is same it)
 
 -- it can be compared
-pub can_compare : (told : Option Reading) (r : Running) (at : hand.ObjectAtHand) → sight_at r.phase ≡ sight.Object → Surveys told r → IsHand r (Some at)
+pub can_compare : (told : Option Reading) (r : Running) (at : hand.ObjectAtHand) → sight_at r.phase ≡ sight.Object → Surveys told r → IsHand r at
     → CanCompare told at
 unfolding Surveys CanOpen MayOpenRow
 can_compare told r at is (count, it) mine = record {
@@ -132,7 +132,7 @@ can_compare told r at is (count, it) mine = record {
     here = object_at_hand r.phase is
 
     of : IsOf here.0 r.state at
-    of = subst (λ (p : Phase). IsHandAt p r.state (Some at)) here.1 mine
+    of = subst (λ (p : Phase). IsHandAt p r.state at) here.1 mine
 
     held : HeldAt (job_of r.state.job) it.past (phase.Carrying here.0 stage.Line) (held_of r.state it.fed)
     held = subst (λ (p : Phase). HeldAt (job_of r.state.job) it.past p (held_of r.state it.fed)) here.1 it.is.held
@@ -201,7 +201,7 @@ line_so told twin (found.Differs difference) = refl
 pub told_object : (told again : Option Reading) (source root : Option Forest) (first now new : Option (List ℕ)) (counts : Counts) (r : Running)
     (at : hand.ObjectAtHand) (finding : Comparison) (twin : Bool) (text : List ℕ) (job : own.Job) (later : Counts) → job ≡ r.state.job
     → later ≡ counts_with finding counts → sight_at r.phase ≡ sight.Object → tree_in told ≡ source → tree_in again ≡ tree_in told
-    → IsHand r (Some at) → IsFoundAtHand job at source root finding → IsTwinAtHand source r at.told.id.now finding twin
+    → IsHand r at → IsFoundAtHand job at source root finding → IsTwinAtHand source r at.told.id.now finding twin
     → text ≡ audit.line_text (audit.line_by (audit.told_of at.told) twin finding) → Appends now new text
     → IsSeen told (start_over source root first) now counts r → IsUnderWay again (start_over source root first) new later r
 told_object told again source root first now new counts r at finding twin text job later job_is counted_is is tree same mine found_there twin_there line puts
@@ -239,7 +239,7 @@ told_object told again source root first now new counts r at finding twin text j
     is_found = subst (λ (j : own.Job). IsFoundAtHand j at source root finding) job_is found_there
 
     of : IsOf here.0 r.state at
-    of = subst (λ (p : Phase). IsHandAt p r.state (Some at)) here.1 mine
+    of = subst (λ (p : Phase). IsHandAt p r.state at) here.1 mine
 
     twin_is : (s : Forest) → source ≡ Some s → (path : Path) → path ≡ trail_path r.state.trail
         → twin ≡ (is_differing finding && is_twin (job_of r.state.job) s path here.0.id)

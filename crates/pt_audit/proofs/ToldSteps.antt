@@ -45,7 +45,7 @@ use Rattle.pt_audit.specs.declared.survey.SurveyEvent.{SurveyEvent}
 use Rattle.pt_audit.specs.declared.survey.SurveyEvent.TheVariants as sight
 use Rattle.pt_tree.specs.Forest.{Forest}
 use Rattle.pt_tree.specs.Source.{Reading, tree_in}
-use Rattle.pt_audit.proofs.Telling.{HasTold, end_at, goes_on, goes_on_store, no_hand, put_behind, seen_after}
+use Rattle.pt_audit.proofs.Telling.{HasTold, end_at, goes_on, goes_on_store, put_behind, seen_after}
 use Rattle.pt_audit.proofs.ToldObject.{can_compare, surveys_again}
 
 -- ---- the end
@@ -177,4 +177,4 @@ same_end more told source source' root root' first now counts result r is k s o 
     (subst (λ (t : Option Forest). HasSeenAll (start_over source t first) now (counted counts r) r) (sym o)
     (subst (λ (b : Bool). AuditGoesOn b told (start_over source root first) now counts r) is it)))
 
-pub ruleset auditing = (no_hand, surveys_again, can_compare, at_object, on_store, on_end, surveys_on, first_step, same_trees, same_end)
+pub ruleset auditing = (surveys_again, can_compare, at_object, on_store, on_end, surveys_on, first_step, same_trees, same_end)

@@ -7,7 +7,7 @@ use Rattle.pt_audit.specs.Growing.{KeepsLog, KeepsSides}
 use Rattle.pt_audit.specs.RootReader.{Follows}
 use Rattle.pt_audit.specs.Surveying.{Steps, Surveys}
 use Rattle.pt_audit.specs.declared.auditing.Auditor.{Auditor}
-use Rattle.pt_audit.specs.declared.auditing.StepTold.{StepTold}
+use Rattle.pt_audit.specs.declared.auditing.StepReport.{StepReport}
 use Rattle.pt_audit.specs.declared.counts.Counts.{Counts}
 use Rattle.pt_plan.specs.DeviceStates.{Failures}
 use Rattle.pt_plan.specs.declared.fault.Fault.{Fault}
@@ -77,7 +77,7 @@ pub record StepsOn (before after : Auditor) (old new : AuditStates) (result : Re
 -- ---- what a step came to
 
 -- it is told by the auditor, with the counts and whether there is more to see
-pub record TellsStep (auditor : Auditor) (old new : AuditStates) (result : Result StepTold Fault) : Type 0 where
+pub record TellsStep (auditor : Auditor) (old new : AuditStates) (result : Result StepReport Fault) : Type 0 where
   -- where nothing was told of it, the audit is under way again, or at its end
   pub on : (first : Option (List ℕ))
       → IsSeen old.source (start_in old first) old.log auditor.counts auditor.survey

@@ -29,7 +29,7 @@ use Rattle.std.specs.String.{string_bytes}
 use Rattle.pt_audit.specs.Counting.{counts_with, no_counts}
 use Rattle.pt_audit.specs.Layout.{IsOfLayout}
 use Rattle.pt_audit.specs.Lines as audit
-use Rattle.pt_audit.specs.declared.auditing.Audited.{Audited}
+use Rattle.pt_audit.specs.declared.auditing.ObjectsAudit.{ObjectsAudit}
 use Rattle.pt_audit.specs.declared.counts.Counts.{Counts}
 use Rattle.pt_compare.specs.Found.{IsFound, Sought}
 use Rattle.pt_compare.specs.Marks.{inside}
@@ -227,7 +227,7 @@ FrontToldAs job start now =
     (λ old. (n : ℕ) × (text : List ℕ) × (now ≡ Some (old ++ take n text)) × IsOfItems job s r text)))
 
 -- by the answer it has got all, or a front of it, without the end line
-abbrev pub TellsItems : Job → AuditStart → Option (List ℕ) → Result Audited Fault → Type 0
+abbrev pub TellsItems : Job → AuditStart → Option (List ℕ) → Result ObjectsAudit Fault → Type 0
 TellsItems job start now (Ok audited) = AllToldAs job start now audited.counts
 TellsItems job start now (Err why) = FrontToldAs job start now
 
@@ -236,7 +236,7 @@ abbrev pub IsPrefix : Option Forest → List ℕ → Type 0
 IsPrefix source prefix = ForSome source (λ s. prefix ≡ prefix_of s)
 
 -- of an audit that told of all items the job is given back, with what each identifier of the store begins with
-abbrev pub GivesBack : own.Job → Option Forest → Audited → Type 0
+abbrev pub GivesBack : own.Job → Option Forest → ObjectsAudit → Type 0
 GivesBack job source audited = (audited.job ≡ job) × IsPrefix source (string_bytes audited.prefix)
 
 -- a survey at its end has seen all, and all was told with these counts

@@ -1,7 +1,7 @@
 -- Within which bounds an audit is made: steps of a survey, one after another.
 use Rattle.std.specs.Prelude.{◌≡◌, ◌≤◌, ◌+◌, ℕ, IfOk, Option, Result, Ok, Err}
 use Rattle.std.specs.Option.{ForSome}
-use Rattle.pt_audit.specs.declared.auditing.Audited.{Audited}
+use Rattle.pt_audit.specs.declared.auditing.ObjectsAudit.{ObjectsAudit}
 use Rattle.pt_audit.specs.declared.counts.Counts.{Counts}
 use Rattle.pt_move.specs.Running.{IsNew, Running}
 use Rattle.pt_plan.specs.declared.fault.Fault.{Fault}
@@ -23,7 +23,7 @@ abbrev pub AllSeen : Running → Counts → Type 0
 AllSeen r counts = (r.phase ≡ phase.End) × (counts.skipped ≡ r.state.counts.skipped)
 
 -- the counts of an audit that told of all items, or why it broke off
-abbrev pub counts_in : Result Audited Fault → Result Counts Fault
+abbrev pub counts_in : Result ObjectsAudit Fault → Result Counts Fault
 counts_in (Ok audited) = Ok audited.counts
 counts_in (Err why) = Err why
 

@@ -1,5 +1,5 @@
 -- The files of an object that a survey scans: which one is read, and what a step reads of it.
-use Rattle.std.specs.Prelude.{◌≡◌, ℕ, zero, Bool, true, false, List, Option, None, Some, Ok}
+use Rattle.std.specs.Prelude.{◌≡◌, ℕ, zero, Bool, true, false, List, Option, Ok}
 use Rattle.std.specs.Bool.{MatchBool, OnTrue}
 use Rattle.pt_move.specs.Running.{Running}
 use Rattle.pt_plan.specs.Object.{names_before}
@@ -60,13 +60,12 @@ pub record ComesTo (told told' : Option Reading) (before after : Running) (what 
   pub saw : what ≡ sight_at after.phase
   pub made : MakesStep told told' before after
 
--- it is the file that was just opened, if one was
-abbrev pub IsOpenedAt : Phase → State → Option OpenedFile → Type 0
-IsOpenedAt (phase.Carrying object (stage.Read zero)) s (Some file) =
+-- it is the file that was just opened
+abbrev pub IsOpenedAt : Phase → State → OpenedFile → Type 0
+IsOpenedAt (phase.Carrying object (stage.Read zero)) s file =
     (file.place.now ≡ object.place) × (file.path ≡ names_to s.trail) × (file.before ≡ names_before object)
-IsOpenedAt (phase.Carrying object (stage.Read zero)) s None = ⊥
-IsOpenedAt _ s file = file ≡ None
+IsOpenedAt _ s file = ⊥
 
--- this file of the object is open, if one is
-abbrev pub IsOpened : Running → Option OpenedFile → Type 0
+-- this file of the object was just opened
+abbrev pub IsOpened : Running → OpenedFile → Type 0
 IsOpened r file = IsOpenedAt r.phase r.state file

@@ -294,16 +294,11 @@ pub record IsOf (object : Object) (s : State) (hand : ObjectAtHand) : Type 0 whe
   pub rows : hand.rows.now ≡ s.rows
   pub contents : hand.contents.now ≡ s.contents
 
--- if there is one
-abbrev pub IsHandOf : Object → State → Option ObjectAtHand → Type 0
-IsHandOf object s None = ⊥
-IsHandOf object s (Some hand) = IsOf object s hand
+-- at a phase, this object is at hand
+abbrev pub IsHandAt : Phase → State → ObjectAtHand → Type 0
+IsHandAt (phase.Carrying object stage.Line) s hand = IsOf object s hand
+IsHandAt _ s hand = ⊥
 
--- at a phase, this object is at hand, if one is
-abbrev pub IsHandAt : Phase → State → Option ObjectAtHand → Type 0
-IsHandAt (phase.Carrying object stage.Line) s hand = IsHandOf object s hand
-IsHandAt _ s hand = hand ≡ None
-
--- this object is at hand, if one is
-abbrev pub IsHand : Running → Option ObjectAtHand → Type 0
+-- this object is at hand
+abbrev pub IsHand : Running → ObjectAtHand → Type 0
 IsHand r hand = IsHandAt r.phase r.state hand

@@ -11,7 +11,7 @@
 //! destination nothing is refused; that it has ended already is never answered (`AuditSays`). It is
 //! made by steps of a survey, to the survey's end where it answers Ok (`IsMade`); what is held of
 //! the survey after each is what a survey's step says. The end line has the counts of the lines.
-ghost use Rattle.std.specs.Prelude.{◌≡◌, IfErr, IfOk, OnErr, OnOk, Some};
+ghost use Rattle.std.specs.Prelude.{◌≡◌, IfErr, IfOk, OnErr, OnOk};
 ghost use Rattle.pt_audit.specs.AuditSteps.{FailsRightly, KeepsAll, StepsOn, TellsObject};
 ghost use Rattle.pt_audit.specs.AuditSteps.{TellsStep};
 ghost use Rattle.pt_audit.specs.AuditSteps.{audit_states};
@@ -92,7 +92,7 @@ pub fn audit<S: Source, R: Source, L: Log, O: Observer<Counts>>(
 
 /// An audit that told of all objects, and not yet of its end.
 #[derive(Drop)]
-pub struct Audited {
+pub struct ObjectsAudit {
     /// How many lines there are of each kind.
     pub counts: Counts,
     /// What it was asked for.
@@ -111,7 +111,7 @@ pub fn audit_objects<S: Source, R: Source, L: Log, O: Observer<Counts>>(
     log: &mut L,
     job: Job,
     observer: &O,
-) -> Result<Audited, Fault>
+) -> Result<ObjectsAudit, Fault>
     ensures ends { TellsItems (job_of job) (start_over (tree_in (S.told source.old))
         (tree_in (R.told root.old)) (L.told log.old)) (L.told log.new) result }
     ensures given { IfOk result (GivesBack job (tree_in (S.told source.old))) }
@@ -134,7 +134,7 @@ pub fn audit_objects<S: Source, R: Source, L: Log, O: Observer<Counts>>(
     };
     let counts = auditor.go_through(source, root, log, observer)?;
     let (job, prefix) = auditor.survey.into_parts();
-    Ok(Audited {
+    Ok(ObjectsAudit {
         counts,
         job,
         prefix,
@@ -154,7 +154,7 @@ struct Auditor {
 
 // What was told of a step.
 #[derive(Drop)]
-struct StepTold {
+struct StepReport {
     // The counts with it.
     counts: Counts,
     // Whether there is more to see.
@@ -238,7 +238,7 @@ impl Auditor {
         source: &mut S,
         root: &mut R,
         log: &mut L,
-    ) -> Result<StepTold, Fault>
+    ) -> Result<StepReport, Fault>
         requires { Saw (S.told source.old) (R.told root.old) self.now.beside sight self.now.survey }
         ensures told { TellsStep self.now
             (audit_states S.Source R.Source L.Log (source.old, root.old, log.old))
@@ -248,23 +248,23 @@ impl Auditor {
     {
         match sight {
             SurveyEvent::More | SurveyEvent::Scan | SurveyEvent::Opened | SurveyEvent::Block => {
-                Ok(StepTold {
+                Ok(StepReport {
                     counts: self.counts,
                     more: true,
                 })
             }
             SurveyEvent::Store => {
                 check_layout(self.alloc, root, self.survey.job())?;
-                Ok(StepTold {
+                Ok(StepReport {
                     counts: self.counts,
                     more: true,
                 })
             }
             SurveyEvent::Object => {
                 let counts = self.tell_object(source, root, log)?;
-                Ok(StepTold { counts, more: true })
+                Ok(StepReport { counts, more: true })
             }
-            SurveyEvent::End => Ok(StepTold {
+            SurveyEvent::End => Ok(StepReport {
                 counts: self.counts,
                 more: false,
             }),
@@ -287,9 +287,7 @@ impl Auditor {
         ensures keeps { KeepsAll S.Source R.Source L.Log (source.old, root.old, log.old)
             (source.new, root.new, log.new) }
     {
-        let Some(hand) = self.survey.at_hand()? else {
-            unreachable!()
-        };
+        let hand = self.survey.at_hand()?;
         let finding = self.judge(&hand, source, root)?;
         let line = object_line(self.alloc, &hand.told, finding.is_twin, &finding.comparison)?;
         log.put(line.as_bytes()).map_err(Fault::of_log)?;
@@ -306,7 +304,7 @@ impl Auditor {
         requires paced { Follows (S.told source.old) (R.told root.old)
             self.now.beside self.now.survey }
         requires at_hand { sight_at self.now.survey.phase ≡ sight.Object }
-        requires hand { IsHand self.now.survey (Some hand.now) }
+        requires hand { IsHand self.now.survey hand.now }
         ensures found { IfOk result (λ it. IsFoundAtHand self.now.survey.state.job hand.now
             (tree_in (S.told source.old)) (tree_in (R.told root.old)) it.comparison) }
         ensures twin { IfOk result (λ it. IsTwinAtHand (tree_in (S.told source.old))
@@ -334,7 +332,7 @@ impl Auditor {
         requires paced { Follows (S.told source.old) (R.told root.old)
             self.now.beside self.now.survey }
         requires at_hand { sight_at self.now.survey.phase ≡ sight.Object }
-        requires hand { IsHand self.now.survey (Some hand.now) }
+        requires hand { IsHand self.now.survey hand.now }
         ensures found { IfOk result (IsFoundAtHand self.now.survey.state.job hand.now
             (tree_in (S.told source.old)) (tree_in (R.told root.old))) }
         ensures source { KeepsRoot S.told S.keeps source.old source.new }

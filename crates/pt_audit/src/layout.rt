@@ -65,9 +65,10 @@ fn has_files<R: Source>(alloc: Global, root: &mut R, job: &Job) -> Result<bool, 
     ensures failures { IsCounted (R.failed root.old) (R.failed root.new) result }
 {
     let files = root_files(alloc, job.layout)?;
+    // The files of a storage root: see `root_file_count` of pt_plan.
     for i in 0..3 {
         let Some((path, bytes)) = files.get(i) else {
-            return Ok(true);
+            unreachable!()
         };
         let same = has_file(alloc, root, path, bytes)?;
         if !same {

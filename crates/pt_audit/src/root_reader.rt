@@ -101,9 +101,7 @@ impl RootReader {
         ensures failures { ReadFailsAs result (R.failed root.old) (R.failed root.new) }
     {
         self.reads = false;
-        let Some(file) = survey.opened_file()? else {
-            return Ok(());
-        };
+        let file = survey.opened_file()?;
         let names = file.path.names();
         let (from, logical) = names.split_at(file.before.min(names.len()));
         self.begin(from, file.place)?;

@@ -22,7 +22,7 @@
 #![tactic(auto, using(crate::proofs::SurveyRules::survey_rules))]
 
 ghost use Rattle.std.specs.Option.{ForSome};
-ghost use Rattle.std.specs.Prelude.{◌≡◌, ◌≢◌, true, length, Option, Some, None, IfErr, IfOk};
+ghost use Rattle.std.specs.Prelude.{◌≡◌, ◌≢◌, true, length, Option, IfErr, IfOk};
 ghost use Rattle.std.specs.String.{string_bytes};
 ghost use Rattle.pt_move.specs.Bounds.{most_calls};
 ghost use Rattle.pt_move.specs.Running.{IsNew, TypeInvariant};
@@ -38,6 +38,7 @@ ghost use Rattle.pt_audit.specs.Surveying.{IsHand, IsReady, IsSurvey, SurveySays
 ghost use Rattle.pt_audit.specs.Surveying.{Surveys, bare_states, is_at_hand as is_at_hand_there};
 ghost use Rattle.pt_audit.specs.Surveying.{is_looking, passed as passed_phase, sight_at};
 ghost use Rattle.pt_audit.specs.Surveying.{unlogged_states};
+ghost use Rattle.pt_audit.specs.declared.survey.SurveyEvent.TheVariants as sight;
 ghost use Rattle.pt_tree.specs.Forest.{is_proper};
 ghost use Rattle.pt_tree.specs.Source.{Reading, tree_in};
 ghost use Rattle.pt_walk.specs.Trail.{trail_path};
@@ -179,31 +180,34 @@ impl Survey {
         Ok(seen_at(&self.phase))
     }
 
-    /// The object at hand, if there is one; `Memory` where a growth was refused.
-    pub fn at_hand(&self) -> Result<Option<ObjectAtHand<'_>>, MemoryFault>
+    /// The object at hand, after the step that came to it; `Memory` where a growth was refused.
+    pub fn at_hand(&self) -> Result<ObjectAtHand<'_>, MemoryFault>
+        requires { sight_at self.now.phase ≡ sight.Object }
         ensures { IfOk result (IsHand self.now) }
     {
         match &self.phase {
-            Phase::Carrying(object, Stage::Line) => Ok(Some(ObjectAtHand {
+            Phase::Carrying(object, Stage::Line) => Ok(ObjectAtHand {
                 told: as_told(object, &self.state)?,
                 rows: &self.state.rows,
                 contents: &self.state.contents,
-            })),
-            _ => Ok(None),
+            }),
+            _ => unreachable!(),
         }
     }
 
-    /// The file that was opened, if one was; `Memory` where a growth was refused.
-    pub fn opened_file(&self) -> Result<Option<OpenedFile<'_>>, MemoryFault>
+    /// The file that was opened, after the step that opened it; `Memory` where a growth was
+    /// refused.
+    pub fn opened_file(&self) -> Result<OpenedFile<'_>, MemoryFault>
+        requires { sight_at self.now.phase ≡ sight.Opened }
         ensures { IfOk result (IsOpened self.now) }
     {
         match &self.phase {
-            Phase::Carrying(object, Stage::Read(0)) => Ok(Some(OpenedFile {
+            Phase::Carrying(object, Stage::Read(0)) => Ok(OpenedFile {
                 place: &object.place,
                 path: entry_path(&self.state.trail)?,
                 before: object.names_before(),
-            })),
-            _ => Ok(None),
+            }),
+            _ => unreachable!(),
         }
     }
 

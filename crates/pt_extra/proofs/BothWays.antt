@@ -9,7 +9,7 @@ use Rattle.pt_audit.proofs.ToldFront.{front_put}
 use Rattle.pt_audit.specs.Auditing.{AllToldAs, AuditStart, FrontToldAs, GivesBack, IsAllTold, LogsAs, start_over}
 use Rattle.pt_audit.specs.Bounds.{IsMade, counts_in}
 use Rattle.pt_audit.specs.Failing.{AuditSays, BlamesRightly}
-use Rattle.pt_audit.specs.declared.auditing.Audited.{Audited}
+use Rattle.pt_audit.specs.declared.auditing.ObjectsAudit.{ObjectsAudit}
 use Rattle.pt_audit.specs.declared.counts.Counts.{Counts}
 use Rattle.pt_tree.specs.Source.{tree_in}
 use Rattle.pt_extra.proofs.Telling.{appends_on, front_more, front_on}
@@ -63,18 +63,18 @@ puts_rest counts fs a b c numbers (Err why) first is puts part =
     front_on a b c (texts fs) (last_text (with_found counts fs)) first (subst (λ (k : AuditCounts). AppendsFront b c (last_text k)) same part)
 
 -- a walk that is to begin over these, with what an audit gave back
-pub record IsBegun {S R L E : Type 0} (walk : Extras S R L E) (devices : ExtraDevices S R L E) (audited : Audited) : Type 0 where
+pub record IsBegun {S R L E : Type 0} (walk : Extras S R L E) (devices : ExtraDevices S R L E) (audited : ObjectsAudit) : Type 0 where
   devices_are : (walk.store ≡ devices.store) × (walk.root ≡ devices.root) × (walk.log ≡ devices.log)
   against_is : (walk.job ≡ audited.job) × (walk.prefix ≡ audited.prefix)
   numbers_are : walk.numbers ≡ no_numbers
 
-pub begun : {S R L E : Type 0} {walk : Extras S R L E} {devices : ExtraDevices S R L E} {audited : Audited}
+pub begun : {S R L E : Type 0} {walk : Extras S R L E} {devices : ExtraDevices S R L E} {audited : ObjectsAudit}
     → (walk.store ≡ devices.store) × (walk.root ≡ devices.root) × (walk.log ≡ devices.log) → (walk.job ≡ audited.job) × (walk.prefix ≡ audited.prefix)
     → walk.numbers ≡ no_numbers → IsBegun walk devices audited
 begun devices against numbers = record { devices_are = devices; against_is = against; numbers_are = numbers }
 
 module _ {S R L E : Type 0} (store : OfSource S) (root : OfSource R) (log : OfLog L) (walk after : Extras S R L E) (devices : ExtraDevices S R L E)
-    (audited : Audited) (it : IsBegun walk devices audited) where
+    (audited : ObjectsAudit) (it : IsBegun walk devices audited) where
   start : AuditStart
   start = start_over (tree_in (store.told devices.store)) (tree_in (root.told devices.root)) (log.told devices.log)
 
@@ -119,7 +119,7 @@ module _ {S R L E : Type 0} (store : OfSource S) (root : OfSource R) (log : OfLo
 
 -- ---- a whole audit
 
-pub extra_logs : (F : Type 0) (job : own.Job) (start : AuditStart) (source root : Option Forest) (mid now : Option (List ℕ)) (audited : Audited)
+pub extra_logs : (F : Type 0) (job : own.Job) (start : AuditStart) (source root : Option Forest) (mid now : Option (List ℕ)) (audited : ObjectsAudit)
     (ran : Result AuditCounts Fault) → source ≡ start.source → root ≡ start.root → AllToldAs (job_of job) start mid audited.counts
     → GivesBack job start.source audited
     → TellsRest F audited (start_over source root mid) now ran → ExtraLogs F (job_of job) start now ran

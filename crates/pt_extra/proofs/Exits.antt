@@ -23,7 +23,7 @@ use Rattle.pt_extra.specs.Walk.{
   failures_by,
   found_bare,
   found_there,
-  seen_by,
+  walk_state,
 }
 use Rattle.pt_extra.specs.declared.walking.Extras.{Extras}
 use Rattle.pt_plan.specs.TurnWalk.{in_root}
@@ -55,9 +55,9 @@ module _ {S R L E T : Type 0} (store : OfSource S) (root : OfSource R) (log : Of
   object_told folder at object = on_ok_weaker result
       (λ tells s is r there.
       let of_it = told_from store root log (found_there path folder) old mid after kept tells s is r there in
-      let put = put_object (against old s) r path left items (listed r there) (root.failed old.root) (root.failed mid.root) whole (seen_by log old)
-      (seen_by log mid) (begun_by store root log old mid path s r is there whole begun) (root.failed after.root) (seen_by log after) object later
-      (subst (λ (p : Path). Puts (of_object (against old s) path (id_of (inside_at r p))) (seen_by log mid) (seen_by log after)) at of_it) in
+      let put = put_object (against old s) r path left items (listed r there) (root.failed old.root) (root.failed mid.root) whole (walk_state log old)
+      (walk_state log mid) (begun_by store root log old mid path s r is there whole begun) (root.failed after.root) (walk_state log after) object later
+      (subst (λ (p : Path). Puts (of_object (against old s) path (id_of (inside_at r p))) (walk_state log mid) (walk_state log after)) at of_it) in
       (put.told, put.may, put.puts))
 
   pub object_stops : (folder : Path) → folder ≡ in_root path → is_object items ≡ true
@@ -66,8 +66,8 @@ module _ {S R L E T : Type 0} (store : OfSource S) (root : OfSource R) (log : Of
   object_stops folder at object = on_err_weaker result
       (λ front s is r there.
       let of_it = front_from store root log (found_there path folder) old mid after kept front s is r there in
-      let put = front_object (against old s) r path left items (listed r there) (root.failed old.root) (root.failed mid.root) whole (seen_by log old)
-      (seen_by log mid) (begun_by store root log old mid path s r is there whole begun) (root.failed after.root) (log.told after.log) object later
+      let put = front_object (against old s) r path left items (listed r there) (root.failed old.root) (root.failed mid.root) whole (walk_state log old)
+      (walk_state log mid) (begun_by store root log old mid path s r is there whole begun) (root.failed after.root) (log.told after.log) object later
       (subst (λ (p : Path). AppendsFront (log.told mid.log) (log.told after.log) (texts (of_object (against old s) path (id_of (inside_at r p))))) at of_it) in
       (put.told, put.may, put.part))
 
@@ -76,8 +76,8 @@ module _ {S R L E T : Type 0} (store : OfSource S) (root : OfSource R) (log : Of
       → OnOk result (TellsPast store root log (IsToldBelow path left) old after)
   bare_told object bare = on_ok_weaker result
       (λ tells s is r there.
-      let put = put_bare (against old s) r path left items (listed r there) (root.failed old.root) (root.failed mid.root) whole (seen_by log old)
-      (seen_by log mid) (begun_by store root log old mid path s r is there whole begun) (root.failed after.root) (seen_by log after) object bare later
+      let put = put_bare (against old s) r path left items (listed r there) (root.failed old.root) (root.failed mid.root) whole (walk_state log old)
+      (walk_state log mid) (begun_by store root log old mid path s r is there whole begun) (root.failed after.root) (walk_state log after) object bare later
       (told_from store root log (found_bare path whole) old mid after kept tells s is r there) in
       (put.told, put.may, put.puts))
 
@@ -86,7 +86,7 @@ module _ {S R L E T : Type 0} (store : OfSource S) (root : OfSource R) (log : Of
       → OnErr result (TellsFrontPast store root log (IsToldBelow path left) old after)
   bare_stops object bare = on_err_weaker result
       (λ front s is r there.
-      let put = front_bare (against old s) r path left items (listed r there) (root.failed old.root) (root.failed mid.root) whole (seen_by log old)
-      (seen_by log mid) (begun_by store root log old mid path s r is there whole begun) (root.failed after.root) (log.told after.log) object bare later
+      let put = front_bare (against old s) r path left items (listed r there) (root.failed old.root) (root.failed mid.root) whole (walk_state log old)
+      (walk_state log mid) (begun_by store root log old mid path s r is there whole begun) (root.failed after.root) (log.told after.log) object bare later
       (front_from store root log (found_bare path whole) old mid after kept front s is r there) in
       (put.told, put.may, put.part))

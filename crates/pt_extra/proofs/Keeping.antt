@@ -9,7 +9,7 @@ use Rattle.pt_tree.specs.Source.{tree_in}
 use Rattle.pt_extra.proofs.Telling.{front_none}
 use Rattle.pt_extra.specs.Findings.{Against}
 use Rattle.pt_extra.specs.Lines.{ExtraFinding, texts}
-use Rattle.pt_extra.specs.Walk.{Keeps, Puts, Tells, TellsFront, against, seen_by}
+use Rattle.pt_extra.specs.Walk.{Keeps, Puts, Tells, TellsFront, against, walk_state}
 use Rattle.pt_extra.specs.declared.walking.Extras.{Extras}
 use Rattle.pt_plan.specs.DeviceStates.{Failures}
 use Rattle.pt_plan.specs.declared.fault.Fault.{Fault}
@@ -49,9 +49,10 @@ same_against store root log a b s keeps = λ i. record { job = job_of (keeps.job
 -- so what is told from there on is what is found from the start
 pub told_from : {S R L E : Type 0} (store : OfSource S) (root : OfSource R) (log : OfLog L) (findings : Against → Forest
     → List ExtraFinding) (a b c : Extras S R L E) → Keeps store root log a b → Tells store root log findings b c
-    → ForSome (tree_in (store.told a.store)) (λ s. ForSome (tree_in (root.told a.root)) (λ r. Puts (findings (against a s) r) (seen_by log b) (seen_by log c)))
+    → ForSome (tree_in (store.told a.store)) (λ s. ForSome (tree_in (root.told a.root)) (λ r. Puts (findings (against a s) r) (walk_state log b) (walk_state
+    log c)))
 told_from store root log findings a b c keeps tells = λ s is r there.
-    subst (λ (x : Against). Puts (findings x r) (seen_by log b) (seen_by log c)) (same_against store root log a b s keeps)
+    subst (λ (x : Against). Puts (findings x r) (walk_state log b) (walk_state log c)) (same_against store root log a b s keeps)
     (tells s (keeps.store_stays.1 ∙ is) r (keeps.root_stays.1 ∙ there))
 
 -- the same of a front

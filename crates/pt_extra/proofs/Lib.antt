@@ -1,9 +1,7 @@
 mod BothWays
 mod Converted
 mod Exits
-mod ExtraRules
 mod Keeping
-mod LineTexts
 mod Objects
 mod Passed
 mod Past

@@ -14,10 +14,6 @@ chosen_at c path id at chosen same =
     ap (λ (t : Bool). cond t (cond (same_path path (place_of c.job.tuples id)) (of_placed c path id) (Stray path ∷ [])) []) chosen
     ∙ ap (λ (t : Bool). cond t (of_placed c path id) (Stray path ∷ [])) same
 
--- nothing is found where it isn't chosen
-pub of_unchosen : (c : Against) (path : Path) (id : List ℕ) → holds c.job.share id ≡ false → of_object c path (Some id) ≡ []
-of_unchosen c path id chosen = ap (λ (t : Bool). cond t (cond (same_path path (place_of c.job.tuples id)) (of_placed c path id) (Stray path ∷ [])) []) chosen
-
 -- it is stray where its place is another
 pub of_misplaced : (c : Against) (path : Path) (id : List ℕ) → holds c.job.share id ≡ true → same_path path (place_of c.job.tuples id) ≡ false
     → of_object c path (Some id) ≡ Stray path ∷ []
@@ -26,11 +22,6 @@ of_misplaced c path id chosen other = chosen_at c path id false chosen other
 placed_by : (c : Against) (path : Path) (id : List ℕ) (h : Bool) → holds c.job.share id ≡ true → same_path path (place_of c.job.tuples id) ≡ true
     → h ≡ is_held c id → of_object c path (Some id) ≡ cond h [] (Extra id path ∷ [])
 placed_by c path id h chosen same is = chosen_at c path id true chosen same ∙ ap (λ (t : Bool). cond t [] (Extra id path ∷ [])) (sym is)
-
--- nothing is found where the store has it
-pub of_held : (c : Against) (path : Path) (id : List ℕ) → holds c.job.share id ≡ true → same_path path (place_of c.job.tuples id) ≡ true → true ≡ is_held c id
-    → of_object c path (Some id) ≡ []
-of_held c path id chosen same is = placed_by c path id true chosen same is
 
 -- else it is extra
 pub of_unheld : (c : Against) (path : Path) (id : List ℕ) → holds c.job.share id ≡ true → same_path path (place_of c.job.tuples id) ≡ true

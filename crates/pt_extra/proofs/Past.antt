@@ -3,11 +3,12 @@ use Rattle.std.proofs.Common.{◌≡◌, ◌≤◌, ◌+◌, ℕ, Bool, true, fa
 use Rattle.std.proofs.Math.Nat.{le-min, le_trans}
 use Rattle.std.specs.Option.{ForSome}
 use Rattle.std.specs.Result.{IsErrAnd}
-use Rattle.std.specs.Prelude.{Ok, Err, IfOk, IfSome, MatchOption, None, OnErr, OnOk, Option, Result, Some}
+use Rattle.std.specs.Prelude.{Ok, Err, IfOk, OnErr, OnOk, Option, Result, Some}
 use Rattle.pt_audit.specs.Failing.{FailsAs}
 use Rattle.pt_extra.proofs.Keeping.{front_from, same_against, told_from}
 use Rattle.pt_extra.proofs.Visiting.{IsBegun, IsFront, IsPut, begun_part, begun_whole, front_not, front_still, put_not, risen_from, risen_on}
 use Rattle.pt_extra.specs.Findings.{Against}
+use Rattle.pt_extra.specs.FolderListing.{IfEntries, MatchListing}
 use Rattle.pt_extra.specs.Lines.{ExtraFinding, texts}
 use Rattle.pt_extra.specs.Unlisted.{of_unlisted}
 use Rattle.pt_extra.specs.Walk.{
@@ -15,7 +16,7 @@ use Rattle.pt_extra.specs.Walk.{
   Keeps,
   Puts,
   RootFails,
-  Seen,
+  WalkState,
   TellsFrontPast,
   TellsPast,
   TellsReasons,
@@ -25,9 +26,10 @@ use Rattle.pt_extra.specs.Walk.{
   against,
   failures_by,
   found_unlisted,
-  seen_by,
+  walk_state,
 }
-use Rattle.pt_extra.specs.declared.listing.Found.{Found}
+use Rattle.pt_extra.specs.declared.listing.FolderListing.{FolderListing}
+use Rattle.pt_extra.specs.declared.listing.FolderListing.TheVariants as listing
 use Rattle.pt_extra.specs.declared.walking.Extras.{Extras}
 use Rattle.pt_plan.specs.DeviceStates.{Failures}
 use Rattle.pt_plan.specs.Turn.{HasFailed}
@@ -115,9 +117,9 @@ module _ {S R L E : Type 0} (store : OfSource S) (root : OfSource R) (log : OfLo
   pub past_from : (Is : Type 0 → Against → Forest → List ExtraFinding → Type 0) (a b c : Extras S R L E) → Keeps store root log a b
       → TellsPast store root log Is b c
       → ForSome (tree_in (store.told a.store)) (λ s. ForSome (tree_in (root.told a.root))
-      (λ r. (told : List ExtraFinding) × Is (RootFails root b c) (against a s) r told × Puts told (seen_by log b) (seen_by log c)))
+      (λ r. (told : List ExtraFinding) × Is (RootFails root b c) (against a s) r told × Puts told (walk_state log b) (walk_state log c)))
   past_from Is a b c keeps tells = λ s is r there.
-      subst (λ (x : Against). (told : List ExtraFinding) × Is (RootFails root b c) x r told × Puts told (seen_by log b) (seen_by log c))
+      subst (λ (x : Against). (told : List ExtraFinding) × Is (RootFails root b c) x r told × Puts told (walk_state log b) (walk_state log c))
       (same_against store root log a b s keeps) (tells s (keeps.store_stays.1 ∙ is) r (keeps.root_stays.1 ∙ there))
 
   -- the same of a front
@@ -134,19 +136,19 @@ module _ {S R L E : Type 0} (store : OfSource S) (root : OfSource R) (log : OfLo
       (there : tree_in (root.told old.root) ≡ Some r) where
     -- a folder is begun, by whether it was listed whole
     pub begun_by : (whole : Bool) → cond whole (mid ≡ record old { root = mid.root }) (TellsUnlisted store root log path old mid)
-        → IsBegun (root.failed old.root) (root.failed mid.root) (against old s) path whole (seen_by log old) (seen_by log mid)
+        → IsBegun (root.failed old.root) (root.failed mid.root) (against old s) path whole (walk_state log old) (walk_state log mid)
     begun_by true same = subst
-        (IsBegun (root.failed old.root) (root.failed mid.root) (against old s) path true (seen_by log old)) (sym (ap (seen_by log) same))
-        (begun_whole (root.failed old.root) (root.failed mid.root) (against old s) path (seen_by log old))
+        (IsBegun (root.failed old.root) (root.failed mid.root) (against old s) path true (walk_state log old)) (sym (ap (walk_state log) same))
+        (begun_whole (root.failed old.root) (root.failed mid.root) (against old s) path (walk_state log old))
     begun_by false (rose, (reason, further, tells)) =
-        begun_part (root.failed old.root) (root.failed mid.root) (against old s) path (seen_by log old) (seen_by log mid) reason further rose
+        begun_part (root.failed old.root) (root.failed mid.root) (against old s) path (walk_state log old) (walk_state log mid) reason further rose
         (tells s is r there)
 
     -- nothing of it could be listed
     pub not_by : (left : ℕ) (inside : Forest) → TellsUnlisted store root log path old mid
-        → IsPut (RootFails root old mid) (against old s) path left inside (seen_by log old) (seen_by log mid)
+        → IsPut (RootFails root old mid) (against old s) path left inside (walk_state log old) (walk_state log mid)
     not_by left inside (rose, (reason, further, tells)) =
-        put_not (RootFails root old mid) (against old s) path left inside (seen_by log old) (seen_by log mid) reason further rose (tells s is r there)
+        put_not (RootFails root old mid) (against old s) path left inside (walk_state log old) (walk_state log mid) reason further rose (tells s is r there)
 
     -- it broke off there
     pub front_by : (left : ℕ) (inside : Forest) → TellsUnlistedFront store root log path old mid
@@ -157,7 +159,7 @@ module _ {S R L E : Type 0} (store : OfSource S) (root : OfSource R) (log : OfLo
         front_not (RootFails root old mid) (against old s) path left inside (log.told old.log) (log.told mid.log) reason further rose (front s is r there)
 
   -- that a folder couldn't be listed is told after the call that failed, in which the root alone was asked
-  module _ (old mid new : Extras S R L E) (path : Path) (kept : Keeps store root log old mid) (still : seen_by log mid ≡ seen_by log old)
+  module _ (old mid new : Extras S R L E) (path : Path) (kept : Keeps store root log old mid) (still : walk_state log mid ≡ walk_state log old)
       (rose : RootFails root old mid) where
     unlisted_by : {T : Type 0} (result : Result T Fault) → FailsAsPast result (failures_by store root log mid) (failures_by store root log new)
         → OnOk result (TellsReasons store root log path mid new) → OnOk result (TellsUnlisted store root log path old new)
@@ -168,21 +170,22 @@ module _ {S R L E : Type 0} (store : OfSource S) (root : OfSource R) (log : OfLo
         reason,
         further,
         λ s is r there.
-            subst (λ (a : Seen). Puts (of_unlisted path (reason ∷ further)) a (seen_by log new)) still
+            subst (λ (a : WalkState). Puts (of_unlisted path (reason ∷ further)) a (walk_state log new)) still
             (told_from store root log (found_unlisted path (reason ∷ further)) old mid new kept tells s is r there),
       ),
     )
     unlisted_by (Err why) fails told = tt
 
     -- it came to its end
-    pub part_told : (result : Result (Option Found) Fault) (same : Type 0)
+    pub part_told : (result : Result FolderListing Fault) (same : Type 0)
         → FailsAsPast result (failures_by store root log mid) (failures_by store root log new)
-        → OnOk result (TellsReasons store root log path mid new) → IfOk result (λ found. IfSome found (λ f. f.is_whole ≡ false))
-        → IfOk result (λ found. MatchOption found (TellsUnlisted store root log path old new)
+        → OnOk result (TellsReasons store root log path mid new) → IfOk result (λ found. IfEntries found (λ f. f.is_whole ≡ false))
+        → IfOk result (λ found. MatchListing found (TellsUnlisted store root log path old new)
         (λ f. cond f.is_whole same (TellsUnlisted store root log path old new)))
-    part_told (Ok None) same fails told part = unlisted_by {T = Option Found} (Ok None) fails told
-    part_told (Ok (Some f)) same fails told part =
-        subst (λ (b : Bool). cond b same (TellsUnlisted store root log path old new)) (sym part) (unlisted_by {T = Option Found} (Ok (Some f)) fails told)
+    part_told (Ok listing.Nothing) same fails told part = unlisted_by {T = FolderListing} (Ok listing.Nothing) fails told
+    part_told (Ok (listing.Entries f)) same fails told part =
+        subst (λ (b : Bool). cond b same (TellsUnlisted store root log path old new)) (sym part)
+        (unlisted_by {T = FolderListing} (Ok (listing.Entries f)) fails told)
     part_told (Err why) same fails told part = tt
 
     -- or broke off
@@ -197,7 +200,7 @@ module _ {S R L E : Type 0} (store : OfSource S) (root : OfSource R) (log : OfLo
         further,
         λ s is r there.
             subst (λ (l : Option (List ℕ)). AppendsFront l (log.told new.log) (texts (of_unlisted path (reason ∷ further))))
-            (ap (λ (a : Seen). a.held) still)
+            (ap (λ (a : WalkState). a.held) still)
             (front_from store root log (found_unlisted path (reason ∷ further)) old mid new kept front s is r there),
       ),
     )

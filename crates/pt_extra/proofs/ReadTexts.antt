@@ -78,11 +78,6 @@ none_read text none = by (converted of_json (value 127 (tokens text))) refl none
         sym (ap (λ o. id_by (unwrap_or o null)) (whole_read (value 127 (tokens text)) d is) ∙ ap (option_and_then unless_empty) none)
     by (Some (d, t ∷ rest)) is none = nothing text (whole_and_more (value 127 (tokens text)) d t rest is)
 
--- more comes behind it
-pub more_read : (text : List ℕ) (d : Data) (t : spec.Token) (rest ts : List spec.Token) → converted of_json (value 127 (tokens text)) ≡ Some (d, ts)
-    → ts ≡ t ∷ rest → None ≡ id_by (unwrap_or (read text) null)
-more_read text d t rest ts is more = nothing text (whole_and_more (value 127 (tokens text)) d t rest (is ∙ ap (λ r. Some (d, r)) more))
-
 -- it is all
 pub all_read : (text : List ℕ) (d : Data) (ts : List spec.Token) → converted of_json (value 127 (tokens text)) ≡ Some (d, ts) → ts ≡ []
     → id_by d ≡ id_by (unwrap_or (read text) null)

@@ -29,7 +29,7 @@ use Rattle.std.specs.Prelude.{Option}
 use Rattle.pt_extra.proofs.Telling.{front_more, front_on, puts_on, texts_on}
 use Rattle.pt_extra.specs.Lines.{ExtraFinding, Unlisted, texts}
 use Rattle.pt_extra.specs.Unlisted.{of_unlisted}
-use Rattle.pt_extra.specs.Walk.{Puts, Seen}
+use Rattle.pt_extra.specs.Walk.{Puts, WalkState}
 use Rattle.pt_tree.specs.Log.{AppendsFront}
 use Rattle.pt_tree.specs.Path.{Path}
 
@@ -48,7 +48,7 @@ one_more_is path reasons i reason d text within is text_is =
     ∙ ap (of_unlisted path) (sym (map_more (λ (r : String Global). string_bytes r) reasons i d within))
 
 -- the next of them was told
-pub each_step : (path : Path) (reasons : List (String Global)) (i : ℕ) (reason d : String Global) (text : List ℕ) (a m b : Seen) → i < length reasons
+pub each_step : (path : Path) (reasons : List (String Global)) (i : ℕ) (reason d : String Global) (text : List ℕ) (a m b : WalkState) → i < length reasons
     → reason ≡ get_or reasons i d → text ≡ string_bytes reason → Puts (of_unlisted path (map (λ r. string_bytes r) (take i reasons))) a m
     → Puts (Unlisted text path ∷ []) m b → Puts (of_unlisted path (map (λ r. string_bytes r) (take (i + 1) reasons))) a b
 each_step path reasons i reason d text a m b within is text_is first one =
@@ -56,7 +56,7 @@ each_step path reasons i reason d text a m b within is text_is first one =
     (puts_on (of_unlisted path (map (λ r. string_bytes r) (take i reasons))) (Unlisted text path ∷ []) a m b first one)
 
 -- it broke off at the next
-pub each_front : (path : Path) (reasons : List (String Global)) (i : ℕ) (reason d : String Global) (text : List ℕ) (a m : Seen) (end : Option (List ℕ))
+pub each_front : (path : Path) (reasons : List (String Global)) (i : ℕ) (reason d : String Global) (text : List ℕ) (a m : WalkState) (end : Option (List ℕ))
     → i < length reasons → reason ≡ get_or reasons i d → text ≡ string_bytes reason
     → Puts (of_unlisted path (map (λ r. string_bytes r) (take i reasons))) a m → AppendsFront m.held end (texts (Unlisted text path ∷ []))
     → AppendsFront a.held end (texts (of_unlisted path (map (λ r. string_bytes r) reasons)))

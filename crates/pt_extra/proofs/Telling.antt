@@ -6,7 +6,7 @@ use Rattle.std.specs.Io.KnownBytes.{Appends}
 use Rattle.std.specs.Prelude.{Option, None, Some}
 use Rattle.pt_extra.specs.Counting.{with_finding, with_findings}
 use Rattle.pt_extra.specs.Lines.{ExtraFinding, line_text, texts}
-use Rattle.pt_extra.specs.Walk.{Puts, Seen}
+use Rattle.pt_extra.specs.Walk.{Puts, WalkState}
 use Rattle.pt_extra.specs.declared.numbers.ExtraNumbers.{ExtraNumbers}
 use Rattle.pt_tree.specs.Log.{AppendsFront}
 
@@ -46,20 +46,12 @@ front_more a b p q (n, part) = (length (take n p), subst (Appends a b) (sym same
         ∙ take-append_seam (take n p) (drop n p ++ q)
 
 -- nothing is put
-pub puts_none : (a : Seen) → Puts [] a a
+pub puts_none : (a : WalkState) → Puts [] a a
 puts_none a = record { held = appends_none a.held; numbers = refl }
 
 -- what is put twice
-pub puts_on : (fs gs : List ExtraFinding) (a b c : Seen) → Puts fs a b → Puts gs b c → Puts (fs ++ gs) a c
+pub puts_on : (fs gs : List ExtraFinding) (a b c : WalkState) → Puts fs a b → Puts gs b c → Puts (fs ++ gs) a c
 puts_on fs gs a b c first second = record {
   held = subst (Appends a.held c.held) (sym (texts_on fs gs)) (appends_on a.held b.held c.held (texts fs) (texts gs) first.held second.held);
   numbers = second.numbers ∙ ap (with_findings gs) first.numbers ∙ sym (counts_on fs gs a.numbers);
-}
-
--- one line
-pub puts_one : (f : ExtraFinding) (text : List ℕ) (a b : Seen) → text ≡ line_text f → Appends a.held b.held text → b.numbers ≡ with_finding f a.numbers
-    → Puts (f ∷ []) a b
-puts_one f text a b is held numbers = record {
-  held = subst (Appends a.held b.held) (is ∙ sym (append-nil (line_text f))) held;
-  numbers = numbers;
 }

@@ -1,18 +1,11 @@
 -- What is told of a root of which a folder can't be listed.
-use Rattle.std.proofs.Common.{◌≡◌, ◌+◌, ◌-◌, ℕ, List, [], ◌∷◌, ◌++◌, refl, sym, ap, ◌∙◌, subst, cond, Bool, true, false}
-use Rattle.pt_extra.specs.Findings.{Against, found_at, is_part, of_entries, of_folder, of_folder_by, of_leaf, of_object, of_unnamed}
+use Rattle.std.proofs.Common.{◌≡◌, ◌+◌, ◌-◌, ℕ, List, [], ◌∷◌, ◌++◌, refl, sym, ap, ◌∙◌, subst}
+use Rattle.pt_extra.specs.Findings.{Against, found_at, of_entries, of_folder, of_folder_by, of_object, of_unnamed}
 use Rattle.pt_extra.specs.Inventories.{id_of}
 use Rattle.pt_extra.specs.Lines.{ExtraFinding}
-use Rattle.pt_extra.specs.Unlisted.{InPart, IsOfEntries, IsOfFolder, IsToldAt, IsToldIn, Listed, NotAtAll, of_unlisted}
-use Rattle.pt_extra.specs.Walk.{found_in}
-use Rattle.pt_object.specs.WellKnown.{known_text}
-use Rattle.pt_object.specs.declared.well_known.WellKnownName.TheVariants as known
-use Rattle.pt_plan.specs.Roots.{storage_root}
-use Rattle.pt_plan.specs.TurnStart.{is_dir_kind, kind_in}
-use Rattle.pt_tree.specs.Forest.{Forest, none, file, other, dir, listing_of}
+use Rattle.pt_extra.specs.Unlisted.{InPart, IsOfEntries, IsOfFolder, IsToldAt, Listed, NotAtAll, of_unlisted}
+use Rattle.pt_tree.specs.Forest.{Forest, none, file, other, dir}
 use Rattle.pt_tree.specs.Path.{Path}
-use Rattle.pt_tree.specs.declared.kind.Kind.TheVariants as kind
-use Rattle.pt_walk.specs.Left.{inside_at}
 
 -- ---- by whether the root failed
 
@@ -63,40 +56,6 @@ entries_found F c path left (dir name inside after) =
 -- all that is found of a folder may be told
 pub told_found : (F : Type 0) (c : Against) (path : Path) (left : ℕ) (inside : Forest) → IsToldAt F c path left inside (found_at c path left inside)
 told_found F c path left inside = (of_entries c path left inside, entries_found F c path left inside, Listed refl)
-
-only_folder : {F : Type 0} (c : Against) (path : Path) (left : ℕ) (inside : Forest) (entries told : List ExtraFinding) → (F → ⊥)
-    → IsOfFolder F c path left inside entries told → told ≡ of_folder c path left inside entries
-only_folder c path left inside entries told never (Listed is) = is
-only_folder c path left inside entries told never (InPart f reason further is) = absurd (never f)
-only_folder c path left inside entries told never (NotAtAll f reason further is) = absurd (never f)
-
-only_entries : {F : Type 0} (c : Against) (path : Path) (left : ℕ) (inside : Forest) (told : List ExtraFinding) → (F → ⊥)
-    → IsOfEntries F c path left inside told → told ≡ of_entries c path left inside
-only_entries c path left none told never it = it
-only_entries c path left (file name bytes after) told never (rest, it, is) =
-    is ∙ ap (λ (l : List ExtraFinding). of_leaf c path name kind.File ++ l) (only_entries c path left after rest never it)
-only_entries c path left (other name after) told never (rest, it, is) =
-    is ∙ ap (λ (l : List ExtraFinding). of_leaf c path name kind.Other ++ l) (only_entries c path left after rest never it)
-only_entries c path left (dir name inside after) told never (here, rest, (entries, of_them, of_it), it, is) =
-    let at = path ++ name ∷ [] in
-    is ∙ ap (λ (l : List ExtraFinding). cond (is_part path name kind.Dir) [] l ++ rest) (only_folder c at (left - 1) inside entries here never of_it
-    ∙ ap (of_folder c at (left - 1) inside) (only_entries c at (left - 1) inside entries never of_them))
-    ∙ ap (λ (l : List ExtraFinding). cond (is_part path name kind.Dir) [] (found_at c at (left - 1) inside) ++ l) (only_entries c path left after rest never it)
-
-only_at : {F : Type 0} (c : Against) (path : Path) (left : ℕ) (inside : Forest) (told : List ExtraFinding) → (F → ⊥)
-    → IsToldAt F c path left inside told → told ≡ found_at c path left inside
-only_at c path left inside told never (entries, of_them, of_it) =
-    only_folder c path left inside entries told never of_it ∙ ap (of_folder c path left inside) (only_entries c path left inside entries never of_them)
-
--- where the root didn't fail that is told, and nothing else
-pub only_found : {F : Type 0} (c : Against) (standing : Forest) (told : List ExtraFinding) → (F → ⊥) → IsToldIn F c standing told
-    → told ≡ found_in c standing
-only_found {F} c standing told never it = by (is_dir_kind (kind_in (listing_of standing) (known_text known.StorageRoot))) it
-  where
-    by : (b : Bool) → cond b (IsToldAt F c [] (c.job.tuples.count + 1) (inside_at standing storage_root) told) (told ≡ [])
-        → told ≡ cond b (found_at c [] (c.job.tuples.count + 1) (inside_at standing storage_root)) []
-    by true it = only_at c [] (c.job.tuples.count + 1) (inside_at standing storage_root) told never it
-    by false it = it
 
 -- ---- a folder
 

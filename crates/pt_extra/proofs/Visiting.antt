@@ -48,7 +48,7 @@ use Rattle.pt_extra.specs.Findings.{Against, found_at, is_object, is_part, of_en
 use Rattle.pt_extra.specs.Inventories.{id_of}
 use Rattle.pt_extra.specs.Lines.{ExtraFinding, texts}
 use Rattle.pt_extra.specs.Unlisted.{IsOfEntries, IsToldAt, Listed, of_unlisted}
-use Rattle.pt_extra.specs.Walk.{Puts, Seen}
+use Rattle.pt_extra.specs.Walk.{Puts, WalkState}
 use Rattle.pt_tree.specs.Failures.{HasRisen, greatest_count}
 use Rattle.pt_plan.specs.TurnWalk.{in_root}
 use Rattle.pt_tree.specs.Forest.{Forest, none, dir_at, is_proper, listing_at, listing_of}
@@ -97,7 +97,7 @@ Later first now last = HasRisen first now → HasRisen first last
 -- ---- what is told of a folder
 
 -- what may be told of it is put
-pub record IsPut (F : Type 0) (c : Against) (path : Path) (left : ℕ) (inside : Forest) (a b : Seen) : Type 0 where
+pub record IsPut (F : Type 0) (c : Against) (path : Path) (left : ℕ) (inside : Forest) (a b : WalkState) : Type 0 where
   pub told : List ExtraFinding
   pub may : IsToldAt F c path left inside told
   pub puts : Puts told a b
@@ -135,7 +135,7 @@ joins F c top path left items place name kind.Dir e more proper listed at (here,
 
 -- so many entries of a folder were met, while the count of the root's failures went from the first to the second, and what is told of them is put
 -- behind what was told of the folder itself
-pub record FoundTo (first now : ℕ) (c : Against) (path : Path) (left : ℕ) (inside : Forest) (place : ℕ) (a b : Seen) : Type 0 where
+pub record FoundTo (first now : ℕ) (c : Against) (path : Path) (left : ℕ) (inside : Forest) (place : ℕ) (a b : WalkState) : Type 0 where
   before : List ExtraFinding
   findings : List ExtraFinding
   puts : Puts (before ++ findings) a b
@@ -153,21 +153,21 @@ before_by c path true before is = Whole is
 before_by c path false before (rose, reason, further, is) = Part rose reason further is
 
 -- and that is put
-pub record IsBegun (first now : ℕ) (c : Against) (path : Path) (whole : Bool) (a b : Seen) : Type 0 where
+pub record IsBegun (first now : ℕ) (c : Against) (path : Path) (whole : Bool) (a b : WalkState) : Type 0 where
   before : List ExtraFinding
   puts : Puts before a b
   by_whole : BeforeBy (HasRisen first now) c path whole before
 
-pub begun_whole : (first now : ℕ) (c : Against) (path : Path) (a : Seen) → IsBegun first now c path true a a
+pub begun_whole : (first now : ℕ) (c : Against) (path : Path) (a : WalkState) → IsBegun first now c path true a a
 begun_whole first now c path a = record { before = []; puts = puts_none a; by_whole = refl }
 
-pub begun_part : (first now : ℕ) (c : Against) (path : Path) (a b : Seen) (reason : List ℕ) (further : List (List ℕ)) → HasRisen first now
+pub begun_part : (first now : ℕ) (c : Against) (path : Path) (a b : WalkState) (reason : List ℕ) (further : List (List ℕ)) → HasRisen first now
     → Puts (of_unlisted path (reason ∷ further)) a b → IsBegun first now c path false a b
 begun_part first now c path a b reason further rose puts =
     record { before = of_unlisted path (reason ∷ further); puts = puts; by_whole = (rose, reason, further, refl) }
 
 -- no entry was met yet
-pub found_none : (first now : ℕ) (c : Against) (path : Path) (left : ℕ) (inside : Forest) (whole : Bool) (a b : Seen) → IsBegun first now c path whole a b
+pub found_none : (first now : ℕ) (c : Against) (path : Path) (left : ℕ) (inside : Forest) (whole : Bool) (a b : WalkState) → IsBegun first now c path whole a b
     → FoundTo first now c path left inside 0 a b
 found_none first now c path left inside whole a b it = record {
   before = it.before;
@@ -178,10 +178,11 @@ found_none first now c path left inside whole a b it = record {
 }
 
 module _ (c : Against) (top : Forest) (path : Path) (left : ℕ) (items : List Item) (proper : is_proper top ≡ true)
-    (listed : listing_at top (in_root path) ≡ Some items) (first now : ℕ) (place : ℕ) (a b : Seen)
+    (listed : listing_at top (in_root path) ≡ Some items) (first now : ℕ) (place : ℕ) (a b : WalkState)
     (to : FoundTo first now c path left (inside_at top (in_root path)) place a b) where
   -- one more was met
-  found_more : (later : ℕ) (name : List ℕ) (here : Kind) (e : List ExtraFinding) (d : Seen) → Later first now later → slice_get items place ≡ Some (name, here)
+  found_more : (later : ℕ) (name : List ℕ) (here : Kind) (e : List ExtraFinding) (d : WalkState) → Later first now later
+      → slice_get items place ≡ Some (name, here)
       → ((last : ℕ) → Later first later last → OfEntry (HasRisen first last) c top path left name here e) → Puts e b d
       → FoundTo first later c path left (inside_at top (in_root path)) (place + 1) a d
   found_more later name here e d le at may puts = record {
@@ -230,7 +231,7 @@ module _ (c : Against) (top : Forest) (path : Path) (left : ℕ) (items : List I
       (λ rose. after (risen_from first now later from rose)) may
 
   -- it is a folder
-  pub found_dir : (later : ℕ) (name : List ℕ) (here : Kind) (entry : Path) (d : Seen) → first ≤ now → Later first now later
+  pub found_dir : (later : ℕ) (name : List ℕ) (here : Kind) (entry : Path) (d : WalkState) → first ≤ now → Later first now later
       → slice_get items place ≡ Some (name, here) → here ≡ kind.Dir → is_part path name here ≡ false → entry ≡ path ++ name ∷ []
       → IsPut (HasRisen now later) c entry (left - 1) (inside_at top (in_root entry)) b d
       → FoundTo first later c path left (inside_at top (in_root path)) (place + 1) a d
@@ -247,7 +248,7 @@ module _ (c : Against) (top : Forest) (path : Path) (left : ℕ) (items : List I
   leaf_is F name kind.Dir entry leaf part entry_is = absurd (leaf refl)
 
   -- it is none
-  pub found_leaf : (later : ℕ) (name : List ℕ) (here : Kind) (entry : Path) (d : Seen) → Later first now later
+  pub found_leaf : (later : ℕ) (name : List ℕ) (here : Kind) (entry : Path) (d : WalkState) → Later first now later
       → slice_get items place ≡ Some (name, here)
       → (here ≡ kind.Dir → ⊥) → is_part path name here ≡ false → entry ≡ path ++ name ∷ [] → Puts (of_unnamed c entry) b d
       → FoundTo first later c path left (inside_at top (in_root path)) (place + 1) a d
@@ -278,7 +279,7 @@ folder_is c top path left items entries bare listed it =
     ∙ ap (λ (t : Bool). cond t bare entries) none
 
 module _ (c : Against) (top : Forest) (path : Path) (left : ℕ) (items : List Item) (proper : is_proper top ≡ true)
-    (listed : listing_at top (in_root path) ≡ Some items) (walked : IsWalked left items) (first now : ℕ) (place : ℕ) (a b : Seen)
+    (listed : listing_at top (in_root path) ≡ Some items) (walked : IsWalked left items) (first now : ℕ) (place : ℕ) (a b : WalkState)
     (to : FoundTo first now c path left (inside_at top (in_root path)) place a b) where
   -- what was told with what is still to be told of its entries may be told of it
   may_be : (last : ℕ) (more : List ExtraFinding) → Later first now last
@@ -376,7 +377,7 @@ bare_is c top path left items bare listed object is =
     ∙ ap (λ (t : Bool). cond t bare entries) is
 
 module _ (c : Against) (top : Forest) (path : Path) (left : ℕ) (items : List Item) (listed : listing_at top (in_root path) ≡ Some items)
-    (first now : ℕ) (whole : Bool) (a b : Seen) (it : IsBegun first now c path whole a b) where
+    (first now : ℕ) (whole : Bool) (a b : WalkState) (it : IsBegun first now c path whole a b) where
   may_object : (later : ℕ) → is_object items ≡ true → Later first now later
       → IsToldAt (HasRisen first later) c path left (inside_at top (in_root path)) (it.before ++ of_object c path (id_of (inside_at top (in_root path))))
   may_object later object le =
@@ -386,7 +387,7 @@ module _ (c : Against) (top : Forest) (path : Path) (left : ℕ) (items : List I
       (λ bare. object_is c top path left items bare listed object)
 
   -- an object is told behind that
-  pub put_object : (later : ℕ) (d : Seen) → is_object items ≡ true → Later first now later
+  pub put_object : (later : ℕ) (d : WalkState) → is_object items ≡ true → Later first now later
       → Puts (of_object c path (id_of (inside_at top (in_root path)))) b d
       → IsPut (HasRisen first later) c path left (inside_at top (in_root path)) a d
   put_object later d object le puts = record {
@@ -422,7 +423,7 @@ module _ (c : Against) (top : Forest) (path : Path) (left : ℕ) (items : List I
       (told_part_bare c path left (inside_at top (in_root path)) reason further rose (bare_is c top path left items [] listed object bare))
 
   -- a bare folder is told so, unless it was told already
-  pub put_bare : (later : ℕ) (d : Seen) → is_object items ≡ false → (left == 0 || length items == 0) ≡ true → Later first now later
+  pub put_bare : (later : ℕ) (d : WalkState) → is_object items ≡ false → (left == 0 || length items == 0) ≡ true → Later first now later
       → Puts (cond whole (of_unnamed c path) []) b d → IsPut (HasRisen first later) c path left (inside_at top (in_root path)) a d
   put_bare later d object bare le puts = record {
     told = it.before ++ cond whole (of_unnamed c path) [];
@@ -443,7 +444,7 @@ module _ (c : Against) (top : Forest) (path : Path) (left : ℕ) (items : List I
       }
 
 -- nothing of it could be listed
-pub put_not : (F : Type 0) (c : Against) (path : Path) (left : ℕ) (inside : Forest) (a b : Seen) (reason : List ℕ) (further : List (List ℕ)) → F
+pub put_not : (F : Type 0) (c : Against) (path : Path) (left : ℕ) (inside : Forest) (a b : WalkState) (reason : List ℕ) (further : List (List ℕ)) → F
     → Puts (of_unlisted path (reason ∷ further)) a b → IsPut F c path left inside a b
 put_not F c path left inside a b reason further failed puts =
     record { told = of_unlisted path (reason ∷ further); may = told_not c path left inside reason further failed; puts = puts }

@@ -1,24 +1,34 @@
 -- An audit both ways: what its log tells.
-use Rattle.std.specs.Prelude.{◌≡◌, ◌≤◌, ℕ, Bool, true, false, List, ◌++◌, Option, Some, Result, Ok, Err, take}
+use Rattle.std.specs.Prelude.{◌≡◌, ◌≤◌, ℕ, Bool, true, false, IfErr, List, ◌++◌, OnOk, Option, Some, Result, Ok, Err, take}
 use Rattle.std.specs.Io.KnownBytes.{Appends}
 use Rattle.std.specs.Option.{ForSome}
 use Rattle.std.specs.String.{string_bytes}
-use Rattle.pt_audit.specs.Auditing.{AuditStart, IsAllTold, IsOfItems, LogsAs}
-use Rattle.pt_audit.specs.Failing.{BlamesRightly}
-use Rattle.pt_audit.specs.declared.auditing.Audited.{Audited}
+use Rattle.pt_audit.specs.Auditing.{AuditStart, IsAllTold, IsOfItems, LogsAs, start_over}
+use Rattle.pt_audit.specs.Bounds.{IsMade}
+use Rattle.pt_audit.specs.Failing.{AuditSays, BlamesRightly, failures}
+use Rattle.pt_audit.specs.Growing.{KeepsLog, KeepsSides}
+use Rattle.pt_audit.specs.Layout.{IsOfLayout}
+use Rattle.pt_audit.specs.declared.auditing.ObjectsAudit.{ObjectsAudit}
 use Rattle.pt_audit.specs.declared.counts.Counts.{Counts}
 use Rattle.pt_extra.specs.Counting.{no_numbers, with_findings}
 use Rattle.pt_extra.specs.Findings.{Against}
 use Rattle.pt_extra.specs.Lines.{ExtraFinding, last_text, texts}
 use Rattle.pt_extra.specs.Unlisted.{IsToldIn}
 use Rattle.pt_extra.specs.declared.auditing.AuditCounts.{AuditCounts}
+use Rattle.pt_extra.specs.declared.auditing.AuditEnd.{AuditEnd}
+use Rattle.pt_extra.specs.declared.devices.ExtraDevices.{ExtraDevices}
 use Rattle.pt_plan.specs.DeviceStates.{Failures}
 use Rattle.pt_plan.specs.Job.{Job}
 use Rattle.pt_plan.specs.Store.{prefix_of}
 use Rattle.pt_plan.specs.declared.fault.Fault.{Fault}
 use Rattle.pt_state.specs.States.{job_of}
+use Rattle.pt_state.specs.declared.job.Job as own
+use Rattle.pt_tree.specs.Failures.{HasRisen}
 use Rattle.pt_tree.specs.Forest.{Forest}
 use Rattle.pt_tree.specs.Log.{AppendsFront}
+use Rattle.pt_tree.specs.Source.{tree_in}
+use Rattle.pt_tree.specs.declared.log.Log.{Ghosts as OfLog}
+use Rattle.pt_tree.specs.declared.source.Source.{Ghosts as OfSource}
 
 -- ---- counts
 
@@ -53,12 +63,12 @@ PutsRest counts findings old new (Ok told) =
 PutsRest counts findings old new (Err why) = AppendsFront old new (rest_text counts findings)
 
 -- against what a root is held, by what an audit gives back
-abbrev pub against_given : Audited → Forest → Against
+abbrev pub against_given : ObjectsAudit → Forest → Against
 against_given audited store =
     record { job = job_of audited.job; prefix = string_bytes audited.prefix; store = store }
 
 -- so it is behind the objects' lines of an audit, where store and root tell, by whether the root failed
-abbrev pub TellsRest : Type 0 → Audited → AuditStart → Option (List ℕ) → Result AuditCounts Fault → Type 0
+abbrev pub TellsRest : Type 0 → ObjectsAudit → AuditStart → Option (List ℕ) → Result AuditCounts Fault → Type 0
 TellsRest failed audited start now ran =
     ForSome start.source
     (λ s. ForSome start.root
@@ -109,3 +119,23 @@ abbrev pub AuditBlames : Bool → Failures → Failures → Result AuditCounts F
 AuditBlames true old new ran =
     (passed : ℕ) × (old.dest ≤ passed) × BlamesRightly (record old { dest = passed }) new ran
 AuditBlames false old new ran = BlamesRightly old new ran
+
+-- an audit, with extras or without them: of these devices, to this end
+pub record AuditsDevices {S R L E : Type 0} (s : OfSource S) (r : OfSource R) (l : OfLog L) (with_extras : Bool) (job : own.Job)
+    (audit : ExtraDevices S R L E × AuditEnd S R L E) : Type 0 where
+  -- the log has got what is told of store and root, with these counts, or a front of it
+  pub ends : AuditLogs with_extras (HasRisen (r.failed audit.0.root) (r.failed audit.1.devices.root)) (job_of job)
+      (start_over (tree_in (s.told audit.0.store)) (tree_in (r.told audit.0.root)) (l.told audit.0.log)) (l.told audit.1.devices.log) audit.1.ran
+  -- where it ends well the root that stands is of this layout, or there is none
+  pub layout : OnOk audit.1.ran (ForSome (tree_in (r.told audit.0.root)) (IsOfLayout (job_of job)))
+  -- store and root are the same ones still, with their trees
+  pub sides : KeepsSides s.told s.keeps r.told r.keeps (audit.0.store, audit.0.root) (audit.1.devices.store, audit.1.devices.root)
+  -- so is the log, in which what stood stands
+  pub log : KeepsLog l.told l.keeps audit.0.log audit.1.devices.log
+  -- a device is blamed only where it failed
+  pub blames : AuditBlames with_extras (failures (s.failed audit.0.store) (r.failed audit.0.root) (l.failed audit.0.log))
+      (failures (s.failed audit.1.devices.store) (r.failed audit.1.devices.root) (l.failed audit.1.devices.log)) audit.1.ran
+  -- what a fault says of store and root is so
+  pub says : IfErr audit.1.ran (AuditSays job (tree_in (s.told audit.0.store)) (tree_in (r.told audit.0.root)))
+  -- it is made by steps of a survey
+  pub made : IsMade job (tree_in (s.told audit.0.store)) (in_both audit.1.ran)

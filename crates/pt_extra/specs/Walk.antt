@@ -31,16 +31,16 @@ use Rattle.pt_tree.specs.declared.source.Source.{Ghosts as OfSource}
 use Rattle.pt_walk.specs.Left.{inside_at}
 
 -- how far a walk is: what its log holds, and what it has counted
-pub record Seen : Type 0 where
+pub record WalkState : Type 0 where
   pub held : Option (List ℕ)
   pub numbers : ExtraNumbers
 
 -- how far this one is
-abbrev pub seen_by : {S R L E : Type 0} → OfLog L → Extras S R L E → Seen
-seen_by log walk = record { held = log.told walk.log; numbers = walk.numbers }
+abbrev pub walk_state : {S R L E : Type 0} → OfLog L → Extras S R L E → WalkState
+walk_state log walk = record { held = log.told walk.log; numbers = walk.numbers }
 
 -- the lines of these findings are put into the log and counted
-pub record Puts (findings : List ExtraFinding) (a b : Seen) : Type 0 where
+pub record Puts (findings : List ExtraFinding) (a b : WalkState) : Type 0 where
   pub held : Appends a.held b.held (texts findings)
   pub numbers : b.numbers ≡ with_findings findings a.numbers
 
@@ -90,7 +90,7 @@ abbrev pub Tells : {S R L E : Type 0} → OfSource S → OfSource R → OfLog L 
 Tells store root log findings old new =
     ForSome (tree_in (store.told old.store))
     (λ s. ForSome (tree_in (root.told old.root))
-    (λ r. Puts (findings (against old s) r) (seen_by log old) (seen_by log new)))
+    (λ r. Puts (findings (against old s) r) (walk_state log old) (walk_state log new)))
 
 -- what is told of a folder at this path of the root, below which so many names lead to an object
 abbrev pub IsToldBelow : Path → ℕ → Type 0 → Against → Forest → List ExtraFinding → Type 0
@@ -116,7 +116,7 @@ TellsPast store root log Is old new =
     ForSome (tree_in (store.told old.store))
     (λ s. ForSome (tree_in (root.told old.root))
     (λ r. (told : List ExtraFinding) × Is (RootFails root old new) (against old s) r told
-    × Puts told (seen_by log old) (seen_by log new)))
+    × Puts told (walk_state log old) (walk_state log new)))
 
 -- it is told of the folder at this path that it couldn't be listed whole, with a reason or more
 abbrev pub TellsReasons : {S R L E : Type 0} → OfSource S → OfSource R → OfLog L → Path → Extras S R L E → Extras S R L E → Type 0

@@ -1,25 +1,20 @@
 //! An audit both ways: the objects of a store are held against the root, and the root against the
 //! store.
-ghost use Rattle.std.specs.Prelude.{◌≡◌, true, IfErr, IfOk, OnErr, OnOk};
+ghost use Rattle.std.specs.Prelude.{◌≡◌, true, IfOk, OnErr};
 ghost use Rattle.std.specs.Io.KnownBytes.{Appends};
-ghost use Rattle.std.specs.Option.{ForSome};
 ghost use Rattle.pt_audit.specs.Auditing.{start_over};
-ghost use Rattle.pt_audit.specs.Bounds.{IsMade};
-ghost use Rattle.pt_audit.specs.Failing.{AuditSays, FailsAs, failures};
+ghost use Rattle.pt_audit.specs.Failing.{FailsAs, failures};
 ghost use Rattle.pt_audit.specs.Growing.{KeepsLog, KeepsSides};
-ghost use Rattle.pt_audit.specs.Layout.{IsOfLayout};
 ghost use Rattle.pt_tree.specs.Source.{tree_in};
-ghost use Rattle.pt_extra.specs.Audits.{AuditBlames, AuditLogs, ExtraLogs, TellsRest, counts_of};
-ghost use Rattle.pt_extra.specs.Audits.{in_both};
+ghost use Rattle.pt_extra.specs.Audits.{AuditsDevices, TellsRest, counts_of};
 ghost use Rattle.pt_extra.specs.Lines.{last_text};
 ghost use Rattle.pt_extra.specs.Walk.{FailsAsPast};
-ghost use Rattle.pt_state.specs.States.{job_of};
 ghost use Rattle.pt_tree.specs.Failures.{HasRisen};
 ghost use Rattle.pt_tree.specs.Log.{AppendsFront};
 
 use crate::lines::end_line;
 use crate::{ExtraDevices, ExtraNumbers, Extras};
-use pt_audit::{Audited, Counts, audit_objects};
+use pt_audit::{Counts, ObjectsAudit, audit_objects};
 use pt_check::Explains;
 use pt_move::{Job, Observer};
 use pt_plan::Fault;
@@ -63,22 +58,7 @@ where
     L: Log,
     E: Explains<R> + Drop,
     O: Observer<Counts>,
-    ensures ends { AuditLogs with_extras (HasRisen (R.failed devices.root)
-        (R.failed result.devices.root)) (job_of job) (start_over (tree_in (S.told devices.store))
-        (tree_in (R.told devices.root)) (L.told devices.log))
-        (L.told result.devices.log) result.ran }
-    ensures layout { OnOk result.ran (ForSome (tree_in (R.told devices.root))
-        (IsOfLayout (job_of job))) }
-    ensures sides { KeepsSides S.told S.keeps R.told R.keeps (devices.store, devices.root)
-        (result.devices.store, result.devices.root) }
-    ensures log { KeepsLog L.told L.keeps devices.log result.devices.log }
-    ensures blames { AuditBlames with_extras
-        (failures (S.failed devices.store) (R.failed devices.root) (L.failed devices.log))
-        (failures (S.failed result.devices.store) (R.failed result.devices.root)
-        (L.failed result.devices.log)) result.ran }
-    ensures says { IfErr result.ran (AuditSays job (tree_in (S.told devices.store))
-        (tree_in (R.told devices.root))) }
-    ensures made { IsMade job (tree_in (S.told devices.store)) (in_both result.ran) }
+    ensures { AuditsDevices S.Source R.Source L.Log with_extras job (devices, result) }
 {
     if with_extras {
         return audit_with_extras(alloc, devices, job, observer);
@@ -127,22 +107,7 @@ where
     L: Log,
     E: Explains<R> + Drop,
     O: Observer<Counts>,
-    ensures ends { ExtraLogs (HasRisen (R.failed devices.root)
-        (R.failed result.devices.root)) (job_of job) (start_over (tree_in (S.told devices.store))
-        (tree_in (R.told devices.root)) (L.told devices.log))
-        (L.told result.devices.log) result.ran }
-    ensures layout { OnOk result.ran (ForSome (tree_in (R.told devices.root))
-        (IsOfLayout (job_of job))) }
-    ensures sides { KeepsSides S.told S.keeps R.told R.keeps (devices.store, devices.root)
-        (result.devices.store, result.devices.root) }
-    ensures log { KeepsLog L.told L.keeps devices.log result.devices.log }
-    ensures blames { AuditBlames true
-        (failures (S.failed devices.store) (R.failed devices.root) (L.failed devices.log))
-        (failures (S.failed result.devices.store) (R.failed result.devices.root)
-        (L.failed result.devices.log)) result.ran }
-    ensures says { IfErr result.ran (AuditSays job (tree_in (S.told devices.store))
-        (tree_in (R.told devices.root))) }
-    ensures made { IsMade job (tree_in (S.told devices.store)) (in_both result.ran) }
+    ensures { AuditsDevices S.Source R.Source L.Log true job (devices, result) }
 {
     let ExtraDevices {
         mut store,
@@ -170,7 +135,7 @@ where
 fn tell_rest<S, R, L, E>(
     alloc: Global,
     devices: ExtraDevices<S, R, L, E>,
-    audited: Audited,
+    audited: ObjectsAudit,
 ) -> AuditEnd<S, R, L, E>
 where
     S: Source,
@@ -190,7 +155,7 @@ where
         (failures (S.failed result.devices.store) (R.failed result.devices.root)
         (L.failed result.devices.log)) }
 {
-    let Audited {
+    let ObjectsAudit {
         counts,
         job,
         prefix,

@@ -10,12 +10,13 @@
 //!
 //! What it promises, over any store, root and log:
 //!
-//! - `audit`, with extras: behind the lines of all objects of the store (`IsAllTold` of pt_audit)
-//!   the log has got those of just what is found, and then the end line, with the numbers of all
-//!   (`IsExtraLog`). After a fault it has got a front of that (`IsExtraLogSoFar`). Only where the
-//!   root failed may a folder have lines of why it couldn't be listed in place of what is found of
-//!   it (`IsToldIn`). Without extras it is an audit of pt_audit. Its other promises are those of an
-//!   audit either way, but that the root may have failed so without a fault (`AuditBlames`).
+//! - `audit` (`AuditsDevices`), with extras: behind the lines of all objects of the store
+//!   (`IsAllTold` of pt_audit) the log has got those of just what is found, and then the end line,
+//!   with the numbers of all (`IsExtraLog`). After a fault it has got a front of that
+//!   (`IsExtraLogSoFar`). Only where the root failed may a folder have lines of why it couldn't be
+//!   listed in place of what is found of it (`IsToldIn`). Without extras it is an audit of
+//!   pt_audit. Its other promises are those of an audit either way, but that the root may have
+//!   failed so without a fault (`AuditBlames`).
 //! - `run`, where it answers Ok, and the trees of store and root and the log are told: the log has
 //!   got the lines of just what is found (`found_in`), in the order of the names, a folder's before
 //!   what comes behind it; and the numbers are those of the lines. After a fault it has got a front
@@ -28,7 +29,7 @@
 //!   34, and one inventory, with as much room again.
 //!
 //! Guarantees of README that rest on its definitions: An audit is exact.
-#![tactic(auto, using(crate::proofs::ExtraRules::extra_rules))]
+#![tactic(auto, using(pt_compare::proofs::Reading::calls))]
 
 mod auditing;
 mod devices;

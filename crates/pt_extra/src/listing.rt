@@ -1,7 +1,8 @@
 //! How a walk lists a folder, and tells that it can't.
-ghost use Rattle.std.specs.Prelude.{◌≡◌, ◌∷◌, cond, false, map, string_bytes, IfOk, IfSome, IsSome};
-ghost use Rattle.std.specs.Prelude.{MatchOption, OnErr, OnOk, Some};
+ghost use Rattle.std.specs.Prelude.{◌≡◌, ◌∷◌, cond, false, map, string_bytes, IfOk, IsSome};
+ghost use Rattle.std.specs.Prelude.{OnErr, OnOk, Some};
 ghost use Rattle.std.specs.Option.{ForSome};
+ghost use Rattle.pt_extra.specs.FolderListing.{IfEntries, MatchListing};
 ghost use Rattle.pt_extra.specs.Lines.{Unlisted};
 ghost use Rattle.pt_extra.specs.Walk.{Fails, FailsPast, Keeps, Tells, TellsFront, TellsReasons};
 ghost use Rattle.pt_extra.specs.Walk.{TellsReasonsFront};
@@ -15,28 +16,37 @@ use pt_check::{Explains, UnlistedFolder};
 use pt_plan::Fault;
 use pt_tree::{Listing, Log, NamePath, Source, TreeFault};
 
-// What of a folder could be listed: all of its entries, or those that have names.
+// What of a folder could be listed.
 #[derive(Drop)]
-pub(crate) struct Found {
+pub(crate) enum FolderListing {
+    // Entries of it.
+    Entries(ListedEntries),
+    // Nothing.
+    Nothing,
+}
+
+// All entries of a folder, or those that have names.
+#[derive(Drop)]
+pub(crate) struct ListedEntries {
     pub(crate) listing: Listing,
     pub(crate) is_whole: bool,
 }
 
 impl<S: Source, R: Source, L: Log, E: Explains<R> + Drop> Extras<S, R, L, E> {
-    // What can be listed of the folder at a path, which in the destination is this, and None where
-    // nothing can. That not all of it can is told.
+    // What can be listed of the folder at a path, which in the destination is this. That not all of
+    // it can is told.
     #[tactic(auto, using(pt_tree::proofs::Told::listed_in))]
     pub(crate) fn list(
         &mut self,
         path: &NamePath,
         folder: &NamePath,
-    ) -> Result<Option<Found>, Fault>
+    ) -> Result<FolderListing, Fault>
         requires { ForSome (tree_in (R.told self.old.root))
             (λ tree. IsSome (dir_at tree folder.now)) }
-        ensures listed { IfOk result (λ found. IfSome found
+        ensures listed { IfOk result (λ found. IfEntries found
             (λ found. ForSome (tree_in (R.told self.old.root))
             (λ tree. listing_at tree folder.now ≡ Some found.listing))) }
-        ensures told { IfOk result (λ found. MatchOption found
+        ensures told { IfOk result (λ found. MatchListing found
             (TellsUnlisted S.Source R.Source L.Log path.now self.old self.new)
             (λ found. cond found.is_whole (self.new ≡ record self.old { root = self.new.root })
             (TellsUnlisted S.Source R.Source L.Log path.now self.old self.new))) }
@@ -48,7 +58,7 @@ impl<S: Source, R: Source, L: Log, E: Explains<R> + Drop> Extras<S, R, L, E> {
         // That the count is one of 64 bits, for the proof.
         let _failures = self.root.failures();
         match self.root.list(folder) {
-            Ok(listing) => Ok(Some(Found {
+            Ok(listing) => Ok(FolderListing::Entries(ListedEntries {
                 listing,
                 is_whole: true,
             })),
@@ -60,13 +70,13 @@ impl<S: Source, R: Source, L: Log, E: Explains<R> + Drop> Extras<S, R, L, E> {
     // Tells that the root failed to list a folder, by a line for each reason. Gives what of it can
     // be listed all the same.
     #[tactic(auto, using(pt_tree::proofs::Told::listed_in))]
-    fn list_part(&mut self, path: &NamePath, folder: &NamePath) -> Result<Option<Found>, Fault>
+    fn list_part(&mut self, path: &NamePath, folder: &NamePath) -> Result<FolderListing, Fault>
         requires { ForSome (tree_in (R.told self.old.root))
             (λ tree. IsSome (dir_at tree folder.now)) }
-        ensures listed { IfOk result (λ found. IfSome found
+        ensures listed { IfOk result (λ found. IfEntries found
             (λ found. ForSome (tree_in (R.told self.old.root))
             (λ tree. listing_at tree folder.now ≡ Some found.listing))) }
-        ensures part { IfOk result (λ found. IfSome found (λ found. found.is_whole ≡ false)) }
+        ensures part { IfOk result (λ found. IfEntries found (λ found. found.is_whole ≡ false)) }
         ensures told { OnOk result
             (TellsReasons S.Source R.Source L.Log path.now self.old self.new) }
         ensures stops { OnErr result
@@ -83,11 +93,11 @@ impl<S: Source, R: Source, L: Log, E: Explains<R> + Drop> Extras<S, R, L, E> {
             .explain_listing(self.alloc, &mut self.root, folder)?;
         self.tell_reasons(path, reason.as_str(), &further)?;
         match listing {
-            Some(listing) => Ok(Some(Found {
+            Some(listing) => Ok(FolderListing::Entries(ListedEntries {
                 listing,
                 is_whole: false,
             })),
-            None => Ok(None),
+            None => Ok(FolderListing::Nothing),
         }
     }
 

@@ -17,7 +17,7 @@ ghost use Rattle.pt_extra.specs.Unlisted.{IsToldIn};
 ghost use Rattle.pt_extra.specs.Walk.{Fails, FailsPast, IsToldBelow, Keeps, Puts, Tells};
 ghost use Rattle.pt_extra.specs.Walk.{TellsFront, TellsFrontPast};
 ghost use Rattle.pt_extra.specs.Walk.{TellsPast, against, found_bare, found_named, found_one};
-ghost use Rattle.pt_extra.specs.Walk.{found_there, found_unnamed, seen_by};
+ghost use Rattle.pt_extra.specs.Walk.{found_there, found_unnamed, walk_state};
 ghost use Rattle.pt_object.specs.WellKnown.{known_text};
 ghost use Rattle.pt_object.specs.declared.well_known.WellKnownName.TheVariants as known;
 ghost use Rattle.pt_plan.specs.TurnStart.{is_dir_kind, kind_in};
@@ -27,6 +27,7 @@ ghost use Rattle.pt_tree.specs.Log.{AppendsFront};
 
 use crate::identifier::identifier_at;
 use crate::lines::{extra_line, stray_line};
+use crate::listing::FolderListing;
 use crate::parts::{is_object, is_part};
 use crate::store::{has_folder, has_object};
 use crate::{ExtraDevices, ExtraNumbers};
@@ -127,7 +128,7 @@ impl<S: Source, R: Source, L: Log, E: Explains<R> + Drop> Extras<S, R, L, E> {
         ensures fails { FailsPast S.Source R.Source L.Log self.old self.new result }
     {
         let folder = in_storage_root(self.alloc, path)?;
-        let Some(found) = self.list(path, &folder)? else {
+        let FolderListing::Entries(found) = self.list(path, &folder)? else {
             return Ok(());
         };
         if is_object(&found.listing) {
@@ -141,7 +142,7 @@ impl<S: Source, R: Source, L: Log, E: Explains<R> + Drop> Extras<S, R, L, E> {
         }
         for i in 0..found.listing.len() {
             let Some((name, kind)) = found.listing.get(i) else {
-                continue;
+                unreachable!()
             };
             if is_part(path, name, kind) {
                 continue;
@@ -288,7 +289,7 @@ impl<S: Source, R: Source, L: Log, E: Explains<R> + Drop> Extras<S, R, L, E> {
     pub(crate) fn put(&mut self, line: &str, numbers: ExtraNumbers) -> Result<(), Fault>
         ensures put { (finding : ExtraFinding) → line.now ≡ line_text finding
             → numbers ≡ with_finding finding self.old.numbers → OnOk result
-            (Puts (finding ∷ []) (seen_by L.Log self.old) (seen_by L.Log self.new)) }
+            (Puts (finding ∷ []) (walk_state L.Log self.old) (walk_state L.Log self.new)) }
         ensures part { (finding : ExtraFinding) → line.now ≡ line_text finding → OnErr result
             (AppendsFront (L.told self.old.log) (L.told self.new.log) (texts (finding ∷ []))) }
         ensures keeps { Keeps S.Source R.Source L.Log self.old self.new }

@@ -1,11 +1,16 @@
-use Rattle.std.proofs.Common.{List, ap, rules, sym, ◌∙◌}
+use Rattle.std.proofs.Common.{List, ap, arith, rules, sym, ◌∙◌}
 use Rattle.std.specs.Prelude.{false, slice_get, true}
-use Rattle.pt_audit.proofs.Layouts.{all_there, another, one_more, told_so}
+use Rattle.pt_audit.proofs.Layouts.{all_there, another, no_fourth, one_more, told_so}
 use Rattle.pt_invariant.proofs.source.RootChecks.{file_short}
 use Rattle.pt_object.specs.FilePaths.{File}
 use Rattle.pt_object.specs.RootFiles.{files_lent}
 use Rattle.pt_state.specs.States.{job_of}
 use Rattle.pt_audit.proofs.layout.has_files.Goals as goal
+
+pub unreachable-requires : goal.unreachable-requires
+unreachable-requires g c =
+    no_fourth (job_of c.args.job.now) c.loop-i.i (omega (arith, c.loop-i-test.true))
+    (ap (λ (l : List File). slice_get l c.loop-i.i) (sym c.in_ok-files.ensures) ∙ sym c.get.ensures ∙ ap files_lent c.in_default.is)
 
 pub has_file-requires : goal.has_file-requires
 has_file-requires g c =

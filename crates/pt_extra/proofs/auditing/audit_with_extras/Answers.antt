@@ -1,10 +1,11 @@
 use Rattle.std.proofs.Common.{ap, arith, subst, sym, ℕ, ◌≡◌, ◌≤◌}
-use Rattle.std.specs.Prelude.{IfOk, Option, Result, Ok, Err}
+use Rattle.std.specs.Prelude.{IfOk, OnOk, Option, Result, Ok, Err}
 use Rattle.pt_audit.proofs.Bounding.{made_by}
 use Rattle.pt_audit.proofs.Saying.{blames_by, says_by}
 use Rattle.pt_audit.specs.Auditing.{start_over}
 use Rattle.pt_audit.specs.Bounds.{IsMade}
 use Rattle.pt_audit.specs.Failing.{BlamesRightly, failures}
+use Rattle.pt_audit.specs.Growing.{sides_on}
 use Rattle.pt_tree.proofs.Growing.{grows_on}
 use Rattle.pt_audit.specs.declared.counts.Counts.{Counts}
 use Rattle.pt_tree.specs.Failures.{HasRisen}
@@ -24,57 +25,56 @@ made_rest : (job : own.Job) (source : Option Forest) (counts : Counts) (ran : Re
 made_rest job source counts (Ok told) is it = made_by (Ok told.counts) (ap (λ (c : Counts). Ok c) (sym is)) it
 made_rest job source counts (Err why) is it = made_by (Err why) tt it
 
-pub returns-in-Ok-clause-ends : goal.returns-in-Ok-clause-ends
-returns-in-Ok-clause-ends g c =
+-- what holds however it ends holds where it ends well
+whenever : {T E A : Type 0} (r : Result T E) → A → OnOk r A
+whenever (Ok x) it = it
+whenever (Err e) it = tt
+
+pub returns-in-Ok : goal.returns-in-Ok
+returns-in-Ok g c =
     let start = start_over (tree_in (g.S.Source.told c.args.devices.store)) (tree_in (g.R.Source.told c.args.devices.root))
     (g.L.Log.told c.args.devices.log) in
+    let mid = c.audit_objects-audited.new in
     let end = c.tell_rest.result.devices in
-    subst (λ (n : ℕ). ExtraLogs (HasRisen n (g.R.Source.failed end.root)) (job_of c.args.job) start (g.L.Log.told end.log) c.tell_rest.result.ran)
-    c.in-Ok.ensures.blames.root
-    (extra_logs (HasRisen (g.R.Source.failed c.audit_objects-audited.new.root) (g.R.Source.failed end.root)) c.args.job start
-    (tree_in (g.S.Source.told c.audit_objects-audited.new.source)) (tree_in (g.R.Source.told c.audit_objects-audited.new.root))
-    (g.L.Log.told c.audit_objects-audited.new.log) (g.L.Log.told end.log) c.in-Ok.audited c.tell_rest.result.ran
-    c.audit_objects-audited.ensures.sides.source.1 c.audit_objects-audited.ensures.sides.root.1 c.in-Ok.ensures.ends c.in-Ok.ensures.given
-    c.tell_rest.ensures.told)
-
-pub returns-in-Ok-clause-blames : goal.returns-in-Ok-clause-blames
-returns-in-Ok-clause-blames g c =
+    let ran = c.tell_rest.result.ran in
     let fails = c.tell_rest.ensures.fails in
     let had = c.in-Ok.ensures.blames in
     let passed = fails.0 in
-    let end = c.tell_rest.result.devices in
-    let now = failures (g.S.Source.failed end.store) (g.R.Source.failed end.root) (g.L.Log.failed end.log) in (
-      passed,
-      subst (λ (n : ℕ). n ≤ passed) had.root fails.1,
-      subst
-          (λ (n : ℕ). BlamesRightly (failures n passed (g.L.Log.failed c.args.devices.log)) now c.tell_rest.result.ran) had.source
-          (subst (λ (n : ℕ). BlamesRightly (failures (g.S.Source.failed c.audit_objects-audited.new.source) passed n) now c.tell_rest.result.ran) had.log
-          (blames_by c.tell_rest.result.ran
-          (failures (g.S.Source.failed c.audit_objects-audited.new.source) passed (g.L.Log.failed c.audit_objects-audited.new.log)) now fails.2)),
-    )
+    let now = failures (g.S.Source.failed end.store) (g.R.Source.failed end.root) (g.L.Log.failed end.log) in record {
+      ends = subst (λ (n : ℕ). ExtraLogs (HasRisen n (g.R.Source.failed end.root)) (job_of c.args.job) start (g.L.Log.told end.log) ran) had.root
+          (extra_logs (HasRisen (g.R.Source.failed mid.root) (g.R.Source.failed end.root)) c.args.job start
+          (tree_in (g.S.Source.told mid.source)) (tree_in (g.R.Source.told mid.root))
+          (g.L.Log.told mid.log) (g.L.Log.told end.log) c.in-Ok.audited ran
+          c.audit_objects-audited.ensures.sides.source.1 c.audit_objects-audited.ensures.sides.root.1 c.in-Ok.ensures.ends c.in-Ok.ensures.given
+          c.tell_rest.ensures.told);
+      layout = whenever ran c.in-Ok.ensures.layout;
+      sides = sides_on g.met.S.Source.keeps_on g.met.R.Source.keeps_on _ _ _ c.audit_objects-audited.ensures.sides c.tell_rest.ensures.sides;
+      log = (
+        g.met.L.Log.keeps_on _ _ _ c.audit_objects-audited.ensures.log.0 c.tell_rest.ensures.log.0,
+        grows_on _ _ _ c.audit_objects-audited.ensures.log.1 c.tell_rest.ensures.log.1,
+      );
+      blames = (
+        passed,
+        subst (λ (n : ℕ). n ≤ passed) had.root fails.1,
+        subst
+            (λ (n : ℕ). BlamesRightly (failures n passed (g.L.Log.failed c.args.devices.log)) now ran) had.source
+            (subst (λ (n : ℕ). BlamesRightly (failures (g.S.Source.failed mid.source) passed n) now ran) had.log
+            (blames_by ran (failures (g.S.Source.failed mid.source) passed (g.L.Log.failed mid.log)) now fails.2)),
+      );
+      says = says_by ran _ _ _ _ _ fails.2;
+      made = made_rest _ _ c.in-Ok.audited.counts ran c.tell_rest.ensures.counts c.in-Ok.ensures.made;
+    }
 
-pub returns-in-Err-clause-blames : goal.returns-in-Err-clause-blames
-returns-in-Err-clause-blames g c =
-    let had = c.in-Err.ensures.blames in (
-      g.R.Source.failed c.args.devices.root,
-      omega (arith),
-      record { source = had.source; root = had.root; log = had.log },
-    )
-
-pub returns-in-Ok-clause-log : goal.returns-in-Ok-clause-log
-returns-in-Ok-clause-log g c = (
-  g.met.L.Log.keeps_on _ _ _ c.audit_objects-audited.ensures.log.0 c.tell_rest.ensures.log.0,
-  grows_on _ _ _ c.audit_objects-audited.ensures.log.1 c.tell_rest.ensures.log.1,
-)
-
-pub returns-in-Ok-clause-says : goal.returns-in-Ok-clause-says
-returns-in-Ok-clause-says g c = says_by c.tell_rest.result.ran _ _ _ _ _ c.tell_rest.ensures.fails.2
-
-pub returns-in-Ok-clause-made : goal.returns-in-Ok-clause-made
-returns-in-Ok-clause-made g c = made_rest _ _ c.in-Ok.audited.counts c.tell_rest.result.ran c.tell_rest.ensures.counts c.in-Ok.ensures.made
-
-pub returns-in-Err-clause-ends : goal.returns-in-Err-clause-ends
-returns-in-Err-clause-ends g c =
-    extra_stops _ (job_of c.args.job)
-    (start_over (tree_in (g.S.Source.told c.args.devices.store)) (tree_in (g.R.Source.told c.args.devices.root)) (g.L.Log.told c.args.devices.log))
-    _ c.in-Err.fault c.in-Err.ensures.ends
+pub returns-in-Err : goal.returns-in-Err
+returns-in-Err g c =
+    let had = c.in-Err.ensures.blames in record {
+      ends = extra_stops _ (job_of c.args.job)
+          (start_over (tree_in (g.S.Source.told c.args.devices.store)) (tree_in (g.R.Source.told c.args.devices.root)) (g.L.Log.told c.args.devices.log))
+          _ c.in-Err.fault c.in-Err.ensures.ends;
+      layout = tt;
+      sides = c.in-Err.ensures.sides;
+      log = c.in-Err.ensures.log;
+      blames = (g.R.Source.failed c.args.devices.root, omega (arith), record { source = had.source; root = had.root; log = had.log });
+      says = c.in-Err.ensures.says;
+      made = c.in-Err.ensures.made;
+    }

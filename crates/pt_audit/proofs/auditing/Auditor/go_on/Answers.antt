@@ -38,7 +38,9 @@ pub returns-clause-made : goal.returns-clause-made
 returns-clause-made g c =
     let seen = c.in_ok-sight.ensures in
     let told = c.in_ok-told.ensures.told in record {
-      on = λ first it. step_told c.in_ok-told.told.more _ _ _ _ _ first _ _ _ _ _ _ _ seen.keeps.sides.source.1 seen.keeps.sides.root.1 seen.saw.0.order seen.on told.on it;
+      on = λ first it.
+          step_told c.in_ok-told.told.more _ _ _ _ _ first _ _ _ _ _ _ _ seen.keeps.sides.source.1 seen.keeps.sides.root.1 seen.saw.0.order
+          seen.on told.on it;
       steps = seen.saw.0;
       follows = told.follows;
       ended = told.ended;

@@ -52,8 +52,8 @@ returns-then-not-more-clause-made g c =
 pub returns-in_err-more-clause-stops : goal.returns-in_err-more-clause-stops
 returns-in_err-more-clause-stops g c =
     let was = c.loop-more.invariant in
-    same_stops c.from_residual.result c.in_err-more.field-0.0 c.args.self.now.survey.state.job _ _ _ _ _ _ _ (search rules) was.2 was.3.sides.source.1 was.3.sides.root.1
-    (c.in_err-more.ensures.made.stops _ was.0)
+    same_stops c.from_residual.result c.in_err-more.field-0.0 c.args.self.now.survey.state.job _ _ _ _ _ _ _ (search rules) was.2
+    was.3.sides.source.1 was.3.sides.root.1 (c.in_err-more.ensures.made.stops _ was.0)
 
 pub returns-in_err-more-clause-made : goal.returns-in_err-more-clause-made
 returns-in_err-more-clause-made g c = record {

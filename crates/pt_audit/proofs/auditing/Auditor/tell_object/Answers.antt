@@ -1,26 +1,19 @@
-use Rattle.std.proofs.Common.{ap, refl, rules, subst}
-use Rattle.std.specs.Prelude.{Option}
+use Rattle.std.proofs.Common.{ap, refl, rules}
 use Rattle.pt_audit.proofs.StepPromises.{all_kept, beside_log, tells_no_object}
 use Rattle.pt_audit.proofs.ToldObject.{surveys_again, told_object}
 use Rattle.pt_audit.proofs.ToldFront.{object_stops, seen_stops}
 use Rattle.pt_audit.specs.Failing.{failures}
-use Rattle.pt_audit.specs.Surveying.{IsHand}
-use Rattle.pt_audit.specs.declared.survey.ObjectAtHand.{ObjectAtHand}
 use Rattle.pt_plan.specs.DeviceStates.{Failures}
 use Rattle.pt_plan.specs.declared.fault.Fault.TheVariants as fault
 use Rattle.pt_tree.proofs.Growing.{grows_none}
 use Rattle.pt_audit.proofs.auditing.Auditor.tell_object.Goals as goal
 
-pub judge-requires-clause-hand : goal.judge-requires-clause-hand
-judge-requires-clause-hand g c =
-    subst (λ (o : Option ObjectAtHand). IsHand c.args.self.now.survey o) c.in-Some.is c.in_ok-hand.ensures
-
 pub returns-clause-told : goal.returns-clause-told
 returns-clause-told g c = record {
   on = λ first it.
-      told_object _ _ _ _ first _ _ c.args.self.now.counts c.args.self.now.survey c.in-Some.hand c.in_ok-finding.finding.comparison
+      told_object _ _ _ _ first _ _ c.args.self.now.counts c.args.self.now.survey c.in_ok-hand.hand c.in_ok-finding.finding.comparison
       c.in_ok-finding.finding.is_twin _ c.args.self.now.survey.state.job c.with.result refl (search rules) c.requires.at_hand refl (search rules)
-      (subst (λ (o : Option ObjectAtHand). IsHand c.args.self.now.survey o) c.in-Some.is c.in_ok-hand.ensures)
+      c.in_ok-hand.ensures
       c.in_ok-finding.ensures.found c.in_ok-finding.ensures.twin c.in_ok-line.ensures (search rules) it;
   still = surveys_again _ _ _ c.requires.at_hand c.in_ok-finding.ensures.source.1 c.requires.paced.under_way;
   fails = search rules;
@@ -46,9 +39,9 @@ returns-in_err-line-clause-told g c =
 pub returns-in_err-map_err-clause-told : goal.returns-in_err-map_err-clause-told
 returns-in_err-map_err-clause-told g c =
     tells_no_object c.from_residual-in_err-map_err.result c.in_err-map_err.field-0.0 (search rules) (search rules)
-    (λ first it. object_stops _ _ first _ _ c.args.self.now.counts c.args.self.now.survey c.in-Some.hand c.in_ok-finding.finding.comparison
+    (λ first it. object_stops _ _ first _ _ c.args.self.now.counts c.args.self.now.survey c.in_ok-hand.hand c.in_ok-finding.finding.comparison
     c.in_ok-finding.finding.is_twin _ c.args.self.now.survey.state.job refl c.requires.at_hand
-    (subst (λ (o : Option ObjectAtHand). IsHand c.args.self.now.survey o) c.in-Some.is c.in_ok-hand.ensures)
+    c.in_ok-hand.ensures
     c.in_ok-finding.ensures.found c.in_ok-finding.ensures.twin c.in_ok-line.ensures (search rules) it)
 
 pub returns-in_err-hand-clause-keeps : goal.returns-in_err-hand-clause-keeps

@@ -43,7 +43,7 @@ use Rattle.pt_extra.specs.Walk.{
   against,
   failures_by,
   found_unnamed,
-  seen_by,
+  walk_state,
 }
 use Rattle.pt_plan.specs.TurnWalk.{in_root}
 use Rattle.pt_tree.specs.Failures.{HasRisen}
@@ -58,70 +58,70 @@ list-requires g t c =
 
 pub judge-requires : goal.judge-requires
 judge-requires g t c = λ tree told.
-    let in_folder : ForSome (tree_in (g.R.Source.told c.args.self.now.root)) (λ t. listing_at t c.in_ok-folder.folder ≡ Some c.in-Some.found.listing) =
-    rw c.in-Some.is at c.in_ok-found.ensures.listed in
+    let in_folder : ForSome (tree_in (g.R.Source.told c.args.self.now.root)) (λ t. listing_at t c.in_ok-folder.folder ≡ Some c.in-Entries.found.listing) =
+    rw c.in-Entries.is at c.in_ok-found.ensures.listed in
     in_folder tree (sym c.list.ensures.keeps.root_stays.1 ∙ told)
 
 pub loop-i-init : goal.loop-i-init
 loop-i-init g t c =
     let here = g.R.Source.told c.args.self.now.root in
-    let items = c.in-Some.found.listing in
+    let items = c.in-Entries.found.listing in
     let old = c.args.self.now in
     let path = c.args.path.now in
-    let in_folder : ForSome (tree_in here) (λ t. listing_at t c.in_ok-folder.folder ≡ Some items) = rw c.in-Some.is at c.in_ok-found.ensures.listed in
+    let in_folder : ForSome (tree_in here) (λ t. listing_at t c.in_ok-folder.folder ≡ Some items) = rw c.in-Entries.is at c.in_ok-found.ensures.listed in
     let listed = listed_at (tree_in here) c.in_ok-folder.folder path items c.in_ok-folder.ensures in_folder in
     let mid = c.list.new.self in
-    let whole = c.in-Some.found.is_whole in
+    let whole = c.in-Entries.found.is_whole in
     let told : cond whole (mid ≡ record old { root = mid.root }) (TellsUnlisted g.S.Source g.R.Source g.L.Log path old mid) =
-    rw c.in-Some.is at c.in_ok-found.ensures.told in
+    rw c.in-Entries.is at c.in_ok-found.ensures.told in
     let first = g.R.Source.failed old.root in
     let now = g.R.Source.failed mid.root in
     record {
       keeps = c.list.ensures.keeps;
       failed = c.in_ok-found.ensures.fails;
       found = λ s is r there.
-          found_none first now (against old s) path c.args.left (inside_at r (in_root path)) whole (seen_by g.L.Log old) (seen_by g.L.Log mid)
+          found_none first now (against old s) path c.args.left (inside_at r (in_root path)) whole (walk_state g.L.Log old) (walk_state g.L.Log mid)
           (begun_by g.S.Source g.R.Source g.L.Log old mid path s r is there whole told);
     }
 
 pub loop-i-preserved-then-is_part : goal.loop-i-preserved-then-is_part
 loop-i-preserved-then-is_part g t c =
     let here = g.R.Source.told c.args.self.now.root in
-    let items = c.in-Some.found.listing in
+    let items = c.in-Entries.found.listing in
     let old = c.args.self.now in
     let path = c.args.path.now in
-    let in_folder : ForSome (tree_in here) (λ t. listing_at t c.in_ok-folder.folder ≡ Some items) = rw c.in-Some.is at c.in_ok-found.ensures.listed in
+    let in_folder : ForSome (tree_in here) (λ t. listing_at t c.in_ok-folder.folder ≡ Some items) = rw c.in-Entries.is at c.in_ok-found.ensures.listed in
     let listed = listed_at (tree_in here) c.in_ok-folder.folder path items c.in_ok-folder.ensures in_folder in
     record {
       keeps = c.loop-i.invariant.keeps;
       failed = c.loop-i.invariant.failed;
       found = λ s is r there.
           found_part (against old s) r path c.args.left items (proper_in here (g.met.R.Source.proper old.root) r there) (listed r there)
-          (g.R.Source.failed old.root) (g.R.Source.failed c.loop-i.self.root) c.loop-i.i (seen_by g.L.Log old) (seen_by g.L.Log c.loop-i.self)
+          (g.R.Source.failed old.root) (g.R.Source.failed c.loop-i.self.root) c.loop-i.i (walk_state g.L.Log old) (walk_state g.L.Log c.loop-i.self)
           (c.loop-i.invariant.found s is r there)
-          c.in-Some-get.name.now c.in-Some-get.kind (sym c.in-Some-get.ensures) (sym c.if-is_part.ensures);
+          c.in-Some.name.now c.in-Some.kind (sym c.in-Some.ensures) (sym c.if-is_part.ensures);
     }
 
 pub visit-requires : goal.visit-requires
 visit-requires g t c κs within =
     let here = g.R.Source.told c.args.self.now.root in
-    let items = c.in-Some.found.listing in
+    let items = c.in-Entries.found.listing in
     let old = c.args.self.now in
     let path = c.args.path.now in
-    let in_folder : ForSome (tree_in here) (λ t. listing_at t c.in_ok-folder.folder ≡ Some items) = rw c.in-Some.is at c.in_ok-found.ensures.listed in
+    let in_folder : ForSome (tree_in here) (λ t. listing_at t c.in_ok-folder.folder ≡ Some items) = rw c.in-Entries.is at c.in_ok-found.ensures.listed in
     let listed = listed_at (tree_in here) c.in_ok-folder.folder path items c.in_ok-folder.ensures in_folder in
-    let stands = next_stands here path c.in_ok-entry.entry items c.loop-i.i c.in-Some-get.name.now c.in-Some-get.kind
+    let stands = next_stands here path c.in_ok-entry.entry items c.loop-i.i c.in-Some.name.now c.in-Some.kind
     (tree_in (g.R.Source.told c.loop-i.self.root)) (g.met.R.Source.proper old.root)
-    listed (sym c.in-Some-get.ensures) c.in-Dir.is c.in_ok-entry.ensures c.loop-i.invariant.keeps.root_stays.1 in
+    listed (sym c.in-Some.ensures) c.in-Dir.is c.in_ok-entry.ensures c.loop-i.invariant.keeps.root_stays.1 in
     (omega (arith, c.if-left-eq0.false, c.decreases), (within.0, (within.1.0, (within.1.1.0, (within.1.1.1, stands)))))
 
 pub loop-i-preserved-in-Dir : goal.loop-i-preserved-in-Dir
 loop-i-preserved-in-Dir g t c =
     let here = g.R.Source.told c.args.self.now.root in
-    let items = c.in-Some.found.listing in
+    let items = c.in-Entries.found.listing in
     let old = c.args.self.now in
     let path = c.args.path.now in
-    let in_folder : ForSome (tree_in here) (λ t. listing_at t c.in_ok-folder.folder ≡ Some items) = rw c.in-Some.is at c.in_ok-found.ensures.listed in
+    let in_folder : ForSome (tree_in here) (λ t. listing_at t c.in_ok-folder.folder ≡ Some items) = rw c.in-Entries.is at c.in_ok-found.ensures.listed in
     let listed = listed_at (tree_in here) c.in_ok-folder.folder path items c.in_ok-folder.ensures in_folder in
     let entry = c.in_ok-entry.entry in
     let from = past_le (failures_by g.S.Source g.R.Source g.L.Log old) (failures_by g.S.Source g.R.Source g.L.Log c.loop-i.self) c.loop-i.invariant.failed in
@@ -135,22 +135,22 @@ loop-i-preserved-in-Dir g t c =
           let of_it = past_from g.S.Source g.R.Source g.L.Log (IsToldBelow entry (c.args.left - 1)) old c.loop-i.self c.visit.new.self
           c.loop-i.invariant.keeps c.in_ok-visit.ensures.told s is r there in
           found_dir (against old s) r path c.args.left items (proper_in here (g.met.R.Source.proper old.root) r there) (listed r there)
-          (g.R.Source.failed old.root) (g.R.Source.failed c.loop-i.self.root) c.loop-i.i (seen_by g.L.Log old) (seen_by g.L.Log c.loop-i.self)
+          (g.R.Source.failed old.root) (g.R.Source.failed c.loop-i.self.root) c.loop-i.i (walk_state g.L.Log old) (walk_state g.L.Log c.loop-i.self)
           (c.loop-i.invariant.found s is r there)
-          (g.R.Source.failed c.visit.new.self.root) c.in-Some-get.name.now c.in-Some-get.kind entry (seen_by g.L.Log c.visit.new.self) from
+          (g.R.Source.failed c.visit.new.self.root) c.in-Some.name.now c.in-Some.kind entry (walk_state g.L.Log c.visit.new.self) from
           (past_later c.visit.result (g.R.Source.failed old.root) (failures_by g.S.Source g.R.Source g.L.Log c.loop-i.self)
           (failures_by g.S.Source g.R.Source g.L.Log c.visit.new.self) from c.visit.ensures.fails)
-          (sym c.in-Some-get.ensures) c.in-Dir.is (sym c.if-is_part.ensures) c.in_ok-entry.ensures
+          (sym c.in-Some.ensures) c.in-Dir.is (sym c.if-is_part.ensures) c.in_ok-entry.ensures
           (record { told = of_it.0; may = of_it.1; puts = of_it.2 });
     }
 
 pub loop-i-preserved : goal.loop-i-preserved
 loop-i-preserved g t c =
     let here = g.R.Source.told c.args.self.now.root in
-    let items = c.in-Some.found.listing in
+    let items = c.in-Entries.found.listing in
     let old = c.args.self.now in
     let path = c.args.path.now in
-    let in_folder : ForSome (tree_in here) (λ t. listing_at t c.in_ok-folder.folder ≡ Some items) = rw c.in-Some.is at c.in_ok-found.ensures.listed in
+    let in_folder : ForSome (tree_in here) (λ t. listing_at t c.in_ok-folder.folder ≡ Some items) = rw c.in-Entries.is at c.in_ok-found.ensures.listed in
     let listed = listed_at (tree_in here) c.in_ok-folder.folder path items c.in_ok-folder.ensures in_folder in
     let entry = c.in_ok-entry.entry in
     let later = c.meet_stray.new.self in
@@ -165,19 +165,19 @@ loop-i-preserved g t c =
           c.loop-i.invariant.failed (g.R.Source.failed c.loop-i.self.root, omega (arith), c.in_ok-meet_stray.ensures.fails);
       found = λ s is r there.
           found_leaf (against old s) r path c.args.left items (proper_in here (g.met.R.Source.proper old.root) r there) (listed r there)
-          (g.R.Source.failed old.root) (g.R.Source.failed c.loop-i.self.root) c.loop-i.i (seen_by g.L.Log old) (seen_by g.L.Log c.loop-i.self)
+          (g.R.Source.failed old.root) (g.R.Source.failed c.loop-i.self.root) c.loop-i.i (walk_state g.L.Log old) (walk_state g.L.Log c.loop-i.self)
           (c.loop-i.invariant.found s is r there)
-          (g.R.Source.failed later.root) c.in-Some-get.name.now c.in-Some-get.kind entry (seen_by g.L.Log later)
+          (g.R.Source.failed later.root) c.in-Some.name.now c.in-Some.kind entry (walk_state g.L.Log later)
           (past_later c.meet_stray.result (g.R.Source.failed old.root) (failures_by g.S.Source g.R.Source g.L.Log c.loop-i.self)
           (failures_by g.S.Source g.R.Source g.L.Log later) from fails)
-          (sym c.in-Some-get.ensures) c.in_default-kind.not-Dir (sym c.if-is_part.ensures) c.in_ok-entry.ensures
+          (sym c.in-Some.ensures) c.in_default-kind.not-Dir (sym c.if-is_part.ensures) c.in_ok-entry.ensures
           (told_from g.S.Source g.R.Source g.L.Log (found_unnamed entry) old c.loop-i.self later c.loop-i.invariant.keeps
           c.in_ok-meet_stray.ensures.told s is r there);
     }
 
-pub loop-i-preserved-in_default-get : goal.loop-i-preserved-in_default-get
-loop-i-preserved-in_default-get g t c =
-    absurd (some_entry c.in-Some.found.listing c.loop-i.i (omega (arith, c.len-i-end.ensures.len, c.loop-i-test.true)) (sym c.in_default-get.ensures))
+pub unreachable-requires : goal.unreachable-requires
+unreachable-requires g t c =
+    some_entry c.in-Entries.found.listing c.loop-i.i (omega (arith, c.len-i-end.ensures.len, c.loop-i-test.true)) (sym c.in_default-get.ensures)
 
 pub returns-in_default-clause-told : goal.returns-in_default-clause-told
 returns-in_default-clause-told g t c =
@@ -191,15 +191,15 @@ returns-in_default-clause-told g t c =
 pub returns-then-is_object-clause-told : goal.returns-then-is_object-clause-told
 returns-then-is_object-clause-told g t c =
     let here = g.R.Source.told c.args.self.now.root in
-    let items = c.in-Some.found.listing in
+    let items = c.in-Entries.found.listing in
     let old = c.args.self.now in
     let path = c.args.path.now in
-    let in_folder : ForSome (tree_in here) (λ t. listing_at t c.in_ok-folder.folder ≡ Some items) = rw c.in-Some.is at c.in_ok-found.ensures.listed in
+    let in_folder : ForSome (tree_in here) (λ t. listing_at t c.in_ok-folder.folder ≡ Some items) = rw c.in-Entries.is at c.in_ok-found.ensures.listed in
     let listed = listed_at (tree_in here) c.in_ok-folder.folder path items c.in_ok-folder.ensures in_folder in
     let mid = c.list.new.self in
-    let whole = c.in-Some.found.is_whole in
+    let whole = c.in-Entries.found.is_whole in
     let told : cond whole (mid ≡ record old { root = mid.root }) (TellsUnlisted g.S.Source g.R.Source g.L.Log path old mid) =
-    rw c.in-Some.is at c.in_ok-found.ensures.told in
+    rw c.in-Entries.is at c.in_ok-found.ensures.told in
     let it = c.judge in
     object_told g.S.Source g.R.Source g.L.Log old mid it.new.self path c.args.left items whole listed told c.list.ensures.keeps
     c.in_ok-found.ensures.fails it.result it.ensures.fails c.in_ok-folder.folder c.in_ok-folder.ensures (sym c.if-is_object.ensures) it.ensures.told
@@ -207,15 +207,15 @@ returns-then-is_object-clause-told g t c =
 pub returns-then-is_object-clause-stops : goal.returns-then-is_object-clause-stops
 returns-then-is_object-clause-stops g t c =
     let here = g.R.Source.told c.args.self.now.root in
-    let items = c.in-Some.found.listing in
+    let items = c.in-Entries.found.listing in
     let old = c.args.self.now in
     let path = c.args.path.now in
-    let in_folder : ForSome (tree_in here) (λ t. listing_at t c.in_ok-folder.folder ≡ Some items) = rw c.in-Some.is at c.in_ok-found.ensures.listed in
+    let in_folder : ForSome (tree_in here) (λ t. listing_at t c.in_ok-folder.folder ≡ Some items) = rw c.in-Entries.is at c.in_ok-found.ensures.listed in
     let listed = listed_at (tree_in here) c.in_ok-folder.folder path items c.in_ok-folder.ensures in_folder in
     let mid = c.list.new.self in
-    let whole = c.in-Some.found.is_whole in
+    let whole = c.in-Entries.found.is_whole in
     let told : cond whole (mid ≡ record old { root = mid.root }) (TellsUnlisted g.S.Source g.R.Source g.L.Log path old mid) =
-    rw c.in-Some.is at c.in_ok-found.ensures.told in
+    rw c.in-Entries.is at c.in_ok-found.ensures.told in
     let it = c.judge in
     object_stops g.S.Source g.R.Source g.L.Log old mid it.new.self path c.args.left items whole listed told c.list.ensures.keeps
     c.in_ok-found.ensures.fails it.result it.ensures.fails c.in_ok-folder.folder c.in_ok-folder.ensures (sym c.if-is_object.ensures) it.ensures.stops
@@ -223,15 +223,15 @@ returns-then-is_object-clause-stops g t c =
 pub returns-then-left-eq0-clause-told : goal.returns-then-left-eq0-clause-told
 returns-then-left-eq0-clause-told g t c =
     let here = g.R.Source.told c.args.self.now.root in
-    let items = c.in-Some.found.listing in
+    let items = c.in-Entries.found.listing in
     let old = c.args.self.now in
     let path = c.args.path.now in
-    let in_folder : ForSome (tree_in here) (λ t. listing_at t c.in_ok-folder.folder ≡ Some items) = rw c.in-Some.is at c.in_ok-found.ensures.listed in
+    let in_folder : ForSome (tree_in here) (λ t. listing_at t c.in_ok-folder.folder ≡ Some items) = rw c.in-Entries.is at c.in_ok-found.ensures.listed in
     let listed = listed_at (tree_in here) c.in_ok-folder.folder path items c.in_ok-folder.ensures in_folder in
     let mid = c.list.new.self in
-    let whole = c.in-Some.found.is_whole in
+    let whole = c.in-Entries.found.is_whole in
     let told : cond whole (mid ≡ record old { root = mid.root }) (TellsUnlisted g.S.Source g.R.Source g.L.Log path old mid) =
-    rw c.in-Some.is at c.in_ok-found.ensures.told in
+    rw c.in-Entries.is at c.in_ok-found.ensures.told in
     let it = c.meet_bare in
     bare_told g.S.Source g.R.Source g.L.Log old mid it.new.self path c.args.left items whole listed told c.list.ensures.keeps
     c.in_ok-found.ensures.fails it.result it.ensures.fails (sym c.if-is_object.ensures)
@@ -240,15 +240,15 @@ returns-then-left-eq0-clause-told g t c =
 pub returns-then-left-eq0-clause-stops : goal.returns-then-left-eq0-clause-stops
 returns-then-left-eq0-clause-stops g t c =
     let here = g.R.Source.told c.args.self.now.root in
-    let items = c.in-Some.found.listing in
+    let items = c.in-Entries.found.listing in
     let old = c.args.self.now in
     let path = c.args.path.now in
-    let in_folder : ForSome (tree_in here) (λ t. listing_at t c.in_ok-folder.folder ≡ Some items) = rw c.in-Some.is at c.in_ok-found.ensures.listed in
+    let in_folder : ForSome (tree_in here) (λ t. listing_at t c.in_ok-folder.folder ≡ Some items) = rw c.in-Entries.is at c.in_ok-found.ensures.listed in
     let listed = listed_at (tree_in here) c.in_ok-folder.folder path items c.in_ok-folder.ensures in_folder in
     let mid = c.list.new.self in
-    let whole = c.in-Some.found.is_whole in
+    let whole = c.in-Entries.found.is_whole in
     let told : cond whole (mid ≡ record old { root = mid.root }) (TellsUnlisted g.S.Source g.R.Source g.L.Log path old mid) =
-    rw c.in-Some.is at c.in_ok-found.ensures.told in
+    rw c.in-Entries.is at c.in_ok-found.ensures.told in
     let it = c.meet_bare in
     bare_stops g.S.Source g.R.Source g.L.Log old mid it.new.self path c.args.left items whole listed told c.list.ensures.keeps
     c.in_ok-found.ensures.fails it.result it.ensures.fails (sym c.if-is_object.ensures)
@@ -269,15 +269,15 @@ returns-then-left-eq0-clause-fails g t c =
 pub returns-then-is_empty-clause-told : goal.returns-then-is_empty-clause-told
 returns-then-is_empty-clause-told g t c =
     let here = g.R.Source.told c.args.self.now.root in
-    let items = c.in-Some.found.listing in
+    let items = c.in-Entries.found.listing in
     let old = c.args.self.now in
     let path = c.args.path.now in
-    let in_folder : ForSome (tree_in here) (λ t. listing_at t c.in_ok-folder.folder ≡ Some items) = rw c.in-Some.is at c.in_ok-found.ensures.listed in
+    let in_folder : ForSome (tree_in here) (λ t. listing_at t c.in_ok-folder.folder ≡ Some items) = rw c.in-Entries.is at c.in_ok-found.ensures.listed in
     let listed = listed_at (tree_in here) c.in_ok-folder.folder path items c.in_ok-folder.ensures in_folder in
     let mid = c.list.new.self in
-    let whole = c.in-Some.found.is_whole in
+    let whole = c.in-Entries.found.is_whole in
     let told : cond whole (mid ≡ record old { root = mid.root }) (TellsUnlisted g.S.Source g.R.Source g.L.Log path old mid) =
-    rw c.in-Some.is at c.in_ok-found.ensures.told in
+    rw c.in-Entries.is at c.in_ok-found.ensures.told in
     let it = c.meet_bare-then-is_empty in
     bare_told g.S.Source g.R.Source g.L.Log old mid it.new.self path c.args.left items whole listed told c.list.ensures.keeps
     c.in_ok-found.ensures.fails it.result it.ensures.fails (sym c.if-is_object.ensures)
@@ -286,15 +286,15 @@ returns-then-is_empty-clause-told g t c =
 pub returns-then-is_empty-clause-stops : goal.returns-then-is_empty-clause-stops
 returns-then-is_empty-clause-stops g t c =
     let here = g.R.Source.told c.args.self.now.root in
-    let items = c.in-Some.found.listing in
+    let items = c.in-Entries.found.listing in
     let old = c.args.self.now in
     let path = c.args.path.now in
-    let in_folder : ForSome (tree_in here) (λ t. listing_at t c.in_ok-folder.folder ≡ Some items) = rw c.in-Some.is at c.in_ok-found.ensures.listed in
+    let in_folder : ForSome (tree_in here) (λ t. listing_at t c.in_ok-folder.folder ≡ Some items) = rw c.in-Entries.is at c.in_ok-found.ensures.listed in
     let listed = listed_at (tree_in here) c.in_ok-folder.folder path items c.in_ok-folder.ensures in_folder in
     let mid = c.list.new.self in
-    let whole = c.in-Some.found.is_whole in
+    let whole = c.in-Entries.found.is_whole in
     let told : cond whole (mid ≡ record old { root = mid.root }) (TellsUnlisted g.S.Source g.R.Source g.L.Log path old mid) =
-    rw c.in-Some.is at c.in_ok-found.ensures.told in
+    rw c.in-Entries.is at c.in_ok-found.ensures.told in
     let it = c.meet_bare-then-is_empty in
     bare_stops g.S.Source g.R.Source g.L.Log old mid it.new.self path c.args.left items whole listed told c.list.ensures.keeps
     c.in_ok-found.ensures.fails it.result it.ensures.fails (sym c.if-is_object.ensures)
@@ -351,15 +351,15 @@ returns-in_err-meet_stray-clause-fails g t c =
 pub returns-clause-told : goal.returns-clause-told
 returns-clause-told g t c =
     let here = g.R.Source.told c.args.self.now.root in
-    let items = c.in-Some.found.listing in
+    let items = c.in-Entries.found.listing in
     let old = c.args.self.now in
     let path = c.args.path.now in
-    let in_folder : ForSome (tree_in here) (λ t. listing_at t c.in_ok-folder.folder ≡ Some items) = rw c.in-Some.is at c.in_ok-found.ensures.listed in
+    let in_folder : ForSome (tree_in here) (λ t. listing_at t c.in_ok-folder.folder ≡ Some items) = rw c.in-Entries.is at c.in_ok-found.ensures.listed in
     let listed = listed_at (tree_in here) c.in_ok-folder.folder path items c.in_ok-folder.ensures in_folder in
     let walked = is_walked c.args.left items (sym c.if-is_object.ensures) (ne_eqb c.args.left 0 c.if-left-eq0.false) (sym c.if-is_empty.ensures) in
     λ s is r there.
     let put = found_folder (against old s) r path c.args.left items (proper_in here (g.met.R.Source.proper old.root) r there) (listed r there) walked
-    (g.R.Source.failed old.root) (g.R.Source.failed c.loop-i.self.root) c.loop-i.i (seen_by g.L.Log old) (seen_by g.L.Log c.loop-i.self)
+    (g.R.Source.failed old.root) (g.R.Source.failed c.loop-i.self.root) c.loop-i.i (walk_state g.L.Log old) (walk_state g.L.Log c.loop-i.self)
     (c.loop-i.invariant.found s is r there)
     (omega (arith, c.len-i-end.ensures.len, c.loop-i-test.false)) in
     (put.told, put.may, put.puts)
@@ -387,26 +387,26 @@ returns-in_err-found-clause-stops g t c =
 pub returns-in_err-entry-clause-stops : goal.returns-in_err-entry-clause-stops
 returns-in_err-entry-clause-stops g t c =
     let here = g.R.Source.told c.args.self.now.root in
-    let items = c.in-Some.found.listing in
+    let items = c.in-Entries.found.listing in
     let old = c.args.self.now in
     let path = c.args.path.now in
-    let in_folder : ForSome (tree_in here) (λ t. listing_at t c.in_ok-folder.folder ≡ Some items) = rw c.in-Some.is at c.in_ok-found.ensures.listed in
+    let in_folder : ForSome (tree_in here) (λ t. listing_at t c.in_ok-folder.folder ≡ Some items) = rw c.in-Entries.is at c.in_ok-found.ensures.listed in
     let listed = listed_at (tree_in here) c.in_ok-folder.folder path items c.in_ok-folder.ensures in_folder in
     let walked = is_walked c.args.left items (sym c.if-is_object.ensures) (ne_eqb c.args.left 0 c.if-left-eq0.false) (sym c.if-is_empty.ensures) in
     at_err c.from_residual-in_err-entry.result
     (λ s is r there.
     let front = stops_before (against old s) r path c.args.left items (proper_in here (g.met.R.Source.proper old.root) r there) (listed r there) walked
-    (g.R.Source.failed old.root) (g.R.Source.failed c.loop-i.self.root) c.loop-i.i (seen_by g.L.Log old) (seen_by g.L.Log c.loop-i.self)
+    (g.R.Source.failed old.root) (g.R.Source.failed c.loop-i.self.root) c.loop-i.i (walk_state g.L.Log old) (walk_state g.L.Log c.loop-i.self)
     (c.loop-i.invariant.found s is r there) in
     (front.told, front.may, front.part))
 
 pub returns-in_err-visit-clause-stops : goal.returns-in_err-visit-clause-stops
 returns-in_err-visit-clause-stops g t c =
     let here = g.R.Source.told c.args.self.now.root in
-    let items = c.in-Some.found.listing in
+    let items = c.in-Entries.found.listing in
     let old = c.args.self.now in
     let path = c.args.path.now in
-    let in_folder : ForSome (tree_in here) (λ t. listing_at t c.in_ok-folder.folder ≡ Some items) = rw c.in-Some.is at c.in_ok-found.ensures.listed in
+    let in_folder : ForSome (tree_in here) (λ t. listing_at t c.in_ok-folder.folder ≡ Some items) = rw c.in-Entries.is at c.in_ok-found.ensures.listed in
     let listed = listed_at (tree_in here) c.in_ok-folder.folder path items c.in_ok-folder.ensures in_folder in
     let walked = is_walked c.args.left items (sym c.if-is_object.ensures) (ne_eqb c.args.left 0 c.if-left-eq0.false) (sym c.if-is_empty.ensures) in
     let from = past_le (failures_by g.S.Source g.R.Source g.L.Log old) (failures_by g.S.Source g.R.Source g.L.Log c.loop-i.self) c.loop-i.invariant.failed in
@@ -417,22 +417,22 @@ returns-in_err-visit-clause-stops g t c =
     let of_it = front_past_from g.S.Source g.R.Source g.L.Log (IsToldBelow entry (c.args.left - 1)) old c.loop-i.self later
     c.loop-i.invariant.keeps c.in_err-visit.ensures.stops s is r there in
     let front = stops_dir (against old s) r path c.args.left items (proper_in here (g.met.R.Source.proper old.root) r there) (listed r there) walked
-    (g.R.Source.failed old.root) (g.R.Source.failed c.loop-i.self.root) c.loop-i.i (seen_by g.L.Log old) (seen_by g.L.Log c.loop-i.self)
+    (g.R.Source.failed old.root) (g.R.Source.failed c.loop-i.self.root) c.loop-i.i (walk_state g.L.Log old) (walk_state g.L.Log c.loop-i.self)
     (c.loop-i.invariant.found s is r there)
-    (g.R.Source.failed later.root) c.in-Some-get.name.now c.in-Some-get.kind entry (g.L.Log.told later.log) from
+    (g.R.Source.failed later.root) c.in-Some.name.now c.in-Some.kind entry (g.L.Log.told later.log) from
     (past_later c.visit.result (g.R.Source.failed old.root) (failures_by g.S.Source g.R.Source g.L.Log c.loop-i.self)
     (failures_by g.S.Source g.R.Source g.L.Log later) from c.visit.ensures.fails)
-    (sym c.in-Some-get.ensures) c.in-Dir.is (sym c.if-is_part.ensures) c.in_ok-entry.ensures
+    (sym c.in-Some.ensures) c.in-Dir.is (sym c.if-is_part.ensures) c.in_ok-entry.ensures
     (record { told = of_it.0; may = of_it.1; part = of_it.2 }) in
     (front.told, front.may, front.part))
 
 pub returns-in_err-meet_stray-clause-stops : goal.returns-in_err-meet_stray-clause-stops
 returns-in_err-meet_stray-clause-stops g t c =
     let here = g.R.Source.told c.args.self.now.root in
-    let items = c.in-Some.found.listing in
+    let items = c.in-Entries.found.listing in
     let old = c.args.self.now in
     let path = c.args.path.now in
-    let in_folder : ForSome (tree_in here) (λ t. listing_at t c.in_ok-folder.folder ≡ Some items) = rw c.in-Some.is at c.in_ok-found.ensures.listed in
+    let in_folder : ForSome (tree_in here) (λ t. listing_at t c.in_ok-folder.folder ≡ Some items) = rw c.in-Entries.is at c.in_ok-found.ensures.listed in
     let listed = listed_at (tree_in here) c.in_ok-folder.folder path items c.in_ok-folder.ensures in_folder in
     let walked = is_walked c.args.left items (sym c.if-is_object.ensures) (ne_eqb c.args.left 0 c.if-left-eq0.false) (sym c.if-is_empty.ensures) in
     let from = past_le (failures_by g.S.Source g.R.Source g.L.Log old) (failures_by g.S.Source g.R.Source g.L.Log c.loop-i.self) c.loop-i.invariant.failed in
@@ -442,13 +442,13 @@ returns-in_err-meet_stray-clause-stops g t c =
     at_err c.from_residual-in_err-meet_stray.result
     (λ s is r there.
     let front = stops_leaf (against old s) r path c.args.left items (proper_in here (g.met.R.Source.proper old.root) r there) (listed r there) walked
-    (g.R.Source.failed old.root) (g.R.Source.failed c.loop-i.self.root) c.loop-i.i (seen_by g.L.Log old) (seen_by g.L.Log c.loop-i.self)
+    (g.R.Source.failed old.root) (g.R.Source.failed c.loop-i.self.root) c.loop-i.i (walk_state g.L.Log old) (walk_state g.L.Log c.loop-i.self)
     (c.loop-i.invariant.found s is r there)
-    (g.R.Source.failed later.root) c.in-Some-get.name.now c.in-Some-get.kind entry (g.L.Log.told later.log)
+    (g.R.Source.failed later.root) c.in-Some.name.now c.in-Some.kind entry (g.L.Log.told later.log)
     (past_later it.result (g.R.Source.failed old.root) (failures_by g.S.Source g.R.Source g.L.Log c.loop-i.self)
     (failures_by g.S.Source g.R.Source g.L.Log later) from
     (past_of it.result (failures_by g.S.Source g.R.Source g.L.Log c.loop-i.self) (failures_by g.S.Source g.R.Source g.L.Log later) it.ensures.fails))
-    (sym c.in-Some-get.ensures) c.in_default-kind.not-Dir (sym c.if-is_part.ensures) c.in_ok-entry.ensures
+    (sym c.in-Some.ensures) c.in_default-kind.not-Dir (sym c.if-is_part.ensures) c.in_ok-entry.ensures
     (front_from g.S.Source g.R.Source g.L.Log (found_unnamed entry) old c.loop-i.self later c.loop-i.invariant.keeps
     c.in_err-meet_stray.ensures.stops s is r there) in
     (front.told, front.may, front.part))

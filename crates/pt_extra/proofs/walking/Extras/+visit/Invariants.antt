@@ -3,7 +3,7 @@ use Rattle.pt_audit.specs.Failing.{failures}
 use Rattle.pt_tree.specs.Source.{tree_in}
 use Rattle.pt_extra.proofs.Past.{Passed}
 use Rattle.pt_extra.proofs.Visiting.{FoundTo}
-use Rattle.pt_extra.specs.Walk.{Keeps, against, seen_by}
+use Rattle.pt_extra.specs.Walk.{Keeps, against, walk_state}
 use Rattle.pt_plan.specs.TurnWalk.{in_root}
 use Rattle.pt_walk.specs.Left.{inside_at}
 use Rattle.pt_extra.proofs.walking.Extras.+visit.Given as goal
@@ -18,5 +18,5 @@ invariant-loop-i g l = record {
       (failures (g.S.Source.failed l.self.store) (g.R.Source.failed l.self.root) (g.L.Log.failed l.self.log));
   found : ForSome (tree_in (g.S.Source.told l.fn.self.store)) (λ s. ForSome (tree_in (g.R.Source.told l.fn.self.root))
       (λ r. FoundTo (g.R.Source.failed l.fn.self.root) (g.R.Source.failed l.self.root) (against l.fn.self s) l.path l.left
-      (inside_at r (in_root l.path)) l.i (seen_by g.L.Log l.fn.self) (seen_by g.L.Log l.self)));
+      (inside_at r (in_root l.path)) l.i (walk_state g.L.Log l.fn.self) (walk_state g.L.Log l.self)));
 }

@@ -8,7 +8,7 @@ use Rattle.pt_extra.proofs.Keeping.{front_from, keeps_root, stops_still, told_fr
 use Rattle.pt_extra.specs.Findings.{of_object, of_unnamed}
 use Rattle.pt_extra.specs.Inventories.{id_of}
 use Rattle.pt_extra.specs.Lines.{texts}
-use Rattle.pt_extra.specs.Walk.{Puts, against, found_named, found_there, found_unnamed, seen_by}
+use Rattle.pt_extra.specs.Walk.{Puts, against, found_named, found_there, found_unnamed, walk_state}
 use Rattle.pt_tree.specs.Log.{AppendsFront}
 use Rattle.pt_walk.specs.Left.{inside_at}
 use Rattle.pt_extra.proofs.walking.Extras.judge.Goals as goal
@@ -26,7 +26,7 @@ returns-in-Some-clause-told g c =
     (λ tells s is r there.
     let id_is : Some c.as_str.result.now ≡ id_of (inside_at r c.args.folder.now) =
     ap (λ (b : List ℕ). Some b) c.as_str.ensures.value ∙ ap (option_map string_bytes) (sym c.in-Some.is) ∙ id_all r there in
-    subst (λ (o : Option (List ℕ)). Puts (of_object (against old s) path o) (seen_by g.L.Log old) (seen_by g.L.Log c.judge_named.new.self)) id_is
+    subst (λ (o : Option (List ℕ)). Puts (of_object (against old s) path o) (walk_state g.L.Log old) (walk_state g.L.Log c.judge_named.new.self)) id_is
     (told_from g.S.Source g.R.Source g.L.Log (λ x t. of_object x path (Some c.as_str.result.now)) old (record old { root = root }) c.judge_named.new.self kept
     tells s is r there))
     c.judge_named.ensures.told
@@ -43,7 +43,7 @@ returns-in-None-clause-told g c =
     on_ok_weaker c.meet_stray.result
     (λ tells s is r there.
     let id_is : None ≡ id_of (inside_at r c.args.folder.now) = ap (option_map string_bytes) (sym c.in-None.is) ∙ id_all r there in
-    subst (λ (o : Option (List ℕ)). Puts (of_object (against old s) path o) (seen_by g.L.Log old) (seen_by g.L.Log c.meet_stray.new.self)) id_is
+    subst (λ (o : Option (List ℕ)). Puts (of_object (against old s) path o) (walk_state g.L.Log old) (walk_state g.L.Log c.meet_stray.new.self)) id_is
     (told_from g.S.Source g.R.Source g.L.Log (λ x t. of_unnamed x path) old (record old { root = root }) c.meet_stray.new.self kept tells s is r there))
     c.meet_stray.ensures.told
 

@@ -4,7 +4,7 @@ use Rattle.std.specs.Prelude.{Option}
 use Rattle.pt_extra.proofs.Keeping.{front_from, stops_still, told_from}
 use Rattle.pt_extra.proofs.Objects.{of_misplaced, of_unheld}
 use Rattle.pt_extra.specs.Lines.{Extra, ExtraFinding, texts}
-use Rattle.pt_extra.specs.Walk.{Puts, Seen, against, found_named, found_one, seen_by}
+use Rattle.pt_extra.specs.Walk.{Puts, WalkState, against, found_named, found_one, walk_state}
 use Rattle.pt_name.specs.Place.{place_of}
 use Rattle.pt_name.specs.Share.{holds}
 use Rattle.pt_tree.specs.Log.{AppendsFront}
@@ -16,7 +16,7 @@ returns-then-ne-clause-told g c =
     let chosen : holds c.args.self.now.job.share c.args.id.now ≡ true = search rules in
     let apart : same_path c.args.path.now (place_of c.args.self.now.job.layout c.args.id.now) ≡ false = search rules in
     on_ok_weaker c.tell_stray.result
-    (λ tells s is r there. subst (λ (fs : List ExtraFinding). Puts fs (seen_by g.L.Log c.args.self.now) (seen_by g.L.Log c.tell_stray.new.self))
+    (λ tells s is r there. subst (λ (fs : List ExtraFinding). Puts fs (walk_state g.L.Log c.args.self.now) (walk_state g.L.Log c.tell_stray.new.self))
     (sym (of_misplaced (against c.args.self.now s) c.args.path.now c.args.id.now chosen apart)) (tells s is r there))
     c.tell_stray.ensures.told
 
@@ -36,12 +36,12 @@ returns-clause-told g c =
     let id = c.args.id.now in
     let placed : same_path c.args.path.now (place_of old.job.layout id) ≡ true = search rules in
     let chosen : holds old.job.share id ≡ true = search rules in
-    let still : seen_by g.L.Log c.store_has.new.self ≡ seen_by g.L.Log old = ap (seen_by g.L.Log) c.store_has.ensures.rest in
+    let still : walk_state g.L.Log c.store_has.new.self ≡ walk_state g.L.Log old = ap (walk_state g.L.Log) c.store_has.ensures.rest in
     on_ok_weaker c.tell_extra.result
     (λ tells s is r there.
-    subst (λ (fs : List ExtraFinding). Puts fs (seen_by g.L.Log old) (seen_by g.L.Log c.tell_extra.new.self))
+    subst (λ (fs : List ExtraFinding). Puts fs (walk_state g.L.Log old) (walk_state g.L.Log c.tell_extra.new.self))
     (sym (of_unheld (against old s) c.args.path.now id chosen placed (sym c.if-branch.false ∙ c.in_ok-store_has.ensures.has s is)))
-    (subst (λ (a : Seen). Puts (Extra id c.args.path.now ∷ []) a (seen_by g.L.Log c.tell_extra.new.self)) still
+    (subst (λ (a : WalkState). Puts (Extra id c.args.path.now ∷ []) a (walk_state g.L.Log c.tell_extra.new.self)) still
     (told_from g.S.Source g.R.Source g.L.Log (λ x t. Extra id c.args.path.now ∷ []) old c.store_has.new.self c.tell_extra.new.self c.store_has.ensures.keeps
     tells s is r there)))
     c.tell_extra.ensures.told

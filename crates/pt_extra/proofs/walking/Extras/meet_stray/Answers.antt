@@ -1,7 +1,7 @@
 use Rattle.std.proofs.Common.{ap, cond, rules, subst, sym, true, Bool, List, [], ◌∷◌, ◌≡◌}
 use Rattle.std.proofs.lemmas.Result.{on_err_weaker, on_ok_weaker}
 use Rattle.pt_extra.specs.Lines.{ExtraFinding, Stray, texts}
-use Rattle.pt_extra.specs.Walk.{Puts, seen_by}
+use Rattle.pt_extra.specs.Walk.{Puts, walk_state}
 use Rattle.pt_name.specs.Share.{is_first}
 use Rattle.pt_tree.specs.Log.{AppendsFront}
 use Rattle.pt_extra.proofs.walking.Extras.meet_stray.Goals as goal
@@ -11,7 +11,7 @@ returns-clause-told g c =
     let old = c.args.self.now in
     let first : is_first old.job.share ≡ true = search rules in
     on_ok_weaker c.tell_stray.result
-    (λ tells s is r there. subst (λ (fs : List ExtraFinding). Puts fs (seen_by g.L.Log old) (seen_by g.L.Log c.tell_stray.new.self))
+    (λ tells s is r there. subst (λ (fs : List ExtraFinding). Puts fs (walk_state g.L.Log old) (walk_state g.L.Log c.tell_stray.new.self))
     (sym (ap (λ (t : Bool). cond t (Stray c.args.path.now ∷ []) []) first)) (tells s is r there))
     c.tell_stray.ensures.told
 

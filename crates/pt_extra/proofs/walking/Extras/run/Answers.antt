@@ -9,7 +9,7 @@ use Rattle.pt_extra.proofs.Tops.{dir_top}
 use Rattle.pt_extra.specs.Lines.{texts}
 use Rattle.pt_extra.specs.Unlisted.{IsToldIn}
 use Rattle.pt_state.specs.declared.job.Job.{Job}
-use Rattle.pt_extra.specs.Walk.{IsToldBelow, Puts, RootFails, Seen, against, found_in, seen_by}
+use Rattle.pt_extra.specs.Walk.{IsToldBelow, Puts, RootFails, WalkState, against, found_in, walk_state}
 use Rattle.pt_object.specs.WellKnown.{known_text}
 use Rattle.pt_object.specs.declared.well_known.WellKnownName.TheVariants as known
 use Rattle.pt_plan.specs.TurnWalk.{in_root}
@@ -22,10 +22,10 @@ use Rattle.pt_extra.proofs.walking.Extras.run.Goals as goal
 pub returns-then-not-branch-clause-told : goal.returns-then-not-branch-clause-told
 returns-then-not-branch-clause-told g c = λ s is r there.
     let old = c.args.self.now in
-    let still : seen_by g.L.Log c.has_root.new.self ≡ seen_by g.L.Log old = ap (seen_by g.L.Log) c.has_root.ensures.rest in (
+    let still : walk_state g.L.Log c.has_root.new.self ≡ walk_state g.L.Log old = ap (walk_state g.L.Log) c.has_root.ensures.rest in (
       [],
       told_no_root (RootFails g.R.Source old c.has_root.new.self) (against old s) r (sym (c.in_ok-has_root.ensures.has r there) ∙ c.if-not-branch.true),
-      subst (λ (a : Seen). Puts [] (seen_by g.L.Log old) a) (sym still) (puts_none (seen_by g.L.Log old)),
+      subst (λ (a : WalkState). Puts [] (walk_state g.L.Log old) a) (sym still) (puts_none (walk_state g.L.Log old)),
     )
 
 pub visit-requires : goal.visit-requires
@@ -39,7 +39,7 @@ returns-clause-told g c = λ s is r there.
     let old = c.args.self.now in
     let mid = c.has_root.new.self in
     let top = c.new-top.result in
-    let still : seen_by g.L.Log mid ≡ seen_by g.L.Log old = ap (seen_by g.L.Log) c.has_root.ensures.rest in
+    let still : walk_state g.L.Log mid ≡ walk_state g.L.Log old = ap (walk_state g.L.Log) c.has_root.ensures.rest in
     let stands = sym (c.in_ok-has_root.ensures.has r there) ∙ c.if-not-branch.false in
     let left_is : c.count.result + 1 ≡ old.job.layout.count + 1 =
     ap (λ (n : ℕ). n + 1) (c.count.ensures.count ∙ ap (λ (j : Job). j.layout.count) c.has_root.ensures.keeps.job) in
@@ -50,7 +50,7 @@ returns-clause-told g c = λ s is r there.
       subst (λ (n : ℕ). IsToldIn (HasRisen n (g.R.Source.failed c.visit.new.self.root)) (against old s) r of_it.0) same
           (told_of_root (RootFails g.R.Source mid c.visit.new.self) (against old s) r top (c.count.result + 1) of_it.0 stands c.new-top.ensures left_is
           of_it.1),
-      subst (λ (a : Seen). Puts of_it.0 a (seen_by g.L.Log c.visit.new.self)) still of_it.2,
+      subst (λ (a : WalkState). Puts of_it.0 a (walk_state g.L.Log c.visit.new.self)) still of_it.2,
     )
 
 pub returns-in_err-has_root-clause-stops : goal.returns-in_err-has_root-clause-stops

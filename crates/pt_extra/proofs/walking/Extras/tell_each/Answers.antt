@@ -6,7 +6,7 @@ use Rattle.pt_extra.proofs.Reasons.{each_front, each_step}
 use Rattle.pt_extra.proofs.Telling.{puts_none}
 use Rattle.pt_extra.specs.Lines.{Unlisted}
 use Rattle.pt_extra.specs.Unlisted.{of_unlisted}
-use Rattle.pt_extra.specs.Walk.{Puts, found_one, seen_by}
+use Rattle.pt_extra.specs.Walk.{Puts, found_one, walk_state}
 use Rattle.pt_extra.proofs.walking.Extras.tell_each.Goals as goal
 
 pub returns-in_err-tell_unlisted-clause-keeps : goal.returns-in_err-tell_unlisted-clause-keeps
@@ -19,7 +19,8 @@ returns-in_err-tell_unlisted-clause-stops g c =
     at_err c.from_residual.result
     (λ s is r there.
     each_front c.args.path.now c.args.reasons.now c.loop-reason.reason-index c.reason-item.result _ c.as_str.result.now
-    (seen_by g.L.Log c.args.self.now) (seen_by g.L.Log c.loop-reason.self) (g.L.Log.told c.tell_unlisted.new.self.log) c.loop-reason-test.true c.reason-item.is
+    (walk_state g.L.Log c.args.self.now) (walk_state g.L.Log c.loop-reason.self) (g.L.Log.told c.tell_unlisted.new.self.log) c.loop-reason-test.true
+    c.reason-item.is
     c.as_str.ensures.value
     (c.loop-reason.invariant.told s is r there)
     (front_from g.S.Source g.R.Source g.L.Log (found_one (Unlisted c.as_str.result.now c.args.path.now)) c.args.self.now c.loop-reason.self
@@ -35,8 +36,8 @@ loop-reason-preserved g c =
       failed = c.in_ok-tell_unlisted.ensures.fails ∙ so_far.failed;
       told = λ s is r there.
           each_step c.args.path.now c.args.reasons.now c.loop-reason.reason-index c.reason-item.result _ c.as_str.result.now
-          (seen_by g.L.Log c.args.self.now)
-          (seen_by g.L.Log c.loop-reason.self) (seen_by g.L.Log c.tell_unlisted.new.self) c.loop-reason-test.true c.reason-item.is
+          (walk_state g.L.Log c.args.self.now)
+          (walk_state g.L.Log c.loop-reason.self) (walk_state g.L.Log c.tell_unlisted.new.self) c.loop-reason-test.true c.reason-item.is
           c.as_str.ensures.value
           (so_far.told s is r there)
           (told_from g.S.Source g.R.Source g.L.Log (found_one (Unlisted c.as_str.result.now c.args.path.now)) c.args.self.now c.loop-reason.self
@@ -49,11 +50,11 @@ loop-reason-init g c =
     record {
       keeps = keeps_root g.S.Source g.R.Source g.L.Log g.met.S.Source.is_kept g.met.L.Log.is_kept old old.root (g.met.R.Source.is_kept old.root) refl;
       failed = refl;
-      told = λ s is r there. puts_none (seen_by g.L.Log old);
+      told = λ s is r there. puts_none (walk_state g.L.Log old);
     }
 
 pub returns-clause-told : goal.returns-clause-told
 returns-clause-told g c = λ s is r there.
-    subst (λ (l : List (String Global)). Puts (of_unlisted c.args.path.now (map (λ reason. string_bytes reason) l)) (seen_by g.L.Log c.args.self.now)
-    (seen_by g.L.Log c.loop-reason.self)) (take_all c.loop-reason.reason-index c.args.reasons.now (omega (arith, c.loop-reason-test.false)))
+    subst (λ (l : List (String Global)). Puts (of_unlisted c.args.path.now (map (λ reason. string_bytes reason) l)) (walk_state g.L.Log c.args.self.now)
+    (walk_state g.L.Log c.loop-reason.self)) (take_all c.loop-reason.reason-index c.args.reasons.now (omega (arith, c.loop-reason-test.false)))
     (c.loop-reason.invariant.told s is r there)

@@ -3,7 +3,7 @@ use Rattle.std.specs.Option.{ForSome}
 use Rattle.pt_audit.specs.Failing.{failures}
 use Rattle.pt_tree.specs.Source.{tree_in}
 use Rattle.pt_extra.specs.Unlisted.{of_unlisted}
-use Rattle.pt_extra.specs.Walk.{Keeps, Puts, seen_by}
+use Rattle.pt_extra.specs.Walk.{Keeps, Puts, walk_state}
 use Rattle.pt_extra.proofs.walking.Extras.tell_each.Given as goal
 
 -- the reasons so far were told
@@ -14,5 +14,5 @@ invariant-loop-reason g l = record {
       ≡ failures (g.S.Source.failed l.fn.self.store) (g.R.Source.failed l.fn.self.root) (g.L.Log.failed l.fn.self.log);
   told : ForSome (tree_in (g.S.Source.told l.fn.self.store)) (λ s. ForSome (tree_in (g.R.Source.told l.fn.self.root))
       (λ r. Puts (of_unlisted l.path (map (λ reason. string_bytes reason) (take l.reason-index l.reasons)))
-      (seen_by g.L.Log l.fn.self) (seen_by g.L.Log l.self)));
+      (walk_state g.L.Log l.fn.self) (walk_state g.L.Log l.self)));
 }

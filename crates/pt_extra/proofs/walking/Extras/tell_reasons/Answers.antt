@@ -4,7 +4,7 @@ use Rattle.pt_extra.proofs.Keeping.{at_err, front_from, keeps_on, told_from}
 use Rattle.pt_extra.proofs.Telling.{front_more, front_on, puts_on, texts_on}
 use Rattle.pt_extra.specs.Lines.{Unlisted, texts}
 use Rattle.pt_extra.specs.Unlisted.{of_unlisted}
-use Rattle.pt_extra.specs.Walk.{found_unlisted, seen_by}
+use Rattle.pt_extra.specs.Walk.{found_unlisted, walk_state}
 use Rattle.pt_tree.specs.Log.{AppendsFront}
 use Rattle.pt_extra.proofs.walking.Extras.tell_reasons.Goals as goal
 
@@ -17,7 +17,7 @@ returns-clause-told g c =
     let further = map (λ reason. string_bytes reason) c.args.further.now in
     on_ok_weaker c.tell_each.result
     (λ tells s is r there.
-    (puts_on one (of_unlisted path further) (seen_by g.L.Log old) (seen_by g.L.Log mid) (seen_by g.L.Log c.tell_each.new.self)
+    (puts_on one (of_unlisted path further) (walk_state g.L.Log old) (walk_state g.L.Log mid) (walk_state g.L.Log c.tell_each.new.self)
     (c.in_ok-tell_unlisted.ensures.told s is r there)
     (told_from g.S.Source g.R.Source g.L.Log (found_unlisted path further) old mid c.tell_each.new.self c.tell_unlisted.ensures.keeps tells s is r there)))
     c.tell_each.ensures.told
