@@ -6,6 +6,8 @@ use Rattle.pt_guard.specs.Apart.{Overlaps}
 use Rattle.pt_guard.specs.Wanting.{IsWanting}
 use Rattle.pt_guard.specs.declared.apart.Nesting.{Nesting}
 use Rattle.pt_guard.specs.declared.apart.Nesting.TheVariants.{Apart, Inside, Unknown, Wanting}
+use Rattle.pt_guard.specs.declared.guard.FolderLock.{FolderLock}
+use Rattle.pt_guard.specs.declared.guard.FolderLock.TheVariants as lock
 use Rattle.pt_guard.specs.declared.guard.GuardFault.{GuardFault}
 use Rattle.pt_guard.specs.declared.guard.GuardFault.TheVariants as fault
 use Rattle.pt_guard.specs.declared.places.Claim.{Claim}
@@ -27,11 +29,11 @@ module _ {S L : Type 0} (does : S → PlaceCall L → S → Type 0) (claim : Cla
       ⊎ ((error : Error) × IsWanting error × LockComesTo (attempt.Unknown error) old new))
 
   -- the folders lie in one another, or that isn't known, and nothing more is asked; or they lie apart, and what asking for the lock comes to decides
-  abbrev pub Begins : S → S → Result (Result L Error) GuardFault → Type 0
+  abbrev pub Begins : S → S → Result (FolderLock L) GuardFault → Type 0
   Begins old new (Err fault.Overlap) = Lies Inside old new
   Begins old new (Err fault.Hidden) = Lies Unknown old new
   Begins old new (Err fault.Taken) = LockComesTo attempt.Taken old new
   Begins old new (Err fault.Root) = LockComesTo attempt.Root old new
   Begins old new (Err fault.Memory) = Wants old new
-  Begins old new (Ok (Ok lock)) = LockComesTo (attempt.Held lock) old new
-  Begins old new (Ok (Err error)) = (¬ (IsWanting error)) × LockComesTo (attempt.Unknown error) old new
+  Begins old new (Ok (lock.Held held)) = LockComesTo (attempt.Held held) old new
+  Begins old new (Ok (lock.Unheld error)) = (¬ (IsWanting error)) × LockComesTo (attempt.Unknown error) old new

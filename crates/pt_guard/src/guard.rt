@@ -42,9 +42,18 @@ impl From<AllocError> for GuardFault {
     }
 }
 
+/// How the destination's folder is held while a run or an audit goes on.
+#[derive(Drop)]
+pub enum FolderLock<L> {
+    /// By this lock, until it is given back.
+    Held(L),
+    /// By none: it can't be locked, for this reason.
+    Unheld(io::Error),
+}
+
 /// Sees to it that a run or an audit may begin: its folders lie apart, and nobody holds the
-/// destination who keeps it from the lock that it asks for. What it gives holds the destination's
-/// folder until it is dropped, or says why that can't be locked.
+/// destination who keeps it from the lock that it asks for. It gives the lock by which the
+/// destination's folder is held, or says why that can't be locked.
 ///
 /// `Overlap` where the folders, links resolved, lie in one another, or are so by what the system
 /// knows them by, whatever leads to them (as a second mount); `Hidden` where one stands and that
@@ -60,7 +69,7 @@ pub fn begin<S: Places>(
     claim: Claim,
     source: &str,
     dest: &str,
-) -> Result<io::Result<S::Lock>, GuardFault>
+) -> Result<FolderLock<S::Lock>, GuardFault>
     ensures { Begins S.does claim (source.now, dest.now) system.old system.new result }
 {
     match overlap(system, alloc, source, dest)? {
@@ -68,11 +77,11 @@ pub fn begin<S: Places>(
         Nesting::Unknown => Err(GuardFault::Hidden),
         Nesting::Wanting => Err(GuardFault::Memory),
         Nesting::Apart => match system.hold(dest, claim) {
-            LockAttempt::Held(lock) => Ok(Ok(lock)),
+            LockAttempt::Held(lock) => Ok(FolderLock::Held(lock)),
             LockAttempt::Taken => Err(GuardFault::Taken),
             LockAttempt::Root => Err(GuardFault::Root),
             LockAttempt::Unknown(error) if is_wanting(&error) => Err(GuardFault::Memory),
-            LockAttempt::Unknown(error) => Ok(Err(error)),
+            LockAttempt::Unknown(error) => Ok(FolderLock::Unheld(error)),
         },
     }
 }

@@ -6,7 +6,7 @@
 //! ```rust
 //! let lock = begin(&mut system, alloc, Claim::Alone, "store", "root")?;
 //! // Here the run is made.
-//! if let Ok(lock) = lock {
+//! if let FolderLock::Held(lock) = lock {
 //!     system.release(lock);
 //! }
 //! ```
@@ -39,5 +39,5 @@ mod guard;
 mod places;
 
 pub use file::{FileFault, judge_file};
-pub use guard::{GuardFault, begin};
+pub use guard::{FolderLock, GuardFault, begin};
 pub use places::{Claim, FileId, LockAttempt, Lockable, Places};

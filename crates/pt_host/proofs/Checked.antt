@@ -4,7 +4,7 @@ use Rattle.std.specs.Prelude.{IfErr, IfOk, None, Option, Result, Ok, Err}
 use Rattle.std.specs.Option.{ForSome}
 use Rattle.pt_check.specs.Counting.{no_numbers}
 use Rattle.pt_check.specs.Faults.{LogFailsAs}
-use Rattle.pt_check.specs.Visits.{Checks, Seen}
+use Rattle.pt_check.specs.Visits.{Checks, CheckState}
 use Rattle.pt_check.specs.declared.numbers.Numbers.{Numbers}
 use Rattle.pt_check.specs.declared.wants.Wants.{Wants}
 use Rattle.pt_plan.specs.declared.fault.Fault.{Fault}
@@ -13,7 +13,7 @@ use Rattle.pt_tree.specs.Forest.{Forest}
 use Rattle.pt_host.specs.Checking.{CheckCall, ChecksTree, IsFaultOfCheck, says_anything, unbegun, wants_of}
 
 -- a check is one of a call, whatever its tree and how far it is are called
-pub checks_as : (ran : Result Numbers Fault) (call : CheckCall) (a b : Seen) {wants : Wants} {tree store : Option Forest} {was held : Option (List ℕ)}
+pub checks_as : (ran : Result Numbers Fault) (call : CheckCall) (a b : CheckState) {wants : Wants} {tree store : Option Forest} {was held : Option (List ℕ)}
     → wants ≡ wants_of call.options → tree ≡ store → a.failing ≡ None → a.failed ≡ 0 → a.held ≡ was → a.numbers ≡ no_numbers → b.held ≡ held
     → IfOk ran (λ numbers. ForSome tree (λ t. Checks says_anything wants t numbers a b))
     → IfOk ran (λ numbers. ForSome store (ChecksTree call was held numbers))
@@ -23,7 +23,7 @@ checks_as (Ok numbers) call a b {wants} {was = was} wants_are same untold unfail
     λ t is. (
       b,
       held_is,
-      subst (λ (s : Seen). Checks says_anything (wants_of call.options) t numbers s b) begun
+      subst (λ (s : CheckState). Checks says_anything (wants_of call.options) t numbers s b) begun
           (subst (λ (w : Wants). Checks says_anything w t numbers a b) wants_are (checks t (same ∙ is))),
     )
 

@@ -5,6 +5,7 @@ mod ListedEnds
 mod Logged
 mod Recorded
 mod Rehearsed
+mod Released
 mod RehearsalTold
 mod Roomy
 mod Unhalted

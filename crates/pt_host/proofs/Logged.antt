@@ -11,7 +11,7 @@ use Rattle.pt_tree.specs.Dest.{Writing}
 use Rattle.pt_host.specs.Durable.{IsLogged, IsOnDisk, LogStays}
 use Rattle.pt_host.specs.Ends.{run_status}
 use Rattle.pt_host.specs.Made.{IsRun}
-use Rattle.pt_host.specs.declared.log.DurableLog.{DurableLog}
+use Rattle.pt_host.specs.declared.durable_log.DurableLog.{DurableLog}
 use Rattle.pt_host.specs.declared.options.AllowedLines.{AllowedLines}
 
 -- the log is blamed exactly where it failed, in a rehearsal too

@@ -2,7 +2,7 @@
 use Rattle.std.specs.Prelude.{◌≡◌, ◌==◌, ⊤, ℕ, true, if◌then◌else◌, IfErr, IfOk, List, None, Option, Result, Ok, Err}
 use Rattle.std.specs.Option.{ForSome, option_map}
 use Rattle.pt_check.specs.Counting.{no_numbers}
-use Rattle.pt_check.specs.Visits.{Checks, Says, Seen}
+use Rattle.pt_check.specs.Visits.{Checks, Says, CheckState}
 use Rattle.pt_tree.specs.Log.{Grows}
 use Rattle.pt_check.specs.declared.numbers.Numbers.{Numbers}
 use Rattle.pt_check.specs.declared.wants.Wants.{Wants}
@@ -43,7 +43,7 @@ store_checked words call host_io = store_tree call.options.ignored (words.store 
 
 -- a check that has not begun, over an output that holds this: its source, which doesn't tell where it fails, didn't fail, and nothing is
 -- counted
-abbrev pub unbegun : Option (List ℕ) → Seen
+abbrev pub unbegun : Option (List ℕ) → CheckState
 unbegun held = record { failing = None; failed = 0; held = held; numbers = no_numbers }
 
 -- what these options want of a check: where a destination is named, its room is that of the folder at that path; and places are of the
@@ -62,7 +62,7 @@ says_anything path reasons part = true
 -- a check went over this tree from an output to what that then holds, with what `run` of pt_check promises of it
 abbrev pub ChecksTree : CheckCall → Option (List ℕ) → Option (List ℕ) → Numbers → Forest → Type 0
 ChecksTree call was held numbers tree =
-    (end : Seen) × (end.held ≡ held) × Checks says_anything (wants_of call.options) tree numbers (unbegun was) end
+    (end : CheckState) × (end.held ≡ held) × Checks says_anything (wants_of call.options) tree numbers (unbegun was) end
 
 -- a check was made over this folder of the system that keeps the store: where it ended well the output got its lines, of the
 -- tree that the system keeps, and else its fault is the output's or want of memory; whatever it came to, that tree stands, what

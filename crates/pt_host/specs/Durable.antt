@@ -2,7 +2,7 @@
 use Rattle.std.specs.Prelude.{◌≡◌, ◌≢◌, ◌⊎◌, ⊤, ℕ, IfSome, IsSome, Ok, Option, None, Result, Some, refl}
 use Rattle.std.proofs.Common.{◌∙◌, inl, inr, subst, sym}
 use Rattle.std.specs.declared.io.Error.{Error}
-use Rattle.pt_host.specs.declared.log.DurableLog.{DurableLog}
+use Rattle.pt_host.specs.declared.durable_log.DurableLog.{DurableLog}
 
 -- all that a writer has written was put onto the disk there, and this left the file so
 abbrev pub IsOnDisk : {W E : Type 0} → (E → W → Result (Unit {0}) Error → E → Type 0) → W → E → Type 0

@@ -1,4 +1,3 @@
-pub mod Asked
 pub mod Audits
 pub mod Checking
 pub mod Devices
@@ -8,6 +7,7 @@ pub mod Events
 pub mod HostCall
 pub mod Machine
 pub mod Made
+pub mod Operation
 pub mod QuietCheckLaw
 pub mod RehearsalLaw
 pub mod Room

@@ -12,6 +12,8 @@ use Rattle.pt_folder.specs.declared.writing.FileInWriting.{FileInWriting as Open
 use Rattle.pt_tree.specs.Ignoring.{told_without}
 use Rattle.pt_guard.specs.Guard.{Begins}
 use Rattle.pt_guard.specs.PlaceCall.{PlaceCall, Release}
+use Rattle.pt_guard.specs.declared.guard.FolderLock.{FolderLock}
+use Rattle.pt_guard.specs.declared.guard.FolderLock.TheVariants as lock
 use Rattle.pt_guard.specs.declared.guard.GuardFault.{GuardFault}
 use Rattle.pt_guard.specs.declared.places.Claim.{Claim}
 use Rattle.pt_guard.specs.declared.places.Claim.TheVariants.{Alone}
@@ -154,15 +156,15 @@ IsTried {F} syncs (Ok (Some file)) answer = (reply : Result (Unit {0}) Error) ×
 module _ {H L : Type 0} (places : H → PlaceCall L → H → Type 0) where
   -- where a run may not begin, that is its status, and nothing is done; else it is made, and then the lock is given
   -- back, if there is one
-  abbrev pub GoesOn : (H → H → ℕ → Type 0) → Result (Result L Error) GuardFault → H → H → ℕ → Type 0
+  abbrev pub GoesOn : (H → H → ℕ → Type 0) → Result (FolderLock L) GuardFault → H → H → ℕ → Type 0
   GoesOn carries (Err fault) mid new status = (status ≡ guard_status fault) × (new ≡ mid)
-  GoesOn carries (Ok (Err error)) mid new status = carries mid new status
-  GoesOn carries (Ok (Ok lock)) mid new status = (after : H) × carries mid after status
-      × places after (Release lock) new
+  GoesOn carries (Ok (lock.Unheld error)) mid new status = carries mid new status
+  GoesOn carries (Ok (lock.Held held)) mid new status = (after : H) × carries mid after status
+      × places after (Release held) new
 
   -- the guard is asked of two folders, with a lock for this run alone or to be shared, and then it goes on by its answer
   abbrev pub Guarded : Claim → List ℕ × List ℕ → (H → H → ℕ → Type 0) → H → H → ℕ → Type 0
-  Guarded claim folders carries old new status = (answer : Result (Result L Error) GuardFault) × (mid : H)
+  Guarded claim folders carries old new status = (answer : Result (FolderLock L) GuardFault) × (mid : H)
       × Begins places claim folders old mid answer × GoesOn carries answer mid new status
 
 module _ {H : Type 0} (words : MachineWords H) where

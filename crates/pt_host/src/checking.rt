@@ -9,9 +9,9 @@ ghost use Rattle.pt_host.specs.Checking.{ChecksOver, ChecksStore, check_call, ch
 ghost use Rattle.pt_host.specs.Checking.{wants_of as wants_of_options};
 ghost use Rattle.pt_host.specs.Machine.{host_io_words};
 
-use crate::devices::Lent;
+use crate::devices::DeviceParts;
+use crate::durable_log::{DurableLog, SyncsOutput};
 use crate::explaining::LastFailure;
-use crate::log::{DurableLog, SyncsOutput};
 use crate::room::room_in;
 use crate::saying::tell_fault;
 use crate::status::{DONE, FAILED, INCOMPLETE};
@@ -37,33 +37,27 @@ where
 {
     let host_io = host.lend();
     let file: Option<H::File> = None;
-    let lent = Lent { host_io, file };
-    let Checked { status, host_io } = check(rt, lent, options, store);
+    let parts = DeviceParts { host_io, file };
+    let (host_io, status) = check_over(rt, parts, options, store);
     host.take_back(host_io);
     status
 }
 
-// A check that has ended: its status, and what it was made over.
-#[derive(Drop)]
-struct Checked<S, D, W> {
-    status: u8,
-    host_io: HostIo<S, D, W>,
-}
-
-// Checks a store over what is lent, and tells standard error of a fault.
-fn check<R, S: System, D: System, W: Write, F: SyncsOutput<W> + Drop>(
+// Checks a store over what is lent, and tells standard error of a fault. Gives what was lent, and
+// the exit status.
+fn check_over<R, S: System, D: System, W: Write, F: SyncsOutput<W> + Drop>(
     rt: &R,
-    lent: Lent<S, D, W, F>,
+    parts: DeviceParts<S, D, W, F>,
     options: CheckOptions,
     store: &str,
-) -> Checked<S, D, W>
+) -> (HostIo<S, D, W>, u8)
 where
     R: Eprint + AllocGlobal,
     ensures { ChecksOver (host_io_words S.forest D.forest W.contents)
-        (check_call options store.now) lent.host_io result.host_io result.status }
+        (check_call options store.now) parts.host_io result.0 result.1 }
 {
     let alloc = rt.alloc();
-    let Lent { host_io, file } = lent;
+    let DeviceParts { host_io, file } = parts;
     let HostIo {
         store: system,
         folder,
@@ -89,7 +83,7 @@ where
         folder,
         output: log.into_writer(),
     };
-    Checked { status, host_io }
+    (host_io, status)
 }
 
 // What these options want of a check.

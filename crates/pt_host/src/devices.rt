@@ -1,13 +1,13 @@
-//! The devices of a run (`open_devices`) and of an audit (`both_sides`), as they are asked for,
+//! The devices of a run (`open_devices`) and of an audit (`open_sides`), as they are asked for,
 //! each field by an equation.
 ghost use Rattle.std.specs.Prelude.{◌≡◌, ◌+◌, None};
 ghost use Rattle.pt_host.specs.Devices.{ReadsFrom, WritesInto};
 ghost use Rattle.pt_host.specs.Room.{place_overhead};
 
 use crate::RunOptions;
+use crate::durable_log::{DurableLog, SyncsOutput};
 use crate::folders::Folders;
 use crate::host::HostIo;
-use crate::log::{DurableLog, SyncsOutput};
 use crate::room::longest_made;
 use pt_folder::{HostDest, HostSource, System};
 use pt_tree::{Ignored, Ignoring};
@@ -17,7 +17,7 @@ use std::io::Write;
 /// What devices are made of: what a machine lends, and the file that the log goes to, where that is
 /// to be put onto its disk.
 #[derive(Drop)]
-pub(crate) struct Lent<S, D, W, F> {
+pub(crate) struct DeviceParts<S, D, W, F> {
     pub host_io: HostIo<S, D, W>,
     pub file: Option<F>,
 }
@@ -38,20 +38,20 @@ pub(crate) struct RunDevices<'a, S: System, D: System, W: Write, F: SyncsOutput<
 /// log is where its file is given.
 pub(crate) fn open_devices<'a, S: System, D: System, W: Write, F: SyncsOutput<W> + Drop>(
     alloc: Global,
-    lent: Lent<S, D, W, F>,
+    parts: DeviceParts<S, D, W, F>,
     options: &RunOptions,
     folders: Folders<'a>,
 ) -> RunDevices<'a, S, D, W, F>
-    ensures store { ReadsFrom result.source lent.host_io.store folders.entry.store.now }
+    ensures store { ReadsFrom result.source parts.host_io.store folders.entry.store.now }
     ensures unread { (result.source.reading ≡ None) × (result.source.failures ≡ 0) }
-    ensures folder { WritesInto result.dest lent.host_io.folder folders.entry.folder.now }
+    ensures folder { WritesInto result.dest parts.host_io.folder folders.entry.folder.now }
     ensures unwritten { (result.dest.writing ≡ None) × (result.dest.failures ≡ 0) }
     ensures longest { result.dest.longest + place_overhead options.now.job.layout ≡ 4095 }
     ensures synced { (result.dest.synced ≡ options.now.sync) × (result.dest.unsynced ≡ None) }
-    ensures log { (result.log.writer ≡ lent.host_io.output) × (result.log.failures ≡ 0) }
-    ensures log_synced { result.log.file ≡ lent.file }
+    ensures log { (result.log.writer ≡ parts.host_io.output) × (result.log.failures ≡ 0) }
+    ensures log_synced { result.log.file ≡ parts.file }
 {
-    let Lent { host_io, file } = lent;
+    let DeviceParts { host_io, file } = parts;
     RunDevices {
         source: HostSource::new(host_io.store, alloc, folders.store),
         dest: HostDest::new(host_io.folder, alloc, folders.folder)
@@ -63,7 +63,7 @@ pub(crate) fn open_devices<'a, S: System, D: System, W: Write, F: SyncsOutput<W>
 
 /// The two sides of an audit, and its log.
 #[derive(Drop)]
-pub(crate) struct Sides<'a, S: System, D: System, W: Write, F: SyncsOutput<W> + Drop> {
+pub(crate) struct AuditSides<'a, S: System, D: System, W: Write, F: SyncsOutput<W> + Drop> {
     /// The folder of the store, without the entries that are left out.
     pub source: Ignoring<HostSource<'a, S>>,
     /// The folder of the root, which is only read.
@@ -74,21 +74,21 @@ pub(crate) struct Sides<'a, S: System, D: System, W: Write, F: SyncsOutput<W> + 
 
 /// The sides of an audit over these, of a store and of the root in a folder. The entries of the
 /// store that have these names are left out.
-pub(crate) fn both_sides<'a, S: System, D: System, W: Write, F: SyncsOutput<W> + Drop>(
+pub(crate) fn open_sides<'a, S: System, D: System, W: Write, F: SyncsOutput<W> + Drop>(
     alloc: Global,
-    lent: Lent<S, D, W, F>,
+    parts: DeviceParts<S, D, W, F>,
     ignored: Ignored,
     folders: Folders<'a>,
-) -> Sides<'a, S, D, W, F>
-    ensures store { ReadsFrom result.source.source lent.host_io.store folders.entry.store.now }
+) -> AuditSides<'a, S, D, W, F>
+    ensures store { ReadsFrom result.source.source parts.host_io.store folders.entry.store.now }
     ensures left_out { result.source.names ≡ ignored }
-    ensures folder { ReadsFrom result.root lent.host_io.folder folders.entry.folder.now }
+    ensures folder { ReadsFrom result.root parts.host_io.folder folders.entry.folder.now }
     ensures unread { result.root.failures ≡ 0 }
-    ensures log { result.log.writer ≡ lent.host_io.output }
-    ensures log_synced { result.log.file ≡ lent.file }
+    ensures log { result.log.writer ≡ parts.host_io.output }
+    ensures log_synced { result.log.file ≡ parts.file }
 {
-    let Lent { host_io, file } = lent;
-    Sides {
+    let DeviceParts { host_io, file } = parts;
+    AuditSides {
         source: Ignoring::new(
             HostSource::new(host_io.store, alloc, folders.store),
             ignored,

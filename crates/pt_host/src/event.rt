@@ -8,13 +8,13 @@
 //! another is made at the path with `.part` behind it and renamed to the file (`EndsFile`); where
 //! that fails the status is 3. No other path is named in these calls. Where no file is named none
 //! of them is made. What the texts say isn't promised.
-ghost use Rattle.std.specs.Prelude.{◌≡◌, ◌++◌, Err, IfOk, codes, option_map};
+ghost use Rattle.std.specs.Prelude.{◌≡◌, ◌++◌, Err, IfOk, codes};
 ghost use Rattle.pt_host.specs.Events.{BeginsEvent, EndsEvent, EndsFile, MakesEvent, MakesNew};
 ghost use Rattle.pt_host.specs.Events.{MakesBy, MakesUnlessLeft, MovesOver, Replaces, event_status};
 ghost use Rattle.pt_host.specs.Events.{fault_of};
 
-use crate::asked::Asked;
 use crate::folders::Folders;
+use crate::operation::Operation;
 use crate::saying::end_with_fault;
 use crate::status::{FAILED, REFUSED};
 use crate::{Host, Machine, Text};
@@ -50,7 +50,7 @@ impl EventPath {
     }
 }
 
-/// Why an event can't be recorded in its file.
+/// Explanation an event can't be recorded in its file.
 #[derive(Debug, Drop, Error)]
 pub enum EventFault {
     /// The file may not lie there.
@@ -72,7 +72,7 @@ pub enum EventFault {
 }
 
 impl EventFault {
-    // Why a file can't be made at one of its paths, or moved there, by the system's error.
+    // Explanation a file can't be made at one of its paths, or moved there, by the system's error.
     fn at(path: EventPath, error: io::Error) -> EventFault
         ensures { result ≡ fault_of path error }
     {
@@ -144,16 +144,16 @@ pub(crate) struct EventFile {
 impl EventFile {
     // The file of what is asked for between two folders, as it begins; nothing is made. `Memory`
     // where a growth was refused.
-    fn of<R: Reads + Clock + AllocGlobal>(
+    fn of<R: Reads + Clock + AllocGlobal, O: Operation>(
         rt: &R,
         path: &str,
-        asked: &Asked,
+        operation: &O,
         folders: Folders<'_>,
     ) -> Result<EventFile, MemoryFault>
         ensures path { IfOk result (λ file. file.path ≡ path.now) }
         ensures part { IfOk result (λ file. file.part ≡ path.now ++ codes ".part") }
     {
-        let mut event = Event::begin(rt, asked.word(), asked.options(rt.alloc())?)?;
+        let mut event = Event::begin(rt, operation.word(), operation.members(rt.alloc())?)?;
         event.put_folder(rt, "source", folders.store)?;
         event.put_folder(rt, "dest", folders.folder)?;
         let text = event.line()?;
@@ -291,23 +291,22 @@ fn move_over<H: Host>(host: &mut H, from: &str, to: &str) -> Result<(), EventFau
 /// behind it, also a link that leads nowhere, or at the file's; `Unseen`, where the system can't
 /// tell what stands at the first; and `Unwritten`, where the file can't be made or written, of
 /// which a part may then be left.
-pub(crate) fn begin_event<R, H: Host>(
+pub(crate) fn begin_event<R, H: Host, O: Operation>(
     rt: &R,
     host: &mut H,
-    path: Option<&str>,
-    asked: &Asked,
+    operation: &O,
     folders: Folders<'_>,
 ) -> Result<Option<EventFile>, EventFault>
 where
     R: Reads + Clock + AllocGlobal,
     ensures { BeginsEvent ⟦<H as Machine>⟧.words
         (folders.entry.store.now, folders.entry.folder.now)
-        (option_map (λ p. p.now) path.entry) host.old host.new result }
+        (O.feedback_of operation.now).event host.old host.new result }
 {
-    let Some(path) = path else {
+    let Some(path) = operation.feedback().event() else {
         return Ok(None);
     };
-    let file = EventFile::of(rt, path, asked, folders)?;
+    let file = EventFile::of(rt, path, operation, folders)?;
     file.paths().make(rt, host, folders, file.text.as_str())?;
     Ok(Some(file))
 }

@@ -10,7 +10,7 @@ ghost use Rattle.std.specs.Prelude.{⊤};
 ghost use Rattle.pt_host.specs.HostCall.{HostCall, Lend, MakeFile, MoveFile, OpenOutput, TakeBack};
 ghost use Rattle.pt_host.specs.declared.host.HostIo.{HostIo};
 
-use crate::log::{Syncs, SyncsOutput};
+use crate::durable_log::{Syncs, SyncsOutput};
 use pt_folder::System;
 use pt_guard::{Lockable, Places};
 use pt_messages::Terminals;

@@ -31,36 +31,39 @@
 //! Guarantees of README that rest on its definitions: An audit is exact.
 #![tactic(auto)]
 
-mod asked;
+mod account;
+mod audit;
+mod auditing;
 mod checking;
 mod devices;
+mod durable_log;
 mod event;
 mod explaining;
 mod folders;
 mod guarded;
-mod guarded_audit;
-mod guarded_run;
 mod host;
 pub mod laws;
-mod log;
 mod machine;
+mod operation;
 mod options;
+mod recorded_options;
 mod room;
+mod run;
 mod running;
 mod saying;
 pub mod status;
 mod text;
 mod unmet;
 
+pub use audit::audit_guarded;
 pub use checking::check_store;
+pub use durable_log::{DurableLog, Syncs, SyncsOutput};
 pub use event::EventFault;
-pub use guarded_audit::audit_guarded;
-pub use guarded_run::run_guarded;
 pub use host::{Host, HostIo, OutputFile};
-pub use log::{DurableLog, Syncs, SyncsOutput};
 pub use machine::Machine;
 pub use options::{AllowedLines, AuditOptions, CheckOptions, Feedback, RunOptions};
 pub use pt_messages::{Progress, Reads, Terminals, VERSION};
 pub use room::longest_made;
+pub use run::run_guarded;
 pub use saying::end_with_fault;
 pub use text::Text;

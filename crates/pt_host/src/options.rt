@@ -1,6 +1,6 @@
 //! What the options of a run, an audit and a check say, whoever asks for one: the command line, a
 //! test, or a program of its own.
-ghost use Rattle.std.specs.Prelude.{◌≡◌, is_some, option_map};
+ghost use Rattle.std.specs.Prelude.{◌≡◌, option_map};
 
 use crate::Text;
 use pt_messages::{Progress, Watching, Words};
@@ -82,14 +82,6 @@ pub struct Feedback {
     pub event: Option<Text>,
 }
 
-// What is wanted of a fault's reason: that it is told, wherever the fault came, and that it is
-// recorded in an event.
-#[derive(Clone, Copy)]
-pub(crate) struct Telling {
-    pub verbose: bool,
-    pub records: bool,
-}
-
 impl Feedback {
     // The path of the log that is expected to be as long, if one is named.
     pub(crate) fn expected_log(&self) -> Option<&str>
@@ -108,16 +100,6 @@ impl Feedback {
         match &self.event {
             Some(path) => Some(path.as_str()),
             None => None,
-        }
-    }
-
-    // What it wants of a fault's reason.
-    pub(crate) fn telling(&self) -> Telling
-        ensures { result ≡ record { verbose = self.now.verbose; records = is_some self.now.event } }
-    {
-        Telling {
-            verbose: self.verbose,
-            records: self.event.is_some(),
         }
     }
 

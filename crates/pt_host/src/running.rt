@@ -17,49 +17,33 @@ ghost use Rattle.pt_host.specs.Served.{IsServed, ServesTo};
 ghost use Rattle.pt_host.specs.declared.options.AllowedLines.{AllowedLines};
 ghost use Rattle.pt_state.specs.Outside.{states_of};
 
+use crate::account::Account;
 use crate::devices::RunDevices;
+use crate::durable_log::{DurableLog, SyncsOutput};
 use crate::folders::Folders;
-use crate::log::{DurableLog, SyncsOutput};
-use crate::options::Telling;
-use crate::saying::tell_fault;
+use crate::operation::Conclusion;
 use crate::status::{DONE, FAILED, INCOMPLETE};
 use crate::{AllowedLines, HostIo, RunOptions};
 use pt_folder::{HostDest, HostSource, System};
-use pt_messages::{
-    CountedLog, FaultReason, Outcome, Reads, Tally, Terminals, Watch, Words, reason,
-};
+use pt_messages::{LastCalls, Reads, Tally, Terminals, Words};
 use pt_move::{Fault, Job, Report, migrate_observed};
 use pt_rehearsal::Rehearsal;
-use pt_tree::{Dest, Ignoring, Log, Source, Watched};
-use std::alloc::{AllocError, AllocGlobal, Global};
+use pt_tree::{Dest, Ignoring, Log, Source};
+use std::alloc::{AllocGlobal, Global};
 use std::io::Write;
 use std::rt::Clock;
 
-/// A run that has ended: its status, what it was made over, and what it came to.
-#[derive(Drop)]
-pub(crate) struct Ended<S, D, W> {
-    pub status: u8,
-    pub host_io: HostIo<S, D, W>,
-    pub outcome: Outcome,
-}
-
-/// What is left of it once that was given back.
-#[derive(Drop)]
-pub(crate) struct Ending {
-    pub status: u8,
-    pub outcome: Outcome,
-}
-
 /// Makes the run that is asked for over its devices, or rehearses it, watched as its options say,
 /// and tells standard error of a fault. `expected` is how many lines its log may come to, where
-/// that is known, and `folders` has the paths that are told.
-pub(crate) fn run<R, S: System, D: System, W: Write, F: SyncsOutput<W> + Drop>(
+/// that is known, and `folders` has the paths that are told. Gives back what the devices were made
+/// over, and how the run ended.
+pub(crate) fn run_over<R, S: System, D: System, W: Write, F: SyncsOutput<W> + Drop>(
     rt: &R,
     devices: RunDevices<'_, S, D, W, F>,
     options: RunOptions,
     expected: Option<u64>,
     folders: Folders<'_>,
-) -> Ended<S, D, W>
+) -> (HostIo<S, D, W>, Conclusion)
 where
     R: Reads + Clock + Eprint + AllocGlobal + Terminals,
     ensures runs { RunsFrom (host_io_words S.forest D.kept W.contents) options
@@ -75,50 +59,33 @@ where
               devices.entry.source devices.entry.dest devices.entry.log);
           kept = kept_by devices.entry.dest;
         })
-        result.host_io result.status }
+        result.0 result.1.status }
     ensures logged { devices.entry.log.failures ≡ 0
         → IsLogged F.puts devices.entry.log.file devices.entry.log.writer
-        result.host_io.output result.status }
-    ensures served { ServesTo options.rehearse devices.entry.dest result.host_io.folder }
+        result.0.output result.1.status }
+    ensures served { ServesTo options.rehearse devices.entry.dest result.0.folder }
 {
-    let alloc = rt.alloc();
     let tally = Tally::new();
     let RunDevices { source, dest, log } = devices;
-    let telling = options.feedback.telling();
     let watching = options.feedback.watching(Words::Run, expected);
-    let ignores = !options.ignored.names().is_empty();
+    let account = Account::new(watching, &options.feedback, &options.ignored, folders);
     let ignoring = Ignoring::new(source, options.ignored);
-    let watch = Watch::new(rt, alloc, &tally, watching);
-    let mut log = CountedLog::new(log, watch.sums() | telling.records);
-    let mut source = Watched::new(ignoring, watch);
+    let (mut source, mut log) = account.watch(rt, &tally, ignoring, log);
     let task = Task {
         job: options.job,
         rehearse: options.rehearse,
         tally: &tally,
     };
-    let Ran { ran, dest } = run_or_rehearse(alloc, &mut source, dest, &mut log, task);
-    source.watcher().end(log.counts_if(ran.is_ok()));
-    let ignoring = source.into_source();
-    reason::tell_left_out(rt, telling.verbose & ignores, ignoring.left_out());
-    let source = ignoring.into_source();
-    let sides = RunSides {
-        source: &source,
-        dest: &dest,
-        folders,
-    };
-    let why = report_outcome(rt, &ran, telling, sides);
-    let outcome = Outcome::new(Words::Run, log.counts(), ran.as_ref().err(), why);
+    let RunEnd { ran, dest } = run_or_rehearse(rt.alloc(), &mut source, dest, &mut log, task);
+    let calls = LastCalls::of_dest(&dest);
+    let (source, log, outcome) = account.close(rt, (source, log), ran.as_ref().err(), calls);
     let status = status_of(&ran, options.allowed);
     let host_io = HostIo {
         store: source.into_system(),
         folder: dest.into_system(),
-        output: log.into_log().into_writer(),
+        output: log.into_writer(),
     };
-    Ended {
-        status,
-        host_io,
-        outcome,
-    }
+    (host_io, Conclusion { status, outcome })
 }
 
 // What a run has to do: its job, whether it is only rehearsed, and what is told after each turn how
@@ -131,7 +98,7 @@ struct Task<'t> {
 
 // What a run came to, and its destination.
 #[derive(Drop)]
-struct Ran<'a, D: System> {
+struct RunEnd<'a, D: System> {
     ran: Result<Report, Fault>,
     dest: HostDest<'a, D>,
 }
@@ -143,7 +110,7 @@ fn run_or_rehearse<'a, S: Source, D: System, L: Log>(
     dest: HostDest<'a, D>,
     log: &mut L,
     task: Task<'_>,
-) -> Ran<'a, D>
+) -> RunEnd<'a, D>
     ensures promises { IsRun task.entry.job task.entry.rehearse (told_at_rest dest.entry)
         (states_of S.Source ⟦<HostDest<'a, D> as Dest>⟧ L.Log source.old dest.entry log.old)
         (states_of S.Source ⟦<HostDest<'a, D> as Dest>⟧ L.Log source.new result.dest log.new)
@@ -165,41 +132,11 @@ fn run_or_rehearse<'a, S: Source, D: System, L: Log>(
         let mut rehearsal = Rehearsal::new(alloc, dest);
         let ran = migrate_observed(alloc, source, &mut rehearsal, log, job, tally);
         let dest = rehearsal.into_dest();
-        return Ran { ran, dest };
+        return RunEnd { ran, dest };
     }
     let mut dest = dest;
     let ran = migrate_observed(alloc, source, &mut dest, log, job, tally);
-    Ran { ran, dest }
-}
-
-// The two sides of a run that has ended: its folders, and their paths.
-#[derive(Drop)]
-struct RunSides<'r, 'a, S: System, D: System> {
-    source: &'r HostSource<'a, S>,
-    dest: &'r HostDest<'a, D>,
-    folders: Folders<'r>,
-}
-
-// Says what a run over these folders came to, if a fault ended it, and why, if that is asked for or
-// is at the top of one; and gives why.
-fn report_outcome<R: Reads + Eprint + AllocGlobal, S: System, D: System>(
-    rt: &R,
-    ran: &Result<Report, Fault>,
-    telling: Telling,
-    sides: RunSides<'_, '_, S, D>,
-) -> Result<Option<FaultReason>, AllocError> {
-    let Err(fault) = ran else {
-        return Ok(None);
-    };
-    tell_fault(rt, fault);
-    let folders = sides.folders;
-    let why = reason::of_run(rt, fault, sides.source, sides.dest, folders.store);
-    if let Ok(Some(why)) = &why
-        && (telling.verbose || folders.have_at_top(fault, why))
-    {
-        reason::tell(rt, why);
-    }
-    why
+    RunEnd { ran, dest }
 }
 
 // The exit status of a run, whose log may have these lines.

@@ -4,12 +4,24 @@ ghost use Rattle.pt_host.specs.Ends.{guard_status};
 
 use crate::status::{FAILED, REFUSED};
 use pt_guard::GuardFault;
+use pt_messages::Words;
 use pt_move::Fault;
 
 /// Says which fault it was, in its own words.
 pub(crate) fn tell_fault(rt: &impl Eprint, fault: &Fault) {
     let number = fault.number();
     let _ = eprintln!(rt; "pairtree2ocfl: fault {number}: {fault}");
+}
+
+/// The same of what has a log of these words, which may have other words for it.
+pub(crate) fn tell_fault_of(rt: &impl Eprint, words: Words, fault: &Fault) {
+    match words.text_of(fault) {
+        Some(text) => {
+            let number = fault.number();
+            let _ = eprintln!(rt; "pairtree2ocfl: fault {number}: {text}");
+        }
+        None => tell_fault(rt, fault),
+    }
 }
 
 /// Says which fault ended the command, in its own words, and gives the status of faults.

@@ -1,47 +1,66 @@
 //! What standard error is told of a list's identifiers of which no object was met, and the status
 //! of that.
-ghost use Rattle.std.specs.Prelude.{◌≡◌, ◌⊎◌, None, Ok, false};
+ghost use Rattle.std.specs.Prelude.{◌≡◌, ◌⊎◌, false};
+ghost use Rattle.std.specs.Option.{IsSome};
+ghost use Rattle.pt_host.specs.declared.unmet.SoughtList.TheVariants.{Nothing};
 
 use crate::status::{DONE, INCOMPLETE};
 use pt_messages::escape;
-use pt_name::SoughtIdentifiers;
-use std::alloc::{AllocError, AllocGlobal};
+use pt_name::{Share, SoughtIdentifiers};
+use std::alloc::AllocGlobal;
 
-/// The status of a run or an audit that ended with this one: 1 in place of 0, where it ended well
-/// and no object was met of an identifier of its list. Standard error is told of each.
-pub(crate) fn end_with_unmet<R: Eprint + AllocGlobal>(
-    rt: &R,
-    sought: &Result<Option<SoughtIdentifiers>, AllocError>,
-    status: u8,
-) -> u8
-    ensures none { sought.now ≡ Ok None → result ≡ status }
-    ensures some { (result ≡ status) ⊎ ((status ≡ 0) × (result ≡ 1)) }
-{
-    if status != DONE && status != INCOMPLETE {
-        return status;
-    }
-    if tells_unmet(rt, sought) && status == DONE {
-        return INCOMPLETE;
-    }
-    status
+/// What a run or an audit is to meet of a list of identifiers.
+#[derive(Drop)]
+pub(crate) enum SoughtList {
+    /// Nothing: there is no list.
+    Nothing,
+    /// An object of each of these.
+    Identifiers(SoughtIdentifiers),
+    /// There was no memory to note what was met.
+    Unknown,
 }
 
-// Tells of the identifiers of which no object was met, and whether there are some. Where that can't
-// be known it is told, as if there were.
-fn tells_unmet<R: Eprint + AllocGlobal>(
-    rt: &R,
-    sought: &Result<Option<SoughtIdentifiers>, AllocError>,
-) -> bool
-    ensures { sought.now ≡ Ok None → result ≡ false }
-{
-    match sought {
-        Ok(Some(sought)) => tells_each(rt, sought),
-        Ok(None) => false,
-        Err(_) => {
-            let _ = eprintln!(rt;
-                "pairtree2ocfl: it is not known of which identifiers no object was met"
-            );
-            true
+impl SoughtList {
+    /// That of a share, before it is carried or compared.
+    pub(crate) fn of(share: &Share) -> SoughtList
+        ensures { IsSome share.now.list ⊎ (result ≡ Nothing) }
+    {
+        match share.sought_identifiers() {
+            Ok(Some(sought)) => SoughtList::Identifiers(sought),
+            Ok(None) => SoughtList::Nothing,
+            Err(_) => SoughtList::Unknown,
+        }
+    }
+
+    /// The status of a run or an audit that ended with this one: 1 in place of 0, where it ended
+    /// well and no object was met of an identifier of its list. Standard error is told of each.
+    pub(crate) fn end<R: Eprint + AllocGlobal>(&self, rt: &R, status: u8) -> u8
+        ensures none { self.now ≡ Nothing → result ≡ status }
+        ensures some { (result ≡ status) ⊎ ((status ≡ 0) × (result ≡ 1)) }
+    {
+        if status != DONE && status != INCOMPLETE {
+            return status;
+        }
+        if self.tells_unmet(rt) && status == DONE {
+            return INCOMPLETE;
+        }
+        status
+    }
+
+    // Tells of the identifiers of which no object was met, and whether there are some. Where that
+    // can't be known it is told, as if there were.
+    fn tells_unmet<R: Eprint + AllocGlobal>(&self, rt: &R) -> bool
+        ensures { self.now ≡ Nothing → result ≡ false }
+    {
+        match self {
+            SoughtList::Identifiers(sought) => tells_each(rt, sought),
+            SoughtList::Nothing => false,
+            SoughtList::Unknown => {
+                let _ = eprintln!(rt;
+                    "pairtree2ocfl: it is not known of which identifiers no object was met"
+                );
+                true
+            }
         }
     }
 }

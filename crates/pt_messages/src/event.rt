@@ -4,7 +4,7 @@
 use crate::counted::LineCounts;
 use crate::members::Members;
 use crate::reads::Reads;
-use crate::reason::FaultReason;
+use crate::reason::Explanation;
 use crate::watch::Words;
 use jiff::Timestamp;
 use pt_move::Fault;
@@ -37,17 +37,16 @@ pub struct Outcome {
     words: Words,
     counts: LineCounts,
     fault: Option<Fault>,
-    why: Result<Option<FaultReason>, AllocError>,
+    why: Explanation,
 }
 
 impl Outcome {
-    /// It put so many lines, and ended with this fault, if with any; why that came is given where
-    /// it has a path, and is an error where a growth was refused for it.
+    /// It put so many lines, and ended with this fault, if with any, and so much is known of why.
     pub fn new(
         words: Words,
         counts: LineCounts,
         fault: Option<&Fault>,
-        why: Result<Option<FaultReason>, AllocError>,
+        why: Explanation,
     ) -> Outcome {
         Outcome {
             words,
@@ -59,7 +58,7 @@ impl Outcome {
 
     /// No line was put, for this fault.
     pub fn of_fault(words: Words, fault: &Fault) -> Outcome {
-        Outcome::new(words, LineCounts::none(), Some(fault), Ok(None))
+        Outcome::new(words, LineCounts::none(), Some(fault), Explanation::Nothing)
     }
 }
 
@@ -131,21 +130,14 @@ impl Outcome {
         let mut told = Members::new(alloc);
         told.put_number("number", u64::from(fault.number()))?;
         let text = fault.to_string(alloc)?;
-        told.put_text("text", self.text_of(fault, text.as_str()))?;
+        let text = self.words.text_of(fault).unwrap_or(text.as_str());
+        told.put_text("text", text)?;
         match &self.why {
-            Ok(Some(why)) => why.put_into(&mut told)?,
-            Ok(None) => {}
-            Err(error) => return Err(*error),
+            Explanation::Known(reason) => reason.put_into(&mut told)?,
+            Explanation::Nothing => {}
+            Explanation::NoMemory => return Err(AllocError),
         }
         Ok(told)
-    }
-
-    // The text of a fault, which is this of a run: an audit only reads its destination.
-    fn text_of<'a>(&self, fault: &Fault, text: &'a str) -> &'a str {
-        match (self.words, fault) {
-            (Words::Audit | Words::BothWays, Fault::Dest) => "cannot read the destination",
-            _ => text,
-        }
     }
 }
 

@@ -40,7 +40,7 @@ pub use event::{Event, Outcome, VERSION};
 pub use expected::lines_expected;
 pub use members::Members;
 pub use reads::Reads;
-pub use reason::FaultReason;
+pub use reason::{Explanation, FaultReason, LastCalls};
 pub use shown::escape;
 pub use tally::Tally;
 pub use terminal::Terminals;

@@ -1,4 +1,4 @@
-//! Why a run failed, in a line of its own: the path of the call that failed, and the system's text,
+//! Explanation a run failed, in a line of its own: the path of the call that failed, and the system's text,
 //! or the program's where no call failed.
 use crate::members::Members;
 use crate::reads::Reads;
@@ -19,12 +19,60 @@ const NO_PREFIX: &str =
 
 const CHANGED: &str = "it was not the same at its second reading";
 
-/// Why a run or an audit failed: the path of the call that failed or of what was found, and the
+/// Explanation a run or an audit failed: the path of the call that failed or of what was found, and the
 /// reason.
 #[derive(Drop)]
 pub struct FaultReason {
     path: String,
     reason: String,
+}
+
+/// What is known of why a run or an audit ended.
+#[derive(Drop)]
+pub enum Explanation {
+    /// Nothing that has a path: no fault ended it, or the fault's own text says all.
+    Nothing,
+    /// This.
+    Known(FaultReason),
+    /// There was no memory for it: a growth was refused.
+    NoMemory,
+}
+
+impl Explanation {
+    // What such an answer explains.
+    fn of(found: Result<Option<FaultReason>, AllocError>) -> Explanation {
+        match found {
+            Ok(Some(reason)) => Explanation::Known(reason),
+            Ok(None) => Explanation::Nothing,
+            Err(_) => Explanation::NoMemory,
+        }
+    }
+}
+
+/// What a destination's folder tells of the calls on it: the last that failed, and the path that
+/// was looked at last.
+#[derive(Clone, Copy)]
+pub struct LastCalls<'a> {
+    failure: Option<&'a Failure>,
+    looked_path: &'a str,
+}
+
+impl<'a> LastCalls<'a> {
+    /// Those on the destination of a run.
+    pub fn of_dest<D: System>(dest: &'a HostDest<'_, D>) -> LastCalls<'a> {
+        LastCalls {
+            failure: dest.last_failure(),
+            looked_path: dest.looked_path(),
+        }
+    }
+
+    /// Those on the root of an audit.
+    pub fn of_root<D: System>(root: &'a HostSource<'_, D>) -> LastCalls<'a> {
+        LastCalls {
+            failure: root.last_failure(),
+            looked_path: root.looked_path(),
+        }
+    }
 }
 
 impl FaultReason {
@@ -55,44 +103,27 @@ impl FaultReason {
     }
 }
 
-/// Why a run over these folders ended with a fault, where that has a path. An error where a growth
-/// was refused.
-pub fn of_run<R: Reads + AllocGlobal, S: System, D: System>(
+/// Explanation a run or an audit over these folders ended with a fault, where that has a path: its source,
+/// at this path, and what its destination tells. `NoMemory` where a growth was refused.
+pub fn of_fault<R: Reads + AllocGlobal, S: System>(
     rt: &R,
     fault: &Fault,
     source: &HostSource<'_, S>,
-    dest: &HostDest<'_, D>,
     store: &str,
-) -> Result<Option<FaultReason>, AllocError> {
-    match fault {
-        Fault::Dest => of_failure(rt.alloc(), dest.last_failure()),
-        Fault::StagingLeft => FaultReason::at(
-            rt.alloc(),
-            dest.looked_path(),
-            &"it stands there already",
-        ),
-        Fault::Target => FaultReason::at(rt.alloc(), dest.looked_path(), &ANOTHER_ROOT),
+    dest: LastCalls<'_>,
+) -> Explanation {
+    let alloc = rt.alloc();
+    Explanation::of(match fault {
+        Fault::Dest => of_failure(alloc, dest.failure),
+        Fault::StagingLeft => {
+            FaultReason::at(alloc, dest.looked_path, &"it stands there already")
+        }
+        Fault::Target => FaultReason::at(alloc, dest.looked_path, &ANOTHER_ROOT),
         _ => of_source(rt, fault, source, store),
-    }
+    })
 }
 
-/// Why an audit of the root in a folder ended with a fault, where that has a path. An error where a
-/// growth was refused.
-pub fn of_audit<R: Reads + AllocGlobal, S: System, D: System>(
-    rt: &R,
-    fault: &Fault,
-    source: &HostSource<'_, S>,
-    root: &HostSource<'_, D>,
-    store: &str,
-) -> Result<Option<FaultReason>, AllocError> {
-    match fault {
-        Fault::Dest => of_failure(rt.alloc(), root.last_failure()),
-        Fault::Target => FaultReason::at(rt.alloc(), root.looked_path(), &ANOTHER_ROOT),
-        _ => of_source(rt, fault, source, store),
-    }
-}
-
-// Why a fault of the source ended a run or an audit, where that has a path.
+// Explanation a fault of the source ended a run or an audit, where that has a path.
 fn of_source<R: Reads + AllocGlobal, S: System>(
     rt: &R,
     fault: &Fault,
@@ -114,7 +145,7 @@ fn of_source<R: Reads + AllocGlobal, S: System>(
     }
 }
 
-// Why a folder is no store; where it is the `pairtree_root` of one, which folder that is.
+// Explanation a folder is no store; where it is the `pairtree_root` of one, which folder that is.
 fn of_no_store<R: Reads + AllocGlobal>(
     rt: &R,
     store: &str,
@@ -128,7 +159,7 @@ fn of_no_store<R: Reads + AllocGlobal>(
     FaultReason::at(alloc, store, &reason)
 }
 
-// Why a call failed.
+// Explanation a call failed.
 fn of_failure(alloc: Global, failure: Option<&Failure>) -> Result<Option<FaultReason>, AllocError> {
     match failure {
         Some(failure) => FaultReason::at(alloc, failure.path(), &failure.cause()),

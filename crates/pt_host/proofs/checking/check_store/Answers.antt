@@ -5,7 +5,7 @@ returns g c = (
   c.lend-host_io.result,
   c.lend-host_io.new.self,
   c.lend-host_io.ensures,
-  c.check-status.result.host_io,
-  c.check-status.ensures,
+  c.check_over-host_io.result.0,
+  c.check_over-host_io.ensures,
   c.take_back.ensures,
 )

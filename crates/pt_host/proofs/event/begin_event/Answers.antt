@@ -1,4 +1,4 @@
-use Rattle.std.proofs.Common.{◌≡◌, ℕ, List, Ok, ap}
+use Rattle.std.proofs.Common.{◌≡◌, ◌∙◌, ℕ, List, Ok, ap, sym}
 use Rattle.std.specs.Prelude.{option_map}
 use Rattle.pt_host.proofs.Recorded.{begun_event}
 use Rattle.pt_host.specs.Machine.{MachineWords, host_io_words}
@@ -22,7 +22,8 @@ returns g c =
       read = host_io_words g.H.Store.System.forest g.H.Folder.System.forest g.H.Output.Write.contents;
       serves = Serves g.H.Folder.System g.H.Folder.File.Handle g.H.Folder.File.Input g.H.Folder.Dir.Input;
     } in
-    begun_event words (c.args.folders.store.now, c.args.folders.folder.now) (option_map (λ p. p.now) c.args.path) c.in-Some.path.now c.in_ok-file.file
-    c.paths.result.file.now c.paths.result.part.now c.args.host.now c.make.new.host
-    (ap (option_map (λ p. p.now)) c.in-Some.is) c.in_ok-file.ensures.path c.in_ok-file.ensures.part c.paths.ensures.file c.paths.ensures.part
+    begun_event words (c.args.folders.store.now, c.args.folders.folder.now) (g.O.Operation.feedback_of c.args.operation.now).event c.in-Some.path.now
+    c.in_ok-file.file c.paths.result.file.now c.paths.result.part.now c.args.host.now c.make.new.host
+    (sym (c.event.ensures ∙ ap (λ f. f.event) c.feedback.ensures) ∙ ap (option_map (λ p. p.now)) c.in-Some.is)
+    c.in_ok-file.ensures.path c.in_ok-file.ensures.part c.paths.ensures.file c.paths.ensures.part
     c.in_ok-make.ensures

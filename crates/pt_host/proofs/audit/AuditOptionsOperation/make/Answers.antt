@@ -1,0 +1,14 @@
+use Rattle.std.proofs.Common.{subst}
+use Rattle.pt_messages.specs.Expected.{AsksEnd}
+use Rattle.pt_host.proofs.audit.AuditOptionsOperation.make.Goals as goal
+
+pub returns : goal.returns
+returns g c = (
+  subst (AsksEnd g.R.Reads.ends c.args.rt.now) c.expected_log.ensures c.lines_expected-expected.ensures,
+  c.lend-host_io.result,
+  c.lend-host_io.new.self,
+  c.lend-host_io.ensures,
+  c.audit_over-host_io.result.0,
+  c.audit_over-host_io.ensures,
+  c.take_back.ensures,
+)

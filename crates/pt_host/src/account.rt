@@ -1,0 +1,114 @@
+//! What is told of a run or an audit beside its log, from its beginning to its end: how far it is,
+//! how much was left out, its summary, which fault ended it and why, and what its event records.
+ghost use Rattle.std.specs.Prelude.{◌≡◌};
+
+use crate::Feedback;
+use crate::folders::Folders;
+use crate::saying::tell_fault_of;
+use pt_folder::{HostSource, System};
+use pt_messages::{
+    CountedLog, Explanation, LastCalls, Outcome, Reads, Tally, Terminals, Watch, Watching, reason,
+};
+use pt_move::Fault;
+use pt_tree::{Ignored, Ignoring, Log, Watched};
+use std::alloc::AllocGlobal;
+use std::rt::Clock;
+
+/// How a run or an audit is watched and told of.
+#[derive(Clone, Copy)]
+pub(crate) struct Account<'a> {
+    watching: Watching,
+    records: bool,
+    ignores: bool,
+    folders: Folders<'a>,
+}
+
+/// The store of a run or an audit without the entries that are left out, and its log, while both
+/// are watched.
+pub(crate) type WatchedIo<'w, 'a, R, S, L> = (
+    Watched<Ignoring<HostSource<'a, S>>, Watch<'w, R>>,
+    CountedLog<L>,
+);
+
+impl<'a> Account<'a> {
+    /// That of what has this feedback, where it is between these folders and leaves out the entries
+    /// of these names.
+    pub fn new(
+        watching: Watching,
+        feedback: &Feedback,
+        ignored: &Ignored,
+        folders: Folders<'a>,
+    ) -> Account<'a> {
+        Account {
+            watching,
+            records: feedback.event.is_some(),
+            ignores: !ignored.names().is_empty(),
+            folders,
+        }
+    }
+
+    /// Watches a source and a log: the lines are counted where a summary or an event is wanted.
+    pub fn watch<'w, R, S: System, L: Log>(
+        self,
+        rt: &'w R,
+        tally: &'w Tally,
+        source: Ignoring<HostSource<'a, S>>,
+        log: L,
+    ) -> WatchedIo<'w, 'a, R, S, L>
+    where
+        R: Reads + Clock + Eprint + AllocGlobal + Terminals,
+        ensures source { result.0.source ≡ source.entry }
+        ensures log { result.1.log ≡ log }
+    {
+        let watch = Watch::new(rt, rt.alloc(), tally, self.watching);
+        let log = CountedLog::new(log, watch.sums() | self.records);
+        (Watched::new(source, watch), log)
+    }
+
+    /// Tells how it ended, by this fault if by any, and gives the source with all its entries, the
+    /// log, and what is recorded of the end.
+    pub fn close<R, S: System, L: Log>(
+        self,
+        rt: &R,
+        io: WatchedIo<'_, 'a, R, S, L>,
+        fault: Option<&Fault>,
+        dest: LastCalls<'_>,
+    ) -> (HostSource<'a, S>, L, Outcome)
+    where
+        R: Reads + Clock + Eprint + AllocGlobal + Terminals,
+        ensures source { result.0 ≡ io.entry.0.source.source }
+        ensures log { result.1 ≡ io.entry.1.log }
+    {
+        let (source, log) = io;
+        source.watcher().end(log.counts_if(fault.is_none()));
+        let ignoring = source.into_source();
+        let tells = self.watching.verbose & self.ignores;
+        reason::tell_left_out(rt, tells, ignoring.left_out());
+        let source = ignoring.into_source();
+        let why = self.tell_end(rt, fault, &source, dest);
+        let outcome = Outcome::new(self.watching.words, log.counts(), fault, why);
+        (source, log.into_log(), outcome)
+    }
+
+    // Says which fault ended it, if one did, and why, if that is asked for or is at the top of a
+    // folder; and gives why. `NoMemory` where a growth was refused: then only the fault is said.
+    fn tell_end<R: Reads + Eprint + AllocGlobal, S: System>(
+        self,
+        rt: &R,
+        fault: Option<&Fault>,
+        source: &HostSource<'_, S>,
+        dest: LastCalls<'_>,
+    ) -> Explanation {
+        let Some(fault) = fault else {
+            return Explanation::Nothing;
+        };
+        tell_fault_of(rt, self.watching.words, fault);
+        let why = reason::of_fault(rt, fault, source, self.folders.store, dest);
+        if let Explanation::Known(reason) = &why
+            && (self.watching.verbose || self.folders.have_at_top(fault, reason))
+        {
+            reason::tell(rt, reason);
+        }
+        why
+    }
+}

@@ -1,0 +1,98 @@
+//! An audit of the root in a folder against a store, on a machine: the guard, with a lock that
+//! others may share, the audit over what the machine lends, which is given back, and the lock
+//! (`Audits`).
+ghost use Rattle.pt_messages.specs.Expected.{AsksEnd};
+ghost use Rattle.pt_host.specs.Audits.{Audits, Compares, audit_call};
+
+use crate::auditing::audit_over;
+use crate::devices::DeviceParts;
+use crate::folders::Folders;
+use crate::guarded::make_guarded;
+use crate::operation::{Conclusion, Operation};
+use crate::recorded_options::options_of_audit;
+use crate::{AuditOptions, Feedback, Host, Machine};
+use pt_guard::Claim;
+use pt_messages::{Members, Reads, Terminals, lines_expected};
+use pt_move::Job;
+use std::alloc::{AllocError, AllocGlobal, Global};
+use std::rt::Clock;
+
+/// Holds the root in a destination against a store on a machine, and gives the exit status: 0 each
+/// object stands as a run makes it, and, where extras are told too, the log has no line of these; 1
+/// the log has lines that tell of others, or no object was met of an identifier of the list; 2 the
+/// folders lie in one another, or it isn't known where, or the destination is a storage root
+/// itself; 3 a fault, or a run holds the destination. Standard error tells of 2 and 3, and of these
+/// identifiers.
+///
+/// The guard is asked first, and for a lock that other audits may share. Where the audit may begin
+/// it is made over what the machine lends, which is given back then; and at last the lock is given
+/// back. Where it ends well the output has got its log, of both folders as their systems keep them.
+/// Nothing is made or changed in either folder. Where a file is named for its event, that is made
+/// and replaced as of a run.
+///
+/// Skip lines count as others, unless the options say that they are well. The log that is expected
+/// to be as long may be one of a rehearsal, a run or an audit.
+pub fn audit_guarded<R, H: Host>(
+    rt: &R,
+    host: &mut H,
+    options: AuditOptions,
+    source: &str,
+    dest: &str,
+) -> u8
+where
+    R: Reads + Clock + Eprint + AllocGlobal + Terminals,
+    ensures { Audits ⟦<H as Machine>⟧.words (AsksEnd R.ends rt.now)
+        (audit_call options source.now dest.now) host.old host.new result }
+{
+    let folders = Folders {
+        store: source,
+        folder: dest,
+    };
+    make_guarded(rt, host, options, folders)
+}
+
+impl Operation for AuditOptions {
+    ghost use Rattle.pt_guard.specs.declared.places.Claim.TheVariants.{Shared};
+
+    ghost claims = { Shared };
+
+    ghost job_of = { λ options. options.job };
+
+    ghost feedback_of = { λ options. options.feedback };
+
+    ghost makes = { λ words asks folders options hosts.
+        Compares words asks (audit_call options folders.0 folders.1) hosts.0 hosts.1 };
+
+    fn claim(&self) -> Claim {
+        Claim::Shared
+    }
+
+    fn job(&self) -> &Job {
+        &self.job
+    }
+
+    fn feedback(&self) -> &Feedback {
+        &self.feedback
+    }
+
+    fn word(&self) -> &'static str {
+        "audit"
+    }
+
+    fn members(&self, alloc: Global) -> Result<Members, AllocError> {
+        options_of_audit(alloc, self)
+    }
+
+    fn make<R, H: Host>(self, rt: &R, host: &mut H, folders: Folders<'_>) -> Conclusion
+    where
+        R: Reads + Clock + Eprint + AllocGlobal + Terminals,
+    {
+        let expected = lines_expected(rt, self.feedback.expected_log());
+        let host_io = host.lend();
+        let file: Option<H::File> = None;
+        let parts = DeviceParts { host_io, file };
+        let (host_io, conclusion) = audit_over(rt, parts, self, expected, folders);
+        host.take_back(host_io);
+        conclusion
+    }
+}

@@ -1,0 +1,94 @@
+//! An audit over what a machine lends, and what it came to.
+//!
+//! Where it ends well the output has got its log, of the trees that both systems keep, and after a
+//! fault a front of it. After any answer both systems keep the same trees, what stood in the output
+//! stands, a refusal is true of the store and of the root, and the status follows from the answer
+//! (`AuditsOver`). Where that was asked for, what was passed over counts as well (`others`).
+ghost use Rattle.std.specs.Prelude.{◌≡◌};
+ghost use Rattle.pt_host.specs.Audits.{AuditsOver, audit_call, audit_status};
+ghost use Rattle.pt_host.specs.Machine.{host_io_words};
+
+use crate::account::Account;
+use crate::devices::{AuditSides, DeviceParts, open_sides};
+use crate::durable_log::SyncsOutput;
+use crate::explaining::LastFailure;
+use crate::folders::Folders;
+use crate::operation::Conclusion;
+use crate::status::{DONE, FAILED, INCOMPLETE};
+use crate::{AuditOptions, HostIo};
+use pt_extra::{AuditCounts, AuditEnd, ExtraDevices, audit};
+use pt_folder::System;
+use pt_messages::{LastCalls, Reads, Tally, Terminals, Words};
+use pt_move::Fault;
+use std::alloc::AllocGlobal;
+use std::io::Write;
+use std::rt::Clock;
+
+/// Holds the root in a folder against a store over what a machine lends, watched as its options
+/// say, and tells standard error of a fault. Gives back what was lent, and how the audit ended.
+/// `expected` is how many lines its log may come to, where that is known, and `folders` has the
+/// paths.
+pub(crate) fn audit_over<R, S: System, D: System, W: Write, F: SyncsOutput<W> + Drop>(
+    rt: &R,
+    parts: DeviceParts<S, D, W, F>,
+    options: AuditOptions,
+    expected: Option<u64>,
+    folders: Folders<'_>,
+) -> (HostIo<S, D, W>, Conclusion)
+where
+    R: Reads + Clock + Eprint + AllocGlobal + Terminals,
+    ensures { AuditsOver (host_io_words S.forest D.forest W.contents)
+        (audit_call options folders.entry.store.now folders.entry.folder.now)
+        parts.host_io result.0 result.1.status }
+{
+    let alloc = rt.alloc();
+    let tally = Tally::new();
+    let watching = options.feedback.watching(words_of(options.extra), expected);
+    let account = Account::new(watching, &options.feedback, &options.ignored, folders);
+    let AuditSides { source, root, log } = open_sides(alloc, parts, options.ignored, folders);
+    let (store, log) = account.watch(rt, &tally, source, log);
+    let devices = ExtraDevices {
+        store,
+        root,
+        log,
+        explains: LastFailure,
+    };
+    let AuditEnd { ran, devices } = audit(alloc, devices, options.job, options.extra, &tally);
+    let ExtraDevices {
+        store,
+        root,
+        log,
+        ..
+    } = devices;
+    let calls = LastCalls::of_root(&root);
+    let (source, log, outcome) = account.close(rt, (store, log), ran.as_ref().err(), calls);
+    let status = status_of(&ran, options.skips_ok);
+    let host_io = HostIo {
+        store: source.into_system(),
+        folder: root.into_system(),
+        output: log.into_writer(),
+    };
+    (host_io, Conclusion { status, outcome })
+}
+
+// Which lines its log has.
+fn words_of(with_extras: bool) -> Words {
+    if with_extras {
+        Words::BothWays
+    } else {
+        Words::Audit
+    }
+}
+
+// The exit status of an audit, whose skip lines are well or not.
+fn status_of(ran: &Result<AuditCounts, Fault>, skips_ok: bool) -> u8
+    ensures { result ≡ audit_status skips_ok ran.now }
+{
+    match ran {
+        Ok(told) if told.counts.absent > 0 || told.counts.differs > 0 => INCOMPLETE,
+        Ok(told) if told.numbers.extra > 0 || told.numbers.stray > 0 => INCOMPLETE,
+        Ok(told) if told.counts.skipped > 0 && !skips_ok => INCOMPLETE,
+        Ok(_) => DONE,
+        Err(_) => FAILED,
+    }
+}

@@ -1,0 +1,70 @@
+//! What is made on a machine between a store and a destination: a run, or an audit.
+//!
+//! Each says which lock it wants, what its event records, and what making it comes to; how it is
+//! guarded, recorded and held against a list is the same for both (guarded.rt).
+ghost use Rattle.std.specs.Prelude.{◌≡◌, ℕ, List, Option};
+ghost use Rattle.pt_guard.specs.declared.places.Claim.{Claim};
+ghost use Rattle.pt_messages.specs.Expected.{AsksEnd};
+ghost use Rattle.pt_state.specs.declared.job.Job.{Job};
+ghost use Rattle.pt_host.specs.Machine.{MachineWords};
+ghost use Rattle.pt_host.specs.declared.options.Feedback.{Feedback};
+
+use crate::folders::Folders;
+use crate::{Feedback, Host, Machine};
+use pt_guard::Claim;
+use pt_messages::{Members, Outcome, Reads, Terminals};
+use pt_move::Job;
+use std::alloc::{AllocError, AllocGlobal, Global};
+use std::rt::Clock;
+
+/// How a run or an audit ended: its exit status, and what its event records of that.
+#[derive(Drop)]
+pub(crate) struct Conclusion {
+    pub status: u8,
+    pub outcome: Outcome,
+}
+
+/// A run or an audit that is asked for, by all that its options say.
+pub(crate) trait Operation {
+    /// The lock that it asks for.
+    ghost claims: { Claim };
+
+    /// Which objects there are, and where they lie.
+    ghost job_of: { Self → Job };
+
+    /// What is told of it beside its log.
+    ghost feedback_of: { Self → Feedback };
+
+    /// Making it between these two folders takes a machine, by its words, from one state to
+    /// another, which are a pair, and ends with this status. The log that is expected to be as long
+    /// is asked for its end.
+    ghost makes: { {H : Type 0} → MachineWords H → (Option (List ℕ) → Type 0)
+        → List ℕ × List ℕ → Self → H × H → ℕ → Type 0 };
+
+    /// The lock that it asks for.
+    fn claim(&self) -> Claim
+        ensures { result ≡ claims };
+
+    /// Which objects there are, and where they lie.
+    fn job(&self) -> &Job
+        ensures { result.now ≡ job_of self.now };
+
+    /// What is told of it beside its log.
+    fn feedback(&self) -> &Feedback
+        ensures { result.now ≡ feedback_of self.now };
+
+    /// What is done, in a word: `run`, `rehearsal` or `audit`.
+    fn word(&self) -> &'static str;
+
+    /// Every option by its name, with what it says or means where it isn't given; one that has
+    /// nothing to say is left out. An error where a growth was refused.
+    fn members(&self, alloc: Global) -> Result<Members, AllocError>;
+
+    /// Makes it over what the machine lends, which is given back, and says how it ended.
+    fn make<R, H: Host>(self, rt: &R, host: &mut H, folders: Folders<'_>) -> Conclusion
+    where
+        R: Reads + Clock + Eprint + AllocGlobal + Terminals,
+        ensures { makes ⟦<H as Machine>⟧.words (AsksEnd R.ends rt.now)
+            (folders.entry.store.now, folders.entry.folder.now) self (host.old, host.new)
+            result.status };
+}
