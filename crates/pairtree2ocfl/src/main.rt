@@ -8,7 +8,7 @@
 //! one call, and the only function that has the runtime whole, so what else it might do people
 //! read. So it is with the runtime's instances of a machine (host.rt of pt_host; places.rt of
 //! pt_guard), of what is read beside a run (reads.rt of pt_messages) and of the words and the input
-//! (started.rt and input.rt of pt_cli), which pass each call on in a few lines.
+//! (invocation.rt and input.rt of pt_cli), which pass each call on in a few lines.
 #![tactic(auto)]
 
 use std::process::ExitCode;

@@ -9,7 +9,7 @@ use Rattle.clap.specs.Simple.{on_top}
 use Rattle.clap.specs.declared.builder.arg.Arg.{Arg}
 use Rattle.clap.specs.declared.builder.command.Command.{Command}
 use Rattle.clap.specs.declared.builder.command.Command.TheViews.{out-Command}
-use Rattle.pt_cli.specs.ArgSpec.{IsLocal, TakesToo, rule_of_taken, with_rules}
+use Rattle.pt_cli.specs.ArgSpec.{IsLocal, TakesToo, rule_of_spec, with_rules}
 use Rattle.pt_cli.specs.declared.grammar.ArgSpec.{ArgSpec}
 
 -- the parser takes these words, and has no argument that its subcommands take too
@@ -25,13 +25,13 @@ behind : (app : App) (rules : List Rule) (rule : Rule) → with_rule (with_rules
 behind app rules rule = ap (λ (l : List Rule). on_top (λ s. record s { rules = l }) app) (append_assoc app.top.rules rules (rule ∷ []))
 
 -- one more of the arguments that a command takes
-pub one_more : (first old new : Command) (arg : Arg) (takes : List ArgSpec) (i : ℕ) (d : ArgSpec) → i < length takes
-    → TakesToo (map rule_of_taken (take i takes)) first old → IsLocal (rule_of_taken (get_or takes i d)) arg → AddsArg old arg new
-    → TakesToo (map rule_of_taken (take (i + 1) takes)) first new
-one_more first old new arg takes i d here so_far is adds =
-    let rules : map rule_of_taken (take (i + 1) takes) ≡ map rule_of_taken (take i takes) ++ rule_of_taken (get_or takes i d) ∷ [] =
-    ap (map rule_of_taken) (take_more takes i d here) ∙ map-append rule_of_taken (take i takes) (get_or takes i d ∷ []) in (
-      adds.shape is.1 ∙ ap₂ with_rule so_far.0 is.0 ∙ behind (app_of first) (map rule_of_taken (take i takes)) (rule_of_taken (get_or takes i d))
+pub one_more : (first old new : Command) (arg : Arg) (specs : List ArgSpec) (i : ℕ) (d : ArgSpec) → i < length specs
+    → TakesToo (map rule_of_spec (take i specs)) first old → IsLocal (rule_of_spec (get_or specs i d)) arg → AddsArg old arg new
+    → TakesToo (map rule_of_spec (take (i + 1) specs)) first new
+one_more first old new arg specs i d here so_far is adds =
+    let rules : map rule_of_spec (take (i + 1) specs) ≡ map rule_of_spec (take i specs) ++ rule_of_spec (get_or specs i d) ∷ [] =
+    ap (map rule_of_spec) (take_more specs i d here) ∙ map-append rule_of_spec (take i specs) (get_or specs i d ∷ []) in (
+      adds.shape is.1 ∙ ap₂ with_rule so_far.0 is.0 ∙ behind (app_of first) (map rule_of_spec (take i specs)) (rule_of_spec (get_or specs i d))
           ∙ ap (λ (l : List Rule). with_rules l (app_of first)) (sym rules),
       adds.globals ∙ ap₂ ◌||◌ so_far.1 is.1 ∙ or-false (out-Command first).has_globals,
     )

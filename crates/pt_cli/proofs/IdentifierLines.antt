@@ -63,7 +63,7 @@ use Rattle.pt_cli.specs.Listing.{
   read_from,
   texts_of,
 }
-use Rattle.pt_cli.specs.NameList.{lines_from, next_number}
+use Rattle.pt_cli.specs.Lines.{lines_from, next_number}
 use Rattle.pt_cli.specs.declared.list_fault.BadLine.{BadLine}
 use Rattle.pt_cli.specs.declared.list_fault.FileFault.{FileFault}
 use Rattle.pt_cli.specs.declared.list_fault.FileFault.TheVariants as file

@@ -1,7 +1,6 @@
 -- What an input comes to, as it is read byte by byte.
 use Rattle.std.proofs.Common.{
   ◌≡◌,
-  ◌≢◌,
   ◌∙◌,
   ◌+◌,
   ◌-◌,
@@ -30,8 +29,6 @@ use Rattle.std.proofs.Common.{
   append-nil,
   subst,
   arith,
-  zero,
-  suc,
   length-append,
   length-take,
   get_or,
@@ -45,7 +42,8 @@ use Rattle.std.proofs.lemmas.List.Sums.{fold_more}
 use Rattle.std.proofs.lemmas.List.{take_all}
 use Rattle.std.specs.Result.{IsErrAnd}
 use Rattle.pt_cli.specs.Feeding.{Fed, IsFed, Stopped, ended, ended_by, fed, fed_byte, fed_step, finished, longer, stopped_by}
-use Rattle.pt_cli.specs.NameList.{NamesListed, line_fault, lines_from, listed_before, listed_from, next_number, names_line, whole_lines_from}
+use Rattle.pt_cli.specs.Lines.{line_fault, lines_from, next_number, whole_lines_from}
+use Rattle.pt_cli.specs.NameList.{NamesListed, listed_before, listed_from, names_line}
 use Rattle.pt_cli.specs.declared.command.NamesArgs.{NamesArgs}
 use Rattle.pt_cli.specs.declared.list_fault.LineFault.{LineFault}
 use Rattle.pt_cli.specs.declared.list_fault.LineFault.TheVariants.{Empty, NotUtf8, TooLong}

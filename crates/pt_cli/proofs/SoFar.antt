@@ -25,7 +25,6 @@ use Rattle.std.proofs.Common.{
   refl,
   sym,
   subst,
-  append_assoc,
   append-nil,
 }
 use Rattle.std.specs.Prelude.{◌==◌, cond}
@@ -35,7 +34,8 @@ use Rattle.std.proofs.KnownBytes.{Appends-kept, Appends-trans, Consumes-kept, Co
 use Rattle.std.proofs.lemmas.List.Sums.{fold-append}
 use Rattle.pt_tree.specs.Log.{AppendsFront}
 use Rattle.pt_cli.specs.Feeding.{Fed, IsPut, Stopped, ended, ended_by, fed, fed_step, finished, text_in}
-use Rattle.pt_cli.specs.NameList.{AppendsSome, AppendsWhole, AnswersSo, NamesListed, ListsNames, line_fault, listed_of, names_line, whole_of}
+use Rattle.pt_cli.specs.Lines.{line_fault}
+use Rattle.pt_cli.specs.NameList.{AppendsSome, AppendsWhole, AnswersSo, NamesListed, ListsNames, listed_of, names_line, whole_of}
 use Rattle.pt_cli.specs.declared.command.NamesArgs.{NamesArgs}
 use Rattle.pt_cli.specs.declared.list_fault.LineFault.{LineFault}
 use Rattle.pt_cli.specs.declared.list_fault.ListFault.{ListFault}

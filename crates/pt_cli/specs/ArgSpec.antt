@@ -50,9 +50,9 @@ formed_rule id (form.Word name words default) = word_rule id words default.now
 formed_rule id form.Flag = flag_rule id
 formed_rule id (form.Letter letter) = record (flag_rule id) { short = Some letter }
 
--- the rule of an argument that is taken
-abbrev pub rule_of_taken : ArgSpec → Rule
-rule_of_taken taken = formed_rule taken.id.now taken.form
+-- the rule of an argument by its row
+abbrev pub rule_of_spec : ArgSpec → Rule
+rule_of_spec spec = formed_rule spec.id.now spec.form
 
 -- the argument has this rule, and subcommands don't take it
 abbrev pub IsLocal : Rule → Arg → Type 0

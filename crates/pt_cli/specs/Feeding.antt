@@ -4,7 +4,8 @@ use Rattle.std.specs.List.{fold}
 use Rattle.std.specs.Io.BufRead.{strip_last}
 use Rattle.std.specs.Io.KnownBytes.{Appends, Keeps}
 use Rattle.pt_tree.specs.Log.{AppendsFront}
-use Rattle.pt_cli.specs.NameList.{line_fault, next_number, names_line}
+use Rattle.pt_cli.specs.Lines.{line_fault, next_number}
+use Rattle.pt_cli.specs.NameList.{names_line}
 use Rattle.pt_cli.specs.declared.command.NamesArgs.{NamesArgs}
 use Rattle.pt_cli.specs.declared.list_fault.BadLine.{BadLine}
 use Rattle.pt_cli.specs.declared.list_fault.LineFault.{LineFault}

@@ -5,6 +5,7 @@ pub mod Feeding
 pub mod Grammar
 pub mod Ignore
 pub mod Inputs
+pub mod Lines
 pub mod Listing
 pub mod NameList
 pub mod Names

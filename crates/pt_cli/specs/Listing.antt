@@ -11,18 +11,25 @@ use Rattle.pt_folder.specs.Runs.{GivesPiece, Reads}
 use Rattle.pt_name.specs.Share.{ListsAs, Portion, begins_with}
 use Rattle.pt_state.specs.declared.job.Job.{Job}
 use Rattle.pt_cli.specs.Inputs.{FileWords}
-use Rattle.pt_cli.specs.NameList.{line_fault, lines_from, next_number}
+use Rattle.pt_cli.specs.Lines.{line_fault, lines_from, next_number}
 use Rattle.pt_cli.specs.declared.list_fault.BadLine.{BadLine}
 use Rattle.pt_cli.specs.declared.list_fault.FileFault.{FileFault}
 use Rattle.pt_cli.specs.declared.list_fault.FileFault.TheVariants as file
 use Rattle.pt_cli.specs.declared.list_fault.LineFault.{LineFault}
 use Rattle.pt_cli.specs.declared.list_fault.LineFault.TheVariants.{ByteOrderMark}
+use Rattle.pt_cli.specs.declared.list_fault.LinesFault.{LinesFault}
+use Rattle.pt_cli.specs.declared.list_fault.LinesFault.TheVariants as lines
 
 -- the number of a reason why a file's identifiers can't be had
 abbrev pub file_number : FileFault → ℕ
 file_number (file.Line bad) = 1
 file_number (file.Read error) = 2
 file_number file.Memory = 3
+
+-- why a file's identifiers can't be had, where its lines aren't read on
+abbrev pub file_fault_of : LinesFault → FileFault
+file_fault_of (lines.Line bad) = file.Line bad
+file_fault_of lines.Memory = file.Memory
 
 -- what lines come to: their identifiers, or the first line that is none
 abbrev pub Identifiers : Type 0

@@ -1,25 +1,18 @@
 -- What `names -` makes of an input that has an identifier in each line.
-use Rattle.std.specs.Prelude.{ℕ, ◌+◌, ◌-◌, ◌^◌, ◌≡◌, ◌==◌, min, nat_lt, List, [], ◌∷◌, ◌++◌, length, Option, None, Some, Result, Ok, Err, if◌then◌else◌}
-use Rattle.std.specs.Io.BufRead.{strip_last}
+use Rattle.std.specs.Prelude.{ℕ, ◌≡◌, List, [], ◌∷◌, ◌++◌, Option, None, Some, Result, Ok, Err}
 use Rattle.std.specs.Io.KnownBytes.{Appends, Consumes, IsAtEnd}
-use Rattle.std.specs.Str.{is_utf8}
 use Rattle.pt_tree.specs.Log.{AppendsFront}
 use Rattle.pt_tree.specs.Path.{joined}
 use Rattle.pt_name.specs.Clean.{pairpath_of}
 use Rattle.pt_name.specs.Place.{place_of}
+use Rattle.pt_cli.specs.Lines.{line_fault, lines_from, next_number, whole_lines_from}
 use Rattle.pt_cli.specs.declared.command.NamesArgs.{NamesArgs}
 use Rattle.pt_cli.specs.declared.list_fault.BadLine.{BadLine}
 use Rattle.pt_cli.specs.declared.list_fault.LineFault.{LineFault}
-use Rattle.pt_cli.specs.declared.list_fault.LineFault.TheVariants as line
+use Rattle.pt_cli.specs.declared.list_fault.LinesFault.{LinesFault}
+use Rattle.pt_cli.specs.declared.list_fault.LinesFault.TheVariants as lines
 use Rattle.pt_cli.specs.declared.list_fault.ListFault.{ListFault}
 use Rattle.pt_cli.specs.declared.list_fault.ListFault.TheVariants as list
-
--- the number of a reason against a line
-abbrev pub line_fault_number : LineFault → ℕ
-line_fault_number line.TooLong = 1
-line_fault_number line.Empty = 2
-line_fault_number line.NotUtf8 = 3
-line_fault_number line.ByteOrderMark = 4
 
 -- the number of a refusal
 abbrev pub list_number : ListFault → ℕ
@@ -28,38 +21,19 @@ list_number list.Read = 2
 list_number list.Write = 3
 list_number list.Memory = 4
 
+-- the refusal of names where lines aren't read on
+abbrev pub list_fault_of : LinesFault → ListFault
+list_fault_of (lines.Line bad) = list.Line bad
+list_fault_of lines.Memory = list.Memory
+
 -- the pairpath of an identifier, a tab, and the place in a layout of a prefix with it behind, as a line
 abbrev pub names_line : NamesArgs → List ℕ → List ℕ
 names_line asked id = pairpath_of id ++ 9 ∷ joined (place_of asked.layout (asked.prefix ++ id)) ++ 10 ∷ []
-
--- why a line is no identifier, if it is none
-abbrev pub line_fault : List ℕ → Option LineFault
-line_fault id =
-    if nat_lt 65536 (length id) then Some line.TooLong
-    else if length id == 0 then Some line.Empty
-    else if is_utf8 id then None else Some line.NotUtf8
-
--- the lines of an input, of whose first this front was read before: a line ends with a LF, and neither that nor a CR right before it
--- is of the line; what stands behind the last LF is a line where it isn't empty
-abbrev pub lines_from : List ℕ → List ℕ → List (List ℕ)
-lines_from front [] = if length front == 0 then [] else front ∷ []
-lines_from front (b ∷ bs) =
-    if b == 10 then strip_last 13 front ∷ lines_from [] bs else lines_from (front ++ b ∷ []) bs
-
--- the same without what stands behind the last LF
-abbrev pub whole_lines_from : List ℕ → List ℕ → List (List ℕ)
-whole_lines_from front [] = []
-whole_lines_from front (b ∷ bs) =
-    if b == 10 then strip_last 13 front ∷ whole_lines_from [] bs else whole_lines_from (front ++ b ∷ []) bs
 
 -- what lines come to: the names of those before the first that is no identifier, and that one, if there is one
 pub record NamesListed : Type 0 where
   pub text : List ℕ
   pub bad : Option BadLine
-
--- the number of the line behind that of a number, as far as numbers of 64 bits go
-abbrev pub next_number : ℕ → ℕ
-next_number number = min (number + 1) (2 ^ 64 - 1)
 
 -- what a line comes to, by what is against it, before what comes behind it
 abbrev pub listed_before : NamesArgs → ℕ → List ℕ → Option LineFault → NamesListed → NamesListed

@@ -5,10 +5,12 @@ ghost use Rattle.pt_cli.specs.Options.{audit_in, audit_meta, audit_options_in};
 
 use crate::arguments::{is_set, text};
 use crate::faults::Unread;
-use crate::feedback_words::{feedback, path_of};
+use crate::feedback_words::feedback;
 use crate::ids::{EXTRA, LIST, SKIPS_OK};
 use crate::ignore_words::ignored_names;
-use crate::job_words::{folders, job, meta_of};
+use crate::job_words::job;
+use crate::meta_words::meta_of;
+use crate::path_words::{folders, path_of};
 use crate::{Audit, Command};
 use clap::ArgMatches;
 use pt_host::AuditOptions;

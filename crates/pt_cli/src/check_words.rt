@@ -5,10 +5,10 @@ ghost use Rattle.pt_cli.specs.Options.{check_in};
 
 use crate::arguments::{is_set, require, text};
 use crate::faults::Unread;
-use crate::feedback_words::path_of;
 use crate::ids::{INTO, READ, SOURCE};
 use crate::ignore_words::ignored_names;
-use crate::job_words::layout;
+use crate::layout_words::layout;
+use crate::path_words::path_of;
 use crate::{CheckArgs, Command, Text};
 use clap::ArgMatches;
 use pt_host::CheckOptions;

@@ -1,17 +1,16 @@
 //! The words that say what is told beside the log: `--verbose`, `--quiet`, `--progress`,
 //! `--interval`, `--expect` and `--event`.
-ghost use Rattle.std.specs.Prelude.{◌≡◌, IfOk, option_map};
+ghost use Rattle.std.specs.Prelude.{◌≡◌};
 ghost use Rattle.clap.specs.Words.{found_of, rows_of};
-ghost use Rattle.pt_cli.specs.Arguments.{ReadsAs, path_only, progress_in, progress_of};
+ghost use Rattle.pt_cli.specs.Arguments.{ReadsAs, progress_in, progress_of};
 ghost use Rattle.pt_cli.specs.Options.{feedback_in};
 
-use crate::Text;
 use crate::arguments::{is_set, number, require, text};
 use crate::faults::Unread;
 use crate::ids::{EVENT, EXPECT, INTERVAL, PROGRESS, QUIET, VERBOSE};
+use crate::path_words::{copy_of, path_of};
 use clap::ArgMatches;
 use pt_host::{Feedback, Progress};
-use pt_tree::MemoryFault;
 use std::alloc::Global;
 
 // What standard error is to show, and the file of the event: refused as `EmptyEvent`.
@@ -45,32 +44,5 @@ fn progress_by_word(word: &str) -> Option<Progress>
         "always" => Some(Progress::Always),
         "never" => Some(Progress::Never),
         _ => None,
-    }
-}
-
-// A copy of a path, where one is given: an empty one is refused so.
-pub(crate) fn path_of(
-    alloc: Global,
-    path: Option<&str>,
-    refusal: Unread,
-) -> Result<Option<Text>, Unread>
-    ensures { ReadsAs (path_only refusal (option_map (λ t. t.now) path.entry)) result }
-{
-    let Some(path) = path else {
-        return Ok(None);
-    };
-    if path.is_empty() {
-        return Err(refusal);
-    }
-    Ok(Some(Text::of(alloc, path)?))
-}
-
-// A copy of a text, where there is one.
-fn copy_of(alloc: Global, text: Option<&str>) -> Result<Option<Text>, MemoryFault>
-    ensures { IfOk result (λ copy. copy ≡ option_map (λ t. t.now) text.entry) }
-{
-    match text {
-        Some(text) => Ok(Some(Text::of(alloc, text)?)),
-        None => Ok(None),
     }
 }

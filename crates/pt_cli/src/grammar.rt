@@ -7,11 +7,11 @@ ghost use Rattle.pt_cli.specs.Grammar.{top_app};
 ghost use Rattle.pt_cli.specs.Grammar.{flag_rule, number_rule, option_rule};
 ghost use Rattle.pt_cli.specs.ArgSpec.{IsLocal, IsTaker, TakesToo, defaulted_rule, needed_rule};
 ghost use Rattle.pt_cli.specs.ArgSpec.{place_rule};
-ghost use Rattle.pt_cli.specs.ArgSpec.{repeated_rule, repeated_text_rule, rule_of_taken, word_rule};
+ghost use Rattle.pt_cli.specs.ArgSpec.{repeated_rule, repeated_text_rule, rule_of_spec, word_rule};
 
+use crate::arg_specs::{AUDIT_SPECS, CHECK_SPECS, MIGRATE_SPECS, NAMES_SPECS};
 use crate::help::{AUDIT_AND_STATUS, LOG_AND_STATUS, TROUBLES_AND_STATUS};
 use crate::ids::{AUDIT, CHECK, MIGRATE, NAMES};
-use crate::takes::{AUDIT_TAKES, CHECK_TAKES, MIGRATE_TAKES, NAMES_TAKES};
 use clap::builder::ValueParser;
 use clap::{Arg, ArgAction, Command as Parser, value_parser};
 use pt_host::VERSION;
@@ -56,10 +56,10 @@ pub(crate) fn takes_value(word: &str) -> bool {
     let Some(id) = word.strip_prefix("--") else {
         return false;
     };
-    for takes in [NAMES_TAKES, MIGRATE_TAKES, AUDIT_TAKES, CHECK_TAKES] {
-        for taken in takes {
-            if taken.id == id {
-                return taken.form.has_value();
+    for specs in [NAMES_SPECS, MIGRATE_SPECS, AUDIT_SPECS, CHECK_SPECS] {
+        for spec in specs {
+            if spec.id == id {
+                return spec.form.has_value();
             }
         }
     }
@@ -104,7 +104,7 @@ fn names_parser<'a>(alloc: Global) -> Result<Parser<'a>, AllocError>
     let parser = Parser::new(alloc, NAMES).about(
         "Prints the pairpath of an identifier and its place in a layout",
     );
-    with_taken(alloc, parser, NAMES_TAKES)
+    with_args(alloc, parser, NAMES_SPECS)
 }
 
 fn migrate_parser<'a>(alloc: Global) -> Result<Parser<'a>, AllocError>
@@ -112,7 +112,7 @@ fn migrate_parser<'a>(alloc: Global) -> Result<Parser<'a>, AllocError>
         × ((out-Command parser).has_globals ≡ false)) }
 {
     let about = "Carries a Pairtree store into an OCFL storage root";
-    with_help(alloc, MIGRATE, about, LOG_AND_STATUS, MIGRATE_TAKES)
+    with_help(alloc, MIGRATE, about, LOG_AND_STATUS, MIGRATE_SPECS)
 }
 
 fn audit_parser<'a>(alloc: Global) -> Result<Parser<'a>, AllocError>
@@ -120,7 +120,7 @@ fn audit_parser<'a>(alloc: Global) -> Result<Parser<'a>, AllocError>
         × ((out-Command parser).has_globals ≡ false)) }
 {
     let about = "Holds an OCFL storage root against the Pairtree store that it was made of";
-    with_help(alloc, AUDIT, about, AUDIT_AND_STATUS, AUDIT_TAKES)
+    with_help(alloc, AUDIT, about, AUDIT_AND_STATUS, AUDIT_SPECS)
 }
 
 fn check_parser<'a>(alloc: Global) -> Result<Parser<'a>, AllocError>
@@ -128,37 +128,37 @@ fn check_parser<'a>(alloc: Global) -> Result<Parser<'a>, AllocError>
         × ((out-Command parser).has_globals ≡ false)) }
 {
     let about = "Tells what in a Pairtree store would stop a run or surprise its owner";
-    with_help(alloc, CHECK, about, TROUBLES_AND_STATUS, CHECK_TAKES)
+    with_help(alloc, CHECK, about, TROUBLES_AND_STATUS, CHECK_SPECS)
 }
 
-// The parser of a command that takes these, with what its help says before them, and `--help` also
-// after them.
+// The parser of a command that takes these arguments, with what its help says before them, and
+// `--help` also after them.
 fn with_help<'a>(
     alloc: Global,
     name: &'a str,
     before: &'a str,
     after: &'a str,
-    takes: &[ArgSpec],
+    specs: &[ArgSpec],
 ) -> Result<Parser<'a>, AllocError>
-    ensures { IfOk result (IsTaker name.entry.now (map rule_of_taken takes.now)) }
+    ensures { IfOk result (IsTaker name.entry.now (map rule_of_spec specs.now)) }
 {
     let parser = Parser::new(alloc, name)
         .about(before)
         .after_long_help(after);
-    with_taken(alloc, parser, takes)
+    with_args(alloc, parser, specs)
 }
 
-// A parser that takes these too.
-fn with_taken<'a>(
+// A parser that takes these arguments too.
+fn with_args<'a>(
     alloc: Global,
     parser: Parser<'a>,
-    takes: &[ArgSpec],
+    specs: &[ArgSpec],
 ) -> Result<Parser<'a>, AllocError>
-    ensures { IfOk result (λ grown. TakesToo (map rule_of_taken takes.now) parser.entry grown) }
+    ensures { IfOk result (λ grown. TakesToo (map rule_of_spec specs.now) parser.entry grown) }
 {
     let mut grown = parser;
-    for taken in takes {
-        grown = grown.arg(taken.told(alloc))?;
+    for spec in specs {
+        grown = grown.arg(spec.told(alloc))?;
     }
     Ok(grown)
 }
@@ -173,7 +173,7 @@ impl Form {
 impl ArgSpec {
     // What the parser is told of it.
     fn told<'a>(&self, alloc: Global) -> Arg<'a>
-        ensures { IsLocal (rule_of_taken self.now) result }
+        ensures { IsLocal (rule_of_spec self.now) result }
     {
         let arg = self.arg(alloc).help(self.help);
         match self.more {
@@ -184,7 +184,7 @@ impl ArgSpec {
 
     // The same, but for its help.
     fn arg<'a>(&self, alloc: Global) -> Arg<'a>
-        ensures { IsLocal (rule_of_taken self.now) result }
+        ensures { IsLocal (rule_of_spec self.now) result }
     {
         match self.form {
             Form::Place => place(alloc, self.id),

@@ -5,13 +5,11 @@
 //! comes behind what was read; `Read` the error of a read (`ReadsIdentifiers`).
 #![tactic(auto, using(crate::proofs::IdentifierLines::lines))]
 
-ghost use Rattle.std.specs.Prelude.{◌≡◌, ◌∷◌, [], MatchResult, Err};
-ghost use Rattle.std.specs.Io.BufRead.{strip_last};
+ghost use Rattle.std.specs.Prelude.{◌≡◌, ◌∷◌, [], MatchResult};
 ghost use Rattle.pt_cli.specs.Listing.{EndsLine, ReadsIdentifiers, TakesBytes, TakesEnd};
 ghost use Rattle.pt_cli.specs.Listing.{listed_fault, texts_of};
-ghost use Rattle.pt_cli.specs.declared.list_fault.FileFault.TheVariants.{Line};
 
-use crate::name_list::{LONGEST, identifier_in};
+use crate::line_reader::LineReader;
 use crate::{BadLine, FileFault, LineFault};
 use pt_folder::Input;
 use pt_tree::BLOCK;
@@ -21,17 +19,15 @@ use std::marker::Model;
 // U+FEFF in UTF-8.
 const BYTE_ORDER_MARK: &[u8] = b"\xef\xbb\xbf";
 
-// Where the reading of lines stands: the number of the line at hand, what was read of it, and the
-// identifiers before it.
+// Where the reading of a list stands: at which line, and the identifiers before it.
 #[derive(Drop)]
-struct LineReader {
+struct IdentifierReader {
     alloc: Global,
-    number: u64,
-    line: Vec<u8>,
+    lines: LineReader,
     ids: Vec<String>,
 }
 
-impl Model for LineReader {
+impl Model for IdentifierReader {
     ghost use Rattle.std.specs.Prelude.{map};
     ghost use Rattle.std.specs.String.{string_bytes};
     ghost use Rattle.pt_cli.specs.Listing.{Reading};
@@ -39,8 +35,8 @@ impl Model for LineReader {
     ghost Value = { Reading };
 
     ghost view = { λ r. record {
-      number = r.number;
-      line = r.line.items;
+      number = r.lines.number;
+      line = r.lines.line;
       ids = map string_bytes r.ids.items;
     } };
 }
@@ -58,7 +54,7 @@ impl Model for LineReader {
 pub fn read_identifiers<F: Input>(alloc: Global, file: &mut F) -> Result<Vec<String>, FileFault>
     ensures { ReadsIdentifiers F.reads file.old file.new (texts_of result) }
 {
-    let mut reader = LineReader::new(alloc);
+    let mut reader = IdentifierReader::new(alloc);
     let mut block = [0u8; BLOCK];
     // Counted as the reads of `take_all` of pt_folder (taking.rt), so that it ends whatever is
     // read.
@@ -73,15 +69,14 @@ pub fn read_identifiers<F: Input>(alloc: Global, file: &mut F) -> Result<Vec<Str
     Err(FileFault::Memory)
 }
 
-impl LineReader {
+impl IdentifierReader {
     // The beginning of a file.
-    fn new(alloc: Global) -> LineReader
+    fn new(alloc: Global) -> IdentifierReader
         ensures { result ≡ record { number = 1; line = []; ids = [] } }
     {
-        LineReader {
+        IdentifierReader {
             alloc,
-            number: 1,
-            line: Vec::new(alloc),
+            lines: LineReader::new(alloc),
             ids: Vec::new(alloc),
         }
     }
@@ -96,28 +91,14 @@ impl LineReader {
         Ok(())
     }
 
-    // Takes a byte. A line that is too long whatever comes is refused before its end is read.
+    // Takes a byte.
     fn take_byte(&mut self, byte: u8) -> Result<(), FileFault>
         ensures { TakesBytes self.old (byte ∷ []) self.new result }
     {
-        if byte == b'\n' {
-            return self.take_line_end();
+        if self.lines.take_byte(byte)? {
+            return self.end_line();
         }
-        if self.line.len() > LONGEST {
-            return Err(self.refuse_line(LineFault::TooLong));
-        }
-        self.line.push(byte)?;
         Ok(())
-    }
-
-    // Takes a LF: a CR right before it belongs to the end of the line.
-    fn take_line_end(&mut self) -> Result<(), FileFault>
-        ensures { EndsLine self.old (strip_last 13 self.old.line) self.new result }
-    {
-        if self.line.last() == Some(&b'\r') {
-            self.line.truncate(self.line.len() - 1);
-        }
-        self.end_line()
     }
 
     // Takes the end of the file: what stands behind its last LF is a line too, where it isn't
@@ -125,7 +106,7 @@ impl LineReader {
     fn finish(mut self) -> Result<Vec<String>, FileFault>
         ensures { TakesEnd self (texts_of result) }
     {
-        if !self.line.is_empty() {
+        if !self.lines.is_empty() {
             self.end_line()?;
         }
         Ok(self.ids)
@@ -136,35 +117,23 @@ impl LineReader {
     fn end_line(&mut self) -> Result<(), FileFault>
         ensures { EndsLine self.old self.old.line self.new result }
     {
-        match listed_identifier(self.number, &self.line) {
-            Ok(id) => self.ids.push(String::from_str(self.alloc, id)?)?,
-            Err(fault) => return Err(self.refuse_line(fault)),
-        }
-        self.line.clear();
-        self.number = self.number.saturating_add(1);
+        let id = listed_identifier(&self.lines)?;
+        self.ids.push(String::from_str(self.alloc, id)?)?;
+        self.lines.go_on();
         Ok(())
-    }
-
-    // The refusal of the line at hand.
-    fn refuse_line(&self, fault: LineFault) -> FileFault
-        ensures { result ≡ Line (record { number = self.now.number; fault = fault }) }
-    {
-        FileFault::Line(BadLine {
-            number: self.number,
-            fault,
-        })
     }
 }
 
-// The identifier that the line of this number is, or why it is none.
-fn listed_identifier(number: u64, line: &[u8]) -> Result<&str, LineFault>
+// The identifier that the line at hand is, or the refusal of the line.
+fn listed_identifier(lines: &LineReader) -> Result<&str, BadLine>
     ensures { MatchResult result
-        (λ id. (None ≡ listed_fault number line.now) × (id.now ≡ line.now))
-        (λ fault. Some fault ≡ listed_fault number line.now) }
+        (λ id. (None ≡ listed_fault lines.now.number lines.now.line) × (id.now ≡ lines.now.line))
+        (λ bad. (Some bad.fault ≡ listed_fault lines.now.number lines.now.line)
+        × (bad.number ≡ lines.now.number)) }
 {
-    let id = identifier_in(line)?;
-    if number == 1 && line.starts_with(BYTE_ORDER_MARK) {
-        return Err(LineFault::ByteOrderMark);
+    let id = lines.identifier()?;
+    if lines.number() == 1 && id.as_bytes().starts_with(BYTE_ORDER_MARK) {
+        return Err(lines.refusal(LineFault::ByteOrderMark));
     }
     Ok(id)
 }

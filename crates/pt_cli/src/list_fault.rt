@@ -1,6 +1,7 @@
 //! Why lines aren't taken: those of an input that are to be named, or those of a list.
 ghost use Rattle.std.specs.Prelude.{◌≡◌};
-ghost use Rattle.pt_cli.specs.NameList.{line_fault_number, list_number};
+ghost use Rattle.pt_cli.specs.Lines.{line_fault_number};
+ghost use Rattle.pt_cli.specs.NameList.{list_number};
 
 use pt_tree::MemoryFault;
 use std::alloc::{AllocError, AllocFailed};
@@ -49,6 +50,25 @@ pub struct BadLine {
     pub fault: LineFault,
 }
 
+// Why lines aren't read on.
+pub(crate) enum LinesFault {
+    // A line is no identifier.
+    Line(BadLine),
+    // A growth was refused.
+    Memory,
+}
+
+impl<T: Drop> From<AllocFailed<T>> for LinesFault {
+    ghost use Rattle.std.specs.Prelude.{◌≡◌};
+    ghost use Rattle.pt_cli.specs.declared.list_fault.LinesFault.TheVariants.{Memory};
+
+    ghost from_gives = { λ _ e. e ≡ Memory };
+
+    fn from(_: AllocFailed<T>) -> Self {
+        LinesFault::Memory
+    }
+}
+
 /// Why the names of the lines of an input weren't all written.
 #[derive(Clone, Copy, Debug, PartialEq, Eq, Error)]
 pub enum ListFault {
@@ -76,6 +96,31 @@ impl ListFault {
             ListFault::Read => 2,
             ListFault::Write => 3,
             ListFault::Memory => 4,
+        }
+    }
+}
+
+impl From<BadLine> for ListFault {
+    ghost use Rattle.std.specs.Prelude.{◌≡◌};
+    ghost use Rattle.pt_cli.specs.declared.list_fault.ListFault.TheVariants.{Line};
+
+    ghost from_gives = { λ bad e. e ≡ Line bad };
+
+    fn from(bad: BadLine) -> Self {
+        ListFault::Line(bad)
+    }
+}
+
+impl From<LinesFault> for ListFault {
+    ghost use Rattle.std.specs.Prelude.{◌≡◌};
+    ghost use Rattle.pt_cli.specs.NameList.{list_fault_of};
+
+    ghost from_gives = { λ fault e. e ≡ list_fault_of fault };
+
+    fn from(fault: LinesFault) -> Self {
+        match fault {
+            LinesFault::Line(bad) => ListFault::Line(bad),
+            LinesFault::Memory => ListFault::Memory,
         }
     }
 }
@@ -138,6 +183,31 @@ impl FileFault {
             FileFault::Line(_) => 1,
             FileFault::Read(_) => 2,
             FileFault::Memory => 3,
+        }
+    }
+}
+
+impl From<BadLine> for FileFault {
+    ghost use Rattle.std.specs.Prelude.{◌≡◌};
+    ghost use Rattle.pt_cli.specs.declared.list_fault.FileFault.TheVariants.{Line};
+
+    ghost from_gives = { λ bad e. e ≡ Line bad };
+
+    fn from(bad: BadLine) -> Self {
+        FileFault::Line(bad)
+    }
+}
+
+impl From<LinesFault> for FileFault {
+    ghost use Rattle.std.specs.Prelude.{◌≡◌};
+    ghost use Rattle.pt_cli.specs.Listing.{file_fault_of};
+
+    ghost from_gives = { λ fault e. e ≡ file_fault_of fault };
+
+    fn from(fault: LinesFault) -> Self {
+        match fault {
+            LinesFault::Line(bad) => FileFault::Line(bad),
+            LinesFault::Memory => FileFault::Memory,
         }
     }
 }

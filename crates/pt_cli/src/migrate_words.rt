@@ -6,10 +6,12 @@ ghost use Rattle.pt_cli.specs.Options.{allowed_in, meta_in, migration_in, run_op
 
 use crate::arguments::{is_set, require, text};
 use crate::faults::Unread;
-use crate::feedback_words::{feedback, path_of};
+use crate::feedback_words::feedback;
 use crate::ids::{ADDRESS, CREATED, LIST, MESSAGE, NAME, PRESENT_OK, REHEARSE, SKIPS_OK, SYNC};
 use crate::ignore_words::ignored_names;
-use crate::job_words::{folders, job, meta_of};
+use crate::job_words::job;
+use crate::meta_words::meta_of;
+use crate::path_words::{folders, path_of};
 use crate::{Command, Migrate};
 use clap::ArgMatches;
 use pt_host::{AllowedLines, RunOptions};

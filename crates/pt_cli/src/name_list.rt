@@ -5,32 +5,26 @@
 //! the input is at its end. After `Read` just the names of the whole lines were added, after
 //! `Write` a front of the names, and after `Memory` the names of the whole lines in a front of the
 //! input (`ListsNames`).
-ghost use Rattle.std.specs.Prelude.{◌≡◌, ◌<◌, ◌++◌, [], MatchResult, Ok, length, OnOk};
-ghost use Rattle.std.specs.Io.BufRead.{strip_last};
+ghost use Rattle.std.specs.Prelude.{◌≡◌, ◌<◌, ◌++◌, [], Ok, length, OnOk};
 ghost use Rattle.pt_cli.specs.Feeding.{IsFed, IsPut, Puts, ended, fed, fed_byte, finished};
-ghost use Rattle.pt_cli.specs.NameList.{ListsNames, line_fault, names_line};
-ghost use Rattle.pt_cli.specs.declared.list_fault.ListFault.TheVariants.{Line};
+ghost use Rattle.pt_cli.specs.NameList.{ListsNames, names_line};
 
-use crate::{BadLine, LineFault, ListFault, NamesArgs};
+use crate::line_reader::LineReader;
+use crate::{ListFault, NamesArgs};
 use pt_name::pairpath;
 use pt_tree::{MemoryFault, write_out};
 use std::alloc::Global;
 use std::io::{Read, Write};
 use std::marker::Model;
 
-// The most bytes of an identifier.
-pub(crate) const LONGEST: usize = 65_536;
-
 // How many bytes are read at a time.
 const PIECE: usize = 65_536;
 
-// Where the naming of an input's lines stands: the number of the line at hand, what was read of it,
-// and what isn't written yet.
+// Where the naming of an input's lines stands: at which line, and what isn't written yet.
 #[derive(Drop)]
 struct NameLister {
     alloc: Global,
-    number: u64,
-    line: Vec<u8>,
+    lines: LineReader,
     text: Vec<u8>,
 }
 
@@ -39,7 +33,11 @@ impl Model for NameLister {
 
     ghost Value = { Fed };
 
-    ghost view = { λ l. record { number = l.number; line = l.line.items; text = l.text.items } };
+    ghost view = { λ l. record {
+      number = l.lines.number;
+      line = l.lines.line;
+      text = l.text.items;
+    } };
 }
 
 /// Writes for each line of an input the pairpath of the identifier in it, a tab, and its place,
@@ -80,6 +78,7 @@ pub fn list_names<I: Read, W: Write>(
         }
         listing.list(asked, &room[..count], out)?;
     }
+    // So many reads gave a byte each at least: no input is so long.
     Err(ListFault::Read)
 }
 
@@ -90,8 +89,7 @@ impl NameLister {
     {
         NameLister {
             alloc,
-            number: 1,
-            line: Vec::new(alloc),
+            lines: LineReader::new(alloc),
             text: Vec::new(alloc),
         }
     }
@@ -132,7 +130,7 @@ impl NameLister {
     fn end(&mut self, asked: &NamesArgs) -> Result<(), ListFault>
         ensures { IsFed (finished asked.now self.old) self.new result }
     {
-        if self.line.is_empty() {
+        if self.lines.is_empty() {
             return Ok(());
         }
         self.end_line(asked)
@@ -157,78 +155,24 @@ impl NameLister {
         Ok(())
     }
 
-    // Takes a byte. A line that is too long whatever comes is refused before its end is read.
+    // Takes a byte.
     fn take_byte(&mut self, asked: &NamesArgs, byte: u8) -> Result<(), ListFault>
         ensures { IsFed (fed_byte asked.now self.old byte) self.new result }
     {
-        if byte == b'\n' {
-            return self.take_line_end(asked);
+        if self.lines.take_byte(byte)? {
+            return self.end_line(asked);
         }
-        if self.line.len() > LONGEST {
-            return Err(self.refuse_line(LineFault::TooLong));
-        }
-        self.line.push(byte)?;
         Ok(())
-    }
-
-    // Takes a LF: a CR right before it belongs to the end of the line.
-    fn take_line_end(&mut self, asked: &NamesArgs) -> Result<(), ListFault>
-        ensures { IsFed (ended asked.now self.old (strip_last 13 self.old.line)) self.new result }
-    {
-        if self.line.last() == Some(&b'\r') {
-            self.line.truncate(self.line.len() - 1);
-        }
-        self.end_line(asked)
     }
 
     // Adds the names of the line at hand, and goes on to the next line.
     fn end_line(&mut self, asked: &NamesArgs) -> Result<(), ListFault>
         ensures { IsFed (ended asked.now self.old self.old.line) self.new result }
     {
-        if let Some(fault) = fault_in(&self.line) {
-            return Err(self.refuse_line(fault));
-        }
-        add_names(self.alloc, &mut self.text, asked, &self.line)?;
-        self.line.clear();
-        self.number = self.number.saturating_add(1);
+        let id = self.lines.identifier()?;
+        add_names(self.alloc, &mut self.text, asked, id.as_bytes())?;
+        self.lines.go_on();
         Ok(())
-    }
-
-    // The refusal of the line at hand.
-    fn refuse_line(&self, fault: LineFault) -> ListFault
-        ensures { result ≡ Line (record { number = self.now.number; fault = fault }) }
-    {
-        ListFault::Line(BadLine {
-            number: self.number,
-            fault,
-        })
-    }
-}
-
-// Why a line is no identifier, if it is none.
-fn fault_in(line: &[u8]) -> Option<LineFault>
-    ensures { result ≡ line_fault line.now }
-{
-    match identifier_in(line) {
-        Ok(_) => None,
-        Err(fault) => Some(fault),
-    }
-}
-
-// The identifier that a line is, or why it is none.
-pub(crate) fn identifier_in(line: &[u8]) -> Result<&str, LineFault>
-    ensures { MatchResult result (λ id. (None ≡ line_fault line.now) × (id.now ≡ line.now))
-        (λ fault. Some fault ≡ line_fault line.now) }
-{
-    if line.len() > LONGEST {
-        return Err(LineFault::TooLong);
-    }
-    if line.is_empty() {
-        return Err(LineFault::Empty);
-    }
-    match str::from_utf8(line) {
-        Ok(id) => Ok(id),
-        Err(_) => Err(LineFault::NotUtf8),
     }
 }
 

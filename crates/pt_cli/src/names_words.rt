@@ -6,7 +6,7 @@ ghost use Rattle.pt_cli.specs.Options.{names_in};
 use crate::arguments::{require, text};
 use crate::faults::Unread;
 use crate::ids::{ID, PREFIX};
-use crate::job_words::layout;
+use crate::layout_words::layout;
 use crate::{Command, NamesArgs, Text};
 use clap::ArgMatches;
 use std::alloc::Global;

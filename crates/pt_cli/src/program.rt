@@ -17,13 +17,12 @@ ghost use Rattle.pt_messages.specs.Expected.{AsksEnd};
 ghost use Rattle.pt_cli.specs.Calls.{IsToldAs, TellsAsked, TellsNames, TellsText, names_status};
 ghost use Rattle.pt_cli.specs.Inputs.{beside, file_words};
 ghost use Rattle.pt_cli.specs.Statuses.{Declines, Ends, EndsWith, IsWordless, MakesAudit, MakesRun};
-ghost use Rattle.pt_cli.specs.Statuses.{Obeys};
 ghost use Rattle.pt_host.specs.Checking.{ChecksStore, check_call};
 
 use crate::input::{HasInput, InputMachine};
+use crate::invocation::Invocation;
 use crate::listing::take_list;
 use crate::names_of_input::{is_of_input, write_names_of_input};
-use crate::started::Started;
 use crate::{
     Audit, CheckArgs, Command, Migrate, NamesArgs, NamesFault, Text, WordsFault, names_to,
     read_words,
@@ -51,27 +50,15 @@ use std::rt::Clock;
 /// What the words lead to is said at `answer`.
 pub fn run<R, H: Host + HasInput>(rt: &R, host: &mut H) -> ExitCode
 where
-    R: Started + Reads + Clock + Eprint + AllocGlobal + Terminals,
+    R: Invocation + Reads + Clock + Eprint + AllocGlobal + Terminals,
     ensures { Ends (R.starts rt.now) (EndsWith ⟦<H as Machine>⟧.words
         (beside (AsksEnd R.ends rt.now) (file_words (R.opens rt.now) R.Opened.reads)
         ⟦<H as InputMachine>⟧.input_words))
         host.old host.new (exit_status result) }
 {
-    ExitCode::from(status_of(rt, host))
-}
-
-// Runs the program on the words that it was started with, and gives its status.
-fn status_of<R, H: Host + HasInput>(rt: &R, host: &mut H) -> u8
-where
-    R: Started + Reads + Clock + Eprint + AllocGlobal + Terminals,
-    ensures { Ends (R.starts rt.now) (EndsWith ⟦<H as Machine>⟧.words
-        (beside (AsksEnd R.ends rt.now) (file_words (R.opens rt.now) R.Opened.reads)
-        ⟦<H as InputMachine>⟧.input_words))
-        host.old host.new result }
-{
     match rt.words(rt.alloc()) {
-        Ok(words) => answer(rt, host, words.as_slice()),
-        Err(error) => wordless(rt, &error),
+        Ok(words) => ExitCode::from(answer(rt, host, words.as_slice())),
+        Err(error) => ExitCode::from(wordless(rt, &error)),
     }
 }
 
@@ -102,25 +89,11 @@ where
         (map string_bytes words.now) host.old host.new result }
 {
     match read_words(rt.alloc(), words) {
-        Ok(command) => obey(rt, host, command),
+        Ok(Command::Names(asked)) => write_asked(rt, host, &asked),
+        Ok(Command::Migrate(asked)) => make_run(rt, host, asked),
+        Ok(Command::Audit(asked)) => make_audit(rt, host, asked),
+        Ok(Command::Check(asked)) => make_check(rt, host, asked),
         Err(fault) => refuse(rt, host, &fault),
-    }
-}
-
-// Does what a command asks for.
-fn obey<R, H: Host + HasInput>(rt: &R, host: &mut H, command: Command) -> u8
-where
-    R: Reads + Clock + Eprint + AllocGlobal + Terminals,
-    ensures { Obeys ⟦<H as Machine>⟧.words
-        (beside (AsksEnd R.ends rt.now) (file_words (R.opens rt.now) R.Opened.reads)
-        ⟦<H as InputMachine>⟧.input_words)
-        command host.old host.new result }
-{
-    match command {
-        Command::Names(asked) => write_asked(rt, host, &asked),
-        Command::Migrate(asked) => make_run(rt, host, asked),
-        Command::Audit(asked) => make_audit(rt, host, asked),
-        Command::Check(asked) => make_check(rt, host, asked),
     }
 }
 

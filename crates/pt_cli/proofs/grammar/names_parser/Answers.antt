@@ -13,4 +13,4 @@ returns c =
       ap app_of_fields c.about-parser.ensures ∙ c.new.ensures.app,
       ap (λ (f : Command-F Command). f.has_globals) c.about-parser.ensures ∙ c.new.ensures.local,
     ) in
-    IfOk-weaker c.with_taken.result _ _ (λ r told. grown _ _ _ _ start told) c.with_taken.ensures
+    IfOk-weaker c.with_args.result _ _ (λ r told. grown _ _ _ _ start told) c.with_args.ensures

@@ -13,4 +13,4 @@ returns c =
       ap (λ (f : Command-F Command). f.has_globals) c.after_long_help-parser.ensures ∙ ap (λ (f : Command-F Command). f.has_globals) c.about.ensures
           ∙ c.new.ensures.local,
     ) in
-    IfOk-weaker c.with_taken.result _ _ (λ r told. grown _ _ _ _ start told) c.with_taken.ensures
+    IfOk-weaker c.with_args.result _ _ (λ r told. grown _ _ _ _ start told) c.with_args.ensures

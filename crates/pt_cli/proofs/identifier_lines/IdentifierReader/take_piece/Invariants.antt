@@ -1,5 +1,5 @@
 use Rattle.pt_cli.proofs.IdentifierLines.{IsWithin}
-use Rattle.pt_cli.proofs.identifier_lines.LineReader.take_piece.Given as goal
+use Rattle.pt_cli.proofs.identifier_lines.IdentifierReader.take_piece.Given as goal
 
 -- the bytes before were read
 abbrev pub invariant-loop-byte : goal.invariant-loop-byte

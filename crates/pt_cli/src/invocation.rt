@@ -7,8 +7,8 @@ ghost use Rattle.std.specs.declared.result.Result.{Result};
 use std::alloc::Global;
 use std::{env, io};
 
-/// What is started with words.
-pub trait Started {
+/// How the program was started: with words.
+pub trait Invocation {
     /// Its words, the program's name first, may be these, or can't be had for this reason.
     ghost starts: { Self → Result (List (List ℕ)) Error → Type 0 };
 
@@ -19,7 +19,7 @@ pub trait Started {
             (result_map_both (λ words. map string_bytes words.items) (λ error. error) result) };
 }
 
-impl Started for HostRuntime {
+impl Invocation for HostRuntime {
     ghost starts = { λ _ _. ⊤ };
 
     fn words(&self, alloc: Global) -> io::Result<Vec<String>> {

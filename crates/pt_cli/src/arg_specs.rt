@@ -8,28 +8,28 @@ use crate::ids::{
     SOURCE, SYNC, TUPLE_SIZE, TUPLES, VERBOSE,
 };
 
-const TAKES_TUPLE_SIZE: ArgSpec = ArgSpec {
+const TUPLE_SIZE_SPEC: ArgSpec = ArgSpec {
     id: TUPLE_SIZE,
     form: Form::Number("DIGITS", "3"),
     help: "Digits in the name of each folder above an object",
     more: None,
 };
 
-const TAKES_TUPLES: ArgSpec = ArgSpec {
+const TUPLES_SPEC: ArgSpec = ArgSpec {
     id: TUPLES,
     form: Form::Number("NUMBER", "3"),
     help: "Folders above each object",
     more: None,
 };
 
-const TAKES_DIGEST: ArgSpec = ArgSpec {
+const DIGEST_SPEC: ArgSpec = ArgSpec {
     id: DIGEST,
     form: Form::Word("ALGORITHM", &["sha512", "sha256"], "sha512"),
     help: "Digest algorithm",
     more: Some("The digest algorithm of the inventories"),
 };
 
-const TAKES_ONLY: ArgSpec = ArgSpec {
+const ONLY_SPEC: ArgSpec = ArgSpec {
     id: ONLY,
     form: Form::RepeatedText("TEXT"),
     help: "Take only objects whose identifiers begin with TEXT; may be repeated",
@@ -38,7 +38,7 @@ const TAKES_ONLY: ArgSpec = ArgSpec {
     ),
 };
 
-const TAKES_LIST: ArgSpec = ArgSpec {
+const LIST_SPEC: ArgSpec = ArgSpec {
     id: LIST,
     form: Form::Value("FILE"),
     help: "Take only objects whose identifiers stand in FILE, one a line",
@@ -47,14 +47,14 @@ const TAKES_LIST: ArgSpec = ArgSpec {
     ),
 };
 
-const TAKES_IGNORE: ArgSpec = ArgSpec {
+const IGNORE_SPEC: ArgSpec = ArgSpec {
     id: IGNORE,
     form: Form::Repeated("NAME"),
     help: "Leave out what has this name, as .DS_Store; may be repeated",
     more: Some("Leave out every file and folder of this name, as .DS_Store; may be given again"),
 };
 
-const TAKES_VERBOSE: ArgSpec = ArgSpec {
+const VERBOSE_SPEC: ArgSpec = ArgSpec {
     id: VERBOSE,
     form: Form::Letter('v'),
     help: "Tell the path and reason of a fault, or a summary at the end",
@@ -63,28 +63,28 @@ const TAKES_VERBOSE: ArgSpec = ArgSpec {
     ),
 };
 
-const TAKES_QUIET: ArgSpec = ArgSpec {
+const QUIET_SPEC: ArgSpec = ArgSpec {
     id: QUIET,
     form: Form::Letter('q'),
     help: "Show neither how far it is nor a summary at the end",
     more: None,
 };
 
-const TAKES_INTERVAL: ArgSpec = ArgSpec {
+const INTERVAL_SPEC: ArgSpec = ArgSpec {
     id: INTERVAL,
     form: Form::Number("SECONDS", "10"),
     help: "Seconds between two lines of progress",
     more: Some("Seconds between two lines of progress, where they don't go to a terminal"),
 };
 
-const TAKES_EVENT: ArgSpec = ArgSpec {
+const EVENT_SPEC: ArgSpec = ArgSpec {
     id: EVENT,
     form: Form::Value("FILE"),
     help: "Record in FILE, made new, what was done and how it ended",
     more: Some("Record in FILE, which is made new, what was done, when and how it ended, as JSON"),
 };
 
-const TAKES_SOURCE: ArgSpec = ArgSpec {
+const SOURCE_SPEC: ArgSpec = ArgSpec {
     id: SOURCE,
     form: Form::Place,
     help: "The folder that holds pairtree_root",
@@ -92,15 +92,15 @@ const TAKES_SOURCE: ArgSpec = ArgSpec {
 };
 
 // What `names` takes.
-pub(crate) const NAMES_TAKES: &[ArgSpec] = &[
+pub(crate) const NAMES_SPECS: &[ArgSpec] = &[
     ArgSpec {
         id: PREFIX,
         form: Form::Value("TEXT"),
         help: "The prefix of the store, put before the identifier for its place",
         more: None,
     },
-    TAKES_TUPLE_SIZE,
-    TAKES_TUPLES,
+    TUPLE_SIZE_SPEC,
+    TUPLES_SPEC,
     ArgSpec {
         id: ID,
         form: Form::Place,
@@ -110,7 +110,7 @@ pub(crate) const NAMES_TAKES: &[ArgSpec] = &[
 ];
 
 // What `migrate` takes.
-pub(crate) const MIGRATE_TAKES: &[ArgSpec] = &[
+pub(crate) const MIGRATE_SPECS: &[ArgSpec] = &[
     ArgSpec {
         id: CREATED,
         form: Form::Needed("MOMENT"),
@@ -135,9 +135,9 @@ pub(crate) const MIGRATE_TAKES: &[ArgSpec] = &[
         help: "A message for the inventories",
         more: Some("What the inventories say of the migration"),
     },
-    TAKES_DIGEST,
-    TAKES_TUPLE_SIZE,
-    TAKES_TUPLES,
+    DIGEST_SPEC,
+    TUPLE_SIZE_SPEC,
+    TUPLES_SPEC,
     ArgSpec {
         id: GATHER,
         form: Form::Flag,
@@ -152,9 +152,9 @@ pub(crate) const MIGRATE_TAKES: &[ArgSpec] = &[
         help: "Carry only the objects of share K of N, as 2/8 [default: all objects]",
         more: Some("Carry only the objects of share K of N shares, as 2/8 [default: all objects]"),
     },
-    TAKES_ONLY,
-    TAKES_LIST,
-    TAKES_IGNORE,
+    ONLY_SPEC,
+    LIST_SPEC,
+    IGNORE_SPEC,
     ArgSpec {
         id: SYNC,
         form: Form::Flag,
@@ -181,23 +181,23 @@ pub(crate) const MIGRATE_TAKES: &[ArgSpec] = &[
             "Exit with 0 also where the log has skip lines: what has no identifier has one,\nwhatever --only and --list choose",
         ),
     },
-    TAKES_VERBOSE,
-    TAKES_QUIET,
+    VERBOSE_SPEC,
+    QUIET_SPEC,
     ArgSpec {
         id: PROGRESS,
         form: Form::Word("WHEN", &["auto", "always", "never"], "auto"),
         help: "Show progress",
         more: Some("When to show on standard error how far the run is"),
     },
-    TAKES_INTERVAL,
+    INTERVAL_SPEC,
     ArgSpec {
         id: EXPECT,
         form: Form::Value("LOG"),
         help: "Show the share done and the time left too, by the log of a rehearsal",
         more: None,
     },
-    TAKES_EVENT,
-    TAKES_SOURCE,
+    EVENT_SPEC,
+    SOURCE_SPEC,
     ArgSpec {
         id: DEST,
         form: Form::Place,
@@ -207,10 +207,10 @@ pub(crate) const MIGRATE_TAKES: &[ArgSpec] = &[
 ];
 
 // What `audit` takes.
-pub(crate) const AUDIT_TAKES: &[ArgSpec] = &[
-    TAKES_DIGEST,
-    TAKES_TUPLE_SIZE,
-    TAKES_TUPLES,
+pub(crate) const AUDIT_SPECS: &[ArgSpec] = &[
+    DIGEST_SPEC,
+    TUPLE_SIZE_SPEC,
+    TUPLES_SPEC,
     ArgSpec {
         id: GATHER,
         form: Form::Flag,
@@ -225,9 +225,9 @@ pub(crate) const AUDIT_TAKES: &[ArgSpec] = &[
         help: "Audit only the objects of share K of N, as 2/8 [default: all objects]",
         more: Some("Audit only the objects of share K of N shares, as 2/8 [default: all objects]"),
     },
-    TAKES_ONLY,
-    TAKES_LIST,
-    TAKES_IGNORE,
+    ONLY_SPEC,
+    LIST_SPEC,
+    IGNORE_SPEC,
     ArgSpec {
         id: SKIPS_OK,
         form: Form::Flag,
@@ -242,15 +242,15 @@ pub(crate) const AUDIT_TAKES: &[ArgSpec] = &[
             "Tell too of what stands in ocfl and the store lacks\n[default: hold the store's objects against ocfl]",
         ),
     },
-    TAKES_VERBOSE,
-    TAKES_QUIET,
+    VERBOSE_SPEC,
+    QUIET_SPEC,
     ArgSpec {
         id: PROGRESS,
         form: Form::Word("WHEN", &["auto", "always", "never"], "auto"),
         help: "Show progress",
         more: Some("When to show on standard error how far the audit is"),
     },
-    TAKES_INTERVAL,
+    INTERVAL_SPEC,
     ArgSpec {
         id: EXPECT,
         form: Form::Value("LOG"),
@@ -259,8 +259,8 @@ pub(crate) const AUDIT_TAKES: &[ArgSpec] = &[
             "Show the share done and the time left too, by the log of a run, a rehearsal or an audit",
         ),
     },
-    TAKES_EVENT,
-    TAKES_SOURCE,
+    EVENT_SPEC,
+    SOURCE_SPEC,
     ArgSpec {
         id: DEST,
         form: Form::Place,
@@ -270,7 +270,7 @@ pub(crate) const AUDIT_TAKES: &[ArgSpec] = &[
 ];
 
 // What `check` takes.
-pub(crate) const CHECK_TAKES: &[ArgSpec] = &[
+pub(crate) const CHECK_SPECS: &[ArgSpec] = &[
     ArgSpec {
         id: READ,
         form: Form::Flag,
@@ -285,8 +285,8 @@ pub(crate) const CHECK_TAKES: &[ArgSpec] = &[
             "Tell what would be too long for a run into this folder, which need not be there",
         ),
     },
-    TAKES_TUPLE_SIZE,
-    TAKES_TUPLES,
-    TAKES_IGNORE,
-    TAKES_SOURCE,
+    TUPLE_SIZE_SPEC,
+    TUPLES_SPEC,
+    IGNORE_SPEC,
+    SOURCE_SPEC,
 ];

@@ -2,7 +2,7 @@ use Rattle.std.proofs.Common.{◌∙◌, length, sym}
 use Rattle.std.proofs.lemmas.Bool.{le-ltb}
 use Rattle.std.proofs.lemmas.Str.{IsUtf8-from_is_utf8, is_utf8-from_IsUtf8}
 use Rattle.pt_cli.proofs.NameLists.{no_fault, no_text}
-use Rattle.pt_cli.proofs.name_list.identifier_in.Goals as goal
+use Rattle.pt_cli.proofs.line_reader.identifier_in.Goals as goal
 
 pub returns-in-Ok : goal.returns-in-Ok
 returns-in-Ok c = (

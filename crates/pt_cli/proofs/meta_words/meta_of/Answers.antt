@@ -9,7 +9,7 @@ use Rattle.pt_object.specs.declared.meta.MetaFault.TheVariants as meta_fault
 use Rattle.pt_cli.specs.Arguments.{ReadsAs, unread_of_meta}
 use Rattle.pt_cli.specs.Options.{described_by}
 use Rattle.pt_cli.specs.declared.faults.Unread.{Unread}
-use Rattle.pt_cli.proofs.job_words.meta_of.Goals as goal
+use Rattle.pt_cli.proofs.meta_words.meta_of.Goals as goal
 
 -- a description that is refused
 no_meta : (parts : MetaParts) (refusal : Option MetaFault) (e : MetaFault) (r : Result MetaParts Unread)

@@ -1,5 +1,5 @@
 use Rattle.pt_cli.proofs.IdentifierLines.{all_bytes, byte_ends, byte_more}
-use Rattle.pt_cli.proofs.identifier_lines.LineReader.take_piece.Goals as goal
+use Rattle.pt_cli.proofs.identifier_lines.IdentifierReader.take_piece.Goals as goal
 
 pub loop-byte-preserved : goal.loop-byte-preserved
 loop-byte-preserved c =

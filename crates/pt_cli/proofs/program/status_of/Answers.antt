@@ -1,8 +1,0 @@
-use Rattle.std.proofs.Common.{Err, Ok, map, refl, string_bytes}
-use Rattle.pt_cli.proofs.program.status_of.Goals as goal
-
-pub returns-in-Ok : goal.returns-in-Ok
-returns-in-Ok g c = (Ok (map string_bytes c.in-Ok.words.items), c.in-Ok.ensures, rw c.as_slice.ensures.value at c.answer.ensures)
-
-pub returns-in-Err : goal.returns-in-Err
-returns-in-Err g c = (Err c.in-Err.error, c.in-Err.ensures, (c.wordless.ensures, refl))
