@@ -1,9 +1,9 @@
 """The built program's tests over real folders. tests/cases has the cases: carrying, refusing and options those of `migrate`, auditing and twins
 those of `audit`, extras those of `--extra`, checking those of `check`, watching of progress, events of the records beside the log, sharing of
-shares, scripted of tools/shares.py, choosing of lists, peers beside plain Rust, surroundings of what is around a run, completions of what is made of
-the grammar, packages of what is shipped, anywhere of its programs, guide, guideroots and guidestores of the guide's commands, joining, sums and aside of
-tools/roots.py, report, reportevents and reportstate of examples/report.py, documents of what the documents name, resting of what rests on a crate, gate of
-the gate itself.
+shares, scripted of tools/shares.py, sharestatus of what it tells of shares, choosing of lists, peers beside plain Rust, surroundings of what is around
+a run, completions of what is made of the grammar, packages of what is shipped, anywhere of its programs, guide, guideroots and guidestores of the
+guide's commands, joining, sums and aside of tools/roots.py, report, reportevents and reportstate of examples/report.py, documents of what the documents
+name, resting of what rests on a crate, gate of the gate itself.
 tests/harness has how they are run, and what must stand.
 
 Usage: migration.py PROGRAM [-k WORDS]. With -k only the cases are run whose file's name, with the case's name behind it, has these words, and those
@@ -43,6 +43,7 @@ import reportstate
 import resting
 import running
 import scripted
+import sharestatus
 import sharing
 import sums
 import surroundings
@@ -51,8 +52,8 @@ import watching
 from tally import Tally
 
 FILES = (
-    carrying, auditing, twins, extras, checking, refusing, options, events, watching, surroundings, sharing, scripted, choosing, peers, guide,
-    guideroots, guidestores, joining, sums, aside, report, reportevents, reportstate, completions, packages, anywhere, documents, resting, gate,
+    carrying, auditing, twins, extras, checking, refusing, options, events, watching, surroundings, sharing, scripted, sharestatus, choosing, peers,
+    guide, guideroots, guidestores, joining, sums, aside, report, reportevents, reportstate, completions, packages, anywhere, documents, resting, gate,
 )
 CASES = [case for file in FILES for case in file.CASES]
 

@@ -13,7 +13,7 @@ import sys
 from typing import NamedTuple
 
 TOP = os.path.dirname(os.path.dirname(os.path.abspath(__file__)))
-IDS, ROWS, GRAMMAR = (f"crates/pt_cli/src/{name}.rt" for name in ("ids", "takes", "grammar"))
+IDS, ROWS, GRAMMAR = (f"crates/pt_cli/src/{name}.rt" for name in ("ids", "arg_specs", "grammar"))
 PAGE = "man/pairtree2ocfl.1"
 BASH, ZSH, FISH = (f"completions/{name}" for name in ("pairtree2ocfl.bash", "_pairtree2ocfl", "pairtree2ocfl.fish"))
 
@@ -81,7 +81,7 @@ def arg_of(row, constants):
 
 def args_of(table, shared, constants):
     """The arguments of a table, whose rows stand there or are shared."""
-    item = re.compile(rf"({ROW.pattern}|TAKES_\w+),", re.DOTALL)
+    item = re.compile(rf"({ROW.pattern}|\w+_SPEC),", re.DOTALL)
     left = item.sub("", table).strip()
     if left:
         sys.exit(f"{ROWS}: this is no row: {left}")
@@ -100,10 +100,10 @@ def about_of(name, grammar):
 def commands_of(grammar):
     """The commands, in the grammar's order."""
     constants = dict(re.findall(rf"const (\w+): &str =\s*{STRING};", grammar))
-    rows = re.finditer(rf"const (TAKES_\w+): ArgSpec =\s*({ROW.pattern});", grammar, re.DOTALL)
+    rows = re.finditer(rf"const (\w+_SPEC): ArgSpec =\s*({ROW.pattern});", grammar, re.DOTALL)
     shared = {row[1]: arg_of(ROW.match(row[2]), constants) for row in rows}
     commands = []
-    for word, table in re.findall(r"const (\w+)_TAKES: &\[ArgSpec\] = &\[(.*?)\n\];", grammar, re.DOTALL):
+    for word, table in re.findall(r"const (\w+)_SPECS: &\[ArgSpec\] = &\[(.*?)\n\];", grammar, re.DOTALL):
         args = args_of(table, shared, constants)
         options, places = ([arg for arg in args if (arg.form == "Place") == by_place] for by_place in (False, True))
         commands.append(Command(constants[word], about_of(constants[word], grammar), options, places))
