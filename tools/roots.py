@@ -8,8 +8,10 @@ copied or deleted, but for tuple folders in which `set-aside` leaves nothing.
 that the inventory has, with their digests. Only folders below tuple folders that belong to their names are listed. What can't be read,
 an object of another version of OCFL, and one that has more than one version, are told on standard error and not listed.
 
-`join` reads no file's content but the inventories. It holds the locks of the folders that ROOT and each OTHER stand in, as a run does,
-and moves nothing to another file system. Stopped at any moment, it goes on when the same command is given again.
+`join` looks at each object, and reads no file's content but the inventories. Where nothing stands at the place of a tuple folder in ROOT, the folder
+is renamed as one, with its owner and mode, when all in it was looked at and nothing of it is to stay; else it is gone into. It holds the locks of the
+folders that ROOT and each OTHER stand in, as a run does, and moves nothing to another file system. Stopped at any moment, it goes on when the same
+command is given again.
 
 `sums` writes a list that `sha512sum -c`, or `sha256sum -c` of such a root, reads in ROOT: of each object, in the order of their places, the content
 files of its manifest with their digests there, of all its versions. Inventories, sidecars and declarations aren't listed, and no content file is

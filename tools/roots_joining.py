@@ -1,13 +1,15 @@
-"""What `roots.py join` does: whole objects of other storage roots are renamed into one."""
+"""What `roots.py join` does: objects of other storage roots are looked at, and renamed into one, by tuple folders where that can be."""
 
 import contextlib
 import errno
 import fcntl
 import os
+import re
 import resource
+import stat
 
-from roots_objects import Foreign, Root, Unlike, folder, look_at
-from roots_telling import Refused, Unwritten, reason, say, show
+from roots_objects import FOLDER, Foreign, Root, Unlike, folder, look_at
+from roots_telling import PROGRESS, Refused, Unwritten, reason, say, show
 
 NO_LOCKS = (errno.ENOLCK, errno.ENOSYS, errno.EOPNOTSUPP)
 ENDS = (errno.EXDEV, errno.ENOSPC, errno.EDQUOT, errno.EROFS)
@@ -82,17 +84,6 @@ def made(root, names):
             raise
 
 
-def move(root, place, above):
-    """Renames a whole object of another root into a root. False where its place is taken."""
-    *tuples, name = place.split("/")
-    if found_at(root, [*tuples, name]) is not None:
-        return False
-    look_at(name, above, reads=False)
-    with made(root, tuples) as to:
-        os.rename(name, name, src_dir_fd=above, dst_dir_fd=to)
-    return True
-
-
 class Taken:
     """The places that were taken, listed on standard output. Where that can't be written they are only counted: no object stays for it, and the
     same command lists them again."""
@@ -109,23 +100,180 @@ class Taken:
                 self.unwritten = fault
 
 
-def move_all(root, other, taken):
-    """Moves the objects of another root. What stays is told and counted. Where the root can take no more, all is refused that is left."""
-    for place, _, above in other.places():
+class Folder:
+    """A tuple folder of another root on the way to the object at hand, open, with what stands at its place in the root: open, `None` where nothing does,
+    or the error where that can't be told.
+
+    As one it is moved where all in it can be: what was looked at waits for the rest of it."""
+
+    def __init__(self, names, fd, there, as_one):
+        self.names, self.fd, self.there, self.as_one = names, fd, there, as_one
+        self.waiting = []
+
+
+@contextlib.contextmanager
+def found_below(there, name):
+    """What stands at this name below what stands at a place, in the forms that `Folder` has it in."""
+    if not isinstance(there, int):
+        yield there
+        return
+    try:
+        fd = os.open(name, FOLDER, dir_fd=there)
+    except OSError as error:
+        yield None if isinstance(error, FileNotFoundError) else error
+        return
+    try:
+        yield fd
+    finally:
+        os.close(fd)
+
+
+def has_mounts(root):
+    """Whether something is mounted below a root, as far as the system tells. It would be taken along by what is renamed above it."""
+    try:
+        top = os.fsencode(os.readlink(f"/proc/self/fd/{root.fd}"))
+        with open("/proc/self/mountinfo", "rb") as file:
+            points = [re.sub(rb"\\([0-7]{3})", lambda it: bytes([int(it[1], 8)]), line.split(b" ")[4]) for line in file]
+    except OSError:
+        return True
+    return not top.startswith(b"/") or any(point.startswith(top.rstrip(b"/") + b"/") for point in points)
+
+
+class Moving:
+    """Moves the objects of another root into a root. What stays is told and counted. Where the root can take no more, all is refused that is left.
+
+    Each object is looked at. A tuple folder at whose place in the root nothing stands is renamed as one, from the outermost on, when all below it was
+    looked at, can be moved and is nothing but objects. Else it is gone through, so that what stays is what would stay if objects were renamed."""
+
+    def __init__(self, root, other, taken):
+        self.root, self.other, self.taken = root, other, taken
+        self.in_one_piece, self.way = not has_mounts(other), []
+
+    def move_all(self):
+        self.go_through(Folder((), self.other.fd, self.root.fd, False))
+
+    def go_through(self, at):
+        """Moves what can be moved in a folder; or True where all in it can be, and waits to be moved with it."""
+        self.way.append(at)
         try:
-            if not move(root, place, above):
-                taken.add(f"{other}/{place}")
+            for name, found in self.other.entries(at.names, at.fd):
+                if found is None:
+                    self.take_apart()
+                    self.other.leave_out(at.names, name)
+                elif self.can_move(at, name, found):
+                    at.waiting.append(name)
+                    if not at.as_one:
+                        self.move_waiting(at)
+                else:
+                    self.take_apart()
+        except OSError:
+            self.take_apart()
+            raise
+        finally:
+            self.way.pop()
+        return bool(at.waiting)
+
+    def take_apart(self):
+        """No folder on the way is moved as one, since something stays in the last of them. What waited is moved before that is told."""
+        for at in self.way:
+            at.as_one = False
+            self.move_waiting(at)
+
+    def move_waiting(self, at):
+        """Moves what waits in a folder, in its order."""
+        waiting, at.waiting = at.waiting, []
+        for name in waiting:
+            self.move(at, name)
+
+    def can_move(self, at, name, found):
+        """Whether what has this name in a folder can be moved by it: an object, or a tuple folder in which nothing was moved yet."""
+        if len(at.names) == self.other.count:
+            if at.as_one and not self.may_rename(at, name, found):
+                self.take_apart()
+            return self.is_right(at, name)
+        with found_below(at.there, name) as there:
+            as_one = there is None and self.in_one_piece and self.may_rename(at, name, found)
+            if not as_one:
+                self.take_apart()
+            return self.enter(at, name, there, as_one)
+
+    def may_rename(self, at, name, found):
+        """Whether a folder, and what is in it, may be renamed by itself, as far as the system tells. Else it would be moved only by what is above it."""
+        is_plain = found.st_dev == self.root.device and not found.st_mode & stat.S_ISVTX
+        return is_plain and os.access(name, os.W_OK | os.X_OK, dir_fd=at.fd, effective_ids=True)
+
+    def enter(self, at, name, there, as_one):
+        """Goes through a tuple folder below another. What can't be listed is told."""
+        names = (*at.names, name)
+        try:
+            with folder(name, at.fd) as fd:
+                return self.go_through(Folder(names, fd, there, as_one))
+        except OSError as error:
+            self.take_apart()
+            self.other.tell_unread(names, error)
+            return False
+
+    def is_right(self, at, name):
+        """Whether an object can be moved. It is listed where its place is taken, and told where it isn't whole."""
+        place = "/".join((*at.names, name))
+        PROGRESS.count_one(self.other, place)
+        try:
+            if not self.is_taken(at, name):
+                look_at(name, at.fd, reads=False)
+                return True
+            self.take_apart()
+            self.taken.add(f"{self.other}/{place}")
         except (Unlike, Foreign, OSError) as error:
-            if getattr(error, "errno", None) in ENDS:
-                copied = f": copy {other} there by cp -a, and join the copy" if error.errno == errno.EXDEV else ""
-                raise Refused(f"{root} takes no more of {other}: {error.strerror}{copied}") from error
-            other.unjudged += 1
-            say(f"{other}/{place}: it stays: {reason(error)}")
+            self.take_apart()
+            self.stay(place, error)
+        return False
+
+    def is_taken(self, at, name):
+        """Whether something stands at an object's place in the root."""
+        if isinstance(at.there, OSError):
+            raise OSError(*at.there.args)
+        if at.there is None:
+            return False
+        try:
+            os.stat(name, dir_fd=at.there, follow_symlinks=False)
+        except FileNotFoundError:
+            return False
+        return True
+
+    def move(self, at, name):
+        """Renames what waited in a folder: an object, or a tuple folder, which is gone through where the system refuses that."""
+        try:
+            if at.there is None:
+                with made(self.root, at.names) as to:
+                    os.rename(name, name, src_dir_fd=at.fd, dst_dir_fd=to)
+            else:
+                os.rename(name, name, src_dir_fd=at.fd, dst_dir_fd=at.there)
+        except OSError as error:
+            if len(at.names) == self.other.count:
+                self.stay("/".join((*at.names, name)), error)
+            else:
+                self.move_below(at, name)
+
+    def move_below(self, at, name):
+        """Moves what is in a tuple folder that can't be renamed, by what stands at its place now."""
+        with contextlib.ExitStack() as last:
+            there = self.root.fd
+            for above in (*at.names, name):
+                there = last.enter_context(found_below(there, above))
+            Moving(self.root, self.other, self.taken).enter(at, name, there, False)
+
+    def stay(self, place, error):
+        """Tells why an object stays."""
+        if getattr(error, "errno", None) in ENDS:
+            copied = f": copy {self.other} there by cp -a, and join the copy" if error.errno == errno.EXDEV else ""
+            raise Refused(f"{self.root} takes no more of {self.other}: {error.strerror}{copied}") from error
+        self.other.unjudged += 1
+        say(f"{self.other}/{place}: it stays: {reason(error)}")
 
 
 def join(paths):
     """Moves the objects of other roots into the first, and gives the status. What is against any of them is told at once."""
-    open_at_most(3 * len(paths) + 64)
+    open_at_most(3 * len(paths) + 256)
     roots, faults, taken = [], [], Taken()
     with contextlib.ExitStack() as last:
         for path in paths:
@@ -141,7 +289,7 @@ def join(paths):
         for it in roots:
             hold(it, held, last)
         for other in others:
-            move_all(root, other, taken)
+            Moving(root, other, taken).move_all()
         if taken.unwritten:
             raise Refused(f"{taken.unwritten}; all was moved that can be, and the same command lists what was taken")
         return 2 if any(other.unjudged or other.strays for other in others) else min(taken.count, 1)

@@ -22,6 +22,9 @@ DECLARATION = "0=ocfl_object_1.1"
 ALGORITHMS = ("sha512", "sha256")
 NAME = re.compile("(?=.{1,100}$)(?:[A-Za-z0-9_-]|%[0-9a-f]{2})+")
 LONG_NAME = re.compile("[A-Za-z0-9_%-]{100}-([0-9a-f]{64})")
+PLAIN = re.compile(rb"[A-Za-z0-9_-]*")
+LATER = re.compile("v0*([2-9]|[1-9][0-9]+)")
+LEAST, PIECE = 1 << 13, 1 << 20
 FOLDER = os.O_RDONLY | os.O_DIRECTORY | os.O_NOFOLLOW | os.O_CLOEXEC
 FILE = os.O_RDONLY | os.O_NOFOLLOW | os.O_NONBLOCK | os.O_CLOEXEC
 # What is raised where an inventory's text isn't JSON, or its members aren't what they must be.
@@ -55,10 +58,16 @@ def pieces(path, above):
             raise Unlike(f"{path} isn't there") from error
         raise
     try:
-        if not stat.S_ISREG(os.fstat(fd).st_mode):
+        found = os.fstat(fd)
+        if not stat.S_ISREG(found.st_mode):
             raise Unlike(f"{path} is no file")
-        while piece := os.read(fd, 1 << 20):
+        # More bytes are asked for than there are, so that the end of a short file is seen by the one call that reads it.
+        asked, left = min(max(found.st_size + 1, LEAST), PIECE), found.st_size
+        while piece := os.read(fd, asked):
             yield piece
+            left -= len(piece)
+            if left == 0 and len(piece) < asked:
+                break
     finally:
         os.close(fd)
 
@@ -140,14 +149,11 @@ class Root(Opened):
     def places(self, names=(), above=None):
         """The folders at objects' places, by place, last name and the tuple folder, open. What can't be listed is told and counted."""
         above = self.fd if above is None else above
-        for name in sorted(os.listdir(above)):
-            whole = "/".join((*names, name))
-            if not names and is_own(name, above):
-                continue
-            if not self.belongs(names, name) or not is_folder(name, above):
-                self.strays += 1
-                say(f"{self}/{whole}: it isn't a place of the program's, and is left out")
+        for name, found in self.entries(names, above):
+            if found is None:
+                self.leave_out(names, name)
             elif len(names) == self.count:
+                whole = "/".join((*names, name))
                 PROGRESS.count_one(self, whole)
                 yield whole, name, above
             else:
@@ -159,8 +165,25 @@ class Root(Opened):
             with folder(name, above) as fd:
                 yield from self.places((*names, name), fd)
         except OSError as error:
-            self.unjudged += 1
-            say(f"{self}/{'/'.join((*names, name))}: {error.strerror}")
+            self.tell_unread((*names, name), error)
+
+    def entries(self, names, above):
+        """What stands in the folder of these tuples, open, in order: names, each with what the system tells of the folder that it is. `None` stands for
+        that where it is no place of the program's. The root's own files aren't among them."""
+        for name in sorted(os.listdir(above)):
+            if names or not is_own(name, above):
+                found = os.stat(name, dir_fd=above, follow_symlinks=False) if self.belongs(names, name) else None
+                yield name, found if found and stat.S_ISDIR(found.st_mode) else None
+
+    def leave_out(self, names, name):
+        """Tells and counts what is no place of the program's."""
+        self.strays += 1
+        say(f"{self}/{'/'.join((*names, name))}: it isn't a place of the program's, and is left out")
+
+    def tell_unread(self, names, error):
+        """Tells and counts a tuple folder that can't be listed."""
+        self.unjudged += 1
+        say(f"{self}/{'/'.join(names)}: {error.strerror}")
 
     def belongs(self, names, name):
         """Whether a name belongs below these: a tuple, or the last name of an object with these tuples."""
@@ -197,8 +220,8 @@ def is_folder(name, above):
 
 def last_name_of(identifier):
     """The last name of an identifier's place."""
-    plain = re.compile("[A-Za-z0-9_-]")
-    encoded = "".join(chr(byte) if plain.match(chr(byte)) else f"%{byte:02x}" for byte in identifier)
+    whole = PLAIN.fullmatch(identifier)
+    encoded = identifier.decode() if whole else "".join(chr(byte) if PLAIN.fullmatch(bytes([byte])) else f"%{byte:02x}" for byte in identifier)
     return encoded if len(encoded) <= 100 else f"{encoded[:100]}-{hashlib.sha256(identifier).hexdigest()}"
 
 
@@ -219,9 +242,9 @@ def files_below(top):
 def see_first(names):
     """`Foreign` where these names, which stand at the top of an object, aren't those of the first version, by the program's version of OCFL."""
     other = [it for it in names if it.startswith("0=ocfl_object_") and it != DECLARATION]
-    if other or any(re.fullmatch("v0*([2-9]|[1-9][0-9]+)", it) for it in names):
+    if other or any(LATER.fullmatch(it) for it in names):
         raise Foreign("it is of another version of OCFL, or has later versions")
-    if {"logs", "extensions"} & set(names):
+    if "logs" in names or "extensions" in names:
         raise Foreign("another program has written in it")
 
 
@@ -238,9 +261,10 @@ def parsed(text, name):
     return inventory
 
 
-def inventory_of(top, name):
-    """The digest algorithm and the manifest of an object, by its inventory, which has to be the program's with its sidecar."""
-    see_first(os.listdir(top))
+def inventory_of(top, name, names):
+    """The digest algorithm and the manifest of an object at whose top these names stand, by its inventory, which has to be the program's with its
+    sidecar."""
+    see_first(names)
     if content(DECLARATION, top) != b"ocfl_object_1.1\n":
         raise Unlike("its declaration isn't whole")
     text = content("inventory.json", top)
@@ -265,7 +289,7 @@ def look_at(name, above, reads):
     """Looks at an object: `Unlike` where it isn't whole, `Foreign` where it isn't one of the program's. Contents are read if asked."""
     with folder(name, above) as top:
         found = files_below(top)
-        algorithm, stored = inventory_of(top, name)
+        algorithm, stored = inventory_of(top, name, {path.split("/", 1)[0] for path in found})
         own = {DECLARATION, *(f"{it}inventory.json{end}" for it in ("", "v1/") for end in ("", f".{algorithm}"))}
         for path in sorted(found ^ (own | stored.keys()), key=str):
             raise Unlike(f"{path} isn't there" if path in stored else f"no inventory has {path}")

@@ -186,7 +186,7 @@ def outputs(program, folder):
     return faults
 
 
-# Runs roots.py where a folder can't be made in a root, as where its file system is full; its second word is the number of the error.
+# Runs roots.py where nothing can be made in a root, as where its file system is full; its second word is the number of the error.
 FULL = """
 import os, sys
 sys.path.insert(0, sys.argv[1])
@@ -194,7 +194,7 @@ import roots
 number = int(sys.argv[2])
 def refused(path, *words, **options):
     raise OSError(number, os.strerror(number), path)
-os.mkdir = refused
+os.mkdir = os.rename = refused
 del sys.argv[1:3]
 sys.exit(roots.main())
 """

@@ -1,7 +1,8 @@
 """Ends tools/roots.py at many moments, each time just before or just after one of its calls of the system, and runs it again.
 
-Usage: kills.py ROOTS FOLDER COUNT. FOLDER/before holds the roots of each trial, a/ocfl, b/ocfl and c/ocfl. After each end every
-object has to stand whole at one place, and after the run that follows what stands has to be what one undisturbed run leaves.
+Usage: kills.py ROOTS FOLDER COUNT [CALL]. FOLDER/before holds the roots of each trial, a/ocfl, b/ocfl and c/ocfl. With CALL it is ended only at calls
+of that name. After each end every object has to stand whole at one place, and after the run that follows what stands has to be what one undisturbed
+run leaves.
 What isn't so is printed; the last line is the number of moments.
 """
 
@@ -52,8 +53,9 @@ class Counted:
             os.kill(os.getpid(), signal.SIGKILL)
 
 
-def ran(module, folder, last, words=WORDS, output=os.devnull):
-    """Does what these words say in a folder, in a process of its own, which ends at that moment, and gives how it ended and the calls it made."""
+def ran(module, folder, last, words=WORDS, output=os.devnull, names=CALLS):
+    """Does what these words say in a folder, in a process of its own, which ends at that moment, and gives how it ended and the calls of these names
+    that it made."""
     reading, writing = os.pipe()
     child = os.fork()
     if child == 0:
@@ -61,7 +63,7 @@ def ran(module, folder, last, words=WORDS, output=os.devnull):
         os.dup2(os.open(output, os.O_WRONLY | os.O_CREAT | os.O_TRUNC, 0o644), 1)
         os.dup2(os.open(os.devnull, os.O_WRONLY), 2)
         tell, calls = os.write, Counted(last)
-        for name in CALLS:
+        for name in names:
             setattr(os, name, calls.wrap(name))
         status = module.run(words)
         tell(writing, b"%d" % calls.count)
@@ -98,17 +100,17 @@ def files_of(tree):
 
 
 def main():
-    module, folder, count = loaded(sys.argv[1]), sys.argv[2], int(sys.argv[3])
+    module, folder, count, names = loaded(sys.argv[1]), sys.argv[2], int(sys.argv[3]), tuple(sys.argv[4:]) or CALLS
     before = stores.read_tree(f"{folder}/before")
     shutil.copytree(f"{folder}/before", f"{folder}/whole", symlinks=True)
-    status, calls = ran(module, f"{folder}/whole", 0)
+    status, calls = ran(module, f"{folder}/whole", 0, names=names)
     wanted = stores.read_tree(f"{folder}/whole")
     if status != 1 or files_of(wanted) == files_of(before):
         print(f"undisturbed it ends with {status}")
     for number in range(count):
         last = 1 + number * calls // count
         shutil.copytree(f"{folder}/before", f"{folder}/now", symlinks=True)
-        ended = ran(module, f"{folder}/now", last)[0]
+        ended = ran(module, f"{folder}/now", last, names=names)[0]
         if ended != "killed" or not same_objects(before, stores.read_tree(f"{folder}/now")):
             print(f"at {last} of {calls}: ended {ended}, or an object isn't whole")
         again = ran(module, f"{folder}/now", 0)[0]
