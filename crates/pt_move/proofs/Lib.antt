@@ -10,6 +10,7 @@ pub mod Migrating
 pub mod Needs
 pub mod Outcomes
 pub mod Standing
+pub mod Staying
 pub mod WholeLog
 pub mod Ran
 pub mod Told

@@ -1,8 +1,8 @@
 -- What a whole run promises, from its steps.
 use Rattle.std.proofs.Common.{◌≡◌, ◌≢◌, refl, ◌∙◌}
 use Rattle.std.specs.Prelude.{IsErrAnd, Ok, Err, Result}
-use Rattle.pt_invariant.specs.RunInvariant.{start_of}
-use Rattle.pt_state.proofs.Words.{DeviceStates, tree_in}
+use Rattle.pt_invariant.specs.RunInvariant.{AreStates, start_of}
+use Rattle.pt_state.proofs.Words.{DeviceStates, IsLayout, tree_in}
 use Rattle.pt_state.proofs.Words.phase
 use Rattle.pt_state.specs.declared.job.Report.{Report}
 use Rattle.pt_state.specs.declared.job.Job.{Job}
@@ -17,6 +17,7 @@ use Rattle.pt_plan.specs.declared.fault.Fault.TheVariants as fault
 use Rattle.pt_move.specs.declared.mover.Turn.{Turn}
 use Rattle.pt_move.specs.declared.mover.Turn.TheVariants as turn
 use Rattle.pt_move.proofs.Ending.{new_goes_on, not_ended}
+use Rattle.pt_move.proofs.Staying.{holds_fields_alone, stays_bounded, stays_small}
 use Rattle.pt_move.proofs.Ran.{RanSoFar, blames_err, blames_ok, none_failed, ran_halted, ran_nothing, ran_on, ran_whole}
 use Rattle.pt_move.proofs.WholeLog.{told_finished, told_front, told_more, told_none}
 
@@ -28,16 +29,20 @@ pub record SoFar (job : Job) (first now : DeviceStates) (r : Running) : Type 0 w
   pub tree : tree_in now.source ≡ tree_in first.source
   pub failures : now.failures ≡ first.failures
   pub same : r.state.job ≡ job
+  pub layout : IsLayout job.layout
+  pub well : AreStates first
   pub going : r.phase ≢ phase.Ended
   pub told : HasTold first.log now.log r.state.counts
   pub ran : RanSoFar job first now r
 
-pub new_so_far : (job : Job) (r : Running) (w : DeviceStates) → IsNew job r → IsBegun (start_of w) w r → SoFar job w w r
-new_so_far job r w new begun = record {
+pub new_so_far : (job : Job) (r : Running) (w : DeviceStates) → IsNew job r → IsLayout job.layout → AreStates w → IsBegun (start_of w) w r → SoFar job w w r
+new_so_far job r w new layout well begun = record {
   begun = begun;
   tree = refl;
   failures = refl;
   same = new.job_is;
+  layout = layout;
+  well = well;
   going = new_goes_on job r new;
   told = told_none w.log r.state.counts new.counts;
   ran = ran_nothing job w r new;
@@ -57,6 +62,8 @@ module _ (job : Job) (first old new : DeviceStates) (a b : Running) (so_far : So
     tree = step.steps.leaves.tree ∙ so_far.tree;
     failures = none_failed old new t step.steps.blames ∙ so_far.failures;
     same = step.steps.leaves.job ∙ so_far.same;
+    layout = so_far.layout;
+    well = so_far.well;
     going = more.1;
     told = told_more _ _ _ _ _ so_far.told step.steps.leaves.told;
     ran = ran_on job first old new a b so_far.same so_far.going so_far.ran is step.steps.leaves step.steps.turn;
@@ -93,6 +100,9 @@ module _ (job : Job) (first old new : DeviceStates) (a b : Running) (so_far : So
         work = rw counts (rw (so_far.same, so_far.tree) at kept.work);
         turns = rw counts (rw (step.steps.leaves.job ∙ so_far.same) at well.bounded.turns);
         lines = rw counts well.bounded.lines;
+        bound = stays_small job first so_far.layout so_far.well;
+        numbers = stays_bounded job first;
+        holds = holds_fields_alone;
       }
 
   halted : {f : Fault} → TakesStep old new a b (Err f) → Migrates job first new (Err f)
@@ -123,6 +133,9 @@ module _ (job : Job) (first old new : DeviceStates) (a b : Running) (so_far : So
         work = tt;
         turns = tt;
         lines = tt;
+        bound = stays_small job first so_far.layout so_far.well;
+        numbers = stays_bounded job first;
+        holds = holds_fields_alone;
       }
     where
       going : f ≢ fault.Ended

@@ -13,5 +13,6 @@ pub mod Promises
 pub mod Running
 pub mod Runs
 pub mod Stands
+pub mod Staying
 pub mod Stepping
 pub mod Turning

@@ -24,6 +24,7 @@ use Rattle.pt_move.specs.Outcome.{
 }
 use Rattle.pt_move.specs.Running.{DestFaultStateTold}
 use Rattle.pt_move.specs.Runs.{IsRun}
+use Rattle.pt_move.specs.Staying.{HoldsFieldsAlone, StaysBounded, StaysSmall}
 use Rattle.pt_plan.specs.declared.fault.Fault.{Fault}
 use Rattle.pt_plan.specs.declared.fault.Fault.TheVariants as fault
 
@@ -43,6 +44,8 @@ use Rattle.pt_plan.specs.declared.fault.Fault.TheVariants as fault
 --   tree: tree_stays (Keeping)
 --   run: ran_whole (Ran), ran_halted (Ran)
 --   turns, lines, never_ended: turn_keeps_bounds (Bounding), not_ended (Ending)
+--   bound, numbers: stays_small, stays_bounded (Staying), by turn_is_within_bound (TurnBound), turn_keeps_bounds (Bounding)
+--   holds: holds_fields_alone (Staying), by holds_nothing_else (Whole)
 --
 -- what a run promises, by what its devices told before and after
 pub record Migrates (job : Job) (old new : DeviceStates) (result : Result Report Fault) : Type 0 where
@@ -84,3 +87,8 @@ pub record Migrates (job : Job) (old new : DeviceStates) (result : Result Report
   pub work : IfOk result (MadeWithinWork job (tree_in old.source) (dest_tree old.dest))
   pub turns : IfOk result (λ report. report.turns ≤ job.limits.turns)
   pub lines : IfOk result (λ report. lines_put (counts_of report) ≤ report.turns)
+  -- after each of these turns no more is held than the source's bound, and the numbers are within theirs
+  pub bound : StaysSmall job old
+  pub numbers : StaysBounded job old
+  -- and nothing is held beside
+  pub holds : HoldsFieldsAlone

@@ -11,6 +11,7 @@
 //! turns never (`most_looks`).
 ghost use Rattle.std.specs.Prelude.{◌≡◌, ◌+◌, length};
 ghost use Rattle.pt_invariant.specs.RunInvariant.{AreStates, start_of};
+ghost use Rattle.pt_name.specs.Tuples.{IsLayout};
 ghost use Rattle.pt_plan.specs.DeviceStates.{DeviceStates};
 ghost use Rattle.pt_state.specs.Counting.{AtMostCalls};
 ghost use Rattle.pt_plan.specs.SourceFailures.{FailsOnlyWhereAsked};
@@ -67,6 +68,7 @@ impl Mover {
     /// progress, from what they hold as they stand.
     pub fn start(alloc: Global, job: Job) -> Mover
         ensures new { IsNew job result }
+        ensures layout { IsLayout job.layout }
         ensures begun { (states : DeviceStates) → HasBegun states result }
         ensures in_progress { (states : DeviceStates) → AreStates states
             → IsBegun (start_of states) states result }

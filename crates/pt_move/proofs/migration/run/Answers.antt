@@ -1,4 +1,5 @@
 use Rattle.std.proofs.Common.{rules}
+use Rattle.pt_invariant.specs.RunInvariant.{AreStates}
 use Rattle.pt_move.proofs.Answering.{has_begun}
 use Rattle.pt_move.proofs.Migrating.{migrates_halted, migrates_whole, new_so_far, so_far_on}
 use Rattle.pt_move.proofs.Ran.{smaller}
@@ -8,8 +9,8 @@ use Rattle.pt_move.proofs.migration.run.Goals.{in-Ok-Finished, in-Err}
 -- before the first step nothing was done: Migrating.antt (`new_so_far`)
 pub loop-mover-init : goal.loop-mover-init
 loop-mover-init g c = (
-  new_so_far _ c.start-mover.result _ c.start-mover.ensures.new
-      (c.start-mover.ensures.in_progress _ (record { source = g.met.O.Io.proper c.args.out.now; dest = g.met.O.Io.is_tree c.args.out.now })),
+  let well : AreStates (g.O.Io.states c.args.out.now) = record { source = g.met.O.Io.proper c.args.out.now; dest = g.met.O.Io.is_tree c.args.out.now } in
+      new_so_far _ c.start-mover.result _ c.start-mover.ensures.new c.start-mover.ensures.layout well (c.start-mover.ensures.in_progress _ well),
   (0, 0, g.met.O.Io.none c.args.out.now),
 )
 
