@@ -18,8 +18,3 @@ IsDeclared names = HasPart mark (0 ∷ names)
 abbrev pub TellsDeclared : {D : Type 0} → (D → Option (List ℕ)) → D → Result Bool Error → Type 0
 TellsDeclared remaining dir answer = IfOk answer (λ found.
     IfSome (remaining dir) (λ names. IsTrue found ↔ IsDeclared names))
-
--- the same of some directory
-abbrev pub TellsOfOne : {D : Type 0} → (D → Option (List ℕ)) → Result Bool Error → Type 0
-TellsOfOne {D} remaining answer = IfOk answer (λ found. (dir : D)
-    × IfSome (remaining dir) (λ names. IsTrue found ↔ IsDeclared names))

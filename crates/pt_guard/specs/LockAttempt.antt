@@ -1,54 +1,72 @@
 -- What an answer to the question for a lock says.
 use Rattle.std.specs.Prelude.{◌≡◌, ◌⊎◌, ⊤, ℕ, Bool, true, false, List, Option, Result, Ok, Err, MatchResult}
 use Rattle.std.specs.IoError.{error_kind}
+use Rattle.std.specs.declared.fs.locks.TryLockError.{TryLockError}
+use Rattle.std.specs.declared.fs.locks.TryLockError.TheVariants as refused
 use Rattle.std.specs.declared.io.Error.{Error}
 use Rattle.std.specs.declared.io.ErrorKind.TheVariants.{NotADirectory}
-use Rattle.pt_guard.specs.Declaration.{TellsOfOne}
+use Rattle.pt_guard.specs.Declaration.{TellsDeclared}
 use Rattle.pt_guard.specs.PlaceCall.{PlaceCall, Hold}
 use Rattle.pt_guard.specs.Wanting.{IsWanting}
 use Rattle.pt_guard.specs.declared.places.Claim.{Claim}
 use Rattle.pt_guard.specs.declared.places.LockAttempt.{LockAttempt}
 use Rattle.pt_guard.specs.declared.places.LockAttempt.TheVariants as hold
 
+-- what a question for a lock is answered
+abbrev pub LockAnswer : Type 0
+LockAnswer = Result (Unit {0}) TryLockError
+
 -- the lock of what was asked is held, another holds it, or it can't be asked for
-abbrev pub hold_of : {F : Type 0} → F → Result Bool Error → LockAttempt F
-hold_of file (Ok true) = hold.Held file
-hold_of file (Ok false) = hold.Taken
-hold_of file (Err error) = hold.Unknown error
+abbrev pub hold_of : {F : Type 0} → F → LockAnswer → LockAttempt F
+hold_of file (Ok _) = hold.Held file
+hold_of file (Err refused.WouldBlock) = hold.Taken
+hold_of file (Err (refused.Error error)) = hold.Unknown error
 
--- the lock of what was opened is asked for in this way, and that is what is answered; or nothing could be opened
-abbrev pub AsksLock : {F : Type 0} → (Claim → F → Result Bool Error → Type 0) → Claim → LockAttempt F → Type 0
-AsksLock {F} answers claim came = (opened : Result F Error)
-    × MatchResult opened (λ file. (answer : Result Bool Error) × answers claim file answer
-    × (came ≡ hold_of file answer))
-    (λ error. came ≡ hold.Unknown error)
+-- what the calls may answer by which a system's folders are looked at and opened, each by its path: whether it is a folder, its names, and what it is
+-- opened as; the bytes that names have left, where they tell them; and what asking for a lock as a claim says may be answered
+pub record FolderWords (D F : Type 0) : Type 1 where
+  pub kinds : List ℕ → Result Bool Error → Type 0
+  pub names : List ℕ → Result D Error → Type 0
+  pub opens : List ℕ → Result F Error → Type 0
+  pub remaining : D → Option (List ℕ)
+  pub answers : Claim → F → LockAnswer → Type 0
 
--- it is a root or an object itself by this answer, and isn't held; memory was wanting for that, and is told; or the lock is asked for
-abbrev pub HoldsBy : {F : Type 0} → (Claim → F → Result Bool Error → Type 0) → Claim → Result Bool Error → LockAttempt F → Type 0
-HoldsBy answers claim (Ok true) came = came ≡ hold.Root
-HoldsBy answers claim (Ok false) came = AsksLock answers claim came
-HoldsBy answers claim (Err error) came = (IsWanting error × (came ≡ hold.Unknown error))
-    ⊎ ((¬ IsWanting error) × AsksLock answers claim came)
+module _ {D F : Type 0} (words : FolderWords D F) where
+  -- of a folder that was opened the lock is asked for as the claim says, and that is what is answered; or nothing could be opened
+  abbrev pub AsksOpened : Claim → Result F Error → LockAttempt F → Type 0
+  AsksOpened claim opened came = MatchResult opened
+      (λ file. (answer : LockAnswer) × words.answers claim file answer × (came ≡ hold_of file answer))
+      (λ error. came ≡ hold.Unknown error)
 
--- of a folder, by this answer, the names are asked for; where one is a declaration's it is a root or an object itself, and else its lock is asked for,
--- also where they can't be read. What is no folder can't be locked, nor what can't be told
-abbrev pub HoldsKind : {D F : Type 0} → (D → Option (List ℕ)) → (Claim → F → Result Bool Error → Type 0)
-    → Claim → Result Bool Error → LockAttempt F → Type 0
-HoldsKind remaining answers claim (Ok true) came = (told : Result Bool Error)
-    × TellsOfOne remaining told × HoldsBy answers claim told came
-HoldsKind remaining answers claim (Ok false) came = (error : Error)
-    × (error_kind error ≡ NotADirectory) × (came ≡ hold.Unknown error)
-HoldsKind remaining answers claim (Err error) came = came ≡ hold.Unknown error
+  -- the folder at this path is opened for that
+  abbrev pub AsksLock : Claim → List ℕ → LockAttempt F → Type 0
+  AsksLock claim path came = (opened : Result F Error) × words.opens path opened × AsksOpened claim opened came
 
--- whether it is a folder is asked first
-abbrev pub AsksFolder : {D F : Type 0} → (D → Option (List ℕ)) → (Claim → F → Result Bool Error → Type 0)
-    → Claim → LockAttempt F → Type 0
-AsksFolder remaining answers claim came = (is_folder : Result Bool Error)
-    × HoldsKind remaining answers claim is_folder came
+  -- it is a root or an object itself by this answer, and isn't held; memory was wanting for that, and is told; or the lock is asked for
+  abbrev pub HoldsBy : Claim → List ℕ → Result Bool Error → LockAttempt F → Type 0
+  HoldsBy claim path (Ok true) came = came ≡ hold.Root
+  HoldsBy claim path (Ok false) came = AsksLock claim path came
+  HoldsBy claim path (Err error) came = (IsWanting error × (came ≡ hold.Unknown error))
+      ⊎ ((¬ IsWanting error) × AsksLock claim path came)
 
--- of a call on the runtime's folders: what asking for a lock comes to is by the kind of what is there, its names and the question for it; of the others
--- nothing is said
-abbrev pub SaysOfLocks : {S D F : Type 0} → (D → Option (List ℕ)) → (Claim → F → Result Bool Error → Type 0)
-    → S → PlaceCall F → S → Type 0
-SaysOfLocks remaining answers old (Hold claim path came) new = AsksFolder remaining answers claim came
-SaysOfLocks remaining answers old _ new = ⊤
+  -- the names of the folder at this path are read, and whether one is a declaration's is answered so
+  abbrev pub TellsNames : List ℕ → Result Bool Error → Type 0
+  TellsNames path answer = (named : Result D Error) × words.names path named
+      × MatchResult named (λ dir. TellsDeclared words.remaining dir answer) (λ error. answer ≡ Err error)
+
+  -- of a folder, by this answer, the names are asked for; where one is a declaration's it is a root or an object itself, and else its lock is asked for,
+  -- also where they can't be read. What is no folder can't be locked, nor what can't be told
+  abbrev pub HoldsKind : Claim → List ℕ → Result Bool Error → LockAttempt F → Type 0
+  HoldsKind claim path (Ok true) came = (declared : Result Bool Error) × TellsNames path declared × HoldsBy claim path declared came
+  HoldsKind claim path (Ok false) came = (error : Error) × (error_kind error ≡ NotADirectory) × (came ≡ hold.Unknown error)
+  HoldsKind claim path (Err error) came = came ≡ hold.Unknown error
+
+  -- whether the path leads to a folder is asked first
+  abbrev pub AsksFolder : Claim → List ℕ → LockAttempt F → Type 0
+  AsksFolder claim path came = (is_folder : Result Bool Error) × words.kinds path is_folder × HoldsKind claim path is_folder came
+
+-- of a call on a system's folders: what asking for the lock of the one at a path comes to is by what is there, its names and the answer to asking; of the
+-- other calls nothing is said
+abbrev pub SaysOfLocks : {S D F : Type 0} → (S → FolderWords D F) → S → PlaceCall F → S → Type 0
+SaysOfLocks words old (Hold claim path came) new = AsksFolder (words old) claim path came
+SaysOfLocks words old _ new = ⊤

@@ -4,12 +4,13 @@
 //! answer of `is_declared` is true exactly where `0=ocfl_` stands at the start of one
 //! (`IsDeclared`).
 ghost use Rattle.std.specs.Prelude.{◌≡◌, ◌↔◌, IsTrue};
-ghost use Rattle.pt_guard.specs.Declaration.{HasPart, TellsDeclared, TellsOfOne, mark};
+ghost use Rattle.pt_guard.specs.Declaration.{HasPart, TellsDeclared, mark};
+ghost use Rattle.pt_guard.specs.LockAttempt.{TellsNames};
 
-use std::alloc::{AllocGlobal, Global};
+use crate::holding::{FolderCalls, LocksFolders};
+use std::alloc::Global;
 use std::io;
 use std::io::Read;
-use std::rt::Files;
 
 // How the name of a declaration begins, behind the NUL that ends the name before it.
 const MARK: &[u8] = b"\x000=ocfl_";
@@ -20,11 +21,11 @@ const ROOM: usize = 8192;
 /// Whether the folder at a path has an entry whose name begins as the declaration of a storage root
 /// or of an object does, with `0=ocfl_` (OCFL 1.1, "Root Structure", "Object Conformance
 /// Declaration"). An error where its names can't be read.
-pub(crate) fn declares<R: Files + AllocGlobal>(rt: &R, path: &str) -> io::Result<bool>
-    ensures { TellsOfOne R.Dir.remaining result }
+pub(crate) fn declares<S: FolderCalls>(system: &S, alloc: Global, path: &str) -> io::Result<bool>
+    ensures { TellsNames (⟦<S as LocksFolders>⟧.folder_words system.now) path.now result }
 {
-    let mut dir = rt.open_dir(path)?;
-    is_declared(rt.alloc(), &mut dir)
+    let mut dir = system.read_names(path)?;
+    is_declared(alloc, &mut dir)
 }
 
 // Whether a directory has such an entry. It is read as its names, each ended by a NUL, into room

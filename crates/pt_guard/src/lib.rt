@@ -23,21 +23,28 @@
 //!   folder can't be locked, and says why.
 //! - An error by which the system wants memory (`IsWanting`) is none of these, but `Memory`, after
 //!   which nothing more is asked; else that is answered only where nothing was asked yet (`Wants`).
+//! - `hold_folder` asks for a lock by the calls of a system: whether it is a folder first, then for
+//!   its names, and then for the lock (`AsksFolder`).
 //! - A lock that is held is no value that may be dropped: it is given back by `release` (`Places`).
 //! - `judge_file` answers `Inside` exactly where a file's folder leads to the store, to its tree or
 //!   to what the destination is to hold, or below one, or where the file would be one of the last
 //!   (`JudgesFile`); `Hidden` exactly where that can't be told. Nothing is asked of the file
 //!   itself.
 //!
-//! Guarantees of README that rest on its definitions: An audit is exact.
+//! That nothing is lost, and that a run can be made again, is said of a destination into which
+//! nobody else writes, and of a store that isn't in it: that is seen to here.
+//!
+//! No guarantee of README rests on its definitions.
 #![tactic(auto)]
 
 mod apart;
 mod declared;
 mod file;
 mod guard;
+mod holding;
 mod places;
 
 pub use file::{FileFault, judge_file};
 pub use guard::{FolderLock, GuardFault, begin};
-pub use places::{Claim, FileId, LockAttempt, Lockable, Places};
+pub use holding::{FolderCalls, Lockable, LocksFolders, hold_folder};
+pub use places::{Claim, FileId, LockAttempt, Places};

@@ -1,5 +1,5 @@
 use Rattle.std.proofs.Common.{List, ℕ, ◌≡◌, ◌∙◌, refl, subst, sym}
-use Rattle.pt_guard.specs.Apart.{Folders, folders_of}
+use Rattle.pt_guard.specs.Apart.{folders_of}
 use Rattle.pt_guard.proofs.apart.InnerPaths.run_paths.Goals as goal
 
 pub returns : goal.returns
