@@ -1,1 +1,3 @@
 pub mod Expected
+pub mod Fields
+pub mod Reading

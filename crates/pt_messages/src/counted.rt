@@ -1,5 +1,6 @@
 //! A log whose lines are counted, for the summary at the end.
 ghost use Rattle.std.specs.Prelude.{◌≡◌};
+ghost use Rattle.pt_messages.specs.Fields.{IsOnlyCounted};
 
 use crate::members::Members;
 use crate::numbers::{count_text, group_digits, size};
@@ -43,7 +44,8 @@ pub struct CountedLog<L: Log> {
 impl<L: Log> CountedLog<L> {
     /// A log, of whose lines none was counted yet, and whether they are to be.
     pub fn new(log: L, counting: bool) -> CountedLog<L>
-        ensures { result.log ≡ log }
+        ensures log { result.log ≡ log }
+        ensures fields { IsOnlyCounted result }
     {
         CountedLog {
             log,

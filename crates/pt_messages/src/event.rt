@@ -3,7 +3,7 @@
 //! begins, and with how it ended.
 use crate::counted::LineCounts;
 use crate::members::Members;
-use crate::reads::Reads;
+use crate::reads::{Reads, read_small};
 use crate::reason::Explanation;
 use crate::watch::Words;
 use jiff::Timestamp;
@@ -20,9 +20,6 @@ const PROGRAM: &str = "pairtree2ocfl";
 
 // Where Linux tells the name of the machine.
 const HOST: &str = "/proc/sys/kernel/hostname";
-
-// How many bytes that may have.
-const LONGEST: u64 = 1024;
 
 /// The record of a run or an audit. Each call that puts something into it or makes its line gives
 /// an error where a growth was refused.
@@ -142,8 +139,8 @@ impl Outcome {
 }
 
 // Puts the name of the machine, where Linux tells it.
-fn put_host<R: Reads>(rt: &R, members: &mut Members) -> Result<(), AllocError> {
-    match rt.read_small(HOST, LONGEST) {
+fn put_host<R: Reads + AllocGlobal>(rt: &R, members: &mut Members) -> Result<(), AllocError> {
+    match read_small(rt, HOST) {
         Ok(Some(bytes)) => match str::from_utf8(bytes.as_slice()) {
             Ok(name) => members.put_text("host", name.trim_end()),
             Err(_) => Ok(()),

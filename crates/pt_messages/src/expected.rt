@@ -2,7 +2,7 @@
 ghost use Rattle.std.specs.Prelude.{option_map};
 ghost use Rattle.pt_messages.specs.Expected.{AsksEnd};
 
-use crate::reads::Reads;
+use crate::reads::{Reads, ReadsFiles, read_end};
 use crate::shown::escape;
 use std::alloc::AllocGlobal;
 
@@ -12,11 +12,12 @@ const TAIL: usize = 256;
 /// The number of lines on the store that a log's end line counts, if a log is named. Standard error
 /// is told where it can't be read, or has no end line.
 pub fn lines_expected<R: Reads + Eprint + AllocGlobal>(rt: &R, log: Option<&str>) -> Option<u64>
-    ensures { AsksEnd R.ends rt.now (option_map (λ path. path.now) log.entry) }
+    ensures { AsksEnd (⟦<R as ReadsFiles>⟧.file_words rt.now)
+        (option_map (λ path. path.now) log.entry) }
 {
     let log = log?;
     let mut end = [0u8; TAIL];
-    let counted = match rt.read_end(log, &mut end) {
+    let counted = match read_end(rt, log, &mut end) {
         Ok(count) => match end.get(..count) {
             Some(bytes) => count_in(bytes),
             None => None,
@@ -42,32 +43,37 @@ fn count_in(bytes: &[u8]) -> Option<u64> {
 }
 
 // What the last line of a text counts of the store, if it is an end line, of a run's log or of an
-// audit's. How far an audit is doesn't count what the root has beside.
+// audit's.
 fn last_count(text: &str) -> Option<u64> {
     match text.rsplit_once("{\"as\":\"end\",\"done\":") {
-        Some((_, counts)) => {
-            let (done, counts) = counts.split_once(",\"present\":")?;
-            let (present, counts) = counts.split_once(",\"skip\":")?;
-            sum(&[done, present, counts.strip_suffix("}\n")?])
-        }
+        Some((_, counts)) => run_count(counts),
         None => {
             let (_, counts) = text.rsplit_once("{\"absent\":")?;
-            let (absent, counts) = counts.split_once(",\"as\":\"end\",\"differs\":")?;
-            match counts.split_once(",\"extra\":") {
-                Some((differs, counts)) => {
-                    let (_, counts) = counts.split_once(",\"same\":")?;
-                    let (same, counts) = counts.split_once(",\"skip\":")?;
-                    let (skip, _) = counts.split_once(",\"stray\":")?;
-                    sum(&[absent, differs, same, skip])
-                }
-                None => {
-                    let (differs, counts) = counts.split_once(",\"same\":")?;
-                    let (same, counts) = counts.split_once(",\"skip\":")?;
-                    sum(&[absent, differs, same, counts.strip_suffix("}\n")?])
-                }
-            }
+            audit_count(counts)
         }
     }
+}
+
+// What the end line of a run counts, from its first number on.
+fn run_count(counts: &str) -> Option<u64> {
+    let (done, counts) = counts.split_once(",\"present\":")?;
+    let (present, counts) = counts.split_once(",\"skip\":")?;
+    sum(&[done, present, counts.strip_suffix("}\n")?])
+}
+
+// The same of an audit. How far that is doesn't count what the root has beside.
+fn audit_count(counts: &str) -> Option<u64> {
+    let (absent, counts) = counts.split_once(",\"as\":\"end\",\"differs\":")?;
+    let (differs, counts) = match counts.split_once(",\"extra\":") {
+        Some((differs, counts)) => (differs, counts.split_once(",\"same\":")?.1),
+        None => counts.split_once(",\"same\":")?,
+    };
+    let (same, counts) = counts.split_once(",\"skip\":")?;
+    let skip = match counts.split_once(",\"stray\":") {
+        Some((skip, _)) => skip,
+        None => counts.strip_suffix("}\n")?,
+    };
+    sum(&[absent, differs, same, skip])
 }
 
 // The sum of what texts write, if each is a number.

@@ -13,9 +13,12 @@
 //! - `Watch` is told of each call of a source (pt_tree, `Watched`), and can't touch it; so what is
 //!   proved of a run holds of a watched one. What is shown and said has no contract, but that each
 //!   function is safe and ends.
+//! - `Watch` and `CountedLog` have the fields that Fields.antt lists, and no other: nothing that
+//!   grows with a run.
 //! - `Reads` is what can be read of files beside a run: the end of a log, a list of identifiers,
 //!   and a store's prefix. Its calls change nothing. `lines_expected` asks for the end of the log
-//!   that is named, if one is (`AsksEnd`); what it makes of it is shown only.
+//!   that is named, if one is (`AsksEnd`): how long it is, and then for its last bytes. What it
+//!   makes of them is shown only.
 //! - `Event` is the record of a run or an audit that `--event` asks for, as a text; who calls it
 //!   writes that.
 //!
@@ -39,7 +42,7 @@ pub use counted::{CountedLog, LineCounts};
 pub use event::{Event, Outcome, VERSION};
 pub use expected::lines_expected;
 pub use members::Members;
-pub use reads::Reads;
+pub use reads::{Reads, ReadsFiles};
 pub use reason::{Explanation, FaultReason, LastCalls};
 pub use shown::escape;
 pub use tally::Tally;

@@ -1,13 +1,10 @@
 //! A prefix that reads otherwise than it looks.
-use crate::reads::Reads;
+use crate::reads::{Reads, read_small};
 use crate::shown::escape;
 use pt_name::{is_doubtful, read_prefix};
 use std::alloc::{AllocError, AllocGlobal, Global};
 
 const NAME: &str = "/pairtree_prefix";
-
-// How many bytes the file of a prefix may have.
-const LONGEST: u64 = 1024;
 
 /// Tells standard error of a store whose prefix holds a control character, a blank at an end, or a
 /// byte order mark.
@@ -34,7 +31,7 @@ fn path_in(alloc: Global, store: &str) -> Result<String, AllocError> {
 // Whether a file holds such a prefix. What can't be read, or isn't a prefix, is the run's own to
 // tell.
 fn has_doubtful<R: Reads + AllocGlobal>(rt: &R, path: &str) -> bool {
-    match rt.read_small(path, LONGEST) {
+    match read_small(rt, path) {
         Ok(Some(bytes)) => match read_prefix(rt.alloc(), bytes.as_slice()) {
             Ok(prefix) => is_doubtful(prefix.as_str()),
             Err(_) => false,

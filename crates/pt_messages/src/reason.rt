@@ -1,4 +1,4 @@
-//! Explanation a run failed, in a line of its own: the path of the call that failed, and the system's text,
+//! Why a run failed, in a line of its own: the path of the call that failed, and the system's text,
 //! or the program's where no call failed.
 use crate::members::Members;
 use crate::reads::Reads;
@@ -7,7 +7,12 @@ use pt_folder::{Failure, HostDest, HostSource, System};
 use pt_move::Fault;
 use std::alloc::{AllocError, AllocGlobal, Global};
 use std::io::ErrorKind;
+use std::path::PathBuf;
 use std::{fmt, io};
+
+const ROOT: &str = "pairtree_root";
+
+const VERSION: &str = "pairtree_version0_1";
 
 // Of what stands where a root, or one of its files, would be.
 const ANOTHER_ROOT: &str = "it is not what this program makes there with these tuples";
@@ -19,7 +24,7 @@ const NO_PREFIX: &str =
 
 const CHANGED: &str = "it was not the same at its second reading";
 
-/// Explanation a run or an audit failed: the path of the call that failed or of what was found, and the
+/// Why a run or an audit failed: the path of the call that failed or of what was found, and the
 /// reason.
 #[derive(Drop)]
 pub struct FaultReason {
@@ -103,7 +108,7 @@ impl FaultReason {
     }
 }
 
-/// Explanation a run or an audit over these folders ended with a fault, where that has a path: its source,
+/// Why a run or an audit over these folders ended with a fault, where that has a path: its source,
 /// at this path, and what its destination tells. `NoMemory` where a growth was refused.
 pub fn of_fault<R: Reads + AllocGlobal, S: System>(
     rt: &R,
@@ -123,7 +128,7 @@ pub fn of_fault<R: Reads + AllocGlobal, S: System>(
     })
 }
 
-// Explanation a fault of the source ended a run or an audit, where that has a path.
+// Why a fault of the source ended a run or an audit, where that has a path.
 fn of_source<R: Reads + AllocGlobal, S: System>(
     rt: &R,
     fault: &Fault,
@@ -145,13 +150,13 @@ fn of_source<R: Reads + AllocGlobal, S: System>(
     }
 }
 
-// Explanation a folder is no store; where it is the `pairtree_root` of one, which folder that is.
+// Why a folder is no store; where it is the `pairtree_root` of one, which folder that is.
 fn of_no_store<R: Reads + AllocGlobal>(
     rt: &R,
     store: &str,
 ) -> Result<Option<FaultReason>, AllocError> {
     let alloc = rt.alloc();
-    let Some(above) = rt.store_above(alloc, store) else {
+    let Some(above) = store_above(rt, store) else {
         return FaultReason::at(alloc, store, &NO_STORE);
     };
     let above = escape(alloc, above.as_str())?;
@@ -159,7 +164,19 @@ fn of_no_store<R: Reads + AllocGlobal>(
     FaultReason::at(alloc, store, &reason)
 }
 
-// Explanation a call failed.
+// The folder of the store whose `pairtree_root` a path leads to, links resolved; none where it leads
+// to no such folder, or that can't be told.
+fn store_above<R: Reads + AllocGlobal>(rt: &R, path: &str) -> Option<PathBuf> {
+    let mut above = rt.find_place(rt.alloc(), path).ok()?;
+    if above.file_name() != Some(ROOT) || !above.pop() {
+        return None;
+    }
+    let version = above.join(rt.alloc(), VERSION).ok()?;
+    let length = rt.own_length(version.as_str()).ok()?;
+    length.is_some().then_some(above)
+}
+
+// Why a call failed.
 fn of_failure(alloc: Global, failure: Option<&Failure>) -> Result<Option<FaultReason>, AllocError> {
     match failure {
         Some(failure) => FaultReason::at(alloc, failure.path(), &failure.cause()),

@@ -1,10 +1,12 @@
 //! What watches a source: as that is called, it shows on standard error how far the run is.
 
+ghost use Rattle.pt_messages.specs.Fields.{IsOnlyWatch};
+
 use crate::counted::LineCounts;
 use crate::numbers::{group_digits, size, time};
 use crate::shown::escape;
 use crate::tally::Tally;
-use crate::terminal::Terminals;
+use crate::terminal::{Terminals, columns};
 use pt_move::Fault;
 use pt_tree::{NamePath, Watcher};
 use std::alloc::{AllocError, AllocGlobal, Global};
@@ -82,7 +84,9 @@ pub struct Watch<'a, R> {
 
 impl<'a, R: Clock + Eprint + Terminals> Watch<'a, R> {
     /// It begins now, if anything is to be shown.
-    pub fn new(rt: &'a R, alloc: Global, tally: &'a Tally, watching: Watching) -> Watch<'a, R> {
+    pub fn new(rt: &'a R, alloc: Global, tally: &'a Tally, watching: Watching) -> Watch<'a, R>
+        ensures fields { IsOnlyWatch result }
+    {
         let on_terminal = rt.errors_are_terminal();
         let shows = !watching.quiet
             && match watching.when {
@@ -104,7 +108,7 @@ impl<'a, R: Clock + Eprint + Terminals> Watch<'a, R> {
             shows,
             sums,
             on_terminal,
-            columns: rt.columns(),
+            columns: columns(rt),
             period,
             expected: watching.expected,
             words: watching.words,
