@@ -10,7 +10,7 @@ use Rattle.clap.specs.Words.{Text}
 use Rattle.pt_folder.specs.Runs.{GivesPiece, Reads}
 use Rattle.pt_name.specs.Share.{ListsAs, Portion, begins_with}
 use Rattle.pt_state.specs.declared.job.Job.{Job}
-use Rattle.pt_cli.specs.Inputs.{FileWords}
+use Rattle.pt_messages.specs.Reading.{FileWords}
 use Rattle.pt_cli.specs.Lines.{line_fault, lines_from, next_number}
 use Rattle.pt_cli.specs.declared.list_fault.BadLine.{BadLine}
 use Rattle.pt_cli.specs.declared.list_fault.FileFault.{FileFault}

@@ -10,7 +10,8 @@ use Rattle.pt_host.specs.Machine.{MachineWords}
 use Rattle.pt_host.specs.Made.{Runs, run_call}
 use Rattle.pt_cli.specs.Calls.{TellsAsked, TellsText}
 use Rattle.pt_state.specs.declared.job.Job.{Job}
-use Rattle.pt_cli.specs.Inputs.{Beside, FileWords}
+use Rattle.pt_cli.specs.Inputs.{Beside}
+use Rattle.pt_messages.specs.Reading.{FileWords}
 use Rattle.pt_cli.specs.Listing.{MakesListed, TakesList}
 use Rattle.pt_cli.specs.Words.{ReadsWords}
 use Rattle.pt_cli.specs.declared.command.Audit.{Audit as AuditArgs}

@@ -1,8 +1,6 @@
 //! The input of a machine.
-ghost use Rattle.std.specs.Prelude.{⊤};
 ghost use Rattle.pt_cli.specs.Inputs.{InputWords};
 
-use std::io;
 use std::io::Read;
 
 /// A machine with an input. Only `names -` asks for it.
@@ -15,16 +13,6 @@ pub trait HasInput {
     /// Its input, from where it stands.
     fn input(&mut self) -> Self::Input
         ensures { gives self.old result self.new };
-}
-
-impl<'a, R: io::Input> HasInput for &'a R {
-    type Input = R::Reader;
-
-    ghost gives = { λ _ _ _. ⊤ };
-
-    fn input(&mut self) -> R::Reader {
-        self.reader()
-    }
 }
 
 /// A machine with an input by its words, as `Machine` is one by all others.

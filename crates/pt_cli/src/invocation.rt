@@ -1,11 +1,11 @@
 //! The words that the program was started with.
-ghost use Rattle.std.specs.Prelude.{⊤, List, ℕ, map, string_bytes};
+ghost use Rattle.std.specs.Prelude.{List, ℕ, map, string_bytes};
 ghost use Rattle.std.specs.Result.{result_map_both};
 ghost use Rattle.std.specs.declared.io.Error.{Error};
 ghost use Rattle.std.specs.declared.result.Result.{Result};
 
 use std::alloc::Global;
-use std::{env, io};
+use std::io;
 
 /// How the program was started: with words.
 pub trait Invocation {
@@ -17,12 +17,4 @@ pub trait Invocation {
     fn words(&self, alloc: Global) -> io::Result<Vec<String>>
         ensures { starts self.now
             (result_map_both (λ words. map string_bytes words.items) (λ error. error) result) };
-}
-
-impl Invocation for HostRuntime {
-    ghost starts = { λ _ _. ⊤ };
-
-    fn words(&self, alloc: Global) -> io::Result<Vec<String>> {
-        Ok(env::args(self)?.collect(alloc)?)
-    }
 }

@@ -3,7 +3,7 @@
 //! Read `answer` first, which says what words lead to:
 //!
 //! ```rust
-//! let status = answer(&rt, &mut &rt, &words); // The first word is the program's name.
+//! let status = answer(&rt, &mut host, &words); // The first word is the program's name.
 //! ```
 //!
 //! What it promises, on a machine of pt_host:

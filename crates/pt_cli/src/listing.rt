@@ -5,14 +5,13 @@
 //! is refused (2).
 ghost use Rattle.std.specs.Prelude.{◌≡◌, ◌⊎◌, IfOk, map};
 ghost use Rattle.std.specs.String.{string_bytes};
-ghost use Rattle.pt_cli.specs.Inputs.{file_words};
 ghost use Rattle.pt_cli.specs.Listing.{IsListing, IsUnread, ReadsList, TakesIdentifiers, TakesList};
 ghost use Rattle.pt_cli.specs.Listing.{texts_of};
 
 use crate::identifier_lines::read_identifiers;
 use crate::{FileFault, Text};
 use pt_host::status::REFUSED;
-use pt_host::{Reads, end_with_fault};
+use pt_host::{Reads, ReadsFiles, end_with_fault};
 use pt_messages::escape;
 use pt_move::{Fault, Job};
 use pt_name::{IdentifierList, Share};
@@ -28,7 +27,7 @@ pub(crate) fn take_list<R: Reads + Eprint + AllocGlobal>(
     list: &Option<Text>,
     job: Job,
 ) -> Result<Job, u8>
-    ensures { TakesList (file_words (R.opens rt.now) R.Opened.reads) list.now job result }
+    ensures { TakesList (⟦<R as ReadsFiles>⟧.file_words rt.now) list.now job result }
 {
     let Some(path) = list else {
         return Ok(job);
@@ -42,7 +41,7 @@ pub(crate) fn take_list<R: Reads + Eprint + AllocGlobal>(
 
 // The identifiers in the lines of the file at a path.
 fn read_list<R: Reads + AllocGlobal>(rt: &R, path: &str) -> Result<Vec<String>, FileFault>
-    ensures { ReadsList (file_words (R.opens rt.now) R.Opened.reads) path.now (texts_of result) }
+    ensures { ReadsList (⟦<R as ReadsFiles>⟧.file_words rt.now) path.now (texts_of result) }
 {
     match rt.open(path) {
         Ok(mut file) => read_identifiers(rt.alloc(), &mut file),

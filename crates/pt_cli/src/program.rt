@@ -15,7 +15,7 @@ ghost use Rattle.std.specs.Prelude.{◌≡◌, map, string_bytes};
 ghost use Rattle.std.specs.Process.{exit_status};
 ghost use Rattle.pt_messages.specs.Expected.{AsksEnd};
 ghost use Rattle.pt_cli.specs.Calls.{IsToldAs, TellsAsked, TellsNames, TellsText, names_status};
-ghost use Rattle.pt_cli.specs.Inputs.{beside, file_words};
+ghost use Rattle.pt_cli.specs.Inputs.{beside};
 ghost use Rattle.pt_cli.specs.Statuses.{Declines, Ends, EndsWith, IsWordless, MakesAudit, MakesRun};
 ghost use Rattle.pt_host.specs.Checking.{ChecksStore, check_call};
 
@@ -29,8 +29,8 @@ use crate::{
 };
 use pt_host::status::{DONE, REFUSED};
 use pt_host::{
-    AuditOptions, Host, Machine, Reads, RunOptions, Terminals, audit_guarded, check_store,
-    end_with_fault, run_guarded,
+    AuditOptions, Host, Machine, Reads, ReadsFiles, RunOptions, Terminals, audit_guarded,
+    check_store, end_with_fault, run_guarded,
 };
 use pt_move::Fault;
 use pt_tree::write_out;
@@ -52,7 +52,7 @@ pub fn run<R, H: Host + HasInput>(rt: &R, host: &mut H) -> ExitCode
 where
     R: Invocation + Reads + Clock + Eprint + AllocGlobal + Terminals,
     ensures { Ends (R.starts rt.now) (EndsWith ⟦<H as Machine>⟧.words
-        (beside (AsksEnd R.ends rt.now) (file_words (R.opens rt.now) R.Opened.reads)
+        (beside (AsksEnd (⟦<R as ReadsFiles>⟧.file_words rt.now)) (⟦<R as ReadsFiles>⟧.file_words rt.now)
         ⟦<H as InputMachine>⟧.input_words))
         host.old host.new (exit_status result) }
 {
@@ -84,7 +84,7 @@ pub fn answer<R, H: Host + HasInput>(rt: &R, host: &mut H, words: &[String]) -> 
 where
     R: Reads + Clock + Eprint + AllocGlobal + Terminals,
     ensures { EndsWith ⟦<H as Machine>⟧.words
-        (beside (AsksEnd R.ends rt.now) (file_words (R.opens rt.now) R.Opened.reads)
+        (beside (AsksEnd (⟦<R as ReadsFiles>⟧.file_words rt.now)) (⟦<R as ReadsFiles>⟧.file_words rt.now)
         ⟦<H as InputMachine>⟧.input_words)
         (map string_bytes words.now) host.old host.new result }
 {
@@ -141,8 +141,8 @@ fn report_text(rt: &impl Eprint, written: io::Result<()>) -> u8
 fn make_run<R, H: Host>(rt: &R, host: &mut H, asked: Migrate) -> u8
 where
     R: Reads + Clock + Eprint + AllocGlobal + Terminals,
-    ensures { MakesRun ⟦<H as Machine>⟧.words (AsksEnd R.ends rt.now)
-        (file_words (R.opens rt.now) R.Opened.reads) asked (host.old, host.new) result }
+    ensures { MakesRun ⟦<H as Machine>⟧.words (AsksEnd (⟦<R as ReadsFiles>⟧.file_words rt.now))
+        (⟦<R as ReadsFiles>⟧.file_words rt.now) asked (host.old, host.new) result }
 {
     let Migrate {
         options,
@@ -163,8 +163,8 @@ where
 fn make_audit<R, H: Host>(rt: &R, host: &mut H, asked: Audit) -> u8
 where
     R: Reads + Clock + Eprint + AllocGlobal + Terminals,
-    ensures { MakesAudit ⟦<H as Machine>⟧.words (AsksEnd R.ends rt.now)
-        (file_words (R.opens rt.now) R.Opened.reads) asked (host.old, host.new) result }
+    ensures { MakesAudit ⟦<H as Machine>⟧.words (AsksEnd (⟦<R as ReadsFiles>⟧.file_words rt.now))
+        (⟦<R as ReadsFiles>⟧.file_words rt.now) asked (host.old, host.new) result }
 {
     let Audit {
         options,

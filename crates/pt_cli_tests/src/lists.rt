@@ -3,7 +3,7 @@
 use pt_cli::{
     BadLine, FileFault, LineFault, ListFault, NamesArgs, Text, list_names, read_identifiers,
 };
-use pt_folder::HostFile;
+use pt_machine::HostFile;
 use pt_name::Layout;
 use std::alloc::Global;
 use std::io;

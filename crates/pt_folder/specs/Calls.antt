@@ -1,8 +1,6 @@
 -- What folders ask of the system, and what becomes of the answers.
-use Rattle.std.specs.Prelude.{◌≡◌, ◌≢◌, ◌⊎◌, ◌<◌, ◌≤◌, ⊤, ℕ, true, List, length, Option, None, Some, Result, Ok, Err}
-use Rattle.std.specs.Fs.{new_options, with_read, with_append, with_create_new}
+use Rattle.std.specs.Prelude.{◌≡◌, ◌≢◌, ◌⊎◌, ◌<◌, ◌≤◌, ⊤, ℕ, List, length, Option, None, Some, Result, Ok, Err}
 use Rattle.std.specs.IoError.{error_kind}
-use Rattle.std.specs.declared.fs.OpenOptions.{OpenOptions}
 use Rattle.std.specs.declared.io.Error.{Error}
 use Rattle.pt_tree.specs.declared.faults.TreeFault.{TreeFault}
 use Rattle.pt_tree.specs.declared.faults.TreeFault.TheVariants.{Device, Memory}
@@ -10,14 +8,6 @@ use Rattle.pt_tree.specs.declared.kind.Kind.{Kind}
 use Rattle.pt_tree.specs.Path.{Path}
 use Rattle.pt_folder.specs.Folder.{FolderEntry, entry_text, IsAbsent, fault_of_kind}
 use Rattle.pt_folder.specs.Laws.{IsPath}
-
--- how a file is opened for reading
-abbrev pub for_reading : OpenOptions
-for_reading = with_read new_options true
-
--- how a file is made: each write goes to its end, and only where nothing stands
-abbrev pub for_making : OpenOptions
-for_making = with_create_new (with_append new_options true) true
 
 -- an error of the system, as a folder answers it
 abbrev pub fault_of : Error → TreeFault

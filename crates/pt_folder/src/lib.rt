@@ -1,20 +1,19 @@
 //! Folders of the system as source and destination of a run.
 //!
-//! Read `HostSource` and `HostDest` first; `System` has the calls that they make, which the runtime
-//! answers as it answers any program:
+//! Read `HostSource` and `HostDest` first; `System` has the calls that they make:
 //!
 //! ```rust
-//! let mut store = HostSource::new(&rt, rt.alloc(), "store");
-//! let listing = store.list(&NamePath::new(rt.alloc()))?;
-//! let mut root = HostDest::new(&rt, rt.alloc(), "root").with_sync(true);
-//! root.mkdir(&NamePath::of_text(rt.alloc(), b"ocfl")?)?;
+//! let mut store = HostSource::new(system, alloc, "store");
+//! let listing = store.list(&NamePath::new(alloc))?;
+//! let mut root = HostDest::new(system, alloc, "root").with_sync(true);
+//! root.mkdir(&NamePath::of_text(alloc, b"ocfl")?)?;
 //! ```
 //!
 //! What it promises, over any system (`System`, `Handle`, `Input`):
 //!
 //! - A system may keep the tree of a folder that is read (`forest`), and of one that is written
 //!   (`kept`). Its calls keep a law each then, as POSIX has them (SourceLaws.antt and DestLaws.antt
-//!   of specs/). The runtime's own keeps none, and so tells nothing.
+//!   of specs/). One that keeps none tells nothing (Untold.antt).
 //! - `HostSource` tells the system's tree, and what isn't read of the open file. It meets `Source`.
 //! - `HostDest` tells the system's tree and the path of the open file. It meets `Dest`. After any
 //!   number of calls it is over the same folder and set as it was, and the system is in the state
@@ -39,7 +38,6 @@ mod listing;
 mod moving;
 mod parting;
 mod reading;
-mod runtime;
 mod source;
 mod syscalls;
 mod system;
@@ -49,6 +47,5 @@ mod writing;
 
 pub use dest::HostDest;
 pub use failure::{Failure, FailureReason};
-pub use runtime::HostFile;
 pub use source::HostSource;
 pub use system::{Handle, Input, System};

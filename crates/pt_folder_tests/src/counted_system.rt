@@ -5,7 +5,8 @@ ghost use Rattle.pt_folder.specs.Untold.{untold_kind, untold_look, untold_move, 
 ghost use Rattle.pt_folder.specs.Untold.{untold_open, untold_peek, untold_proper, untold_tree};
 ghost use Rattle.pt_folder.specs.Untold.{untold_write};
 
-use pt_folder::{HostFile, System};
+use pt_folder::System;
+use pt_machine::HostFile;
 use pt_tree::Kind;
 use std::cell::Cell;
 use std::fs::{Metadata, OpenFile};

@@ -1,6 +1,7 @@
 //! Calls of a destination and of a source as data, for tests, and what is found then.
 use crate::failing_system::{SystemState, byte_at};
 use pt_folder::{HostDest, HostSource};
+use pt_machine::HostMachine;
 use pt_memory::texts::path;
 use pt_tree::{Block, Dest, Kind, Listing, Name, NamePath, Source, TreeFault};
 use std::alloc::Global;
@@ -50,12 +51,12 @@ pub fn try_dest<R: Files>(
     folder: &str,
     rows: &[Row],
 ) -> Result<Outcome, Fail> {
-    let mut dest = HostDest::new(system, alloc, folder);
+    let mut dest = HostDest::new(HostMachine::new(system), alloc, folder);
     try_dest_steps(&mut dest, state, alloc, rows)
 }
 
 fn try_dest_steps<R: Files>(
-    dest: &mut HostDest<'_, &R>,
+    dest: &mut HostDest<'_, HostMachine<'_, R>>,
     state: &SystemState,
     alloc: Global,
     rows: &[Row],
@@ -74,7 +75,7 @@ fn try_dest_steps<R: Files>(
 
 // Takes a step; what isn't found is answered as a want of memory.
 fn take_step<R: Files>(
-    dest: &mut HostDest<'_, &R>,
+    dest: &mut HostDest<'_, HostMachine<'_, R>>,
     block: &mut Block,
     state: &SystemState,
     alloc: Global,
@@ -97,7 +98,7 @@ fn take_step<R: Files>(
 
 #[tactic(auto, using(pt_folder::specs::DestHeld::untold_can_write))]
 fn append<R: Files>(
-    dest: &mut HostDest<'_, &R>,
+    dest: &mut HostDest<'_, HostMachine<'_, R>>,
     alloc: Global,
     len: usize,
 ) -> Result<Answer, Fail> {
@@ -109,7 +110,7 @@ fn append<R: Files>(
 }
 
 fn make_call<R: Files>(
-    dest: &mut HostDest<'_, &R>,
+    dest: &mut HostDest<'_, HostMachine<'_, R>>,
     block: &mut Block,
     alloc: Global,
     step: DestStep,
@@ -128,7 +129,7 @@ fn make_call<R: Files>(
 
 #[tactic(auto, using(pt_folder::specs::DestHeld::untold_can_peek, pt_folder::specs::DestHeld::untold_may_make, pt_folder::specs::DestHeld::untold_can_write, pt_folder::specs::DestHeld::untold_may_move))]
 fn call_dest<R: Files>(
-    dest: &mut HostDest<'_, &R>,
+    dest: &mut HostDest<'_, HostMachine<'_, R>>,
     block: &mut Block,
     step: DestStep,
     at: &NamePath,
@@ -174,12 +175,12 @@ pub fn try_source<R: Files>(
     folder: &str,
     steps: &[SourceStep],
 ) -> Result<Outcome, Fail> {
-    let mut source = HostSource::new(system, alloc, folder);
+    let mut source = HostSource::new(HostMachine::new(system), alloc, folder);
     try_source_steps(&mut source, state, alloc, steps)
 }
 
 fn try_source_steps<R: Files>(
-    source: &mut HostSource<'_, &R>,
+    source: &mut HostSource<'_, HostMachine<'_, R>>,
     state: &SystemState,
     alloc: Global,
     steps: &[SourceStep],
@@ -195,7 +196,7 @@ fn try_source_steps<R: Files>(
 
 #[tactic(auto, unfolding(pt_tree::specs::Source::CanRead, pt_tree::specs::Source::CanList, pt_tree::specs::Source::CanLook, pt_tree::specs::Source::CanOpen))]
 fn goes<R: Files>(
-    source: &mut HostSource<'_, &R>,
+    source: &mut HostSource<'_, HostMachine<'_, R>>,
     block: &mut Block,
     state: &SystemState,
     alloc: Global,

@@ -8,6 +8,7 @@ pub mod HostCall
 pub mod Machine
 pub mod Made
 pub mod Operation
+pub mod Output
 pub mod QuietCheckLaw
 pub mod RehearsalLaw
 pub mod Room

@@ -31,8 +31,8 @@ pub(crate) type WatchedIo<'w, 'a, R, S, L> = (
 );
 
 impl<'a> Account<'a> {
-    /// That of what has this feedback, where it is between these folders and leaves out the entries
-    /// of these names.
+    /// The account of a run or an audit with this feedback, between these folders, which leaves out
+    /// the entries of these names.
     pub fn new(
         watching: Watching,
         feedback: &Feedback,
@@ -65,7 +65,7 @@ impl<'a> Account<'a> {
         (Watched::new(source, watch), log)
     }
 
-    /// Tells how it ended, by this fault if by any, and gives the source with all its entries, the
+    /// Tells how it ended, with this fault if there is one, and gives the source with all its entries, the
     /// log, and what is recorded of the end.
     pub fn close<R, S: System, L: Log>(
         self,

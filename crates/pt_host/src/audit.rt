@@ -12,7 +12,7 @@ use crate::operation::{Conclusion, Operation};
 use crate::recorded_options::options_of_audit;
 use crate::{AuditOptions, Feedback, Host, Machine};
 use pt_guard::Claim;
-use pt_messages::{Members, Reads, Terminals, lines_expected};
+use pt_messages::{Members, Reads, ReadsFiles, Terminals, lines_expected};
 use pt_move::Job;
 use std::alloc::{AllocError, AllocGlobal, Global};
 use std::rt::Clock;
@@ -30,8 +30,8 @@ use std::rt::Clock;
 /// Nothing is made or changed in either folder. Where a file is named for its event, that is made
 /// and replaced as of a run.
 ///
-/// Skip lines count as others, unless the options say that they are well. The log that is expected
-/// to be as long may be one of a rehearsal, a run or an audit.
+/// Skip lines count as others, unless the options say that they are well. The log that `--expect`
+/// names may be one of a rehearsal, a run or an audit.
 pub fn audit_guarded<R, H: Host>(
     rt: &R,
     host: &mut H,
@@ -41,7 +41,7 @@ pub fn audit_guarded<R, H: Host>(
 ) -> u8
 where
     R: Reads + Clock + Eprint + AllocGlobal + Terminals,
-    ensures { Audits ⟦<H as Machine>⟧.words (AsksEnd R.ends rt.now)
+    ensures { Audits ⟦<H as Machine>⟧.words (AsksEnd (⟦<R as ReadsFiles>⟧.file_words rt.now))
         (audit_call options source.now dest.now) host.old host.new result }
 {
     let folders = Folders {
@@ -89,6 +89,7 @@ impl Operation for AuditOptions {
     {
         let expected = lines_expected(rt, self.feedback.expected_log());
         let host_io = host.lend();
+        // An audit's log can be made again, so it isn't put onto its disk.
         let file: Option<H::File> = None;
         let parts = DeviceParts { host_io, file };
         let (host_io, conclusion) = audit_over(rt, parts, self, expected, folders);

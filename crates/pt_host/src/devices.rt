@@ -68,7 +68,7 @@ pub(crate) struct AuditSides<'a, S: System, D: System, W: Write, F: SyncsOutput<
     pub source: Ignoring<HostSource<'a, S>>,
     /// The folder of the root, which is only read.
     pub root: HostSource<'a, D>,
-    /// The log, whose lines are put onto the disk where that is asked.
+    /// The log.
     pub log: DurableLog<W, F>,
 }
 

@@ -50,7 +50,7 @@ impl EventPath {
     }
 }
 
-/// Explanation an event can't be recorded in its file.
+/// Why an event can't be recorded in its file.
 #[derive(Debug, Drop, Error)]
 pub enum EventFault {
     /// The file may not lie there.
@@ -72,7 +72,7 @@ pub enum EventFault {
 }
 
 impl EventFault {
-    // Explanation a file can't be made at one of its paths, or moved there, by the system's error.
+    // Why a file can't be made at one of its paths, or moved there, by the system's error.
     fn at(path: EventPath, error: io::Error) -> EventFault
         ensures { result ≡ fault_of path error }
     {

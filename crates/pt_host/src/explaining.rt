@@ -1,4 +1,4 @@
-//! Explanation a folder failed, for a check and an audit, which tell that and go on.
+//! Why a folder failed, for a check and an audit, which tell that and go on.
 ghost use Rattle.std.specs.Prelude.{◌≡◌, MatchOption, false, is_some};
 ghost use Rattle.pt_folder.specs.Failure.{name_of};
 
@@ -9,7 +9,7 @@ use std::alloc::Global;
 
 /// A source over a folder, which keeps why its last call failed.
 pub(crate) trait KeepsFailure: ListsNamed {
-    /// Explanation its last call failed, if there was memory for its path.
+    /// Why its last call failed, if there was memory for its path.
     fn kept_failure(&self) -> Option<&Failure>;
 }
 
@@ -25,7 +25,7 @@ impl<'a, S: System> KeepsFailure for Ignoring<HostSource<'a, S>> {
     }
 }
 
-/// Explanation a folder failed: the reason of its last failure.
+/// Why a folder failed: the reason of its last failure.
 #[derive(Drop)]
 pub(crate) struct LastFailure;
 
@@ -109,7 +109,7 @@ fn reasons_of(
     Ok((first, further))
 }
 
-// Explanation a call failed. Where it was for bytes that are no name, these stand behind it.
+// Why a call failed. Where it was for bytes that are no name, these stand behind it.
 fn reason_of(alloc: Global, failure: &Failure) -> Result<String, MemoryFault> {
     match failure.name() {
         Some(name) => reason_for(alloc, failure.cause(), name),

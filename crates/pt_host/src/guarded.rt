@@ -2,7 +2,7 @@
 //! that records it, and the list that it is held against.
 //!
 //! `make_guarded` makes an operation behind the guard (`MakesGuarded`): `run_guarded` and
-//! `audit_guarded` are it of one of these. With a list of identifiers the status may be 1 in place
+//! `audit_guarded` are each that, of their own options. With a list of identifiers the status may be 1 in place
 //! of 0, and without one it stays (`EndsWithList`); what is told of them is tested.
 ghost use Rattle.pt_guard.specs.Guard.{Begins};
 ghost use Rattle.pt_host.specs.Operation.{MakesGuarded};
@@ -15,7 +15,7 @@ use crate::saying::end_with_refusal;
 use crate::unmet::SoughtList;
 use crate::{Host, Machine};
 use pt_guard::{FolderLock, GuardFault, begin};
-use pt_messages::{Reads, Terminals, prefix, reason};
+use pt_messages::{Reads, ReadsFiles, Terminals, prefix, reason};
 use std::alloc::AllocGlobal;
 use std::rt::Clock;
 
@@ -32,7 +32,7 @@ pub(crate) fn make_guarded<R, H: Host, O: Operation + Drop>(
 ) -> u8
 where
     R: Reads + Clock + Eprint + AllocGlobal + Terminals,
-    ensures { MakesGuarded ⟦<H as Machine>⟧.words (AsksEnd R.ends rt.now) O.Operation
+    ensures { MakesGuarded ⟦<H as Machine>⟧.words (AsksEnd (⟦<R as ReadsFiles>⟧.file_words rt.now)) O.Operation
         ((folders.entry.store.now, folders.entry.folder.now), operation)
         (host.old, host.new) result }
 {
@@ -56,8 +56,8 @@ where
     status
 }
 
-// Asks the guard whether it may begin, with the lock that it asks for. Where it may, and that is
-// wanted, standard error is told of a prefix that reads otherwise than it looks, and of a
+// Asks the guard whether the operation may begin, and for the lock that it wants. Where it may, and
+// that is wanted, standard error is told of a prefix that reads otherwise than it looks, and of a
 // destination that can't be locked.
 fn check_guard<R: Reads + Eprint + AllocGlobal, H: Host, O: Operation>(
     rt: &R,

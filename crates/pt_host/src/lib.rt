@@ -4,7 +4,7 @@
 //! Read `run_guarded` first, and then `Host`, the machine that it is made on (host.rt):
 //!
 //! ```rust
-//! let status = run_guarded(&rt, &mut &rt, options, "store", "root"); // 0 where all was carried.
+//! let status = run_guarded(&rt, &mut host, options, "store", "root"); // 0 where all was carried.
 //! ```
 //!
 //! What it promises, on every machine; no call of these functions but the machine's can change a
@@ -46,6 +46,7 @@ pub mod laws;
 mod machine;
 mod operation;
 mod options;
+mod output;
 mod recorded_options;
 mod room;
 mod run;
@@ -59,10 +60,11 @@ pub use audit::audit_guarded;
 pub use checking::check_store;
 pub use durable_log::{DurableLog, Syncs, SyncsOutput};
 pub use event::EventFault;
-pub use host::{Host, HostIo, OutputFile};
+pub use host::{Host, HostIo};
 pub use machine::Machine;
 pub use options::{AllowedLines, AuditOptions, CheckOptions, Feedback, RunOptions};
-pub use pt_messages::{Progress, Reads, Terminals, VERSION};
+pub use output::{OutputCalls, open_output};
+pub use pt_messages::{Progress, Reads, ReadsFiles, Terminals, VERSION};
 pub use room::longest_made;
 pub use run::run_guarded;
 pub use saying::end_with_fault;

@@ -12,7 +12,7 @@ ghost use Rattle.pt_host.specs.declared.options.Feedback.{Feedback};
 use crate::folders::Folders;
 use crate::{Feedback, Host, Machine};
 use pt_guard::Claim;
-use pt_messages::{Members, Outcome, Reads, Terminals};
+use pt_messages::{Members, Outcome, Reads, ReadsFiles, Terminals};
 use pt_move::Job;
 use std::alloc::{AllocError, AllocGlobal, Global};
 use std::rt::Clock;
@@ -36,8 +36,8 @@ pub(crate) trait Operation {
     ghost feedback_of: { Self → Feedback };
 
     /// Making it between these two folders takes a machine, by its words, from one state to
-    /// another, which are a pair, and ends with this status. The log that is expected to be as long
-    /// is asked for its end.
+    /// another, which are a pair, and ends with this status. The log that `--expect` names is
+    /// asked for its end.
     ghost makes: { {H : Type 0} → MachineWords H → (Option (List ℕ) → Type 0)
         → List ℕ × List ℕ → Self → H × H → ℕ → Type 0 };
 
@@ -64,7 +64,7 @@ pub(crate) trait Operation {
     fn make<R, H: Host>(self, rt: &R, host: &mut H, folders: Folders<'_>) -> Conclusion
     where
         R: Reads + Clock + Eprint + AllocGlobal + Terminals,
-        ensures { makes ⟦<H as Machine>⟧.words (AsksEnd R.ends rt.now)
+        ensures { makes ⟦<H as Machine>⟧.words (AsksEnd (⟦<R as ReadsFiles>⟧.file_words rt.now))
             (folders.entry.store.now, folders.entry.folder.now) self (host.old, host.new)
             result.status };
 }

@@ -83,7 +83,7 @@ pub struct Feedback {
 }
 
 impl Feedback {
-    // The path of the log that is expected to be as long, if one is named.
+    // The path of the log that `--expect` names, if it names one.
     pub(crate) fn expected_log(&self) -> Option<&str>
         ensures { option_map (λ path. path.now) result ≡ self.now.expected }
     {
@@ -103,8 +103,8 @@ impl Feedback {
         }
     }
 
-    // How what has this feedback is watched: its log has lines of this kind, and so many, where
-    // that is known.
+    // How a run or an audit with this feedback is watched: its log has lines of this kind, and so
+    // many, where that is known.
     pub(crate) fn watching(&self, words: Words, expected: Option<u64>) -> Watching
         ensures { result ≡ record {
           when = self.now.progress;

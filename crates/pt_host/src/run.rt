@@ -1,7 +1,7 @@
 //! A run from one folder to another, on a machine.
 //!
-//! Where the log is to be synced its file is asked for, and synced once; the end of the log is
-//! asked for whose lines are expected. What is lent is asked for; a run from the store's folder to
+//! Where the log is to be synced its file is asked for, and synced once; the log that `--expect`
+//! names is asked for its end. What is lent is asked for; a run from the store's folder to
 //! the destination's is made over it, with the job that is wanted, or a rehearsal of it; what was
 //! lent is given back as the run left it.
 //!
@@ -26,7 +26,7 @@ use crate::running::run_over;
 use crate::saying::end_with_fault;
 use crate::{Feedback, Host, Machine, RunOptions};
 use pt_guard::Claim;
-use pt_messages::{Members, Outcome, Reads, Terminals, Words, lines_expected, reason};
+use pt_messages::{Members, Outcome, Reads, ReadsFiles, Terminals, Words, lines_expected, reason};
 use pt_move::{Fault, Job};
 use std::alloc::{AllocError, AllocGlobal, Global};
 use std::io;
@@ -34,14 +34,14 @@ use std::io::ErrorKind;
 use std::rt::Clock;
 
 /// Carries a store into a destination on a machine, or rehearses that, and gives the exit status: 0
-/// all was carried; 1 the log has lines that tell of what was not, or no object was met of an
-/// identifier of the list; 2 the folders lie in one another, or it isn't known where, or the
+/// all was carried; 1 the log has lines that tell of what was not, unless the options say that these
+/// are well, or no object was met of an identifier of the list; 2 the folders lie in one another, or it isn't known where, or the
 /// destination is a storage root itself; 3 a fault, or another run or an audit holds the
 /// destination. Standard error tells of 2 and 3, and of these identifiers.
 ///
 /// The guard is asked first, and the lock for this run alone. Where the run may begin, the log that
-/// is expected to be as long is looked at, if one is named, and the run is made over what the
-/// machine lends, which is given back then; and at last the lock is given back. Where a file is
+/// `--expect` names is looked at, if it names one, and the run is made over what the machine lends,
+/// which is given back then; and at last the lock is given back. Where a file is
 /// named for its event, that is made once the lock is held, before all else, and replaced before
 /// the lock is given back; where it can't begin no run is made: 2 where the file may not lie there
 /// or stands, else 3. Where its end can't be recorded: 3.
@@ -54,7 +54,7 @@ pub fn run_guarded<R, H: Host>(
 ) -> u8
 where
     R: Reads + Clock + Eprint + AllocGlobal + Terminals,
-    ensures { Runs ⟦<H as Machine>⟧.words (AsksEnd R.ends rt.now)
+    ensures { Runs ⟦<H as Machine>⟧.words (AsksEnd (⟦<R as ReadsFiles>⟧.file_words rt.now))
         (run_call options source.now dest.now) host.old host.new result }
 {
     let folders = Folders {
@@ -114,7 +114,7 @@ impl Operation for RunOptions {
     }
 }
 
-// Says that the log can't be put onto its disk, and gives the end of that.
+// Says that the output failed, as it can't be put onto its disk, and gives the end of that.
 fn end_unsynced(rt: &impl Eprint) -> Conclusion
     ensures { result.status ≡ 3 }
 {

@@ -1,7 +1,7 @@
 //! The exit statuses of the program, each with when it is given.
 
-/// All was carried, or is the same: the log has no other line. Or the names, the help or the
-/// version were written.
+/// All was carried, or is the same: the log has no other line, or none but those that the options
+/// say are well. Or the names, the help or the version were written.
 pub const DONE: u8 = 0;
 
 /// A run or an audit came to its end, and its log has lines to read: of what was passed over, of an
@@ -14,6 +14,6 @@ pub const INCOMPLETE: u8 = 1;
 /// or stands. Nothing was done.
 pub const REFUSED: u8 = 2;
 
-/// A fault ended the command, or another run has the destination, or the file of an event can't be
+/// A fault ended the command, or another run or an audit has the destination, or the file of an event can't be
 /// written. Standard error says which.
 pub const FAILED: u8 = 3;

@@ -8,6 +8,7 @@ use pt_host::{
     AllowedLines, AuditOptions, Feedback, Host, HostIo, Progress, RunOptions, Syncs, audit_guarded,
     run_guarded,
 };
+use pt_machine::HostMachine;
 use pt_move::Job;
 use pt_name::{Layout, Share};
 use pt_object::{Algorithm, Meta};
@@ -173,7 +174,7 @@ pub fn carry(rt: &HostRuntime, machine: &mut Machine<'_>, how: How) -> Option<u8
         },
         feedback: NOTHING_SHOWN,
     };
-    Some(run_guarded(rt, machine, options, "store", "root"))
+    Some(run_guarded(&HostMachine::new(rt), machine, options, "store", "root"))
 }
 
 /// Holds the root against the store.
@@ -185,7 +186,7 @@ pub fn audit(rt: &HostRuntime, machine: &mut Machine<'_>) -> Option<u8> {
         extra: false,
         feedback: NOTHING_SHOWN,
     };
-    Some(audit_guarded(rt, machine, options, "store", "root"))
+    Some(audit_guarded(&HostMachine::new(rt), machine, options, "store", "root"))
 }
 
 // The names that are left out.

@@ -6,6 +6,7 @@ use pt_host::{
     AllowedLines, AuditOptions, Feedback, Host, HostIo, Progress, RunOptions, Syncs, audit_guarded,
     run_guarded,
 };
+use pt_machine::HostMachine;
 use pt_memory::{MemDest, MemSource};
 use pt_memory_system::{Faults, MemorySystem};
 use pt_move::Job;
@@ -138,7 +139,7 @@ pub fn carry(rt: &HostRuntime, faults: &Faults, ran: &mut RunResult, rehearse: b
 // The status of a run on a machine.
 fn status_of(rt: &HostRuntime, machine: &mut Machine<'_>, rehearse: bool) -> Option<u8> {
     let options = run_options(rt.alloc(), rehearse)?;
-    Some(run_guarded(rt, machine, options, "store", "root"))
+    Some(run_guarded(&HostMachine::new(rt), machine, options, "store", "root"))
 }
 
 /// What an audit answers.
@@ -165,7 +166,13 @@ pub fn audit(
         },
     };
     let options = audit_options(alloc)?;
-    let status = audit_guarded(rt, &mut machine, options, "store", "root");
+    let status = audit_guarded(
+        &HostMachine::new(rt),
+        &mut machine,
+        options,
+        "store",
+        "root",
+    );
     let log = log_of(machine);
     Some(AuditResult { status, log })
 }

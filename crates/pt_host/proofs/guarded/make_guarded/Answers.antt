@@ -1,5 +1,6 @@
 use Rattle.std.proofs.Common.{ℕ, List, Err, Ok, rules}
 use Rattle.pt_messages.specs.Expected.{AsksEnd}
+use Rattle.pt_messages.specs.Reading.{FileWords}
 use Rattle.pt_host.proofs.ListedEnds.{ends_with_list}
 use Rattle.pt_host.proofs.Recorded.{recorded, unbegun}
 use Rattle.pt_host.proofs.Released.{released, unreleased}
@@ -28,9 +29,16 @@ returns g c =
       read = host_io_words g.H.Store.System.forest g.H.Folder.System.forest g.H.Output.Write.contents;
       serves = Serves g.H.Folder.System g.H.Folder.File.Handle g.H.Folder.File.Input g.H.Folder.Dir.Input;
     } in
+    let reading : FileWords = record {
+      File = g.row.R-Opened.Denot;
+      lengths = g.R.Reads.lengths c.args.rt.now;
+      opens = g.R.Reads.opens c.args.rt.now;
+      goes = g.R.Opened.Handle.goes;
+      reads = g.R.Opened.Input.reads;
+    } in
     let at : List ℕ × List ℕ = (c.args.folders.store.now, c.args.folders.folder.now) in
     let makes : g.row.H.Denot → g.row.H.Denot → ℕ → Type 0 =
-    λ old new. Makes words (AsksEnd g.R.Reads.ends c.args.rt.now) g.O.Operation (at, c.args.operation) (old, new) in
+    λ old new. Makes words (AsksEnd reading) g.O.Operation (at, c.args.operation) (old, new) in
     let path = (g.O.Operation.feedback_of c.args.operation).event in
     let mid = c.check_guard.new.host in
     let after = c.match-begin_event.host in

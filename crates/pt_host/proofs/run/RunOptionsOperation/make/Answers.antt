@@ -1,5 +1,6 @@
 use Rattle.std.proofs.Common.{Ok, subst}
 use Rattle.pt_messages.specs.Expected.{AsksEnd}
+use Rattle.pt_messages.specs.Reading.{FileWords}
 use Rattle.pt_host.proofs.Begun.{begun}
 use Rattle.pt_host.specs.Machine.{host_io_words}
 use Rattle.pt_host.specs.Made.{run_call}
@@ -7,6 +8,13 @@ use Rattle.pt_host.proofs.run.RunOptionsOperation.make.Goals as goal
 
 pub returns : goal.returns
 returns g c =
+    let reading : FileWords = record {
+      File = g.row.R-Opened.Denot;
+      lengths = g.R.Reads.lengths c.args.rt.now;
+      opens = g.R.Reads.opens c.args.rt.now;
+      goes = g.R.Opened.Handle.goes;
+      reads = g.R.Opened.Input.reads;
+    } in
     let made = c.open_devices-devices.ensures in
     let words = host_io_words g.H.Store.System.forest g.H.Folder.System.kept g.H.Output.Write.contents in
     let call = run_call c.args.self c.args.folders.store.now c.args.folders.folder.now in (
@@ -14,7 +22,7 @@ returns g c =
       c.synced_output.new.host,
       c.in-Ok.ensures,
       (
-        subst (AsksEnd g.R.Reads.ends c.args.rt.now) c.expected_log.ensures c.lines_expected-expected.ensures,
+        subst (AsksEnd reading) c.expected_log.ensures c.lines_expected-expected.ensures,
         c.lend-host_io.result,
         c.lend-host_io.new.self,
         c.lend-host_io.ensures,

@@ -1,5 +1,5 @@
 use Rattle.std.proofs.Common.{rules}
-use Rattle.pt_folder.proofs.runtime.making.Goals as goal
+use Rattle.pt_machine.proofs.system.making.Goals as goal
 
 pub returns : goal.returns
 returns c = search rules

@@ -1,18 +1,20 @@
 //! The runtime's own files as a system. It keeps nothing: what becomes of the folders isn't told.
 //!
-//! The kind that a look tells is exactly that of the metadata (`IsKind`). A file is opened for
-//! reading by options that say just that (`for_reading`), and made by options that append and want
-//! that nothing stands there (`for_making`). That its calls take these is said by no clause.
+//! The kind that a look tells is exactly that of the metadata (`IsKind` of pt_folder). A file is
+//! opened for reading by options that say just that (`for_reading`), and made by options that
+//! append and want that nothing stands there (`for_making`). That its calls take these is said by
+//! no clause.
 ghost use Rattle.std.specs.Prelude.{⊤, ◌≡◌, refl};
 ghost use Rattle.std.specs.Fs.{file_type as type_of};
-ghost use Rattle.pt_folder.specs.Calls.{for_making, for_reading};
 ghost use Rattle.pt_folder.specs.Folder.{IsKind};
 ghost use Rattle.pt_folder.specs.Untold.{no_forest, no_kept, unknown, untold_dir, untold_file};
 ghost use Rattle.pt_folder.specs.Untold.{untold_kind, untold_look, untold_move};
 ghost use Rattle.pt_folder.specs.Untold.{untold_names, untold_open, untold_peek, untold_proper};
 ghost use Rattle.pt_folder.specs.Untold.{untold_tree, untold_write};
+ghost use Rattle.pt_machine.specs.Options.{for_making, for_reading};
 
-use crate::system::{Handle, Input, System};
+use crate::machine::HostMachine;
+use pt_folder::{Handle, Input, System};
 use pt_tree::Kind;
 use std::fs::{Metadata, OpenFile, OpenOptions};
 use std::io;
@@ -41,6 +43,7 @@ impl<F: Read> Input for HostFile<F> {
 
     ghost reads = { λ _ _ _ _. ⊤ };
 
+    // One read, at the place where it stands.
     fn read_piece(&mut self, buffer: &mut [u8]) -> io::Result<usize> {
         self.file.read(buffer)
     }
@@ -51,16 +54,18 @@ impl<F: Read + Seek + OpenFile> Handle for HostFile<F> {
 
     ghost syncs = { λ _ _ _. ⊤ };
 
+    // Goes to a place, counted from its start.
     fn seek(&mut self, place: u64) -> io::Result<u64> {
         self.file.seek(SeekFrom::Start(place))
     }
 
+    // fsync: what was written is put onto the disk.
     fn sync(&mut self) -> io::Result<()> {
         self.file.sync_all()
     }
 }
 
-impl<'a, R: Files> System for &'a R {
+impl<'a, R: Files> System for HostMachine<'a, R> {
     type File = HostFile<R::File>;
 
     type Dir = HostFile<R::Dir>;
@@ -109,42 +114,37 @@ impl<'a, R: Files> System for &'a R {
 
     ghost tree_law = { λ s folder t is. untold_tree t is };
 
+    // lstat: a link is not followed.
     fn lstat(&mut self, path: &str) -> io::Result<Kind> {
-        match self.symlink_metadata(path) {
-            Ok(metadata) => Ok(kind_of(&metadata)),
-            Err(error) => Err(error),
-        }
+        Ok(kind_of(&self.rt.symlink_metadata(path)?))
     }
 
+    // open, to read.
     fn open_to_read(&mut self, path: &str) -> io::Result<HostFile<R::File>> {
-        match self.open_file(&reading(), path) {
-            Ok(file) => Ok(HostFile::new(file)),
-            Err(error) => Err(error),
-        }
+        Ok(HostFile::new(self.rt.open_file(&reading(), path)?))
     }
 
+    // open, to append, which makes the file and fails where anything stands, also a link.
     fn create_new(&mut self, path: &str) -> io::Result<HostFile<R::File>> {
-        match self.open_file(&making(), path) {
-            Ok(file) => Ok(HostFile::new(file)),
-            Err(error) => Err(error),
-        }
+        Ok(HostFile::new(self.rt.open_file(&making(), path)?))
     }
 
+    // open, of a directory, to read its names.
     fn read_dir(&mut self, path: &str) -> io::Result<HostFile<R::Dir>> {
-        match self.open_dir(path) {
-            Ok(dir) => Ok(HostFile::new(dir)),
-            Err(error) => Err(error),
-        }
+        Ok(HostFile::new(self.rt.open_dir(path)?))
     }
 
+    // mkdir, which fails where anything stands.
     fn make_dir(&mut self, path: &str) -> io::Result<()> {
-        self.create_dir(path)
+        self.rt.create_dir(path)
     }
 
+    // rename.
     fn rename(&mut self, from: &str, to: &str) -> io::Result<()> {
-        (**self).rename(from, to)
+        self.rt.rename(from, to)
     }
 
+    // write, at the file's end, since it was opened to append.
     fn write_piece(&mut self, file: &mut HostFile<R::File>, piece: &[u8]) -> io::Result<usize> {
         file.file.write(piece)
     }
@@ -163,8 +163,8 @@ fn kind_of(metadata: &Metadata) -> Kind
     }
 }
 
-// How a file is opened for reading.
-fn reading() -> OpenOptions
+/// How a file is opened for reading.
+pub(crate) fn reading() -> OpenOptions
     ensures { result ≡ for_reading }
 {
     let mut options = OpenOptions::new();
