@@ -11,7 +11,7 @@ PROGRAMS := bin/static
 BUILT := crates/pairtree2ocfl/out/pairtree2ocfl
 
 .DEFAULT_GOAL := build
-.PHONY: help build try demo test allocations bench install uninstall programs dist deb rpm clean toolchain
+.PHONY: help build try demo test mutants allocations bench install uninstall programs dist deb rpm clean toolchain
 
 help: ## list the targets
 	@sed -n 's/^\([a-z]*\):.*## \(.*\)/make \1\t\2/p' $(MAKEFILE_LIST)
@@ -27,6 +27,9 @@ demo: build ## build the program and carry the store in demo/ into a temporary f
 
 test: toolchain ## every test: the toolchain's gate, then the tests of the program that it built
 	@$(PYTHON) tests/all.py $(RT) $(BUILT)
+
+mutants: build ## build the program with each wrong body of a call of the system in turn, which some test has to see (WORDS='..' of these)
+	@$(PYTHON) tools/mutants.py $(RT) $(WORDS)
 
 allocations: build ## refuse each request for memory of the program in turn, where a C compiler is
 	@$(PYTHON) tests/allocations.py $(PROGRAM)

@@ -1,9 +1,9 @@
 """The built program's tests over real folders. tests/cases has the cases: carrying, refusing and options those of `migrate`, auditing and twins
 those of `audit`, extras those of `--extra`, checking those of `check`, watching of progress, events of the records beside the log, sharing of
 shares, scripted of tools/shares.py, sharestatus of what it tells of shares, choosing of lists, peers beside plain Rust, surroundings of what is around
-a run, completions of what is made of the grammar, packages of what is shipped, anywhere of its programs, guide, guideroots and guidestores of the
-guide's commands, joining, sums and aside of tools/roots.py, report, reportevents and reportstate of examples/report.py, documents of what the documents
-name, resting of what rests on a crate, gate of the gate itself.
+a run, calls of single calls of the system, completions of what is made of the grammar, packages of what is shipped, anywhere of its programs, guide,
+guideroots and guidestores of the guide's commands, joining, joiningfolders, sums and aside of tools/roots.py, report, reportevents and reportstate of
+examples/report.py, documents of what the documents name, resting of what rests on a crate, gate of the gate itself.
 tests/harness has how they are run, and what must stand.
 
 Usage: migration.py PROGRAM [-k WORDS]. With -k only the cases are run whose file's name, with the case's name behind it, has these words, and those
@@ -20,6 +20,7 @@ sys.dont_write_bytecode = True
 import anywhere
 import aside
 import auditing
+import calls
 import carrying
 import checking
 import choosing
@@ -32,6 +33,7 @@ import guide
 import guideroots
 import guidestores
 import joining
+import joiningfolders
 import options
 import packages
 import peers
@@ -52,8 +54,9 @@ import watching
 from tally import Tally
 
 FILES = (
-    carrying, auditing, twins, extras, checking, refusing, options, events, watching, surroundings, sharing, scripted, sharestatus, choosing, peers,
-    guide, guideroots, guidestores, joining, sums, aside, report, reportevents, reportstate, completions, packages, anywhere, documents, resting, gate,
+    carrying, auditing, twins, extras, checking, refusing, options, events, watching, surroundings, calls, sharing, scripted, sharestatus, choosing,
+    peers, guide, guideroots, guidestores, joining, joiningfolders, sums, aside, report, reportevents, reportstate, completions, packages, anywhere,
+    documents, resting, gate,
 )
 CASES = [case for file in FILES for case in file.CASES]
 
@@ -70,12 +73,17 @@ def run_these(cases, path):
     return running.run_all(cases, path)
 
 
-def run_some(path, words):
-    """The same of the cases that have these words, and of those of tests/program.py."""
-    some = program.run_cases(path, [case for case in program.CASES if words in case.name])
+def cases_with(words):
+    """The cases of tests/program.py, and all others, that have these words."""
     named = [(file.__name__, case) for file in FILES for case in file.CASES] + [("anywhere", case) for case in anywhere.over()]
-    more = run_these([case for name, case in named if words in f"{name} {case.name}"], path)
-    return Tally.of_all([some, more])
+    some = [case for case in program.CASES if words in case.name]
+    return some, [case for name, case in named if words in f"{name} {case.name}"]
+
+
+def run_some(path, words):
+    """Runs the cases that have these words, and gives what became of them."""
+    some, others = cases_with(words)
+    return Tally.of_all([program.run_cases(path, some), run_these(others, path)])
 
 
 def main():
