@@ -26,7 +26,8 @@
 //!   list a folder and told so (`FailsPast`); `Dest` is the root's fault, and else `Memory` is
 //!   answered only where a growth was refused.
 //! - What it holds are the listings on the way to where it stands, of which there are no more than
-//!   34, and one inventory, with as much room again.
+//!   34, and beside them one inventory, with as much room again, the listing of one site of the
+//!   store, or the names for which one folder couldn't be listed.
 //!
 //! Guarantees of README that rest on its definitions: An audit is exact.
 #![tactic(auto, using(pt_compare::proofs::Reading::calls))]
