@@ -38,7 +38,10 @@ def texts(path):
     """The definitions of a file of specs: the lines of each by its name, its comment left out."""
     found, name = {}, None
     for line in index.lines_of(path):
-        if TOP_LEVEL.match(line) and not line.startswith(("pub mod", "pub use")):
+        if line.startswith("module "):
+            # What the definitions behind it have in common is none of the one before it.
+            name = None
+        elif TOP_LEVEL.match(line) and not line.startswith(("pub mod", "pub use")):
             name = START.match(line)[1]
         if name and not line.lstrip().startswith(("--", "use ")):
             found.setdefault(name, []).append(line)

@@ -329,9 +329,10 @@ def exceptions(program, folder):
     section = told.split("\n### Two files with one digest\n", 1)[1].split("\n#", 1)[0]
     faults += [f"docs/GUARANTEES.md doesn't say of them: {word}" for word in ("`done`", "`same`", "`object_of`") if word not in section]
     blame = told.split("\n### `source`, `dest`, `log`", 1)[1].split("\n### ", 1)[0]
-    step = told.split("\n## What a step promises\n", 1)[1].split("\n## ", 1)[0]
+    small, step = (told.split(f"\n{heading}", 1)[1].split("\n## ", 1)[0] for heading in ("### `bound`, `numbers`, `holds`", "## What a step promises\n"))
     faults += [] if "`run_guarded`" in blame else ["docs/GUARANTEES.md doesn't say what the program's call hands on of a failed call"]
-    return faults + ([] if "promises of a step only" in step else ["docs/GUARANTEES.md doesn't say that what is held is promised of a step"])
+    faults += [] if "read by people" in small else ["docs/GUARANTEES.md doesn't say what of a whole run's memory people read"]
+    return faults + ([] if "a promise of a step only" in step else ["docs/GUARANTEES.md doesn't say that the calls of a turn are promised of a step"])
 
 
 def causes(program, folder):

@@ -32,6 +32,7 @@ RESTS = {
 # Of some crates the guarantees that rest on definitions of theirs.
 GUARANTEES = {
     "pt_compare": ["An audit is exact"],
+    "pt_guard": [],
     "pt_extra": ["An audit is exact"],
     "pt_check": [],
     "pt_scan": [],
