@@ -32,7 +32,8 @@ pub(crate) fn make_guarded<R, H: Host, O: Operation + Drop>(
 ) -> u8
 where
     R: Reads + Clock + Eprint + AllocGlobal + Terminals,
-    ensures { MakesGuarded ⟦<H as Machine>⟧.words (AsksEnd (⟦<R as ReadsFiles>⟧.file_words rt.now)) O.Operation
+    ensures { MakesGuarded ⟦<H as Machine>⟧.words
+        (AsksEnd (⟦<R as ReadsFiles>⟧.file_words rt.now)) O.Operation
         ((folders.entry.store.now, folders.entry.folder.now), operation)
         (host.old, host.new) result }
 {
