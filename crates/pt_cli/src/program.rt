@@ -52,7 +52,8 @@ pub fn run<R, H: Host + HasInput>(rt: &R, host: &mut H) -> ExitCode
 where
     R: Invocation + Reads + Clock + Eprint + AllocGlobal + Terminals,
     ensures { Ends (R.starts rt.now) (EndsWith ⟦<H as Machine>⟧.words
-        (beside (AsksEnd (⟦<R as ReadsFiles>⟧.file_words rt.now)) (⟦<R as ReadsFiles>⟧.file_words rt.now)
+        (beside (AsksEnd (⟦<R as ReadsFiles>⟧.file_words rt.now))
+        (⟦<R as ReadsFiles>⟧.file_words rt.now)
         ⟦<H as InputMachine>⟧.input_words))
         host.old host.new (exit_status result) }
 {
@@ -84,7 +85,8 @@ pub fn answer<R, H: Host + HasInput>(rt: &R, host: &mut H, words: &[String]) -> 
 where
     R: Reads + Clock + Eprint + AllocGlobal + Terminals,
     ensures { EndsWith ⟦<H as Machine>⟧.words
-        (beside (AsksEnd (⟦<R as ReadsFiles>⟧.file_words rt.now)) (⟦<R as ReadsFiles>⟧.file_words rt.now)
+        (beside (AsksEnd (⟦<R as ReadsFiles>⟧.file_words rt.now))
+        (⟦<R as ReadsFiles>⟧.file_words rt.now)
         ⟦<H as InputMachine>⟧.input_words)
         (map string_bytes words.now) host.old host.new result }
 {

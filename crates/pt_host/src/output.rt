@@ -45,7 +45,8 @@ pub trait OutputCalls {
 /// An error where the system can't tell what the output is, or the file can be opened in neither
 /// way.
 pub fn open_output<M: OutputCalls + Terminals>(machine: &M) -> io::Result<Option<M::Opened>>
-    ensures { OpensOutput (M.judges machine.now) (M.appends machine.now) (M.reads machine.now) result }
+    ensures { OpensOutput (M.judges machine.now) (M.appends machine.now)
+        (M.reads machine.now) result }
 {
     if machine.output_is_terminal() || !machine.output_is_file()? {
         return Ok(None);
