@@ -2,6 +2,7 @@
 use Rattle.std.proofs.Common.{◌≡◌, ◌≤◌, ◌+◌, ◌∙◌, ℕ, ap, arith, refl, subst, sym}
 use Rattle.std.specs.Prelude.{Option, Result, Ok, Err, IfOk}
 use Rattle.std.specs.Option.{ForSome}
+use Rattle.pt_audit.proofs.Fields.{audit_holds_fields_alone}
 use Rattle.pt_audit.specs.Bounds.{IsMade, IsMadeFrom, NoStep, OneMore, Surveyed, counts_in}
 use Rattle.pt_audit.specs.declared.auditing.ObjectsAudit.{ObjectsAudit}
 use Rattle.pt_audit.specs.declared.counts.Counts.{Counts}
@@ -10,7 +11,7 @@ use Rattle.pt_plan.specs.declared.fault.Fault.{Fault}
 use Rattle.pt_state.specs.States.{job_of}
 use Rattle.pt_state.specs.declared.job.Job as own
 use Rattle.pt_state.specs.declared.job.Report.{Report}
-use Rattle.pt_audit.specs.Surveying.{Steps, work_of_survey}
+use Rattle.pt_audit.specs.Surveying.{work_of_survey}
 use Rattle.pt_tree.specs.Forest.{Forest}
 
 module _ {source : Option Forest} {first : Running} where
@@ -46,7 +47,14 @@ module _ {source : Option Forest} {first : Running} where
 -- an audit that goes on from a survey that is to begin
 pub made_within : {job : own.Job} {source : Option Forest} {first : Running} {result : Result Counts Fault} → IsNew job first → IsMadeFrom source first result
     → IsMade job source result
-made_within {first = first} new made = record { first = first; new = new; made = made; within = few_steps new made.steps; work = work_steps new made.steps }
+made_within {first = first} new made = record {
+  first = first;
+  new = new;
+  made = made;
+  within = few_steps new made.steps;
+  work = work_steps new made.steps;
+  holds = audit_holds_fields_alone;
+}
 
 -- whatever comes behind it, if that tells its counts
 pub made_by : {job : own.Job} {source : Option Forest} {result : Result Counts Fault} (last : Result Counts Fault) → IfOk last (λ counts. result ≡ Ok counts)
@@ -59,6 +67,7 @@ made_by (Err why) is it = record {
       { count = it.made.count; last = it.made.last; steps = it.made.steps; ended = tt };
   within = it.within;
   work = it.work;
+  holds = it.holds;
 }
 
 pub made_stopped : {job : own.Job} {source : Option Forest} {result : Result Counts Fault} (last : Result ObjectsAudit Fault) (why : Fault) → last ≡ Err why

@@ -10,6 +10,7 @@ mod Pacing
 mod Following
 mod AuditRules
 pub mod Bounding
+mod Fields
 mod Files
 pub mod Alone
 pub mod Seen

@@ -1,5 +1,5 @@
 -- What holds of each step of a survey.
-use Rattle.std.proofs.Common.{◌≡◌, ◌≢◌, arith, ℕ, true, false, List, refl, sym, subst}
+use Rattle.std.proofs.Common.{◌≡◌, arith, ℕ, true, List, refl, sym, subst}
 use Rattle.std.specs.Prelude.{◌<◌, Option, Ok}
 use Rattle.std.proofs.lemmas.Bool.{true≢false}
 use Rattle.pt_tree.specs.Dest.{Writing}
@@ -16,12 +16,13 @@ use Rattle.pt_state.specs.Outside.{states}
 use Rattle.pt_state.specs.States.{job_of}
 use Rattle.pt_state.specs.declared.state.State.{State}
 use Rattle.pt_state.proofs.Whole.{holds_nothing_else}
+use Rattle.pt_move.specs.Running.{TypeInvariant}
 use Rattle.pt_move.specs.Turning.{CountedTurn}
 use Rattle.pt_move.proofs.Answering.{fed_going}
 use Rattle.pt_audit.specs.Surveying.{IsReady, Steps, is_before_sites, is_before_store, Surveys, passed}
 use Rattle.pt_audit.proofs.Working.{is_left}
-use Rattle.pt_audit.proofs.StepLeaves.{bound_of_turn, leaves_of_turn}
-use Rattle.pt_audit.proofs.Stepping.{going}
+use Rattle.pt_audit.proofs.StepLeaves.{bound_of_turn, leaves_of_turn, well_of_turn}
+use Rattle.pt_audit.proofs.Stepping.{going, passed_well}
 
 -- the store is seen before its sites
 opens : {job : Job} {counts : Counts} (here : Phase) {next : Phase} {prefix read : List ℕ} {held after : Held} {calls : Calls} → is_before_store here ≡ true
@@ -40,11 +41,12 @@ opens (phase.Opening (opening.Prefix _)) is (Place turn) = elim turn [ ]
 opens _ is _ = absurd (true≢false (sym is))
 
 module _ (here next : Phase) (s s' : State) (told told' : Option Reading) (w v : Option Writing) (l l' : Option (List ℕ)) (a b c a' b' c' : ℕ) where
-  steps_there : Surveys told (record { phase = here; state = s }) → s.counts.turns < s.job.limits.turns
+  steps_there : Surveys told (record { phase = here; state = s }) → TypeInvariant (record { phase = here; state = s })
+      → s.counts.turns < s.job.limits.turns
       → CountedTurn here s s' (states told w l a b c) (states told' v l' a' b' c') (Ok next)
       → Steps (tree_in told) (record { phase = here; state = s }) (record { phase = passed next; state = s' })
   unfolding Surveys CountedTurn
-  steps_there (count, it) more counted =
+  steps_there (count, it) well more counted =
       let under_way : Surveys told (record { phase = here; state = s }) = (count, it) in
       let one = (leaves_of_turn here s s' told told' w v l l' a b c a' b' c' (Ok next) under_way counted).turns in
       record {
@@ -53,6 +55,7 @@ module _ (here next : Phase) (s s' : State) (told told' : Option Reading) (w v :
         within = omega (arith, more, one);
         work = λ f e. let less = is_left it (going here it.stands) f e in omega (arith, less, one);
         bound = bound_of_turn here s s' told told' w v l l' a b c a' b' c' (Ok next) under_way counted;
+        numbers = (passed_well next (well_of_turn here s s' told told' w v l l' a b c a' b' c' (Ok next) under_way well more counted)).bounded;
         holds = holds_nothing_else s';
         order = by (counted.1 it.fed (fed_going s.job.algorithm s.hasher it.fed (going here it.stands) it.was)).1.1;
       }
@@ -64,4 +67,4 @@ module _ (here next : Phase) (s s' : State) (told told' : Option Reading) (w v :
   pub step_steps : (at : Phase) → at ≡ passed next → IsReady told here s → CountedTurn here s s' (states told w l a b c) (states told' v l' a' b' c') (Ok next)
       → Steps (tree_in told) (record { phase = here; state = s }) (record { phase = at; state = s' })
   step_steps at is ready counted = subst (λ (p : Phase). Steps (tree_in told) (record { phase = here; state = s }) (record { phase = p; state = s' })) (sym is)
-      (steps_there ready.under_way ready.within counted)
+      (steps_there ready.under_way ready.well ready.within counted)

@@ -43,9 +43,7 @@ use Rattle.pt_tree.specs.PathOrder.{part_in_order}
 use Rattle.pt_object.specs.Inventory.{inventory_text}
 use Rattle.pt_object.specs.Object.{bytes_in, rows_of, stored_files}
 use Rattle.pt_object.specs.declared.rows.Row.{Row}
-use Rattle.pt_plan.specs.Items.{items}
-use Rattle.pt_plan.specs.Job.{Job}
-use Rattle.pt_plan.specs.Lines.{Line, line_text}
+use Rattle.pt_plan.specs.Lines.{Line}
 use Rattle.pt_plan.specs.Enabled.{MayOpenRow}
 use Rattle.pt_plan.specs.TurnPlace.{bytes_in_rows, done_line}
 use Rattle.pt_plan.specs.TurnMake.{path_of_source}

@@ -34,7 +34,6 @@ use Rattle.pt_move.proofs.Outcomes.{reading_of}
 use Rattle.pt_plan.specs.Items.{item_of, items}
 use Rattle.pt_plan.specs.Job.{Job}
 use Rattle.pt_plan.specs.Store.{prefix_of, sites_of}
-use Rattle.pt_plan.specs.declared.object.Object.{Object}
 use Rattle.pt_plan.specs.declared.phase.Phase.{Phase}
 use Rattle.pt_plan.specs.declared.phase.Phase.TheVariants as phase
 use Rattle.pt_state.specs.States.{held_of, job_of}

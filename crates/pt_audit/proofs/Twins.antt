@@ -26,25 +26,22 @@ use Rattle.std.proofs.Common.{
   take,
   length,
   append-nil,
-  append_assoc,
-  get_or,
   nat_lt,
   min,
   inl,
   inr,
 }
-use Rattle.std.specs.Prelude.{All, IfOk, IsSome, Option, None, Some, Result, Ok, Err, not, ◌&&◌, ◌||◌, is_none, slice_get}
+use Rattle.std.specs.Prelude.{All, Option, None, Some, not, ◌&&◌, ◌||◌, is_none}
 use Rattle.std.specs.Option.{ForSome, option_and_then, option_map, option_map_or}
 use Rattle.std.specs.List.{list_any}
 use Rattle.std.specs.String.{string_bytes}
 use Rattle.std.specs.Str.{bytes_eq, is_utf8}
-use Rattle.std.proofs.lemmas.Bool.{or_parts, true≢false}
-use Rattle.std.proofs.lemmas.Bool.Decides.{eqb_tells}
-use Rattle.std.proofs.lemmas.List.{drop_more, take-append-drop}
+use Rattle.std.proofs.lemmas.Bool.{or_parts}
+use Rattle.std.proofs.lemmas.List.{take-append-drop}
 use Rattle.std.proofs.lemmas.List.Elements.{All-append, All-cons, All-head, All-nil, All-tail, All-weaker}
 use Rattle.std.proofs.lemmas.Str.{IsUtf8-from_ascii, is_utf8-from_IsUtf8}
 use Rattle.std.proofs.lemmas.Str.Ascii.{IsAscii-from_all}
-use Rattle.pt_tree.specs.Forest.{Dir, File, Forest, Node, Other, as_dir, dir_at, find, kind_at, kind_of, listing_at, listing_of, node_at, none}
+use Rattle.pt_tree.specs.Forest.{Dir, File, Forest, Node, Other, as_dir, dir_at, kind_at, kind_of, listing_of, node_at}
 use Rattle.pt_tree.specs.Listing.{Item}
 use Rattle.pt_tree.specs.Name.{AreNames, is_forbidden_name, is_name, name_refusal}
 use Rattle.pt_tree.specs.Path.{Path, last_name, same_path, split_path}
@@ -60,7 +57,6 @@ use Rattle.pt_name.specs.Hex.{hex_pair}
 use Rattle.pt_name.specs.Place.{IsPlaceByte}
 use Rattle.pt_name.proofs.Digits.{All-hex_pair}
 use Rattle.pt_walk.specs.Sites.{at_of}
-use Rattle.pt_walk.specs.declared.site.At.{At}
 use Rattle.pt_walk.specs.declared.site.At.TheVariants as at
 use Rattle.pt_walk.specs.Left.{Fits}
 use Rattle.pt_walk.specs.Site.{found}
@@ -68,7 +64,7 @@ use Rattle.pt_walk.specs.Trail.{names_to, trail_path}
 use Rattle.pt_walk.specs.declared.frame.Frame.{Frame}
 use Rattle.pt_plan.specs.Job.{Job, form_of}
 use Rattle.pt_plan.specs.Store.{pairtree_of, prefix_of}
-use Rattle.pt_plan.specs.TurnStart.{is_dir_kind, kind_in}
+use Rattle.pt_plan.specs.TurnStart.{is_dir_kind}
 use Rattle.pt_plan.specs.TurnWalk.{in_pairtree}
 use Rattle.pt_plan.specs.declared.object.Object.{Object}
 use Rattle.pt_plan.specs.declared.phase.Phase.{Phase}
@@ -79,7 +75,6 @@ use Rattle.pt_invariant.proofs.source.InPairtree.{listing_in}
 use Rattle.pt_compare.specs.Root.{Stands, same_kind}
 use Rattle.pt_plan.specs.TurnMake.{common_names}
 use Rattle.pt_compare.specs.declared.difference.Comparison.{Comparison}
-use Rattle.pt_compare.proofs.Listed.{node_in}
 use Rattle.pt_compare.proofs.Opening.{dir_above, take_alike}
 use Rattle.pt_compare.proofs.Reading.{calls}
 use Rattle.pt_compare.proofs.Roots.{below}
@@ -90,7 +85,6 @@ use Rattle.pt_audit.proofs.Telling.{object_at_hand}
 use Rattle.pt_audit.specs.Auditing.{IsTwinAtHand}
 use Rattle.pt_audit.specs.Surveying.{Surveys, sight_at}
 use Rattle.pt_audit.specs.Twin.{has_object, has_object_in, is_differing, is_second, is_twin, object_stands, proper_site}
-use Rattle.pt_plan.proofs.FoundKinds.{kind_listed}
 use Rattle.pt_audit.specs.declared.survey.SurveyEvent.TheVariants as sight
 
 -- ---- the pieces of a cleaned identifier are names

@@ -5,7 +5,6 @@ use Rattle.pt_move.specs.Running.{Running}
 use Rattle.pt_plan.specs.Object.{names_before}
 use Rattle.pt_plan.specs.TurnScan.{ScanStep}
 use Rattle.pt_plan.specs.DeviceStates.{Answers, Calls}
-use Rattle.pt_plan.specs.declared.object.Object.{Object}
 use Rattle.pt_plan.specs.declared.phase.Phase.{Phase}
 use Rattle.pt_plan.specs.declared.phase.Phase.TheVariants as phase
 use Rattle.pt_plan.specs.declared.phase.Stage.TheVariants as stage

@@ -1,3 +1,4 @@
+pub mod AuditFields
 pub mod AuditLaws
 pub mod AuditSteps
 pub mod Auditing

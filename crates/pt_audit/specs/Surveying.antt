@@ -28,6 +28,7 @@ use Rattle.std.specs.Option.{ForSome}
 use Rattle.pt_invariant.specs.RunInvariant.{IsHistory, Start}
 use Rattle.pt_invariant.specs.History.{History}
 use Rattle.pt_invariant.specs.Rank.{rank}
+use Rattle.pt_move.specs.Bounds.{IsBounded}
 use Rattle.pt_move.specs.Outcome.{HoldsWithinBound, SaysRightly}
 use Rattle.pt_move.specs.Running.{FedUntilEnd, TypeInvariant, Running, run_of}
 use Rattle.pt_name.specs.Place.{place_of}
@@ -52,7 +53,7 @@ use Rattle.pt_plan.specs.declared.phase.Phase.TheVariants as phase
 use Rattle.pt_plan.specs.declared.phase.Stage.TheVariants as stage
 use Rattle.pt_state.specs.Fields.{HoldsNothingElse}
 use Rattle.pt_state.specs.Outside.{states}
-use Rattle.pt_state.specs.States.{held_of, job_of}
+use Rattle.pt_state.specs.States.{held_of, job_of, kept_of}
 use Rattle.pt_state.specs.declared.job.Job as own
 use Rattle.pt_state.specs.declared.state.State.{State}
 use Rattle.pt_state.specs.Telling.{IsCarried}
@@ -186,7 +187,7 @@ abbrev pub is_before_sites : Phase → Bool
 is_before_sites (phase.Opening opening.OpenRoot) = true
 is_before_sites here = is_before_store here
 
--- a step is counted, within the limit and the work, and no more is held than the bound
+-- a step is counted, within the limit and the work, and behind it what is held is within its bounds
 pub record Steps (source : Option Forest) (before after : Running) : Type 0 where
   -- the job stays
   pub job : after.state.job ≡ before.state.job
@@ -199,6 +200,8 @@ pub record Steps (source : Option Forest) (before after : Running) : Type 0 wher
       (λ s. after.state.counts.turns ≤ work_of_survey (job_of before.state.job) s)
   -- no more is held than the source's bound
   pub bound : HoldsWithinBound before.state.job source after.state
+  -- the numbers are within theirs
+  pub numbers : IsBounded (job_of after.state.job) after.phase (kept_of after.state [])
   -- and beside the phase the fields of a state are held, and nothing else
   pub holds : HoldsNothingElse after.state
   -- the store is seen before its sites

@@ -10,7 +10,8 @@
 //! The limit of turns is met only where it is less than a survey's work, and of what else is in the
 //! destination nothing is refused; that it has ended already is never answered (`AuditSays`). It is
 //! made by steps of a survey, to the survey's end where it answers Ok (`IsMade`); what is held of
-//! the survey after each is what a survey's step says. The end line has the counts of the lines.
+//! the survey after each is what a survey's step says, and beside it an audit holds the fields that
+//! are listed (`AuditFields`). The end line has the counts of the lines.
 ghost use Rattle.std.specs.Prelude.{◌≡◌, IfErr, IfOk, OnErr, OnOk};
 ghost use Rattle.pt_audit.specs.AuditSteps.{FailsRightly, KeepsAll, StepsOn, TellsObject};
 ghost use Rattle.pt_audit.specs.AuditSteps.{TellsStep};
@@ -62,9 +63,10 @@ use std::alloc::Global;
 ///
 /// It is made by steps of a survey (`made`), of which there are no more than the limit of turns,
 /// nor than a survey's work; after each of them the survey holds no more than a run's bound, and
-/// nothing but a run's fields. While a file of the store is read for its digest, what stands in the
-/// root is read beside it; of a content that isn't alike both are read once more. A step calls the
-/// store at most three times; no clause counts what the comparison reads.
+/// nothing but a run's fields, and nothing of a comparison is held. While a file of the store is
+/// read for its digest, what stands in the root is read beside it; of a content that isn't alike
+/// both are read once more. A step calls the store at most three times; no clause counts what the
+/// comparison reads.
 pub fn audit<S: Source, R: Source, L: Log, O: Observer<Counts>>(
     alloc: Global,
     source: &mut S,

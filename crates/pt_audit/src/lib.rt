@@ -19,7 +19,8 @@
 //! - Where the root tells, an audit ends well only if nothing stands at `ocfl`, or a directory with
 //!   the three files of this layout (`IsOfLayout`).
 //! - It makes no more steps than the limit of turns, and where the store tells no more than a
-//!   survey's work (`IsMade`), and holds no more of the survey than a run's bound (`Steps`).
+//!   survey's work (`IsMade`). After each it holds no more of the survey than a run's bound
+//!   (`Steps`), and beside it three paths, a block and numbers (`AuditFields`).
 //! - `sound_audit_means_all_stand`: where such a log counts no object that is absent or differs,
 //!   each object of the store that a run would carry stands whole at its place, and nothing else
 //!   there. `audit_after_run_is_sound`: an audit after a run that found no place taken has such a

@@ -17,8 +17,8 @@
 //! Each step is counted, and there are no more than the limit. Where the store tells there are no
 //! more than a survey's work (`work_of_survey`: as many as a run over no root makes turns at most,
 //! where no identifier comes twice), so the limit is met only where it is less; and no more is held
-//! after a step than a run's bound (`Steps`), and beside its phase the fields of a run's state and
-//! nothing else: a survey is its phase and that state (`survey_of`).
+//! after a step than a run's bound, within a run's numbers (`Steps`), and beside its phase the
+//! fields of a run's state and nothing else: a survey is its phase and that state (`survey_of`).
 #![tactic(auto, using(crate::proofs::SurveyRules::survey_rules))]
 
 ghost use Rattle.std.specs.Option.{ForSome};

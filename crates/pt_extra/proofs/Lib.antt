@@ -1,6 +1,7 @@
 mod BothWays
 mod Converted
 mod Exits
+mod Fields
 mod Keeping
 mod Objects
 mod Passed

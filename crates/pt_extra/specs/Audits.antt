@@ -14,6 +14,7 @@ use Rattle.pt_extra.specs.Counting.{no_numbers, with_findings}
 use Rattle.pt_extra.specs.Findings.{Against}
 use Rattle.pt_extra.specs.Lines.{ExtraFinding, last_text, texts}
 use Rattle.pt_extra.specs.Unlisted.{IsToldIn}
+use Rattle.pt_extra.specs.WalkFields.{WalkHoldsFieldsAlone}
 use Rattle.pt_extra.specs.declared.auditing.AuditCounts.{AuditCounts}
 use Rattle.pt_extra.specs.declared.auditing.AuditEnd.{AuditEnd}
 use Rattle.pt_extra.specs.declared.devices.ExtraDevices.{ExtraDevices}
@@ -137,5 +138,7 @@ pub record AuditsDevices {S R L E : Type 0} (s : OfSource S) (r : OfSource R) (l
       (failures (s.failed audit.1.devices.store) (r.failed audit.1.devices.root) (l.failed audit.1.devices.log)) audit.1.ran
   -- what a fault says of store and root is so
   pub says : IfErr audit.1.ran (AuditSays job (tree_in (s.told audit.0.store)) (tree_in (r.told audit.0.root)))
-  -- it is made by steps of a survey
+  -- it is made by steps of a survey, after each of which it holds no more than a run's bound, and nothing beside
   pub made : IsMade job (tree_in (s.told audit.0.store)) (in_both audit.1.ran)
+  -- nor does a walk over the root
+  pub holds : WalkHoldsFieldsAlone S R L E

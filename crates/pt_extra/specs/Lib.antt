@@ -6,3 +6,4 @@ pub mod Inventories
 pub mod Lines
 pub mod Unlisted
 pub mod Walk
+pub mod WalkFields

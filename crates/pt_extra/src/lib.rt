@@ -25,9 +25,9 @@
 //!   A device is blamed only where it failed, and one that failed is, but for a root that couldn't
 //!   list a folder and told so (`FailsPast`); `Dest` is the root's fault, and else `Memory` is
 //!   answered only where a growth was refused.
-//! - What it holds are the listings on the way to where it stands, of which there are no more than
-//!   34, and beside them one inventory, with as much room again, the listing of one site of the
-//!   store, or the names for which one folder couldn't be listed.
+//! - A walk is its devices, job, prefix and numbers (`IsOnlyWalk`). While it runs it holds beside
+//!   them, which isn't proved, the at most 34 listings on the way, and one inventory, with as much
+//!   room again, the listing of one site, or the names for which one folder couldn't be listed.
 //!
 //! Guarantees of README that rest on its definitions: An audit is exact.
 #![tactic(auto, using(pt_compare::proofs::Reading::calls))]

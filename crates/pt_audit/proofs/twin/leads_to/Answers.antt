@@ -1,4 +1,4 @@
-use Rattle.std.proofs.Common.{◌≡◌, ◌++◌, ◌∷◌, [], List, ℕ, ap, drop, refl, rules, subst, sym, take, true, false, ◌∙◌}
+use Rattle.std.proofs.Common.{◌≡◌, ◌++◌, ◌∷◌, [], ap, drop, refl, rules, subst, sym, take, ◌∙◌}
 use Rattle.std.proofs.lemmas.List.{take-append-drop}
 use Rattle.pt_audit.proofs.Twins.{front_stands, seen_lacks}
 use Rattle.pt_compare.proofs.Opening.{way_on}

@@ -1,4 +1,4 @@
-use Rattle.std.proofs.Common.{◌≡◌, false, length, nat_lt, rules, subst, ◌∙◌}
+use Rattle.std.proofs.Common.{◌≡◌, false, length, nat_lt, rules, subst}
 use Rattle.pt_audit.proofs.Twins.{judged_there}
 use Rattle.pt_plan.specs.TurnWalk.{in_pairtree}
 use Rattle.pt_state.specs.States.{job_of}

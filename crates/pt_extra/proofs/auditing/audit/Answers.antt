@@ -3,6 +3,7 @@ use Rattle.pt_audit.specs.Auditing.{start_over}
 use Rattle.pt_audit.specs.Failing.{AuditSays, failures}
 use Rattle.pt_audit.specs.Layout.{IsOfLayout}
 use Rattle.pt_extra.proofs.BothWays.{plain_keeps, plain_logs, plain_made}
+use Rattle.pt_extra.proofs.Fields.{walk_holds_fields_alone}
 use Rattle.pt_state.specs.States.{job_of}
 use Rattle.pt_tree.specs.Failures.{HasRisen}
 use Rattle.pt_tree.specs.Source.{tree_in}
@@ -34,4 +35,5 @@ returns g c =
       blames = kept.blames;
       says = kept.says;
       made = plain_made job store ran told is it.made;
+      holds = walk_holds_fields_alone;
     })

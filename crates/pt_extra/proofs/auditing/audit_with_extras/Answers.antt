@@ -11,6 +11,7 @@ use Rattle.pt_audit.specs.declared.counts.Counts.{Counts}
 use Rattle.pt_tree.specs.Failures.{HasRisen}
 use Rattle.pt_tree.specs.Source.{tree_in}
 use Rattle.pt_extra.proofs.BothWays.{extra_logs, extra_stops}
+use Rattle.pt_extra.proofs.Fields.{walk_holds_fields_alone}
 use Rattle.pt_extra.specs.Audits.{ExtraLogs, in_both}
 use Rattle.pt_extra.specs.declared.auditing.AuditCounts.{AuditCounts}
 use Rattle.pt_plan.specs.declared.fault.Fault.{Fault}
@@ -63,6 +64,7 @@ returns-in-Ok g c =
       );
       says = says_by ran _ _ _ _ _ fails.2;
       made = made_rest _ _ c.in-Ok.audited.counts ran c.tell_rest.ensures.counts c.in-Ok.ensures.made;
+      holds = walk_holds_fields_alone;
     }
 
 pub returns-in-Err : goal.returns-in-Err
@@ -77,4 +79,5 @@ returns-in-Err g c =
       blames = (g.R.Source.failed c.args.devices.root, omega (arith), record { source = had.source; root = had.root; log = had.log });
       says = c.in-Err.ensures.says;
       made = c.in-Err.ensures.made;
+      holds = walk_holds_fields_alone;
     }
