@@ -2,7 +2,9 @@
 use Rattle.std.proofs.Common.{◌≡◌, ◌∙◌, ℕ, List, refl, subst}
 use Rattle.std.specs.Prelude.{Bool, IfErr, None, Option, Some, Result}
 use Rattle.pt_audit.specs.Auditing.{start_over}
+use Rattle.pt_audit.specs.Bounds.{IsMade}
 use Rattle.pt_audit.specs.Failing.{AuditSays}
+use Rattle.pt_audit.specs.declared.counts.Counts.{Counts}
 use Rattle.pt_tree.specs.Source.{tree_in}
 use Rattle.pt_extra.specs.Audits.{AuditLogs}
 use Rattle.pt_extra.specs.declared.auditing.AuditCounts.{AuditCounts}
@@ -53,3 +55,7 @@ pub says_as : (ran : Result AuditCounts Fault) (job : own.Job) {source store roo
     → IfErr ran (AuditSays job source root) → IfErr ran (AuditSays job store folder)
 says_as ran job {source} {store} {root} {folder} source_is root_is says =
     subst (λ (t : Option Forest). IfErr ran (AuditSays job store t)) root_is (subst (λ (t : Option Forest). IfErr ran (AuditSays job t root)) source_is says)
+
+-- and so it is made
+pub made_as : (ran : Result Counts Fault) (job : own.Job) {source store : Option Forest} → source ≡ store → IsMade job source ran → IsMade job store ran
+made_as ran job same = subst (λ (t : Option Forest). IsMade job t ran) same

@@ -2,10 +2,11 @@
 use Rattle.std.specs.Prelude.{◌≡◌, ◌+◌, ◌==◌, ℕ, Bool, true, false, if◌then◌else◌, IfErr, List, None, OnOk, Option, Result, Ok, Err}
 use Rattle.std.specs.Option.{ForSome}
 use Rattle.pt_audit.specs.Auditing.{start_over}
+use Rattle.pt_audit.specs.Bounds.{IsMade}
 use Rattle.pt_audit.specs.Failing.{AuditSays}
 use Rattle.pt_audit.specs.Layout.{IsOfLayout}
 use Rattle.pt_tree.specs.Source.{tree_in}
-use Rattle.pt_extra.specs.Audits.{AuditLogs}
+use Rattle.pt_extra.specs.Audits.{AuditLogs, in_both}
 use Rattle.pt_extra.specs.declared.auditing.AuditCounts.{AuditCounts}
 use Rattle.pt_folder.specs.SourceHeld.{told_of as source_told}
 use Rattle.pt_guard.specs.declared.places.Claim.TheVariants.{Shared}
@@ -63,8 +64,9 @@ root_seen words call host_io = root_tree (words.folder host_io.folder call.folde
 
 -- an audit was made over these folders of the systems, with what `audit` of pt_extra promises of it: where it ended well the
 -- output got its log, of both trees as they stood, and the root is one that a run could go on with; after a fault it got a front of what
--- is told; and they stand. With extras, folders of the root may have lines that they couldn't be listed in place of what is found of
--- them: how often the root failed isn't known here, so any number may be meant, but where no folder has such a line nothing is missing
+-- is told; they stand; and after each of its steps it held no more than a run's bound. With extras, folders of the root may have lines
+-- that they couldn't be listed in place of what is found of them: how often the root failed isn't known here, so any number may be meant,
+-- but where no folder has such a line nothing is missing
 pub record AuditsOver {S D W : Type 0} (words : HostIoWords S D W (Option Forest)) (call : AuditCall)
     (old new : HostIo S D W) (status : ℕ) : Type 0 where
   pub ran : Result AuditCounts Fault
@@ -75,6 +77,7 @@ pub record AuditsOver {S D W : Type 0} (words : HostIoWords S D W (Option Forest
   pub layout : OnOk ran (ForSome (root_seen words call old) (IsOfLayout (job_of call.options.job)))
   pub says : IfErr ran (AuditSays call.options.job (store_seen words call old)
       (root_seen words call old))
+  pub made : IsMade call.options.job (store_seen words call old) (in_both ran)
   pub store_stays : store_seen words call new ≡ store_seen words call old
   pub root_stays : root_seen words call new ≡ root_seen words call old
   pub grows : Grows (words.output old.output) (words.output new.output)

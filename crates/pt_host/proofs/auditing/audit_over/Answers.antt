@@ -4,7 +4,7 @@ use Rattle.std.specs.Option.{ForSome}
 use Rattle.pt_audit.specs.Layout.{IsOfLayout}
 use Rattle.pt_state.specs.States.{job_of}
 use Rattle.pt_tree.specs.Log.{Grows}
-use Rattle.pt_host.proofs.Audited.{ends_as, root_is, says_as, store_is}
+use Rattle.pt_host.proofs.Audited.{ends_as, made_as, root_is, says_as, store_is}
 use Rattle.pt_host.proofs.auditing.audit_over.Goals as goal
 
 pub returns : goal.returns
@@ -33,6 +33,7 @@ returns g c =
           (ap contents (sym output)) made.ends;
       layout = subst (λ t. OnOk ran (ForSome t (IsOfLayout (job_of job)))) folder made.layout;
       says = says_as ran job store folder made.says;
+      made = made_as _ job store made.made;
       store_stays = sym later ∙ made.sides.source.1 ∙ store;
       root_stays = sym stands ∙ made.sides.root.1 ∙ folder;
       grows = subst (λ l. Grows l (contents c.into_writer.result)) first (subst (Grows _) (ap contents (sym output)) made.log.1);
