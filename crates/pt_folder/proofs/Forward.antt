@@ -19,6 +19,8 @@ use Rattle.std.proofs.Common.{
   length,
   take,
   drop,
+  length-drop,
+  length-take,
   length-take-le,
   le_refl,
   inl,
@@ -63,6 +65,11 @@ last_block ys part = elim (full_or_all ys) [
     differs : (n : ℕ) → (n == 8192) ≡ false → n ≡ 8192 → ⊥
     differs n other same = grind (arith, other, same)
 
+-- a block ends where the bytes do, or before
+behind : (place : ℕ) (xs block : List ℕ) → block ≡ take 8192 (drop place xs) → place ≤ length xs → place + length block ≤ length xs
+behind place xs block is within =
+    omega (arith, within, ap (λ (b : List ℕ). length b) is, length-take 8192 (drop place xs), length-drop place xs)
+
 module _ {F : Type 0} (bytes left : F → Option (List ℕ)) (r : FileInReading F) (file : F) (block : List ℕ) (stands : Stands bytes left r) (there : r.lost
     ≡ false)
     (same : bytes file ≡ bytes r.file) (took : TakesBlock (left r.file) (left file) block) where
@@ -81,6 +88,8 @@ module _ {F : Type 0} (bytes left : F → Option (List ℕ)) (r : FileInReading 
         let part : (length (take 8192 (drop r.place xs)) == 8192) ≡ false = ap (λ (b : List ℕ). length b == 8192) (sym (took_at xs (sym same ∙ is)).0)
         ∙ sym is_full ∙ turned full ends in
         ap (λ n. drop n xs) is_place ∙ place_at xs (sym same ∙ is) ∙ last_block (drop r.place xs) part;
+    within = λ xs is. subst (λ n. n ≤ length xs) (sym is_place)
+        (behind r.place xs block (took_at xs (sym same ∙ is)).0 (stands.within xs (sym same ∙ is)));
   }
     where
       turned : (b : Bool) → not b ≡ true → b ≡ false

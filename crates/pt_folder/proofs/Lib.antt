@@ -1,6 +1,9 @@
 mod Back
 mod Blocks
 pub mod DestTold
+mod FailsOn
+mod FailsStill
+mod FailsTold
 mod Forward
 mod Kept
 mod Listed

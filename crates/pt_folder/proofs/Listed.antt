@@ -17,7 +17,8 @@ use Rattle.pt_folder.specs.Calls.{IsDueTo, change_of, fault_of}
 use Rattle.pt_folder.specs.Folder.{entry_in, entry_text}
 use Rattle.pt_folder.specs.declared.system.Input.{Ghosts as OfInput}
 use Rattle.pt_folder.specs.declared.system.System.{Ghosts as OfSystem}
-use Rattle.pt_folder.specs.Listing.{AreAll, FailsToGet, FailsToList, FailsToLook, FailsToReadDir, IsListedBy, LooksAt, dir_front, most_entries}
+use Rattle.pt_folder.specs.Listing.{AreAll, FailsToGet, FailsToLook, LooksAt, dir_front, most_entries}
+use Rattle.pt_folder.specs.WholeListing.{FailsToList, FailsToReadDir, IsListedBy}
 use Rattle.pt_folder.specs.Names.{IsRefusedName}
 use Rattle.pt_folder.specs.Taking.{GetsAll}
 

@@ -1,5 +1,5 @@
 -- What a source tells after a file is opened, and after a block is read, by the laws of its system.
-use Rattle.std.proofs.Common.{◌≡◌, ℕ, List, [], ◌∷◌, false, refl, sym, ap, subst, ◌∙◌, inl, inr, take, drop}
+use Rattle.std.proofs.Common.{◌≡◌, ℕ, arith, List, [], ◌∷◌, false, refl, sym, ap, subst, ◌∙◌, inl, inr, take, drop}
 use Rattle.std.specs.Prelude.{Option, None, Some, IsSome, Result, Ok, Err, IfOk, OnOk, OnErr, MatchResult}
 use Rattle.std.specs.Option.{option_map, ForSome}
 use Rattle.std.specs.declared.io.Error.{Error}
@@ -11,7 +11,7 @@ use Rattle.pt_tree.specs.Tree.{Entry, bytes_of, tree_of}
 use Rattle.pt_tree.proofs.AtPaths.{bytes_at, stands_in}
 use Rattle.pt_folder.specs.Calls.{change_of}
 use Rattle.pt_folder.specs.Folder.{entry_in, entry_text}
-use Rattle.pt_tree.specs.Source.{CanList, CanLook, CanOpen, CanRead, IsListed, IsRead, IsSeen, after_open, tree_in}
+use Rattle.pt_tree.specs.Source.{CanList, CanLook, CanOpen, CanRead, IsListed, IsRead, IsSeen, after_next, after_open, tree_in}
 use Rattle.pt_tree.specs.Source.{Reading as Told}
 use Rattle.pt_tree.specs.Listing.{Item}
 use Rattle.pt_tree.specs.Forest.{listing_at}
@@ -62,8 +62,14 @@ is_read (Some xs) (Some f) block can next = λ s is.
     let same : told_at (Some xs) f ≡ s = cc in
     subst (λ (s : Told). option_map (take 8192) s.unread ≡ Some block) same (ap Some (sym (next xs refl)))
 
+-- a block further, the tree is the same one
+pub next_told : (o : Option Forest) (unread now : Option (List ℕ)) → now ≡ option_map (drop 8192) unread
+    → told_of o now ≡ option_map after_next (told_of o unread)
+next_told None unread now is = refl
+next_told (Some f) unread now is = ap (λ u. Some (told_at u f)) is
+
 -- a file stands in a directory
-above : (f : Forest) (p : Path) → IsSome (file_at f p) → IsSome (dir_at f (parent p))
+pub above : (f : Forest) (p : Path) → IsSome (file_at f p) → IsSome (dir_at f (parent p))
 above f [] h = refl
 above f (n ∷ p) h = let d = stands_in f n p (stands (tree_of f (n ∷ p)) (subst (λ (o : Option (List ℕ)). IsSome o) (sym (bytes_at f (n ∷ p))) h)) in subst
     (λ (o : Option Forest). IsSome o) (sym d.1) refl
@@ -137,4 +143,4 @@ module _ {S F D : Type 0} (kept : S → List ℕ → Option Forest) (bytes left 
         by (Ok x) is = λ r at.
             let start : FileInReading F = record { file = is.0; place = 0; ended = false; lost = false } in
             let here : start ≡ r = cc in
-            subst (Stands bytes left) here (record { at_place = λ h xs known. is.3 ∙ known; at_end = λ h. absurd (cc) })
+            subst (Stands bytes left) here (record { at_place = λ h xs known. is.3 ∙ known; at_end = λ h. absurd (cc); within = λ xs known. omega arith })

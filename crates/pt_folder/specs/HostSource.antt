@@ -1,15 +1,16 @@
 -- What a folder as a source tells, and what its calls ask of the system and leave.
-use Rattle.std.specs.Prelude.{◌≡◌, ◌≤◌, ℕ, List, length, Option, Result, Err, IfSome, OnErr, OnOk, String, Vec, string_bytes}
+use Rattle.std.specs.Prelude.{◌≡◌, ◌≤◌, ℕ, Bool, List, length, Option, None, Some, Result, Err, IfSome, OnErr, OnOk, String, Vec, string_bytes}
+use Rattle.std.proofs.Common.{refl, sym, ◌∙◌}
 use Rattle.std.specs.Global.{Global}
 use Rattle.pt_tree.specs.declared.faults.TreeFault.{TreeFault}
 use Rattle.pt_tree.specs.declared.kind.Kind.{Kind}
+use Rattle.pt_tree.specs.Failing.{Failing, failing_paths}
 use Rattle.pt_tree.specs.Failures.{IsCounted, IsOneMoreCall}
 use Rattle.pt_tree.specs.Forest.{Forest}
 use Rattle.pt_tree.specs.Listing.{Item}
 use Rattle.pt_tree.specs.Path.{Path}
 use Rattle.pt_tree.specs.Source.{Reading}
 use Rattle.pt_folder.specs.declared.failure.Failure.{Failure}
-use Rattle.pt_folder.specs.declared.folder.Folder.{Folder}
 use Rattle.pt_folder.specs.declared.reading.FileInReading.{FileInReading as Open}
 use Rattle.pt_folder.specs.declared.source.HostSource.{HostSource}
 use Rattle.pt_folder.specs.declared.system.Handle.{Ghosts as OfHandle}
@@ -19,11 +20,12 @@ use Rattle.pt_folder.specs.Calls.{AsksOnce, Change, IsDueTo, LeadsToKind, change
 use Rattle.pt_folder.specs.Devices.{was_called}
 use Rattle.pt_folder.specs.Failure.{KeepsCall, KeepsListing}
 use Rattle.pt_folder.specs.Folder.{FolderEntry, entry_in, entry_text}
-use Rattle.pt_folder.specs.Listing.{FailsToList, IsListedBy, most_entries}
+use Rattle.pt_folder.specs.Listing.{most_entries}
 use Rattle.pt_folder.specs.Parting.{FailsToListPast, IsListedPast}
 use Rattle.pt_folder.specs.Opening.{KeepsOpening, OpensOnce}
 use Rattle.pt_folder.specs.Reading.{IsOfReading, ReadsBy, unread_open}
-use Rattle.pt_folder.specs.SourceHeld.{told_of}
+use Rattle.pt_folder.specs.SourceHeld.{failing_of, told_of}
+use Rattle.pt_folder.specs.WholeListing.{FailsToList, IsListedBy}
 
 module _ {S F D : Type 0} {sys : OfSystem S F D} {handle : OfHandle F} {file : OfInput F}
     {dir : OfInput D} where
@@ -46,6 +48,38 @@ module _ {S F D : Type 0} {sys : OfSystem S F D} {handle : OfHandle F} {file : O
   -- that tree, and what isn't read of the open file
   abbrev pub told : HostSource S F D sys handle file dir → Option Reading
   told s = told_of (kept_by s) (unread_open file.bytes s.reading)
+
+  -- at which paths of its folder the system fails, where it tells that
+  abbrev pub fails_at : HostSource S F D sys handle file dir → Option (Path → Bool)
+  fails_at s = sys.failing (system_of s) (folder_path s)
+
+  -- and whether at the open file
+  abbrev pub failing : HostSource S F D sys handle file dir → Option Failing
+  failing s = failing_of handle.fails (fails_at s) s.reading
+
+  -- it is over the same folder, and fails at the same paths
+  pub record IsSameFolder (old new : HostSource S F D sys handle file dir) : Type 0 where
+    pub folder : new.folder ≡ old.folder
+    pub fails : fails_at new ≡ fails_at old
+
+  -- so it is itself
+  pub is_same_folder : (s : HostSource S F D sys handle file dir) → IsSameFolder s s
+  is_same_folder s = record { folder = refl; fails = refl }
+
+  -- and so after more calls
+  pub same_folder_on : (a b c : HostSource S F D sys handle file dir) → IsSameFolder a b → IsSameFolder b c
+      → IsSameFolder a c
+  same_folder_on a b c p q = record { folder = q.folder ∙ p.folder; fails = q.fails ∙ p.fails }
+
+  -- of which the source tells the paths
+  pub same_paths : (a b : HostSource S F D sys handle file dir) → IsSameFolder a b
+      → failing_paths (failing b) ≡ failing_paths (failing a)
+  same_paths a b same = paths (fails_at b) b.reading ∙ same.fails ∙ sym (paths (fails_at a) a.reading)
+    where
+      paths : (at : Option (Path → Bool)) (reading : Option (Open F))
+          → failing_paths (failing_of handle.fails at reading) ≡ at
+      paths None reading = refl
+      paths (Some at) reading = refl
 
   -- an entry of its folder
   abbrev pub entry_of : HostSource S F D sys handle file dir → Path → FolderEntry
@@ -127,10 +161,11 @@ module _ {S F D : Type 0} {sys : OfSystem S F D} {handle : OfHandle F} {file : O
   abbrev pub open_file : HostSource S F D sys handle file dir → Option (Open F) × String Global
   open_file s = (s.reading, s.at)
 
-  -- a call on the same folder is counted, and its failure is
+  -- a call on the same folder is counted, and its failure is; it fails at the same paths
   pub record IsCall {T : Type 0} (old new : HostSource S F D sys handle file dir)
       (result : Result T TreeFault) : Type 0 where
     pub folder : new.folder ≡ old.folder
+    pub fails : fails_at new ≡ fails_at old
     pub failures : IsCounted old.failures new.failures result
     pub calls : IsOneMoreCall (was_called old.calls) (was_called new.calls)
 

@@ -4,6 +4,7 @@ pub mod DestHeld
 pub mod DestLaws
 pub mod Devices
 pub mod EntryCodes
+pub mod FailingLaws
 pub mod Failure
 pub mod Folder
 pub mod HostDest
@@ -25,4 +26,5 @@ pub mod Syscalls
 pub mod Taking
 pub mod UnsyncedChange
 pub mod Untold
+pub mod WholeListing
 pub mod Writing

@@ -14,7 +14,8 @@ use Rattle.pt_folder.specs.declared.system.Input.{Ghosts as OfInput}
 use Rattle.pt_folder.specs.declared.system.System.{Ghosts as OfSystem}
 use Rattle.pt_folder.specs.Calls.{Change, change_of}
 use Rattle.pt_folder.specs.Folder.{FolderEntry, entry_text}
-use Rattle.pt_folder.specs.Listing.{FailsToLook, FailsToReadDir, LooksAt, dir_front, most_entries}
+use Rattle.pt_folder.specs.Listing.{FailsToLook, LooksAt, dir_front, most_entries}
+use Rattle.pt_folder.specs.WholeListing.{FailsToReadDir}
 use Rattle.pt_folder.specs.Names.{is_entry}
 use Rattle.pt_folder.specs.Taking.{GetsAll}
 

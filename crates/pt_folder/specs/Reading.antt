@@ -3,6 +3,7 @@ use Rattle.std.specs.Prelude.{
   ◌≡◌,
   ◌⊎◌,
   ◌<◌,
+  ◌≤◌,
   ℕ,
   ◌==◌,
   ◌+◌,
@@ -45,10 +46,12 @@ unread_of bytes r = option_map (drop r.place) (bytes r.file)
 abbrev pub unread_open : {F : Type 0} → (F → Option (List ℕ)) → Option (FileInReading F) → Option (List ℕ)
 unread_open bytes reading = option_and_then (unread_of bytes) reading
 
--- where the bytes of a file are known, it stands at its place unless it is lost; and nothing is left once its end was met
+-- where the bytes of a file are known, it stands at its place unless it is lost, and that is one in it; and nothing is left once its end
+-- was met
 pub record Stands {F : Type 0} (bytes left : F → Option (List ℕ)) (r : FileInReading F) : Type 0 where
   pub at_place : r.lost ≡ false → ForSome (bytes r.file) (λ xs. left r.file ≡ Some (drop r.place xs))
   pub at_end : r.ended ≡ true → ForSome (bytes r.file) (λ xs. drop r.place xs ≡ [])
+  pub within : ForSome (bytes r.file) (λ xs. r.place ≤ length xs)
 
 -- where a file is open, it stands where its place is counted
 abbrev pub StandsOpen : {F : Type 0} → (F → Option (List ℕ)) → (F → Option (List ℕ))

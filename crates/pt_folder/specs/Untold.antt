@@ -1,9 +1,11 @@
 -- A system that tells nothing keeps to the laws.
-use Rattle.std.specs.Prelude.{◌≡◌, ℕ, List, Option, None, Some, true, Result, Ok, Err, refl}
+use Rattle.std.specs.Prelude.{◌≡◌, ℕ, Bool, List, Option, None, Some, IsSome, true, Result, Ok, Err, refl}
+use Rattle.std.specs.Option.{ForSome}
 use Rattle.std.specs.declared.io.Error.{Error}
 use Rattle.pt_tree.specs.Forest.{Forest, is_proper}
 use Rattle.pt_tree.specs.Path.{Path}
 use Rattle.pt_tree.specs.Tree.{Tree, IsTree}
+use Rattle.pt_folder.specs.FailingLaws.{FailsStillLaw}
 use Rattle.pt_folder.specs.SourceLaws.{Listed, Looked, Opened}
 use Rattle.pt_folder.specs.DestLaws.{Adds, Kept, MakesDir, MakesFile, Moves}
 use Rattle.pt_folder.specs.DestLaws.{Looked as Seen, Opened as Peeked}
@@ -35,6 +37,36 @@ untold_names p reply = record { same = refl; given = λ f is. absurd (cc) }
 -- the law that the tree is proper
 pub untold_proper : (f : Forest) → no_forest ≡ Some f → is_proper f ≡ true
 untold_proper f is = absurd (cc)
+
+-- no paths at which it fails
+abbrev pub no_paths : Option (Path → Bool)
+no_paths = None
+
+-- no files of which is told whether they fail
+abbrev pub no_fails : {F : Type 0} → Option (F → Bool)
+no_fails = None
+
+-- the law of such a file
+pub untold_fails : {F : Type 0} (P : (F → Bool) → Type 0) → ForSome no_fails P
+untold_fails P = λ fails is. absurd (cc)
+
+-- that more is told where it fails
+pub untold_fails_told : {A : Type 0} → IsSome no_paths → A
+untold_fails_told some = absurd (cc)
+
+-- that no call changes where it fails
+pub untold_fails_still : {S F D : Type 0} (looks : S → List ℕ → Result Kind Error → S → Type 0)
+    (opens : S → List ℕ → Result F Error → S → Type 0) (opens_dir : S → List ℕ → Result D Error → S → Type 0)
+    → FailsStillLaw (λ s folder. no_paths) looks opens opens_dir
+untold_fails_still looks opens opens_dir = record {
+  looked = λ old new text reply by folder. refl;
+  opened = λ old new text reply by folder. refl;
+  listed = λ old new text reply by folder. refl;
+}
+
+-- the laws of where it fails
+pub untold_fails_at : (P : (Path → Bool) → Type 0) → ForSome no_paths P
+untold_fails_at P = λ at is. absurd (cc)
 
 -- no tree of a folder that is written
 abbrev pub no_kept : {F : Type 0} → Kept F

@@ -8,12 +8,14 @@ ghost use Rattle.pt_folder.specs.Seeing.{SeesAt};
 ghost use Rattle.std.specs.List.{FoldsTo};
 ghost use Rattle.pt_folder.specs.Failure.{IsAt, IsOfEntry, IsOfName, IsOfNames, KeepsListing};
 ghost use Rattle.pt_folder.specs.Failure.{OnDevice};
+ghost use Rattle.pt_folder.specs.FailingLaws.{FailsStill};
 ghost use Rattle.pt_folder.specs.Folder.{entry_in};
 ghost use Rattle.pt_tree.specs.Listing.{can_follow};
 ghost use Rattle.pt_folder.specs.Calls.{IsDueTo, change_of};
-ghost use Rattle.pt_folder.specs.Listing.{AreAll, FailsToList, FailsToLook, HasDir, IsListedBy};
-ghost use Rattle.pt_folder.specs.Listing.{IsListingOf, LooksAt, LooksIn, most_entries};
+ghost use Rattle.pt_folder.specs.Listing.{AreAll, FailsToLook, HasDir, IsListingOf, LooksAt};
+ghost use Rattle.pt_folder.specs.Listing.{LooksIn, most_entries};
 ghost use Rattle.pt_folder.specs.Names.{IsRefusedName, is_entry};
+ghost use Rattle.pt_folder.specs.WholeListing.{FailsToList, IsListedBy};
 
 use crate::bytes::ReadBuffer;
 use crate::failure::{FailureReason, Last};
@@ -43,6 +45,7 @@ pub fn list<S: System>(
     requires { HasDir (S.forest syscalls.old.system folder.now.path.now) path.now }
     ensures same { S.forest syscalls.new.system folder.now.path.now
         ≡ S.forest syscalls.old.system folder.now.path.now }
+    ensures still { FailsStill S.failing syscalls.old.system syscalls.new.system }
     ensures told { IfOk result (IsListingOf
         (S.forest syscalls.old.system folder.now.path.now) path.now) }
     ensures most { IfOk result (λ listing. length listing ≤ most_entries) }
@@ -113,6 +116,7 @@ pub(crate) fn with_kinds<S: System>(
         (SeesAt S.forest (string_bytes text) syscalls.old.system syscalls.new.system) }
     ensures same { OnErr result
         (SeesAt S.forest (string_bytes text) syscalls.old.system syscalls.new.system []) }
+    ensures still { FailsStill S.failing syscalls.old.system syscalls.new.system }
     ensures looked { IfOk result (λ listing. FoldsTo (LooksAt S.looks (string_bytes text))
         syscalls.old.system listing syscalls.new.system) }
     ensures fault { IfErr result (λ fault. IsDueTo fault (FailsToLook S.looks (string_bytes text)

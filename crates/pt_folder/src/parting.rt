@@ -4,6 +4,7 @@ ghost use Rattle.std.specs.Prelude.{IfOk, IfSome, OnOk};
 ghost use Rattle.pt_tree.specs.Name.{is_name};
 ghost use Rattle.pt_folder.specs.Calls.{IsDueTo, change_of};
 ghost use Rattle.pt_folder.specs.Failure.{IsOfNames, KeepsListing, OnDevice};
+ghost use Rattle.pt_folder.specs.FailingLaws.{FailsStill};
 ghost use Rattle.pt_folder.specs.Folder.{entry_in};
 ghost use Rattle.pt_folder.specs.Listing.{HasDir, IsListingOf, most_entries};
 ghost use Rattle.pt_folder.specs.Names.{is_entry};
@@ -43,6 +44,7 @@ pub fn list_named<S: System>(
     requires { HasDir (S.forest syscalls.old.system folder.now.path.now) path.now }
     ensures same { S.forest syscalls.new.system folder.now.path.now
         ≡ S.forest syscalls.old.system folder.now.path.now }
+    ensures still { FailsStill S.failing syscalls.old.system syscalls.new.system }
     ensures told { IfOk result (IsListingOf
         (S.forest syscalls.old.system folder.now.path.now) path.now) }
     ensures most { IfOk result (λ listing. length listing ≤ most_entries) }

@@ -1,7 +1,8 @@
 //! A folder of the system as a source.
 //!
 //! It meets `Source`: a listing is what stands there, in order; a file is read as it was at its
-//! opening; a failed call changes nothing of it. Which calls of the system each call makes:
+//! opening; a failed call changes nothing of it. Where its system tells at which paths it fails, it
+//! fails just there (`failing_of`). Which calls of the system each call makes:
 //!
 //! - `kind`: one, on the folder's path with the names behind it, and its answer (`AsksOnce`).
 //!   Nothing is asked where the folder's path is empty or memory is wanting.
@@ -18,7 +19,6 @@
 //!   each once for each time that the directory gives them, in their order, and at most 16,777,216
 //!   (`GivesApart`). Where it isn't read to its end, what was given apart before stays; `Device`
 //!   comes only with a cause (`FailsToListPast`). What is behind a `Memory` isn't said.
-ghost use Rattle.std.proofs.Common.{◌∙◌, refl};
 ghost use Rattle.std.specs.Prelude.{◌≡◌, [], Some, None, Err, IfErr, IfOk, IfSome, OnOk, OnErr};
 ghost use Rattle.std.specs.Prelude.{string_bytes};
 ghost use Rattle.std.specs.Prelude.{drop as drop_items};
@@ -42,7 +42,7 @@ use pt_tree::{BLOCK, Block, Kind, Listing, ListsNamed, NamePath, Source, TreeFau
 use std::alloc::Global;
 
 /// A folder of the system as a source. It tells the tree that the system keeps there, where it
-/// keeps one. It doesn't tell where it fails.
+/// keeps one, and where it fails, where the system tells that.
 #[derive(Drop)]
 pub struct HostSource<'a, S: System> {
     syscalls: Syscalls<S>,
@@ -123,24 +123,25 @@ impl<'a, S: System> Source for HostSource<'a, S> {
     ghost use Rattle.pt_folder.specs.HostSource.{CannotList, IsCall, IsLookedAt, IsReading};
     ghost use Rattle.pt_folder.specs.HostSource.{KeepsList, KeepsLook};
     ghost use Rattle.pt_folder.specs.HostSource.{KeepsOpen, KeepsRead, Lists, Looks, Opens, Reads};
-    ghost use Rattle.pt_folder.specs.HostSource.{folder_path, open_file, told};
+    ghost use Rattle.pt_folder.specs.HostSource.{IsSameFolder, failing, folder_path, is_same_folder};
+    ghost use Rattle.pt_folder.specs.HostSource.{open_file, same_folder_on, same_paths, told};
     ghost use Rattle.pt_folder.specs.SourceHeld.{proper_held};
 
     ghost told = { told };
 
-    ghost failing = { λ _. None };
+    ghost failing = { failing };
 
     ghost failed = { λ s. s.failures };
 
     ghost called = { λ s. was_called s.calls };
 
-    ghost keeps = { λ a b. b.folder ≡ a.folder };
+    ghost keeps = { IsSameFolder };
 
-    ghost is_kept = { λ _. refl };
+    ghost is_kept = { is_same_folder };
 
-    ghost keeps_on = { λ _ _ _ p q. q ∙ p };
+    ghost keeps_on = { same_folder_on };
 
-    ghost keeps_failing = { λ _ _ _. refl };
+    ghost keeps_failing = { same_paths };
 
     ghost proper = { λ s state is. proper_held (S.forest s.syscalls.system s.folder.path.now)
         (unread_open ⟦<S::File as Input>⟧.bytes s.reading) state

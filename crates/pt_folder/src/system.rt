@@ -2,12 +2,15 @@
 //! it may answer and leave; a contract over them then says which calls are made, in which order,
 //! and what becomes of their answers. A system may also keep trees: then its calls keep to laws, as
 //! POSIX has them, from which follows what folders over it hold.
-ghost use Rattle.std.specs.Prelude.{◌≡◌, ℕ, List, Option, IfOk, OnOk};
+ghost use Rattle.std.specs.Prelude.{◌≡◌, ℕ, Bool, List, Option, IfOk, OnOk};
 ghost use Rattle.std.specs.declared.result.Result.{Result};
 ghost use Rattle.std.specs.declared.io.Error.{Error};
 ghost use Rattle.std.specs.Io.{ReadsAtMost, WritesAtMost};
 ghost use Rattle.pt_tree.specs.Forest.{Forest};
+ghost use Rattle.pt_tree.specs.Path.{Path};
 ghost use Rattle.pt_tree.specs.declared.kind.Kind.{Kind};
+ghost use Rattle.pt_folder.specs.FailingLaws.{FailsStillLaw, FailsToldLaw, FileFailsLaw};
+ghost use Rattle.pt_folder.specs.FailingLaws.{ListFailsLaw, LookFailsLaw, OpenFailsLaw};
 ghost use Rattle.pt_folder.specs.Laws.{Gives, GoesRight};
 ghost use Rattle.pt_folder.specs.DestLaws.{DirLaw, FileLaw, Kept, KindLaw, MoveLaw, PeekLaw};
 ghost use Rattle.pt_folder.specs.DestLaws.{StillLaw, TreeLaw, WriteLaw};
@@ -43,6 +46,9 @@ pub trait Handle: Input {
     /// Having all that was written put onto the disk may answer so, and leave it so.
     ghost syncs: { Self → Result (Unit {0}) Error → Self → Type 0 };
 
+    /// Whether one can't be read to its end, if such files tell that.
+    ghost fails: { Option (Self → Bool) };
+
     /// Goes to a place, counted from the file's start.
     fn seek(&mut self, place: u64) -> io::Result<u64>
         ensures same { Self.bytes self.new ≡ Self.bytes self.old }
@@ -52,6 +58,9 @@ pub trait Handle: Input {
     /// Has all that was written to it put onto its disk.
     fn sync(&mut self) -> io::Result<()>
         ensures synced { syncs self.old result self.new };
+
+    /// Reading a file that fails, or doesn't.
+    ghost fails_law: { FileFailsLaw fails Self.bytes Self.reads goes };
 }
 
 /// The system, by the calls on paths, and the writes, which change what it keeps.
@@ -63,6 +72,12 @@ pub trait System {
     /// What it keeps below the path of a folder that is only read, where it tells that. No call of
     /// reading changes it.
     ghost forest: { Self → List ℕ → Option Forest };
+
+    /// At which paths below a folder that is only read it fails, where it tells that: such a
+    /// directory can't be listed, and such a file can't be opened and read to its end, while each
+    /// other can. A look fails only where both what is looked at and the directory above fail. What
+    /// folders don't take of a directory counts too, as a name that isn't UTF-8.
+    ghost failing: { Self → List ℕ → Option (Path → Bool) };
 
     /// What it keeps below the path of a folder that is written, where it tells that.
     ghost kept: { Self → List ℕ → Kept Self.File };
@@ -128,6 +143,21 @@ pub trait System {
 
     /// Names rise in what is kept.
     ghost proper_law: { ProperLaw forest };
+
+    /// Who tells where it fails tells more.
+    ghost fails_told_law: { FailsToldLaw forest failing Self.File.Handle.fails };
+
+    /// Where it fails stays.
+    ghost fails_still_law: { FailsStillLaw failing looks opens opens_dir };
+
+    /// A look where it fails, or doesn't.
+    ghost look_fails_law: { LookFailsLaw forest failing looks };
+
+    /// A file is opened where it fails, or doesn't.
+    ghost open_fails_law: { OpenFailsLaw forest failing Self.File.Handle.fails opens };
+
+    /// A directory is listed where it fails, or isn't.
+    ghost list_fails_law: { ListFailsLaw forest failing looks opens_dir Self.Dir.reads };
 
     /// A look below a folder that is written.
     ghost kind_law: { KindLaw kept looks };

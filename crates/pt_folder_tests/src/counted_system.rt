@@ -1,9 +1,10 @@
 //! A system that counts its calls: looks, changes and syncs. Of these one kind may fail.
 ghost use Rattle.std.specs.Prelude.{⊤, refl};
-ghost use Rattle.pt_folder.specs.Untold.{no_forest, no_kept, unknown, untold_dir, untold_file};
-ghost use Rattle.pt_folder.specs.Untold.{untold_kind, untold_look, untold_move, untold_names};
-ghost use Rattle.pt_folder.specs.Untold.{untold_open, untold_peek, untold_proper, untold_tree};
-ghost use Rattle.pt_folder.specs.Untold.{untold_write};
+ghost use Rattle.pt_folder.specs.Untold.{no_forest, no_kept, no_paths, unknown, untold_dir};
+ghost use Rattle.pt_folder.specs.Untold.{untold_fails_at, untold_fails_still, untold_fails_told};
+ghost use Rattle.pt_folder.specs.Untold.{untold_file, untold_kind, untold_look, untold_move};
+ghost use Rattle.pt_folder.specs.Untold.{untold_names, untold_open, untold_peek, untold_proper};
+ghost use Rattle.pt_folder.specs.Untold.{untold_tree, untold_write};
 
 use pt_folder::System;
 use pt_machine::HostFile;
@@ -104,6 +105,8 @@ impl<'a> System for Counted<'a> {
 
     ghost forest = { λ _ _. no_forest };
 
+    ghost failing = { λ _ _. no_paths };
+
     ghost kept = { λ _ _. no_kept };
 
     ghost looks = { λ _ _ _ _. ⊤ };
@@ -127,6 +130,16 @@ impl<'a> System for Counted<'a> {
     ghost names_law = { λ old new folder p reply named can by. untold_names p reply };
 
     ghost proper_law = { λ s folder f is. untold_proper f is };
+
+    ghost fails_told_law = { λ s folder told. untold_fails_told told };
+
+    ghost fails_still_law = { untold_fails_still _ _ _ };
+
+    ghost look_fails_law = { λ old new folder p e named can by device there. untold_fails_at _ };
+
+    ghost open_fails_law = { λ old new folder p reply named can by. untold_fails_at _ };
+
+    ghost list_fails_law = { λ old mid folder p reply can by. untold_fails_at _ };
 
     ghost kind_law = { λ old new folder p reply named by. untold_kind p reply };
 

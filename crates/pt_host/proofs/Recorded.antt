@@ -1,6 +1,6 @@
 -- What is made between the begin and the end of an event.
 use Rattle.std.proofs.Common.{◌≡◌, ◌∙◌, ◌++◌, ℕ, List, ap, codes, inr, refl, subst, sym}
-use Rattle.std.specs.Prelude.{Option, Some, None, Result, Ok, Err}
+use Rattle.std.specs.Prelude.{Option, Some, None, Ok, Err}
 use Rattle.pt_host.specs.Events.{BeginsEvent, EndsEvent, EndsRecord, IsRecorded, MakesEvent, event_status, paths_of}
 use Rattle.pt_host.specs.Machine.{MachineWords}
 use Rattle.pt_host.specs.declared.event.EventFault.{EventFault}

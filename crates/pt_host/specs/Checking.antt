@@ -1,5 +1,5 @@
 -- What a check of a store on a machine comes to.
-use Rattle.std.specs.Prelude.{◌≡◌, ◌==◌, ⊤, ℕ, true, if◌then◌else◌, IfErr, IfOk, List, None, Option, Result, Ok, Err}
+use Rattle.std.specs.Prelude.{◌≡◌, ◌==◌, ⊤, ℕ, Bool, true, if◌then◌else◌, IfErr, IfOk, List, Option, Result, Ok, Err}
 use Rattle.std.specs.Option.{ForSome, option_map}
 use Rattle.pt_check.specs.Counting.{no_numbers}
 use Rattle.pt_check.specs.Visits.{Checks, Says, CheckState}
@@ -9,6 +9,7 @@ use Rattle.pt_check.specs.declared.wants.Wants.{Wants}
 use Rattle.pt_plan.specs.declared.fault.Fault.{Fault}
 use Rattle.pt_plan.specs.declared.fault.Fault.TheVariants as fault
 use Rattle.pt_tree.specs.Forest.{Forest}
+use Rattle.pt_tree.specs.Path.{Path}
 use Rattle.pt_host.specs.Audits.{store_tree}
 use Rattle.pt_host.specs.HostCall.{Lend, TakeBack}
 use Rattle.pt_host.specs.Room.{room_in}
@@ -41,10 +42,10 @@ abbrev pub store_checked : {S D W : Type 0} → HostIoWords S D W (Option Forest
     → Option Forest
 store_checked words call host_io = store_tree call.options.ignored (words.store host_io.store call.store)
 
--- a check that has not begun, over an output that holds this: its source, which doesn't tell where it fails, didn't fail, and nothing is
--- counted
-abbrev pub unbegun : Option (List ℕ) → CheckState
-unbegun held = record { failing = None; failed = 0; held = held; numbers = no_numbers }
+-- a check that has not begun, over an output that holds this: its source fails at these paths, if it tells that, didn't fail yet, and
+-- nothing is counted
+abbrev pub unbegun : Option (Path → Bool) → Option (List ℕ) → CheckState
+unbegun failing held = record { failing = failing; failed = 0; held = held; numbers = no_numbers }
 
 -- what these options want of a check: where a destination is named, its room is that of the folder at that path; and places are of the
 -- layout, whether one is named or not
@@ -59,10 +60,13 @@ wants_of options = record {
 abbrev pub says_anything : Says
 says_anything path reasons part = true
 
--- a check went over this tree from an output to what that then holds, with what `run` of pt_check promises of it
-abbrev pub ChecksTree : CheckCall → Option (List ℕ) → Option (List ℕ) → Numbers → Forest → Type 0
-ChecksTree call was held numbers tree =
-    (end : CheckState) × (end.held ≡ held) × Checks says_anything (wants_of call.options) tree numbers (unbegun was) end
+-- a check went over this tree, of a system that fails at these paths, if it tells that, from an output to what that then holds, with what
+-- `run` of pt_check promises of it
+abbrev pub ChecksTree : CheckCall → Option (Path → Bool) → Option (List ℕ) → Option (List ℕ) → Numbers → Forest
+    → Type 0
+ChecksTree call failing was held numbers tree =
+    (end : CheckState) × (end.held ≡ held)
+    × Checks says_anything (wants_of call.options) tree numbers (unbegun failing was) end
 
 -- a check was made over this folder of the system that keeps the store: where it ended well the output got its lines, of the
 -- tree that the system keeps, and else its fault is the output's or want of memory; whatever it came to, that tree stands, what
@@ -71,7 +75,8 @@ pub record ChecksOver {S D W : Type 0} (words : HostIoWords S D W (Option Forest
     (old new : HostIo S D W) (status : ℕ) : Type 0 where
   pub ran : Result Numbers Fault
   pub checks : IfOk ran (λ numbers. ForSome (store_checked words call old)
-      (ChecksTree call (words.output old.output) (words.output new.output) numbers))
+      (ChecksTree call (words.store_fails old.store call.store) (words.output old.output)
+      (words.output new.output) numbers))
   pub fault : IfErr ran IsFaultOfCheck
   pub store_stays : store_checked words call new ≡ store_checked words call old
   pub grows : Grows (words.output old.output) (words.output new.output)

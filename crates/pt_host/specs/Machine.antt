@@ -1,23 +1,27 @@
 -- What a machine's calls may answer and leave, and what it lends.
-use Rattle.std.specs.Prelude.{ℕ, List, Option, Result}
+use Rattle.std.specs.Prelude.{ℕ, Bool, List, Option, Result}
 use Rattle.std.specs.declared.io.Error.{Error}
 use Rattle.pt_folder.specs.DestLaws.{Kept}
 use Rattle.pt_guard.specs.PlaceCall.{PlaceCall}
 use Rattle.pt_tree.specs.Forest.{Forest}
+use Rattle.pt_tree.specs.Path.{Path}
 use Rattle.pt_host.specs.HostCall.{HostCall}
 use Rattle.pt_host.specs.declared.host.HostIo.{HostIo}
 use Rattle.pt_host.specs.declared.options.RunOptions.{RunOptions}
 
--- of what a machine lends: what its two systems keep at a path, where they tell it, and what the output holds
+-- of what a machine lends: what its two systems keep at a path, where they tell it, and what the output holds; and at which paths below it
+-- the store's system fails, where it tells that
 pub record HostIoWords (S D W K : Type 0) : Type 0 where
   pub store : S → List ℕ → Option Forest
+  pub store_fails : S → List ℕ → Option (Path → Bool)
   pub folder : D → List ℕ → K
   pub output : W → Option (List ℕ)
 
--- these three as one
-abbrev pub host_io_words : {S D W K : Type 0} → (S → List ℕ → Option Forest) → (D → List ℕ → K)
-    → (W → Option (List ℕ)) → HostIoWords S D W K
-host_io_words store folder output = record { store = store; folder = folder; output = output }
+-- these four as one
+abbrev pub host_io_words : {S D W K : Type 0} → (S → List ℕ → Option Forest)
+    → (S → List ℕ → Option (Path → Bool)) → (D → List ℕ → K) → (W → Option (List ℕ)) → HostIoWords S D W K
+host_io_words store fails folder output =
+    record { store = store; store_fails = fails; folder = folder; output = output }
 
 -- a machine by its words: what its calls on places and its own may come to; the syncing of the output's file, alone and
 -- behind the output. And those of what it lends, as a run writes and as an audit reads it, with what serving a run leaves

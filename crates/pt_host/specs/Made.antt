@@ -1,7 +1,7 @@
 -- Which run was made, over what, and what it came to.
 use Rattle.std.specs.Prelude.{◌≡◌, ◌≢◌, ◌⊎◌, ⊤, ℕ, Bool, true, false, List, Option, Some, None, is_some, Result, Ok, Err}
 use Rattle.std.specs.IoError.{error_kind}
-use Rattle.std.specs.Option.{ForSome}
+use Rattle.std.specs.Option.{ForSome, option_map}
 use Rattle.std.specs.declared.io.Error.{Error}
 use Rattle.std.specs.declared.io.ErrorKind.TheVariants.{InvalidInput}
 use Rattle.pt_folder.specs.DestHeld.{told_with as dest_told}
@@ -20,9 +20,12 @@ use Rattle.pt_guard.specs.declared.places.Claim.TheVariants.{Alone}
 use Rattle.pt_move.specs.Migrates.{Migrates}
 use Rattle.pt_plan.specs.declared.fault.Fault.{Fault}
 use Rattle.pt_plan.specs.DeviceStates.{Failures, DeviceStates}
+use Rattle.pt_plan.specs.SourceFailures.{FailsAtOpen, FailsWhereAsked, SourceView}
 use Rattle.pt_state.specs.declared.job.Job.{Job}
 use Rattle.pt_state.specs.declared.job.Report.{Report}
 use Rattle.pt_tree.specs.Dest.{Writing}
+use Rattle.pt_tree.specs.Failing.{Failing}
+use Rattle.pt_tree.specs.Path.{Path}
 use Rattle.pt_host.specs.Durable.{IsLogged}
 use Rattle.pt_host.specs.Ends.{OfList, guard_status, run_status}
 use Rattle.pt_host.specs.Events.{IsRecorded}
@@ -80,14 +83,25 @@ abbrev pub IsUnsyncedBy : Bool → ℕ → ℕ → Option UnsyncedChange → Typ
 IsUnsyncedBy synced failures status unsynced =
     ForSome unsynced (λ _. (synced ≡ true) × (failures ≡ 0 → status ≡ 3))
 
--- where a run starts: between which folders, from which states, and what the system keeps of the destination's
+-- where a run starts: between which folders, from which states, where its source fails, if it tells that, and what the system keeps of the
+-- destination's
 pub record Start (F : Type 0) : Type 0 where
   pub at : Between
   pub states : DeviceStates
+  pub failing : Option Failing
   pub kept : Kept F
 
+-- its source, as far as that can halt a run
+abbrev pub source_of : {F : Type 0} → Start F → SourceView
+source_of start =
+    record { told = start.states.source; failing = start.failing; failed = start.states.failures.source }
+
+-- a source's count of failures changed only if it fails at something that a run asks for, or at a file that was open
+abbrev pub FailsByAsking : SourceView → ℕ → Type 0
+FailsByAsking source failed = (failed ≡ source.failed) ⊎ (FailsAtOpen source ⊎ FailsWhereAsked source)
+
 -- a run was made from this start to what its devices then tell over these systems and this output, with this status and
--- this unsynced; a rehearsal left of the folder what the system kept
+-- this unsynced; a rehearsal left of the folder what the system kept; and the source failed only where it fails that is asked for
 abbrev pub RunsFrom : {S D W F : Type 0} → HostIoWords S D W (Kept F) → RunOptions → Start F
     → HostIo S D W → ℕ → Type 0
 RunsFrom {S} {D} {W} {F} words options start host_io status =
@@ -96,6 +110,7 @@ RunsFrom {S} {D} {W} {F} words options start host_io status =
     (host_io_of words start.at host_io reading unsynced writing failures) status
     × LeavesKept options.rehearse start.kept (words.folder host_io.folder start.at.folder)
     × IsUnsyncedBy start.at.synced start.states.failures.dest status unsynced
+    × FailsByAsking (source_of start) failures.source
 
 -- no device failed yet
 abbrev pub none_failed : Failures
@@ -120,11 +135,16 @@ between call = record {
   synced = call.options.sync;
 }
 
+-- where a source fails with no file open, by the paths at which its system does
+abbrev pub failing_at_rest : Option (Path → Bool) → Option Failing
+failing_at_rest paths = option_map (λ at. record { at = at; reading = false }) paths
+
 -- its start over what is lent, with no file open
 abbrev pub start_of : {S D W F : Type 0} → HostIoWords S D W (Kept F) → RunCall → HostIo S D W → Start F
 start_of words call host_io = record {
   at = between call;
   states = host_io_of words (between call) host_io None None None none_failed;
+  failing = failing_at_rest (words.store_fails host_io.store call.store);
   kept = words.folder host_io.folder call.folder;
 }
 

@@ -37,7 +37,7 @@ pub(crate) fn audit_over<R, S: System, D: System, W: Write, F: SyncsOutput<W> + 
 ) -> (HostIo<S, D, W>, Conclusion)
 where
     R: Reads + Clock + Eprint + AllocGlobal + Terminals,
-    ensures { AuditsOver (host_io_words S.forest D.forest W.contents)
+    ensures { AuditsOver (host_io_words S.forest S.failing D.forest W.contents)
         (audit_call options folders.entry.store.now folders.entry.folder.now)
         parts.host_io result.0 result.1.status }
 {

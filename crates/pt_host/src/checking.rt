@@ -53,7 +53,7 @@ fn check_over<R, S: System, D: System, W: Write, F: SyncsOutput<W> + Drop>(
 ) -> (HostIo<S, D, W>, u8)
 where
     R: Eprint + AllocGlobal,
-    ensures { ChecksOver (host_io_words S.forest D.forest W.contents)
+    ensures { ChecksOver (host_io_words S.forest S.failing D.forest W.contents)
         (check_call options store.now) parts.host_io result.0 result.1 }
 {
     let alloc = rt.alloc();

@@ -27,8 +27,8 @@ where
       host = H.Host.does;
       syncs = H.File.syncs;
       puts = H.File.puts;
-      written = host_io_words H.Store.forest H.Folder.kept H.Output.contents;
-      read = host_io_words H.Store.forest H.Folder.forest H.Output.contents;
+      written = host_io_words H.Store.forest H.Store.failing H.Folder.kept H.Output.contents;
+      read = host_io_words H.Store.forest H.Store.failing H.Folder.forest H.Output.contents;
       serves = Serves H.Folder.System H.Folder.File.Handle.own
           H.Folder.File.Input H.Folder.Dir.Input;
     } };

@@ -4,10 +4,11 @@
 //! tells what the folder holds, and at the end the tree that it plays (`run_or_rehearse`, `IsRun`).
 //! Its devices stay at the folders that they were made for (`RunsFrom`). After any answer a
 //! rehearsal leaves all that the system keeps of DEST (`LeavesKept`). Something is unsynced at the
-//! end only where syncing was wanted and a fault ended the run (`IsUnsyncedBy`).
+//! end only where syncing was wanted and a fault ended the run (`IsUnsyncedBy`). Over a store whose
+//! system tells where it fails the source failed only at what a run asks for (`FailsByAsking`).
 ghost use Rattle.std.specs.Prelude.{◌≡◌};
 ghost use Rattle.pt_folder.specs.HostDest.{folder_path as dest_path, kept_by};
-ghost use Rattle.pt_folder.specs.HostSource.{folder_path as store_path};
+ghost use Rattle.pt_folder.specs.HostSource.{failing, folder_path as store_path};
 ghost use Rattle.pt_host.specs.Devices.{seen_without, told_at_rest};
 ghost use Rattle.pt_host.specs.Durable.{IsLogged};
 ghost use Rattle.pt_host.specs.Ends.{run_status};
@@ -15,7 +16,9 @@ ghost use Rattle.pt_host.specs.Machine.{host_io_words};
 ghost use Rattle.pt_host.specs.Made.{IsRun, IsUnsyncedBy, LeavesKept, RunsFrom};
 ghost use Rattle.pt_host.specs.Served.{IsServed, ServesTo};
 ghost use Rattle.pt_host.specs.declared.options.AllowedLines.{AllowedLines};
+ghost use Rattle.pt_plan.specs.SourceFailures.{FailsOnlyWhereAsked};
 ghost use Rattle.pt_state.specs.Outside.{states_of};
+ghost use Rattle.pt_state.specs.SourceFailures.{source_view};
 
 use crate::account::Account;
 use crate::devices::RunDevices;
@@ -46,7 +49,7 @@ pub(crate) fn run_over<R, S: System, D: System, W: Write, F: SyncsOutput<W> + Dr
 ) -> (HostIo<S, D, W>, Conclusion)
 where
     R: Reads + Clock + Eprint + AllocGlobal + Terminals,
-    ensures runs { RunsFrom (host_io_words S.forest D.kept W.contents) options
+    ensures runs { RunsFrom (host_io_words S.forest S.failing D.kept W.contents) options
         (record {
           at = record {
             store = store_path devices.entry.source;
@@ -57,6 +60,7 @@ where
           states = seen_without options.ignored (states_of ⟦<HostSource<'static, S> as Source>⟧
               ⟦<HostDest<'static, D> as Dest>⟧ ⟦<DurableLog<W, F> as Log>⟧
               devices.entry.source devices.entry.dest devices.entry.log);
+          failing = failing devices.entry.source;
           kept = kept_by devices.entry.dest;
         })
         result.0 result.1.status }
@@ -116,6 +120,8 @@ fn run_or_rehearse<'a, S: Source, D: System, L: Log>(
         (states_of S.Source ⟦<HostDest<'a, D> as Dest>⟧ L.Log source.new result.dest log.new)
         result.ran }
     ensures source { S.keeps source.old source.new }
+    ensures fails { FailsOnlyWhereAsked (source_view S.Source source.old)
+        (source_view S.Source source.new) }
     ensures log { L.keeps log.old log.new }
     ensures dest { result.dest.folder ≡ dest.entry.folder }
     ensures served { IsServed task.entry.rehearse dest.entry result.dest }

@@ -1,6 +1,6 @@
 //! A system whose files and folders are made, not kept: it looks a path up, and traces each call.
 ghost use Rattle.std.specs.Prelude.{⊤, ◌≡◌, ◌≤◌, length, refl};
-ghost use Rattle.pt_folder.specs.Untold.{no_forest, no_kept, unknown, untold_dir, untold_file, untold_kind, untold_look, untold_move, untold_names, untold_open, untold_peek, untold_proper, untold_tree, untold_write};
+ghost use Rattle.pt_folder.specs.Untold.{no_fails, no_forest, no_kept, no_paths, unknown, untold_dir, untold_fails, untold_fails_at, untold_fails_still, untold_fails_told, untold_file, untold_kind, untold_look, untold_move, untold_names, untold_open, untold_peek, untold_proper, untold_tree, untold_write};
 
 use crate::content::Content;
 use crate::trace::Trace;
@@ -166,6 +166,10 @@ impl<'a> Handle for MadeFile<'a> {
 
     ghost syncs = { λ _ _ _. ⊤ };
 
+    ghost fails = { no_fails };
+
+    ghost fails_law = { untold_fails _ };
+
     fn seek(&mut self, place: u64) -> io::Result<u64> {
         self.place = place;
         Ok(place)
@@ -214,6 +218,8 @@ impl<'a> System for MadeSystem<'a> {
 
     ghost forest = { λ _ _. no_forest };
 
+    ghost failing = { λ _ _. no_paths };
+
     ghost kept = { λ _ _. no_kept };
 
     ghost looks = { λ _ _ _ _. ⊤ };
@@ -237,6 +243,16 @@ impl<'a> System for MadeSystem<'a> {
     ghost names_law = { λ old new folder p reply named can by. untold_names p reply };
 
     ghost proper_law = { λ s folder f is. untold_proper f is };
+
+    ghost fails_told_law = { λ s folder told. untold_fails_told told };
+
+    ghost fails_still_law = { untold_fails_still _ _ _ };
+
+    ghost look_fails_law = { λ old new folder p e named can by device there. untold_fails_at _ };
+
+    ghost open_fails_law = { λ old new folder p reply named can by. untold_fails_at _ };
+
+    ghost list_fails_law = { λ old mid folder p reply can by. untold_fails_at _ };
 
     ghost kind_law = { λ old new folder p reply named by. untold_kind p reply };
 

@@ -7,7 +7,9 @@
 ghost use Rattle.std.specs.Prelude.{⊤, ◌≡◌, refl};
 ghost use Rattle.std.specs.Fs.{file_type as type_of};
 ghost use Rattle.pt_folder.specs.Folder.{IsKind};
-ghost use Rattle.pt_folder.specs.Untold.{no_forest, no_kept, unknown, untold_dir, untold_file};
+ghost use Rattle.pt_folder.specs.Untold.{no_fails, no_forest, no_kept, no_paths, unknown};
+ghost use Rattle.pt_folder.specs.Untold.{untold_dir, untold_fails, untold_fails_at};
+ghost use Rattle.pt_folder.specs.Untold.{untold_fails_still, untold_fails_told, untold_file};
 ghost use Rattle.pt_folder.specs.Untold.{untold_kind, untold_look, untold_move};
 ghost use Rattle.pt_folder.specs.Untold.{untold_names, untold_open, untold_peek, untold_proper};
 ghost use Rattle.pt_folder.specs.Untold.{untold_tree, untold_write};
@@ -54,6 +56,10 @@ impl<F: Read + Seek + OpenFile> Handle for HostFile<F> {
 
     ghost syncs = { λ _ _ _. ⊤ };
 
+    ghost fails = { no_fails };
+
+    ghost fails_law = { untold_fails _ };
+
     // Goes to a place, counted from its start.
     fn seek(&mut self, place: u64) -> io::Result<u64> {
         self.file.seek(SeekFrom::Start(place))
@@ -71,6 +77,8 @@ impl<'a, R: Files> System for HostMachine<'a, R> {
     type Dir = HostFile<R::Dir>;
 
     ghost forest = { λ _ _. no_forest };
+
+    ghost failing = { λ _ _. no_paths };
 
     ghost kept = { λ _ _. no_kept };
 
@@ -95,6 +103,16 @@ impl<'a, R: Files> System for HostMachine<'a, R> {
     ghost names_law = { λ old new folder p reply named can by. untold_names p reply };
 
     ghost proper_law = { λ s folder f is. untold_proper f is };
+
+    ghost fails_told_law = { λ s folder told. untold_fails_told told };
+
+    ghost fails_still_law = { untold_fails_still _ _ _ };
+
+    ghost look_fails_law = { λ old new folder p e named can by device there. untold_fails_at _ };
+
+    ghost open_fails_law = { λ old new folder p reply named can by. untold_fails_at _ };
+
+    ghost list_fails_law = { λ old mid folder p reply can by. untold_fails_at _ };
 
     ghost kind_law = { λ old new folder p reply named by. untold_kind p reply };
 

@@ -1,6 +1,7 @@
 //! Open files in memory, and the names in a directory.
 ghost use Rattle.std.specs.Prelude.{◌≡◌, Some, None, drop, ⊤};
 ghost use Rattle.std.specs.Option.{option_map};
+ghost use Rattle.pt_folder.specs.Untold.{no_fails, untold_fails};
 
 use crate::faults::{Faults, call_error};
 use pt_folder::{Handle, Input};
@@ -78,6 +79,10 @@ impl<'a> Handle for MemFile<'a> {
     ghost goes = { λ _ _ _ _. ⊤ };
 
     ghost syncs = { λ _ _ _. ⊤ };
+
+    ghost fails = { no_fails };
+
+    ghost fails_law = { untold_fails _ };
 
     #[tactic(auto, using(std::proofs::lemmas::List::drop_min))]
     fn seek(&mut self, place: u64) -> io::Result<u64> {

@@ -143,6 +143,8 @@ impl<'a> MemorySystem<'a> {
 }
 
 impl<'a> System for MemorySystem<'a> {
+    ghost use Rattle.pt_folder.specs.Untold.{no_paths, untold_fails_at, untold_fails_still};
+    ghost use Rattle.pt_folder.specs.Untold.{untold_fails_told};
     ghost use Rattle.pt_memory_system.specs.Keeping.{looks_in_dest, looks_in_source, makes_dirs};
     ghost use Rattle.pt_memory_system.specs.Keeping.{makes_files, moves, opens_and_stays};
     ghost use Rattle.pt_memory_system.specs.Keeping.{opens_dirs};
@@ -156,6 +158,8 @@ impl<'a> System for MemorySystem<'a> {
     type Dir = MemNames<'a>;
 
     ghost forest = { forest_in };
+
+    ghost failing = { λ _ _. no_paths };
 
     ghost kept = { kept_in };
 
@@ -180,6 +184,16 @@ impl<'a> System for MemorySystem<'a> {
     ghost names_law = { opens_dirs };
 
     ghost proper_law = { propers };
+
+    ghost fails_told_law = { λ s folder told. untold_fails_told told };
+
+    ghost fails_still_law = { untold_fails_still _ _ _ };
+
+    ghost look_fails_law = { λ old new folder p e named can by device there. untold_fails_at _ };
+
+    ghost open_fails_law = { λ old new folder p reply named can by. untold_fails_at _ };
+
+    ghost list_fails_law = { λ old mid folder p reply can by. untold_fails_at _ };
 
     ghost kind_law = { looks_in_dest };
 

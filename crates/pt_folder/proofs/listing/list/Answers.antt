@@ -6,6 +6,7 @@ use Rattle.pt_tree.specs.Forest.{Forest, dir_at}
 use Rattle.pt_folder.specs.Listing.{AreAll, dir_front}
 use Rattle.pt_folder.specs.SourceLaws.{names_of}
 use Rattle.pt_folder.specs.Failure.{IsOfEntry, IsOfNames, IsUnasked}
+use Rattle.pt_folder.proofs.FailsStill.{opens_still, still_on}
 use Rattle.pt_folder.proofs.Kept.{kept_held, kept_on, kept_weaker}
 use Rattle.pt_folder.proofs.Listed.{entry_fails, few_listed, few_names, listed_by, names_fail}
 use Rattle.pt_folder.proofs.Listings.{front_is, list_same, list_told, names_given, names_same}
@@ -130,3 +131,16 @@ returns-in_err-text-clause-kept g c =
     let unasked = IsUnasked c.args.folder.now.path.now in
     kept_weaker r last unasked _ (λ f is. inl (inl is))
     (kept_held r last unasked (kept_on r c.in_err-text.field-0.0 (IsSomeAnd last unasked) c.from_residual.ensures.1 c.in_err-text.ensures.kept))
+
+pub returns-clause-still : goal.returns-clause-still
+returns-clause-still g c = still_on g.S.System.failing c.args.syscalls.now.system c.take_dir.new.syscalls.system c.with_kinds.new.syscalls.system
+    (opens_still g.S.System.failing g.met.S.System.fails_still_law.listed c.args.syscalls.now.system c.take_dir.new.syscalls.system c.as_str.result.now
+    c.take_dir.ensures.asked) c.with_kinds.ensures.still
+
+pub returns-in_err-take_dir-clause-still : goal.returns-in_err-take_dir-clause-still
+returns-in_err-take_dir-clause-still g c = opens_still g.S.System.failing g.met.S.System.fails_still_law.listed c.args.syscalls.now.system
+    c.take_dir.new.syscalls.system c.as_str.result.now c.take_dir.ensures.asked
+
+pub returns-in_err-push-clause-still : goal.returns-in_err-push-clause-still
+returns-in_err-push-clause-still g c = opens_still g.S.System.failing g.met.S.System.fails_still_law.listed c.args.syscalls.now.system
+    c.take_dir.new.syscalls.system c.as_str.result.now c.take_dir.ensures.asked

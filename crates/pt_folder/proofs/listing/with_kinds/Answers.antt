@@ -5,6 +5,7 @@ use Rattle.std.proofs.lemmas.Iterator.Adapters.{YieldsList-from_vec}
 use Rattle.std.proofs.lemmas.Iterator.Consumers.{YieldsList-so_far, YieldsList-turn}
 use Rattle.std.specs.List.{FoldsTo}
 use Rattle.pt_folder.specs.Listing.{LooksAt, LooksIn}
+use Rattle.pt_folder.proofs.FailsStill.{looks_still, still_on}
 use Rattle.pt_folder.proofs.Looking.{item_here, looked_one, looks_fail, names_more, rises_not}
 use Rattle.pt_folder.proofs.Names.{err_due}
 use Rattle.pt_folder.proofs.Seen.{on_err, sees_fail, sees_more}
@@ -30,6 +31,7 @@ loop-name-preserved g c =
       text = c.in_ok-kind.ensures.text ∙ inv.text;
       seen = sees_more g.S.System.forest looks g.met.S.System.look_law front old mid new c.loop-name.listing c.add_entry.new.listing name kind inv.seen
           c.in_ok-kind.ensures.named asked added;
+      still = still_on g.S.System.failing old mid new inv.still (looks_still g.S.System.failing g.met.S.System.fails_still_law.looked front mid new name (Ok kind) asked);
       looked = subst (λ l. FoldsTo (LooksAt looks front) old l new) (sym added) more;
     }
 
@@ -93,3 +95,25 @@ returns-in_err-add_entry-clause-same g c =
     let asked = subst (λ t. LooksIn looks t name mid new c.kind_in.result) inv.text c.kind_in.ensures.asked in
     on_err c.from_residual-in_err-add_entry.result _ (sees_fail g.S.System.forest looks g.met.S.System.look_law (string_bytes c.args.text)
     c.args.syscalls.now.system mid new c.loop-name.listing name c.kind_in.result inv.seen c.kind_in.ensures.named asked)
+
+pub returns-in_err-kind-clause-still : goal.returns-in_err-kind-clause-still
+returns-in_err-kind-clause-still g c =
+    let looks = g.S.System.looks in
+    let mid = c.loop-name.syscalls.system in
+    let new = c.kind_in.new.syscalls.system in
+    let name = c.in-Some.name in
+    let inv = c.loop-name.invariant in
+    let asked = subst (λ t. LooksIn looks t name mid new c.kind_in.result) inv.text c.kind_in.ensures.asked in
+    still_on g.S.System.failing c.args.syscalls.now.system mid new inv.still
+    (looks_still g.S.System.failing g.met.S.System.fails_still_law.looked (string_bytes c.args.text) mid new name c.kind_in.result asked)
+
+pub returns-in_err-add_entry-clause-still : goal.returns-in_err-add_entry-clause-still
+returns-in_err-add_entry-clause-still g c =
+    let looks = g.S.System.looks in
+    let mid = c.loop-name.syscalls.system in
+    let new = c.kind_in.new.syscalls.system in
+    let name = c.in-Some.name in
+    let inv = c.loop-name.invariant in
+    let asked = subst (λ t. LooksIn looks t name mid new c.kind_in.result) inv.text c.kind_in.ensures.asked in
+    still_on g.S.System.failing c.args.syscalls.now.system mid new inv.still
+    (looks_still g.S.System.failing g.met.S.System.fails_still_law.looked (string_bytes c.args.text) mid new name c.kind_in.result asked)

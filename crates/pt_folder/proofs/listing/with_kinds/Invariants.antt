@@ -1,5 +1,6 @@
 use Rattle.std.proofs.Common.{◌≡◌, map, string_bytes}
 use Rattle.std.specs.List.{FoldsTo}
+use Rattle.pt_folder.specs.FailingLaws.{FailsStill}
 use Rattle.pt_folder.specs.Listing.{LooksAt}
 use Rattle.pt_folder.specs.Seeing.{SeesAt}
 use Rattle.pt_folder.proofs.listing.with_kinds.Given as goal
@@ -12,5 +13,6 @@ invariant-loop-name g l = record {
   names : map (λ item. item.0) l.listing ≡ l.yielded;
   text : string_bytes l.text ≡ string_bytes l.fn.text;
   seen : SeesAt g.S.System.forest (string_bytes l.fn.text) l.fn.syscalls.system l.syscalls.system l.listing;
+  still : FailsStill g.S.System.failing l.fn.syscalls.system l.syscalls.system;
   looked : FoldsTo (LooksAt g.S.System.looks (string_bytes l.fn.text)) l.fn.syscalls.system l.listing l.syscalls.system;
 }

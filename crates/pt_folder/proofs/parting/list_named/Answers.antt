@@ -3,6 +3,7 @@ use Rattle.std.specs.Prelude.{IfSome, IsPermutation, IsSomeAnd}
 use Rattle.pt_folder.specs.Folder.{entry_text}
 use Rattle.pt_folder.specs.Listing.{dir_front}
 use Rattle.pt_folder.specs.Failure.{IsOfEntry, IsOfNames, IsUnasked}
+use Rattle.pt_folder.proofs.FailsStill.{opens_still, still_on}
 use Rattle.pt_folder.proofs.Kept.{kept_held, kept_on, kept_weaker}
 use Rattle.pt_folder.proofs.Listings.{front_is, list_same, list_told, names_same}
 use Rattle.pt_folder.proofs.Listed.{few_listed}
@@ -121,3 +122,16 @@ returns-in_err-text-clause-kept g c =
     let unasked = IsUnasked c.args.folder.now.path.now in
     kept_weaker r last unasked _ (λ f is. inl (inl is))
     (kept_held r last unasked (kept_on r c.in_err-text.field-0.0 (IsSomeAnd last unasked) c.from_residual.ensures.1 c.in_err-text.ensures.kept))
+
+pub returns-clause-still : goal.returns-clause-still
+returns-clause-still g c = still_on g.S.System.failing c.args.syscalls.now.system c.take_dir.new.syscalls.system c.with_kinds.new.syscalls.system
+    (opens_still g.S.System.failing g.met.S.System.fails_still_law.listed c.args.syscalls.now.system c.take_dir.new.syscalls.system c.as_str.result.now
+    c.take_dir.ensures.asked) c.with_kinds.ensures.still
+
+pub returns-in_err-take_dir-clause-still : goal.returns-in_err-take_dir-clause-still
+returns-in_err-take_dir-clause-still g c = opens_still g.S.System.failing g.met.S.System.fails_still_law.listed c.args.syscalls.now.system
+    c.take_dir.new.syscalls.system c.as_str.result.now c.take_dir.ensures.asked
+
+pub returns-in_err-push-clause-still : goal.returns-in_err-push-clause-still
+returns-in_err-push-clause-still g c = opens_still g.S.System.failing g.met.S.System.fails_still_law.listed c.args.syscalls.now.system
+    c.take_dir.new.syscalls.system c.as_str.result.now c.take_dir.ensures.asked

@@ -24,8 +24,8 @@ returns g c =
     let first = ap (λ l. contents l.writer) c.watch-store.ensures.log ∙ ap contents c.open_sides-source.ensures.log in
     let output = c.into_writer.ensures ∙ ap (λ l. l.writer) c.close-source.ensures.log in
     let kept = c.into_system.ensures ∙ ap (λ s. s.syscalls.system) c.close-source.ensures.source in
-    let later = store_is forest _ (made.sides.source.0.0 ∙ names) (sym kept) (ap (λ f. f.path.now) made.sides.source.0.1 ∙ path) in
-    let stands = root_is folders _ (sym c.into_system-2.ensures) (ap (λ f. f.path.now) made.sides.root.0 ∙ c.open_sides-source.ensures.folder.1) in
+    let later = store_is forest _ (made.sides.source.0.0 ∙ names) (sym kept) (ap (λ f. f.path.now) made.sides.source.0.1.folder ∙ path) in
+    let stands = root_is folders _ (sym c.into_system-2.ensures) (ap (λ f. f.path.now) made.sides.root.0.folder ∙ c.open_sides-source.ensures.folder.1) in
     record {
       ran = ran;
       failed = c.audit-ran.result.devices.root.failures;

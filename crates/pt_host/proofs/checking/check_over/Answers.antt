@@ -1,7 +1,7 @@
 use Rattle.std.proofs.Common.{ap, sym, subst, refl, ◌∙◌}
 use Rattle.pt_tree.specs.Log.{Grows}
 use Rattle.pt_host.proofs.Audited.{store_is}
-use Rattle.pt_host.proofs.Checked.{answers, checks_as}
+use Rattle.pt_host.proofs.Checked.{answers, checks_as, paths_of}
 use Rattle.pt_host.specs.Checking.{check_call}
 use Rattle.pt_host.proofs.checking.check_over.Goals as goal
 
@@ -16,15 +16,16 @@ returns g c =
     let system = ap (λ s. s.syscalls.system) source ∙ ap (λ d. d.system) c.new.ensures.syscalls in
     let path = ap (λ s. s.folder.path.now) source ∙ c.new.ensures.path in
     let store = store_is forest _ names system path in
+    let fails = paths_of g.S.File.Handle.fails _ _ ∙ (λ i. g.S.System.failing (system i) (path i)) in
     let failures = ap (λ s. s.failures) source ∙ c.new.ensures.failures in
     let first = ap (λ l. contents l.writer) begun.log ∙ ap contents c.new-log.ensures.writer in
     let devices = c.into_devices-source.ensures in
     let output = c.into_writer.ensures ∙ ap (λ l. l.writer) devices.log in
     let kept = c.into_system.ensures ∙ ap (λ s. s.syscalls.system) (c.into_source.ensures ∙ ap (λ i. i.source) devices.source) in
-    let later = store_is forest _ (made.keeps.source.0 ∙ names) (sym kept) (ap (λ f. f.path.now) made.keeps.source.1 ∙ path) in
+    let later = store_is forest _ (made.keeps.source.0 ∙ names) (sym kept) (ap (λ f. f.path.now) made.keeps.source.1.folder ∙ path) in
     record {
       ran = c.run-ran.result;
-      checks = checks_as c.run-ran.result (check_call c.args.options c.args.store.now) _ _ (begun.wants ∙ c.wants_of-wants.ensures) store refl failures first
+      checks = checks_as c.run-ran.result (check_call c.args.options c.args.store.now) _ _ (begun.wants ∙ c.wants_of-wants.ensures) store fails failures first
           begun.numbers (ap contents (sym output)) made.checked;
       fault = answers c.run-ran.result _ _ made.fault;
       store_stays = sym later ∙ made.keeps.tree ∙ store;

@@ -1,4 +1,4 @@
-use Rattle.std.proofs.Common.{◌≡◌, ◌∙◌, ℕ, List, Ok, ap, sym}
+use Rattle.std.proofs.Common.{◌∙◌, ap, sym}
 use Rattle.std.specs.Prelude.{option_map}
 use Rattle.pt_host.proofs.Recorded.{begun_event}
 use Rattle.pt_host.specs.Machine.{MachineWords, host_io_words}
@@ -18,8 +18,8 @@ returns g c =
       host = g.H.Host.does;
       syncs = g.H.File.Syncs.syncs;
       puts = g.H.File.SyncsOutput.puts;
-      written = host_io_words g.H.Store.System.forest g.H.Folder.System.kept g.H.Output.Write.contents;
-      read = host_io_words g.H.Store.System.forest g.H.Folder.System.forest g.H.Output.Write.contents;
+      written = host_io_words g.H.Store.System.forest g.H.Store.System.failing g.H.Folder.System.kept g.H.Output.Write.contents;
+      read = host_io_words g.H.Store.System.forest g.H.Store.System.failing g.H.Folder.System.forest g.H.Output.Write.contents;
       serves = Serves g.H.Folder.System g.H.Folder.File.Handle g.H.Folder.File.Input g.H.Folder.Dir.Input;
     } in
     begun_event words (c.args.folders.store.now, c.args.folders.folder.now) (g.O.Operation.feedback_of c.args.operation.now).event c.in-Some.path.now

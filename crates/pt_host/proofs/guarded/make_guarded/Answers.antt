@@ -1,4 +1,4 @@
-use Rattle.std.proofs.Common.{ℕ, List, Err, Ok, rules}
+use Rattle.std.proofs.Common.{ℕ, List, Ok, rules}
 use Rattle.pt_messages.specs.Expected.{AsksEnd}
 use Rattle.pt_messages.specs.Reading.{FileWords}
 use Rattle.pt_host.proofs.ListedEnds.{ends_with_list}
@@ -25,8 +25,8 @@ returns g c =
       host = g.H.Host.does;
       syncs = g.H.File.Syncs.syncs;
       puts = g.H.File.SyncsOutput.puts;
-      written = host_io_words g.H.Store.System.forest g.H.Folder.System.kept g.H.Output.Write.contents;
-      read = host_io_words g.H.Store.System.forest g.H.Folder.System.forest g.H.Output.Write.contents;
+      written = host_io_words g.H.Store.System.forest g.H.Store.System.failing g.H.Folder.System.kept g.H.Output.Write.contents;
+      read = host_io_words g.H.Store.System.forest g.H.Store.System.failing g.H.Folder.System.forest g.H.Output.Write.contents;
       serves = Serves g.H.Folder.System g.H.Folder.File.Handle g.H.Folder.File.Input g.H.Folder.Dir.Input;
     } in
     let reading : FileWords = record {

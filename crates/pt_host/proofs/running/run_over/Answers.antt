@@ -25,12 +25,13 @@ returns-clause-runs g c =
           ← c.new-ignoring.ensures.names,
           ← c.watch-source.ensures.source,
           ← c.watch-source.ensures.log,
-        ) (rw (made.source.1, made.source.0, made.dest) at made.promises),
+        ) (rw (made.source.1.folder, made.source.0, made.dest) at made.promises),
         c.status_of-status.ensures,
       ),
       rw (c.into_system-2.ensures)
           (leaves_at g.D.System.kept c.args.options.rehearse _ dest.syscalls.system (ap (λ f. f.path.now) made.dest) made.rehearsed),
       λ s is. let unsynced = made.unsynced c.args.options.allowed s is in (unsynced.0, λ none. c.status_of-status.ensures ∙ unsynced.1 none),
+      rw (← c.new-ignoring.ensures.source, ← c.new-ignoring.ensures.names, ← c.watch-source.ensures.source) made.fails.failed,
     )
 
 pub returns-clause-served : goal.returns-clause-served

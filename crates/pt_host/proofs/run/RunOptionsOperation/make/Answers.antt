@@ -16,7 +16,7 @@ returns g c =
       reads = g.R.Opened.Input.reads;
     } in
     let made = c.open_devices-devices.ensures in
-    let words = host_io_words g.H.Store.System.forest g.H.Folder.System.kept g.H.Output.Write.contents in
+    let words = host_io_words g.H.Store.System.forest g.H.Store.System.failing g.H.Folder.System.kept g.H.Output.Write.contents in
     let call = run_call c.args.self c.args.folders.store.now c.args.folders.folder.now in (
       Ok c.in-Ok.file,
       c.synced_output.new.host,
@@ -27,7 +27,7 @@ returns g c =
         c.lend-host_io.new.self,
         c.lend-host_io.ensures,
         c.run_over-host_io.result.0,
-        begun words g.H.Store.File.Input.bytes call c.lend-host_io.result _ _ _ _ _ _ _ _ _ _ _ _
+        begun words g.H.Store.File.Input.bytes g.H.Store.File.Handle.fails call c.lend-host_io.result _ _ _ _ _ _ _ _ _ _ _ _
             made.store made.unread made.folder made.unwritten made.synced made.log _ _ c.run_over-host_io.ensures.runs,
         rw (made.log_synced, made.log.0) at (c.run_over-host_io.ensures.logged made.log.1),
         (
