@@ -9,4 +9,5 @@ mod Released
 mod RehearsalTold
 mod Roomy
 mod Unhalted
+mod UnhaltedStore
 mod AllSynced

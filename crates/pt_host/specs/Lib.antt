@@ -10,6 +10,7 @@ pub mod Made
 pub mod Operation
 pub mod Output
 pub mod QuietCheckLaw
+pub mod QuietStoreLaw
 pub mod RehearsalLaw
 pub mod Room
 pub mod Served

@@ -5,11 +5,15 @@
 //! well, and the log tells, both logs get the same text, and the status is the same
 //! (`RehearsalTellsTheRun`). Where a check read each file whole and told nothing, no run over its
 //! store answers `Source`, if the source tells the paths at which it fails, as the check's did, has
-//! no such file open, and can count a failure more (`NoRunIsHaltedForSource`). A folder of the
-//! system tells no paths.
+//! no such file open, and can count a failure more (`NoRunIsHaltedForSource`). So it is with the
+//! program's own calls where the system of the store tells the paths at which it fails
+//! (`NoRunIsHaltedAfterQuietCheck`); the real one doesn't.
 ghost use Rattle.pt_host.specs.QuietCheckLaw.{NoRunIsHaltedForSource};
+ghost use Rattle.pt_host.specs.QuietStoreLaw.{NoRunIsHaltedAfterQuietCheck};
 ghost use Rattle.pt_host.specs.RehearsalLaw.{RehearsalTellsTheRun};
 ghost use Rattle.pt_host.specs.Room.{RoomIsThatOfStaging};
+
+use crate::{Host, Machine};
 
 /// A rehearsal that ends well tells in its log what the run tells that it rehearses, where both
 /// tell their devices and the run ends well too, and ends with the same status.
@@ -19,9 +23,16 @@ pub fn rehearsal_tells_the_run()
 
 /// Where a check read each file whole and told nothing, no run answers `Source` over a source that
 /// tells the same tree, and that it fails at the same paths, with no file open at which it fails,
-/// and a count of failures below 2^64 - 1. A folder of the system tells no paths.
+/// and a count of failures below 2^64 - 1. A folder tells those of its system.
 pub fn no_run_is_halted_for_source()
     ensures { NoRunIsHaltedForSource }
+{}
+
+/// Where a check on a machine read each file whole and ended with status 0, no run on one answers
+/// `Source` over a store whose system tells the same tree, and that it fails at the same paths
+/// below the store's folder. The real system tells neither.
+pub fn no_run_is_halted_after_quiet_check<H: Host>()
+    ensures { NoRunIsHaltedAfterQuietCheck ⟦<H as Machine>⟧.words }
 {}
 
 /// A path in an object is longer than a check has room for just where a run couldn't make the file,

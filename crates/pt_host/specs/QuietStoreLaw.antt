@@ -1,0 +1,38 @@
+-- What a check on a machine that told nothing says of a run's faults.
+use Rattle.std.specs.Prelude.{◌≡◌, ◌≢◌, ℕ, Bool, true, IfErr, Result, Some}
+use Rattle.pt_plan.specs.declared.fault.Fault.{Fault}
+use Rattle.pt_plan.specs.declared.fault.Fault.TheVariants as fault
+use Rattle.pt_state.specs.declared.job.Report.{Report}
+use Rattle.pt_tree.specs.Forest.{Forest}
+use Rattle.pt_tree.specs.Path.{Path}
+use Rattle.pt_tree.specs.Source.{tree_in}
+use Rattle.pt_host.specs.Checking.{CheckCall, ChecksOver, store_checked}
+use Rattle.pt_host.specs.Machine.{HostIoOf, MachineWords}
+use Rattle.pt_host.specs.Made.{RunCall, RunsOver, start_of}
+
+-- a check and a run, each of its options and over what a machine lends it
+pub record CheckAndRun {H : Type 0} (words : MachineWords H) : Type 0 where
+  pub check : CheckCall
+  pub checked : HostIoOf words
+  pub run : RunCall
+  pub lent : HostIoOf words
+
+-- both see this tree of their store, of which the system tells that it fails at these paths below the store's folder
+pub record SeesSame {H : Type 0} (words : MachineWords H) (both : CheckAndRun words) (tree : Forest) (at : Path → Bool) : Type 0 where
+  pub checked : store_checked words.read both.check both.checked ≡ Some tree
+  pub carried : tree_in (start_of words.written both.run both.lent).states.source ≡ Some tree
+  pub checked_fails : words.read.store_fails both.checked.store both.check.store ≡ Some at
+  pub carried_fails : words.written.store_fails both.lent.store both.run.store ≡ Some at
+
+-- what a run came to that was made over this
+abbrev pub ran_over : {H : Type 0} (words : MachineWords H) (call : RunCall) (old new : HostIoOf words) (status : ℕ)
+    → RunsOver words.written call old new status → Result Report Fault
+ran_over words call old new status made = made.4.0
+
+-- where a check read each file whole and ended with status 0, no run over the same store is halted for it
+abbrev pub NoRunIsHaltedAfterQuietCheck : {H : Type 0} → MachineWords H → Type 0
+NoRunIsHaltedAfterQuietCheck words =
+    (both : CheckAndRun words) (checked carried : HostIoOf words) (tree : Forest) (at : Path → Bool) (status : ℕ)
+    → SeesSame words both tree at → both.check.options.reads ≡ true → ChecksOver words.read both.check both.checked checked 0
+    → (made : RunsOver words.written both.run both.lent carried status)
+    → IfErr (ran_over words both.run both.lent carried status made) (λ why. why ≢ fault.Source)
