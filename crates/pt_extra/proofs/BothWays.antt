@@ -1,14 +1,13 @@
 -- What an audit that goes both ways tells.
 use Rattle.std.proofs.Common.{◌≡◌, ℕ, false, List, ◌++◌, refl, sym, ap, ◌∙◌, subst}
 use Rattle.std.specs.Io.KnownBytes.{Appends}
-use Rattle.std.specs.Option.{ForSome}
 use Rattle.std.specs.Prelude.{IfErr, IfOk, OnErr, OnOk, Option, Some, Result, Ok, Err}
 use Rattle.std.specs.String.{string_bytes}
 use Rattle.pt_audit.proofs.Telling.{put_behind}
 use Rattle.pt_audit.proofs.ToldFront.{front_put}
 use Rattle.pt_audit.specs.Auditing.{AllToldAs, AuditStart, FrontToldAs, GivesBack, IsAllTold, LogsAs, start_over}
-use Rattle.pt_audit.specs.Bounds.{IsMade, counts_in}
-use Rattle.pt_audit.specs.Failing.{AuditSays, BlamesRightly}
+use Rattle.pt_audit.specs.Bounds.{IsMade}
+use Rattle.pt_audit.specs.Failing.{BlamesRightly}
 use Rattle.pt_audit.specs.declared.auditing.ObjectsAudit.{ObjectsAudit}
 use Rattle.pt_audit.specs.declared.counts.Counts.{Counts}
 use Rattle.pt_tree.specs.Source.{tree_in}

@@ -1,5 +1,5 @@
 -- Where a walk leaves a folder that isn't walked: it is an object, or bare.
-use Rattle.std.proofs.Common.{◌≡◌, ◌==◌, ℕ, Bool, true, false, List, sym, ap, subst, cond, length}
+use Rattle.std.proofs.Common.{◌≡◌, ◌==◌, ℕ, Bool, true, false, List, subst, cond, length}
 use Rattle.std.proofs.lemmas.Result.{on_err_weaker, on_ok_weaker}
 use Rattle.std.specs.Option.{ForSome}
 use Rattle.std.specs.Prelude.{◌||◌, OnErr, OnOk, Result, Some}

@@ -1,5 +1,5 @@
 -- A walk in which the root may fail, and go on.
-use Rattle.std.proofs.Common.{◌≡◌, ◌≤◌, ◌+◌, ℕ, Bool, true, false, List, ◌∷◌, refl, sym, ap, ◌∙◌, subst, cond, arith, inl, inr}
+use Rattle.std.proofs.Common.{◌≡◌, ◌≤◌, ℕ, Bool, true, false, List, ◌∷◌, sym, ap, ◌∙◌, subst, cond, arith, inl, inr}
 use Rattle.std.proofs.Math.Nat.{le-min, le_trans}
 use Rattle.std.specs.Option.{ForSome}
 use Rattle.std.specs.Result.{IsErrAnd}

@@ -5,8 +5,7 @@ use Rattle.std.specs.Cmp.Lexicographic.{other_text, same_text}
 use Rattle.std.specs.Prelude.{true, false}
 use Rattle.std.specs.Str.{bytes_eq}
 use Rattle.json.specs.Token as spec
-use Rattle.json.specs.Json.{items, members, value, parse_map}
-use Rattle.json.specs.Json as json
+use Rattle.json.specs.Json.{items, value, parse_map}
 use Rattle.json.specs.Lex.{tokens}
 use Rattle.json.specs.Reads.{token_of}
 use Rattle.json.specs.declared.token.Token.{Token}

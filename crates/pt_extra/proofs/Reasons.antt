@@ -1,28 +1,5 @@
 -- The reasons that are told of a folder, one after another.
-use Rattle.std.proofs.Common.{
-  ◌≡◌,
-  ◌<◌,
-  ◌+◌,
-  ◌∙◌,
-  ℕ,
-  Bool,
-  true,
-  List,
-  [],
-  ◌∷◌,
-  ◌++◌,
-  String,
-  sym,
-  ap,
-  subst,
-  cond,
-  drop,
-  get_or,
-  length,
-  map,
-  string_bytes,
-  take,
-}
+use Rattle.std.proofs.Common.{◌≡◌, ◌<◌, ◌+◌, ◌∙◌, ℕ, List, [], ◌∷◌, ◌++◌, String, sym, ap, subst, drop, get_or, length, map, string_bytes, take}
 use Rattle.std.proofs.lemmas.List.{map-append, map_more, take-append-drop}
 use Rattle.std.specs.Global.{Global}
 use Rattle.std.specs.Prelude.{Option}

@@ -1,7 +1,6 @@
 -- What is told of a root of which a folder can't be listed.
-use Rattle.std.proofs.Common.{◌≡◌, ◌+◌, ◌-◌, ℕ, List, [], ◌∷◌, ◌++◌, refl, sym, ap, ◌∙◌, subst}
-use Rattle.pt_extra.specs.Findings.{Against, found_at, of_entries, of_folder, of_folder_by, of_object, of_unnamed}
-use Rattle.pt_extra.specs.Inventories.{id_of}
+use Rattle.std.proofs.Common.{◌≡◌, ◌-◌, ℕ, List, [], ◌∷◌, ◌++◌, refl, sym, ap, ◌∙◌}
+use Rattle.pt_extra.specs.Findings.{Against, found_at, of_entries, of_folder, of_folder_by, of_unnamed}
 use Rattle.pt_extra.specs.Lines.{ExtraFinding}
 use Rattle.pt_extra.specs.Unlisted.{InPart, IsOfEntries, IsOfFolder, IsToldAt, Listed, NotAtAll, of_unlisted}
 use Rattle.pt_tree.specs.Forest.{Forest, none, file, other, dir}

@@ -51,7 +51,7 @@ use Rattle.pt_extra.specs.Unlisted.{IsOfEntries, IsToldAt, Listed, of_unlisted}
 use Rattle.pt_extra.specs.Walk.{Puts, WalkState}
 use Rattle.pt_tree.specs.Failures.{HasRisen, greatest_count}
 use Rattle.pt_plan.specs.TurnWalk.{in_root}
-use Rattle.pt_tree.specs.Forest.{Forest, none, dir_at, is_proper, listing_at, listing_of}
+use Rattle.pt_tree.specs.Forest.{Forest, dir_at, is_proper, listing_at, listing_of}
 use Rattle.pt_tree.specs.Listing.{Item}
 use Rattle.pt_tree.specs.Log.{AppendsFront}
 use Rattle.pt_tree.specs.Path.{Path}

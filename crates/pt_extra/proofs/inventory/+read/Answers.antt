@@ -1,11 +1,10 @@
-use Rattle.std.proofs.Common.{◌≡◌, ◌-◌, ◌<◌, [], ◌∷◌, List, length, Option, Some, None, is_some, sym, ap, ap₂, ◌∙◌, arith, rules, refl}
-use Rattle.std.specs.Prelude.{Bool, true, false, OnOk, OnErr}
+use Rattle.std.proofs.Common.{◌≡◌, ◌-◌, ◌<◌, [], ◌∷◌, length, Some, None, sym, ap, ap₂, ◌∙◌, arith, refl}
 use Rattle.json.specs.Token.{Token}
 use Rattle.json.specs.Json.{parse_map, after_end_array, read_key, items, members, value}
 use Rattle.json.specs.Reads.{token_of}
 use Rattle.json.proofs.Grammar.{value_is, value-begin_array, value-begin_object, read_key-shorter}
-use Rattle.serde_json.specs.Data.{Data, Num, Items, Members, no_items, null, boolean, number, string, array, object, item, put}
-use Rattle.serde_json.specs.Read.{of_json, of_items, of_members, converted, number_of}
+use Rattle.serde_json.specs.Data.{no_items, number, string, array, object, item, put}
+use Rattle.serde_json.specs.Read.{of_json, converted, number_of}
 use Rattle.pt_extra.proofs.Converted.{
   converted-array,
   converted-object,

@@ -1,4 +1,4 @@
-use Rattle.std.proofs.Common.{◌≡◌, ◌∙◌, codes, ap, sym, true, false}
+use Rattle.std.proofs.Common.{◌∙◌, sym}
 use Rattle.pt_extra.proofs.ReadTexts.{is_id, no_id, text_at, text_kept}
 use Rattle.pt_extra.proofs.inventory.text_at_id.Goals as goal
 

@@ -1,4 +1,4 @@
-use Rattle.std.proofs.Common.{ap, subst, sym, [], ◌∷◌, ◌≡◌, ◌∙◌}
+use Rattle.std.proofs.Common.{ap, subst, sym, ◌∙◌}
 use Rattle.pt_extra.proofs.Tops.{look_top, top_kind}
 use Rattle.pt_object.specs.WellKnown.{known_text}
 use Rattle.pt_plan.specs.TurnStart.{is_dir_kind}

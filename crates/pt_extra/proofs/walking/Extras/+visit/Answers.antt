@@ -1,7 +1,7 @@
-use Rattle.std.proofs.Common.{arith, ap, refl, sym, subst, ◌≡◌, ◌-◌, ◌∙◌, Bool, List, ℕ, Some, cond, length}
+use Rattle.std.proofs.Common.{arith, refl, sym, subst, ◌≡◌, ◌-◌, ◌∙◌, Some, cond, length}
 use Rattle.std.proofs.lemmas.Bool.{ne_eqb}
 use Rattle.std.specs.Option.{ForSome}
-use Rattle.std.specs.Prelude.{IsSome, Option}
+use Rattle.std.specs.Prelude.{IsSome}
 use Rattle.pt_tree.specs.Source.{tree_in}
 use Rattle.pt_extra.proofs.Exits.{bare_stops, bare_told, object_stops, object_told}
 use Rattle.pt_extra.proofs.Keeping.{at_err, front_from, keeps_on, told_from}

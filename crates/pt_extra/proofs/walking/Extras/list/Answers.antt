@@ -1,4 +1,4 @@
-use Rattle.std.proofs.Common.{ap, arith, refl, rules, ◌≡◌, ◌≤◌, ℕ}
+use Rattle.std.proofs.Common.{ap, arith, refl, rules, ◌≤◌, ℕ}
 use Rattle.pt_audit.specs.Failing.{failures}
 use Rattle.pt_tree.proofs.Told.{may_list}
 use Rattle.pt_tree.specs.Failures.{HasRisen, greatest_count}

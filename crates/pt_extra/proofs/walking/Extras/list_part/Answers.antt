@@ -8,7 +8,7 @@ use Rattle.pt_extra.proofs.Past.{past_err_of, past_memory}
 use Rattle.pt_extra.proofs.Telling.{front_none}
 use Rattle.pt_extra.specs.Lines.{texts}
 use Rattle.pt_extra.specs.Unlisted.{of_unlisted}
-use Rattle.pt_extra.specs.Walk.{against, failures_by, found_unlisted}
+use Rattle.pt_extra.specs.Walk.{failures_by, found_unlisted}
 use Rattle.pt_extra.proofs.walking.Extras.list_part.Goals as goal
 
 pub explain_listing-requires : goal.explain_listing-requires

@@ -1,8 +1,7 @@
-use Rattle.std.proofs.Common.{ap, refl, subst, sym, ℕ, ◌+◌, ◌≡◌, ◌∙◌, List, []}
+use Rattle.std.proofs.Common.{ap, subst, sym, ℕ, ◌+◌, ◌≡◌, ◌∙◌, List, []}
 use Rattle.std.specs.Prelude.{IsSome, Option}
-use Rattle.pt_audit.specs.Failing.{failures}
 use Rattle.pt_extra.proofs.Keeping.{at_err}
-use Rattle.pt_extra.proofs.Past.{front_past_from, past_from, past_of, past_on}
+use Rattle.pt_extra.proofs.Past.{front_past_from, past_from}
 use Rattle.pt_extra.proofs.Roots.{told_all, told_no_root, told_of_root}
 use Rattle.pt_extra.proofs.Telling.{front_none, puts_none}
 use Rattle.pt_extra.proofs.Tops.{dir_top}

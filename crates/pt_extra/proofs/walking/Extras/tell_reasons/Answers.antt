@@ -1,4 +1,4 @@
-use Rattle.std.proofs.Common.{ap, map, string_bytes, subst, sym, List, [], ◌∷◌, ◌≡◌}
+use Rattle.std.proofs.Common.{map, string_bytes, subst, sym, [], ◌∷◌}
 use Rattle.std.proofs.lemmas.Result.{on_err_weaker, on_ok_weaker}
 use Rattle.pt_extra.proofs.Keeping.{at_err, front_from, keeps_on, told_from}
 use Rattle.pt_extra.proofs.Telling.{front_more, front_on, puts_on, texts_on}
