@@ -24,6 +24,7 @@ use Rattle.std.proofs.Common.{
   length,
   take,
   drop,
+  max,
   min,
 }
 use Rattle.std.proofs.lemmas.Bool.{le-ltb, lt-ltb, ltb-false, ltb-true}
@@ -32,8 +33,11 @@ use Rattle.std.specs.Option.{ForSome, option_map}
 use Rattle.std.specs.Prelude.{IsSome, Option, None, Some, unwrap_or}
 use Rattle.pt_check.specs.Counting.{plus, with_bytes}
 use Rattle.pt_check.specs.Visits.{GoesAt, Opens, CheckState, TellsIf, counting, size_trouble}
+use Rattle.pt_check.specs.declared.numbers.Numbers.{Numbers}
 use Rattle.pt_check.specs.declared.trouble.Trouble.{Trouble}
 use Rattle.pt_check.specs.declared.trouble.Trouble.TheVariants as trouble
+use Rattle.pt_check.specs.declared.within.Within.{Within}
+use Rattle.pt_check.specs.declared.within.Within.TheVariants as within
 use Rattle.pt_tree.specs.Failures.{greatest_count}
 use Rattle.pt_tree.specs.Forest.{Forest, file_at}
 use Rattle.pt_tree.specs.Path.{Path}
@@ -181,28 +185,38 @@ same_size n = ap (λ t. cond t (Some trouble.Large) None) (min_below (2 ^ 43) gr
 same_sum : (total n : ℕ) → plus total (min n greatest_count) ≡ plus total n
 same_sum total n = omega arith
 
+same_bytes : (here : Within) (n : ℕ) (numbers : Numbers) → with_bytes here (min n greatest_count) numbers ≡ with_bytes here n numbers
+same_bytes (within.Object before) n numbers = λ i. record numbers {
+  bytes = same_sum numbers.bytes n i;
+  largest = max numbers.largest (same_sum numbers.held_bytes n i);
+  held_bytes = same_sum numbers.held_bytes n i;
+}
+same_bytes (within.Site at) n numbers = ap (λ (k : ℕ). record numbers { bytes = k }) (same_sum numbers.bytes n)
+same_bytes within.Past n numbers = ap (λ (k : ℕ). record numbers { bytes = k }) (same_sum numbers.bytes n)
+same_bytes within.Beside n numbers = ap (λ (k : ℕ). record numbers { bytes = k }) (same_sum numbers.bytes n)
+
 -- a file was opened, its bytes counted up to the greatest number, and told if they are too many
-pub opens_step : (here : Option Forest) (reads : Bool) (path : Path) (n : ℕ) (told : Option Trouble) (a m b : CheckState)
-    → ForSome here (λ tree. n ≡ cond reads (min (length (bytes_at tree path)) greatest_count) 0) → told ≡ size_trouble n → m ≡ counting (with_bytes n) a
-    → TellsIf path told m b → (reads ≡ true → n < greatest_count → GoesAt path a) → ForSome here (λ tree. Opens reads path (bytes_at tree path) a b)
-opens_step here reads path n told a m b bytes told_is counted tells goes tree is =
-    let start : TellsIf path told (counting (with_bytes n) a) b = subst (λ (s : CheckState). TellsIf path told s b) counted tells in
-    let named : TellsIf path (size_trouble n) (counting (with_bytes n) a) b = subst (λ (o : Option Trouble). TellsIf path o (counting (with_bytes n) a) b)
-    told_is start in
+pub opens_step : (top : Option Forest) (reads : Bool) (path : Path) (here : Within) (n : ℕ) (told : Option Trouble) (a m b : CheckState)
+    → ForSome top (λ tree. n ≡ cond reads (min (length (bytes_at tree path)) greatest_count) 0) → told ≡ size_trouble n → m ≡ counting (with_bytes here n) a
+    → TellsIf path told m b → (reads ≡ true → n < greatest_count → GoesAt path a) → ForSome top (λ tree. Opens reads path here (bytes_at tree path) a b)
+opens_step top reads path here n told a m b bytes told_is counted tells goes tree is =
+    let start : TellsIf path told (counting (with_bytes here n) a) b = subst (λ (s : CheckState). TellsIf path told s b) counted tells in
+    let named : TellsIf path (size_trouble n) (counting (with_bytes here n) a) b = subst
+    (λ (o : Option Trouble). TellsIf path o (counting (with_bytes here n) a) b) told_is start in
     by reads goes (bytes tree is) named
   where
     all : ℕ
     all = length (bytes_at tree path)
 
     by : (r : Bool) → (r ≡ true → n < greatest_count → GoesAt path a) → n ≡ cond r (min all greatest_count) 0
-        → TellsIf path (size_trouble n) (counting (with_bytes n) a) b → Opens r path (bytes_at tree path) a b
+        → TellsIf path (size_trouble n) (counting (with_bytes here n) a) b → Opens r path here (bytes_at tree path) a b
     by true goes e it =
-        let read : TellsIf path (size_trouble (min all greatest_count)) (counting (with_bytes (min all greatest_count)) a) b =
-        subst (λ (k : ℕ). TellsIf path (size_trouble k) (counting (with_bytes k) a) b) e it in
-        let sized : TellsIf path (size_trouble all) (counting (with_bytes (min all greatest_count)) a) b =
-        subst (λ (o : Option Trouble). TellsIf path o (counting (with_bytes (min all greatest_count)) a) b) (same_size all) read in
+        let read : TellsIf path (size_trouble (min all greatest_count)) (counting (with_bytes here (min all greatest_count)) a) b =
+        subst (λ (k : ℕ). TellsIf path (size_trouble k) (counting (with_bytes here k) a) b) e it in
+        let sized : TellsIf path (size_trouble all) (counting (with_bytes here (min all greatest_count)) a) b =
+        subst (λ (o : Option Trouble). TellsIf path o (counting (with_bytes here (min all greatest_count)) a) b) (same_size all) read in
         inl (
-          subst (λ (k : ℕ). TellsIf path (size_trouble all) (record a { numbers = record a.numbers { bytes = k } }) b) (same_sum a.numbers.bytes all) sized,
+          subst (λ (n : Numbers). TellsIf path (size_trouble all) (record a { numbers = n }) b) (same_bytes here all a.numbers) sized,
           (λ reads few. goes reads (omega (arith, e, few))),
         )
-    by false goes e it = inl (subst (λ (k : ℕ). TellsIf path (size_trouble k) (counting (with_bytes k) a) b) e it, (λ reads few. absurd (cc)))
+    by false goes e it = inl (subst (λ (k : ℕ). TellsIf path (size_trouble k) (counting (with_bytes here k) a) b) e it, (λ reads few. absurd (cc)))

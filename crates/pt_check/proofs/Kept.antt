@@ -29,14 +29,14 @@ use Rattle.std.proofs.Common.{
 use Rattle.std.specs.List.{concat}
 use Rattle.std.specs.Prelude.{◌≢◌, ◌&&◌, ◌==◌, ⊤, codes, map, unwrap_or}
 use Rattle.std.specs.Str.{is_utf8}
-use Rattle.pt_check.specs.Clean.{Each, IsClean, IsCleanFolder, IsNotSkippedForReserved, NoRunSkipsForReserved}
-use Rattle.pt_check.specs.Visits.{Folder, finding_of, has_object, reserved_by, reserved_trouble}
+use Rattle.pt_check.specs.Clean.{CoversForm, Each, IsClean, IsCleanFolder, IsNotSkippedForReserved, NoRunSkipsForReserved}
+use Rattle.pt_check.specs.Visits.{Folder, finding_of, reserved_by, reserved_trouble}
 use Rattle.pt_check.specs.Within.{below_site, beside_shorties}
 use Rattle.pt_check.specs.declared.wants.Wants.{Wants}
 use Rattle.pt_check.specs.declared.within.Within.{Within}
 use Rattle.pt_check.specs.declared.within.Within.TheVariants as within
 use Rattle.pt_check.proofs.Others.{each_both}
-use Rattle.pt_check.proofs.WithinLimits.{is_told, leads_to, no_gathered, same_found}
+use Rattle.pt_check.proofs.WithinLimits.{is_told, leads_to, same_found}
 use Rattle.pt_name.specs.Identifying.{identification_by, identifier_at, identifier_by, unless_reserved}
 use Rattle.pt_name.specs.Place.{place_of}
 use Rattle.pt_name.specs.Reading.{reading_of}
@@ -51,6 +51,7 @@ use Rattle.pt_plan.specs.Items.{
   Skip,
   Verdict,
   encapsulated,
+  gathered_from,
   is_ours,
   item_of,
   verdict_by_finding,
@@ -58,6 +59,7 @@ use Rattle.pt_plan.specs.Items.{
   verdict_by_visit,
   verdict_of,
   verdict_on_candidate,
+  verdict_on_object,
 }
 use Rattle.pt_plan.specs.Job.{Job, form_of}
 use Rattle.pt_plan.specs.Store.{pairtree_root, prefix_of, sites_in_root}
@@ -73,7 +75,6 @@ use Rattle.pt_walk.specs.declared.site.At.{At}
 use Rattle.pt_walk.specs.declared.site.At.TheVariants as at
 use Rattle.pt_walk.specs.declared.site.Finding.{Finding}
 use Rattle.pt_walk.specs.declared.site.Finding.TheVariants as finding
-use Rattle.pt_walk.specs.declared.site.Form.TheVariants as form
 
 module _ (wants : Wants) (prefix top : List ℕ) where
   -- the folder of a site, below a folder of this name
@@ -82,8 +83,8 @@ module _ (wants : Wants) (prefix top : List ℕ) where
 
   -- there is nothing to tell of a site that lists this
   abbrev IsFree : Path → Forest → Type 0
-  IsFree path inside = let plain = found (listing_of inside) (at_of path) form.Plain in
-      (is_told (at_of path) plain (top ∷ path) ≡ None) × (reserved_trouble wants.layout prefix plain (top ∷ path) ≡ None)
+  IsFree path inside = let seen = found (listing_of inside) (at_of path) wants.form in
+      (is_told (at_of path) seen (top ∷ path) ≡ None) × (reserved_trouble wants.layout prefix seen (top ∷ path) ≡ None)
 
   abbrev FreeVisit : Path → Visit → Type 0
   FreeVisit path (Listed inside) = IsFree path inside
@@ -96,7 +97,7 @@ module _ (wants : Wants) (prefix top : List ℕ) where
   -- what a check finds of a folder in a site, and of all that stands in it
   abbrev Met : Path → ℕ → Forest → Within → Type 0
   Met path left inside here = let it : Folder = record { path = top ∷ path; prefix = prefix; here = here; left = left } in
-      IsCleanFolder wants it (listing_of inside) × IsClean wants it (has_object (finding_of here (listing_of inside))) inside
+      IsCleanFolder wants it (listing_of inside) × IsClean wants it (finding_of wants.form here (listing_of inside)) inside
 
   free_shorty : (depth : ℕ) (path : Path) (left : ℕ) (name : List ℕ) (inside : Forest) → Met (path ++ name ∷ []) left inside (below_site (at_of path) name)
       → (Met (path ++ name ∷ []) left inside (within.Site (at_of (path ++ name ∷ []))) → Each FreeSite (sites_in depth (path ++ name ∷ []) inside))
@@ -115,39 +116,39 @@ module _ (wants : Wants) (prefix top : List ℕ) where
           ((there.0.1, there.0.2), on there)
 
   -- what a folder of a site comes to, by whether its name is short
-  abbrev in_site : At → Bool → ℕ → List ℕ → Bool → Within
-  in_site w holds bytes name short = cond short (below_site w name) (beside_shorties holds bytes)
+  abbrev in_site : At → Finding → ℕ × ℕ → List ℕ → Bool → Within
+  in_site w seen lengths name short = cond short (below_site w name) (beside_shorties seen lengths.0 lengths.1)
 
-  free_sites : (depth : ℕ) (path : Path) (left : ℕ) (holds : Bool) (tree : Forest) → IsClean wants (site_folder path left) holds tree
+  free_sites : (depth : ℕ) (path : Path) (left : ℕ) (seen : Finding) (tree : Forest) → IsClean wants (site_folder path left) seen tree
       → Each FreeSite (sites_in depth path tree)
-  free_sites depth path left holds none clean = tt
-  free_sites depth path left holds (file name bytes after) clean = free_sites depth path left holds after clean.2
-  free_sites depth path left holds (other name after) clean = free_sites depth path left holds after clean.1
-  free_sites depth path left holds (dir name inside after) clean =
+  free_sites depth path left seen none clean = tt
+  free_sites depth path left seen (file name bytes after) clean = free_sites depth path left seen after clean.2
+  free_sites depth path left seen (other name after) clean = free_sites depth path left seen after clean.1
+  free_sites depth path left seen (dir name inside after) clean =
       each_both FreeSite (here (is_short name)) (sites_in depth path after)
       (by (is_short name) refl (clean.1, clean.3)
-      (λ met. free_sites depth (path ++ name ∷ []) (left - 1) (has_object (finding_of (within.Site (at_of (path ++ name ∷ []))) (listing_of inside))) inside
+      (λ met. free_sites depth (path ++ name ∷ []) (left - 1) (finding_of wants.form (within.Site (at_of (path ++ name ∷ []))) (listing_of inside)) inside
       met.1))
-      (free_sites depth path left holds after clean.4)
+      (free_sites depth path left seen after clean.4)
     where
       here : Bool → List Site
       here b = cond b ((path ++ name ∷ [], visit_of depth path inside) ∷ walked (visit_of depth path inside) (sites_in depth (path ++ name ∷ []) inside)) []
 
-      bytes : ℕ
-      bytes = length (joined (top ∷ (path ++ name ∷ [])))
+      bytes : ℕ × ℕ
+      bytes = (length (joined (top ∷ path)), length (joined (top ∷ (path ++ name ∷ []))))
 
-      by : (b : Bool) → is_short name ≡ b → Met (path ++ name ∷ []) (left - 1) inside (in_site (at_of path) holds bytes name (is_short name))
+      by : (b : Bool) → is_short name ≡ b → Met (path ++ name ∷ []) (left - 1) inside (in_site (at_of path) seen bytes name (is_short name))
           → (Met (path ++ name ∷ []) (left - 1) inside (within.Site (at_of (path ++ name ∷ []))) → Each FreeSite (sites_in depth (path ++ name ∷ []) inside))
           → Each FreeSite (here b)
       by false is met on = tt
       by true is met on =
           free_shorty depth path (left - 1) name inside (subst (λ (s : Bool). Met (path ++ name ∷ []) (left - 1) inside
-          (in_site (at_of path) holds bytes name s)) is met) on
+          (in_site (at_of path) seen bytes name s)) is met) on
 
   free_root : (depth left : ℕ) (tree : Option Forest) → Met [] left (unwrap_or tree none) (within.Site at.Root) → Each FreeSite (sites_in_root depth tree)
   free_root depth left None met = tt
   free_root depth left (Some inside) met =
-      ((met.0.1, met.0.2), free_sites depth [] left (has_object (finding_of (within.Site at.Root) (listing_of inside))) inside met.1)
+      ((met.0.1, met.0.2), free_sites depth [] left (finding_of wants.form (within.Site at.Root) (listing_of inside)) inside met.1)
 
   -- ---- the verdict on a site
 
@@ -160,7 +161,11 @@ module _ (wants : Wants) (prefix top : List ℕ) where
   no_candidate_at_top i [] e = absurd (cc)
   no_candidate_at_top i (x ∷ l) e = absurd (cc)
 
-  module _ (job : Job) (told : wants.layout ≡ job.tuples) where
+  none_gathered_at_top : (l : List (ℕ × Kind)) → found_at_top l ≡ finding.Gathered → ⊥
+  none_gathered_at_top [] e = absurd (cc)
+  none_gathered_at_top (x ∷ l) e = absurd (cc)
+
+  module _ (job : Job) (covers : CoversForm wants job) (told : wants.layout ≡ job.tuples) where
     free_named : (object : PairtreeObject) (named : Result (List ℕ) Refusal) → reserved_by (identification_by job.tuples whole named) ≡ None
         → FreeVerdict (verdict_by_identifier object named)
     free_named object (Ok id) silent = tt
@@ -198,7 +203,7 @@ module _ (wants : Wants) (prefix top : List ℕ) where
     free_encapsulated path None silent = tt
     free_encapsulated path (Some object) silent = free_on path object (job.tuples.count == 0) refl silent
 
-    free_candidate : (path : Path) (i : ℕ) (inside : Forest) → found (listing_of inside) (at_of path) form.Plain ≡ finding.Candidate i
+    free_candidate : (path : Path) (i : ℕ) (inside : Forest) → found (listing_of inside) (at_of path) wants.form ≡ finding.Candidate i
         → reserved_trouble wants.layout prefix (finding.Candidate i) (top ∷ path) ≡ None
         → FreeVerdict (verdict_on_candidate job prefix path (encapsulated path (entries_from i inside)))
     free_candidate [] i inside is silent = absurd (no_candidate_at_top i (non_shorties (listing_of inside)) is)
@@ -207,20 +212,29 @@ module _ (wants : Wants) (prefix top : List ℕ) where
         free_encapsulated path (encapsulated path (entries_from i inside))
         (sym (ap (λ (l : Tuples). reserved_trouble l prefix (finding.Candidate i) (top ∷ path)) told) ∙ silent)
 
-    free_finding : (path : Path) (inside : Forest) (f : Finding) → found (listing_of inside) (at_of path) form.Plain ≡ f
+    free_gathered : (path : Path) (inside : Forest) → found (listing_of inside) (at_of path) wants.form ≡ finding.Gathered
+        → reserved_trouble wants.layout prefix finding.Gathered (top ∷ path) ≡ None
+        → FreeVerdict (verdict_on_object job prefix path (gathered_from path inside))
+    free_gathered [] inside is silent = absurd (none_gathered_at_top (non_shorties (listing_of inside)) is)
+    free_gathered (name ∷ names) inside is silent =
+        let path : Path = name ∷ names in
+        free_on path (gathered_from path inside) (job.tuples.count == 0) refl
+        (sym (ap (λ (l : Tuples). reserved_trouble l prefix finding.Gathered (top ∷ path)) told) ∙ silent)
+
+    free_finding : (path : Path) (inside : Forest) (f : Finding) → found (listing_of inside) (at_of path) wants.form ≡ f
         → is_told (at_of path) f (top ∷ path) ≡ None
         → reserved_trouble wants.layout prefix f (top ∷ path) ≡ None → FreeVerdict (verdict_by_finding job prefix path inside f)
     free_finding path inside finding.Interior is silent free = tt
     free_finding path inside (finding.Skip why) is silent free = absurd (cc)
     free_finding path inside (finding.Candidate i) is silent free = free_candidate path i inside is free
-    free_finding path inside finding.Gathered is silent free = absurd (no_gathered (at_of path) (listing_of inside) is)
+    free_finding path inside finding.Gathered is silent free = free_gathered path inside is free
 
     free_by_visit : (path : Path) (visit : Visit) → FreeVisit path visit → FreeVerdict (verdict_by_visit job prefix path visit)
     free_by_visit path (Listed inside) free =
         let items = listing_of inside in
-        let plain = found items (at_of path) form.Plain in
-        let same : found items (at_of path) (form_of job) ≡ plain = same_found (at_of path) (form_of job) items (top ∷ path) free.0 in
-        subst (λ (f : Finding). FreeVerdict (verdict_by_finding job prefix path inside f)) (sym same) (free_finding path inside plain refl free.0 free.1)
+        let seen = found items (at_of path) wants.form in
+        let same : found items (at_of path) (form_of job) ≡ seen = same_found (at_of path) wants.form (form_of job) items (top ∷ path) covers free.0 in
+        subst (λ (f : Finding). FreeVerdict (verdict_by_finding job prefix path inside f)) (sym same) (free_finding path inside seen refl free.0 free.1)
     free_by_visit path Past free = λ e. absurd (cc)
     free_by_visit path Deep free = λ e. absurd (cc)
 
@@ -237,8 +251,8 @@ module _ (wants : Wants) (prefix top : List ℕ) where
         ((λ is. let skips : FreeVerdict (Skip cause.Reserved) = subst FreeVerdict is (free_verdict site.0 site.1 free.0) in skips refl), free_items rest free.1)
 
 pub none_for_reserved : NoRunSkipsForReserved
-none_for_reserved wants job tree told clean =
+none_for_reserved wants job tree covers told clean =
     let prefix = prefix_of tree in
     let root = dir_at tree (pairtree_root ∷ []) in
-    free_items wants prefix pairtree_root job told (sites_in_root job.limits.depth root)
+    free_items wants prefix pairtree_root job covers told (sites_in_root job.limits.depth root)
     (free_root wants prefix pairtree_root job.limits.depth 601 root (clean.top, clean.inside))

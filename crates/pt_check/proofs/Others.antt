@@ -27,7 +27,7 @@ use Rattle.std.proofs.Common.{
 }
 use Rattle.std.specs.Prelude.{◌≢◌, ⊤, option_map, map, unwrap_or}
 use Rattle.pt_check.specs.Clean.{Each, IsClean, IsNotSkippedForOther, NoRunSkipsForOther, has_other}
-use Rattle.pt_check.specs.Visits.{Folder, finding_of, folder_in, has_object}
+use Rattle.pt_check.specs.Visits.{Folder, finding_of, folder_in}
 use Rattle.pt_check.specs.declared.trouble.Trouble.TheVariants as trouble
 use Rattle.pt_check.specs.declared.wants.Wants.{Wants}
 use Rattle.pt_name.specs.Identifying.{identifier_at}
@@ -79,16 +79,16 @@ both_not true b first second = absurd (cc)
 
 -- ---- a tree
 
-no_other : (wants : Wants) (folder : Folder) (holds : Bool) (tree : Forest) → IsClean wants folder holds tree → has_other tree ≡ false
-no_other wants folder holds none clean = refl
-no_other wants folder holds (file name bytes after) clean = no_other wants folder holds after clean.2
-no_other wants folder holds (other name after) clean =
+no_other : (wants : Wants) (folder : Folder) (seen : Finding) (tree : Forest) → IsClean wants folder seen tree → has_other tree ≡ false
+no_other wants folder seen none clean = refl
+no_other wants folder seen (file name bytes after) clean = no_other wants folder seen after clean.2
+no_other wants folder seen (other name after) clean =
     let bad : Some (trouble.Skipped cause.Other) ≡ None = clean.0.0 in
     absurd (cc)
-no_other wants folder holds (dir name inside after) clean =
-    let it = folder_in folder holds name in
-    both_not (has_other inside) (has_other after) (no_other wants it (has_object (finding_of it.here (listing_of inside))) inside clean.3)
-    (no_other wants folder holds after clean.4)
+no_other wants folder seen (dir name inside after) clean =
+    let it = folder_in folder seen name in
+    both_not (has_other inside) (has_other after) (no_other wants it (finding_of wants.form it.here (listing_of inside)) inside clean.3)
+    (no_other wants folder seen after clean.4)
 
 none_from : (i : ℕ) (tree : Forest) → has_other tree ≡ false → has_other (entries_from i tree) ≡ false
 none_from zero tree plain = plain

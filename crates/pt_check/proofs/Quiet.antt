@@ -54,7 +54,7 @@ use Rattle.pt_check.specs.Visits.{
   ended,
   finding_of,
   folder_in,
-  has_object,
+  holder_in,
   missing,
   prefix_path,
   root_folder,
@@ -73,7 +73,20 @@ use Rattle.pt_tree.specs.Path.{Path, joined}
 use Rattle.pt_tree.specs.declared.kind.Kind.{Kind}
 use Rattle.pt_tree.specs.declared.kind.Kind.TheVariants as kind
 use Rattle.pt_walk.specs.Left.{bytes_at}
-use Rattle.pt_check.proofs.FilesHeld.{Fills, dir_fills, fill_as, fill_on, fills_from, has_room, held_by, no_fill}
+use Rattle.pt_walk.specs.declared.site.Finding.{Finding}
+use Rattle.pt_check.proofs.FilesHeld.{
+  Fills,
+  count_in,
+  dir_fills,
+  fill_as,
+  fill_on,
+  fills_from,
+  has_room,
+  has_room_for,
+  held_by,
+  inside_fills,
+  no_fill,
+}
 use Rattle.pt_check.proofs.QuietSteps.{
   Quiet,
   begun_told,
@@ -99,49 +112,57 @@ still_goes_in wants path tree a b same goes reads =
     subst (λ (w : Option (Path → Bool)). GoesIn w path tree) (sym (ap (λ (x : Option (Path → Bool) × ℕ). x.0) same)) (goes reads)
 
 -- of the entries that were visited
-abbrev Visited : Wants → Folder → Bool → Forest → CheckState → CheckState → Type 0
-Visited wants folder holds tree a b = Quiet a b × IsClean wants folder holds tree × Fills folder.here (file_count tree) a b × Goes wants folder.path tree b
+abbrev Visited : Wants → Folder → Finding → Forest → CheckState → CheckState → Type 0
+Visited wants folder seen tree a b = Quiet a b × IsClean wants folder seen tree × Fills (holder_in folder seen) (count_in folder seen tree) a b
+    × Goes wants folder.path tree b
 
-quiet : (says : Says) (wants : Wants) (folder : Folder) (holds : Bool) (tree : Forest) (a b : CheckState) → Visits says wants folder holds tree a b
+quiet : (says : Says) (wants : Wants) (folder : Folder) (seen : Finding) (tree : Forest) (a b : CheckState) → Visits says wants folder seen tree a b
     → told_by b ≡ 0
-    → Visited wants folder holds tree a b
-quiet says wants folder holds none a b same nothing =
-    ((ap told_by (sym same) ∙ nothing, ap source_of same), tt, no_fill folder.here a b (ap held_by same), λ reads. tt)
-quiet says wants folder holds (file name bytes after) a b (m, meets, n, opens, rest) nothing =
-    let later = quiet says wants folder holds after n b rest nothing in
-    let opening = opened wants.reads (folder.path ++ name ∷ []) bytes m n opens later.0.0 in
-    let meeting = met wants folder name kind.File a m meets opening.1.0 in (
+    → Visited wants folder seen tree a b
+quiet says wants folder seen none a b same nothing =
+    ((ap told_by (sym same) ∙ nothing, ap source_of same), tt, no_fill (holder_in folder seen) a b (ap held_by same), λ reads. tt)
+quiet says wants folder seen (file name bytes after) a b (m, meets, n, opens, rest) nothing =
+    let here = holder_in folder seen in
+    let count = count_in folder seen after in
+    let later = quiet says wants folder seen after n b rest nothing in
+    let opening = opened wants.reads (folder.path ++ name ∷ []) here bytes m n opens later.0.0 in
+    let meeting = met wants folder seen name kind.File a m meets opening.1.0 in (
       (meeting.1.0, later.0.1 ∙ opening.1.1 ∙ meeting.1.1),
       (meeting.0, opening.0, later.1),
-      fill_as folder.here (1 + file_count after) (suc (file_count after)) a b (omega arith)
-          (fill_on folder.here 1 (file_count after) a m b meeting.2 (fills_from folder.here (file_count after) m n b opening.2 later.2)),
+      fill_as here (1 + count) (suc count) a b (omega arith)
+          (fill_on here 1 count a m b meeting.2 (fills_from here count m n b opening.2 later.2)),
       (λ reads. (still_goes (folder.path ++ name ∷ []) m b (later.0.1 ∙ opening.1.1) (opening.3 reads), later.3 reads)),
     )
-quiet says wants folder holds (other name after) a b (m, meets, rest) nothing =
-    let later = quiet says wants folder holds after m b rest nothing in
-    let meeting = met wants folder name kind.Other a m meets later.0.0 in (
+quiet says wants folder seen (other name after) a b (m, meets, rest) nothing =
+    let here = holder_in folder seen in
+    let count = count_in folder seen after in
+    let later = quiet says wants folder seen after m b rest nothing in
+    let meeting = met wants folder seen name kind.Other a m meets later.0.0 in (
       (meeting.1.0, later.0.1 ∙ meeting.1.1),
       (meeting.0, later.1),
-      fill_as folder.here (0 + file_count after) (file_count after) a b (omega arith) (fill_on folder.here 0 (file_count after) a m b meeting.2 later.2),
+      fill_as here (0 + count) count a b (omega arith) (fill_on here 0 count a m b meeting.2 later.2),
       later.3,
     )
-quiet says wants folder holds (dir name inside after) a b (m, meets, n, enters, rest) nothing =
-    let it = folder_in folder holds name in
+quiet says wants folder seen (dir name inside after) a b (m, meets, n, enters, rest) nothing =
+    let it = folder_in folder seen name in
+    let above = holder_in folder seen in
     let items = listing_of inside in
     let count = file_count inside in
-    let start = counting (begun it.here folder.here) m in
-    let later = quiet says wants folder holds after (counting (ended it.here folder.here m.numbers.bytes) n) b rest nothing in
-    let ends : told_by n ≡ 0 = sym (ended_told (starts_object it.here folder.here) m.numbers.bytes n.numbers) ∙ later.0.0 in
-    let entering = entered says wants it items (λ h. Visits says wants it h inside) (λ h s. IsClean wants it h inside × Fills it.here count s n
-    × Goes wants it.path inside n) start n (λ h s visited. let all = quiet says wants it h inside s n visited ends in (all.0, (all.1, all.2, all.3))) enters
+    let start = counting (begun it.here above) m in
+    let later = quiet says wants folder seen after (counting (ended it.here m.numbers) n) b rest nothing in
+    let ends : told_by n ≡ 0 = sym (ended_told it.here m.numbers n.numbers) ∙ later.0.0 in
+    let entering = entered says wants it items (λ f. Visits says wants it f inside) (λ f s. IsClean wants it f inside
+    × Fills (holder_in it f) (count_in it f inside) s n × Goes wants it.path inside n) start n
+    (λ f s visited. let all = quiet says wants it f inside s n visited ends in (all.0, (all.1, all.2, all.3))) enters
     ends in
-    let begins : told_by m ≡ 0 = sym (begun_told (starts_object it.here folder.here) m.numbers) ∙ entering.1.0 in
-    let meeting = met wants folder name kind.Dir a m meets begins in
+    let begins : told_by m ≡ 0 = sym (begun_told (starts_object it.here above) m.numbers) ∙ entering.1.0 in
+    let meeting = met wants folder seen name kind.Dir a m meets begins in
     let within_it = entering.2 in
-    let fills = fills_from it.here count start within_it.0 n within_it.1 within_it.2.1 in (
+    let fills = inside_fills wants.form it.path it.prefix it.here it.left items inside start within_it.0 n within_it.1 within_it.2.1 in
+    let room = has_room_for wants.form it.path it.prefix it.here it.left items inside start within_it.0 n within_it.1 within_it.2.1 in (
       (meeting.1.0, later.0.1 ∙ entering.1.1 ∙ meeting.1.1),
-      (meeting.0, entering.0, (λ starts. has_room it.here folder.here count m n fills starts), within_it.2.0, later.1),
-      dir_fills folder.here holds name (length (joined it.path)) m.numbers.bytes count (file_count after) a m n b meeting.2 fills later.2,
+      (meeting.0, entering.0, ((λ starts. has_room it.here above count m n fills starts), room), within_it.2.0, later.1),
+      dir_fills it.here above count (count_in folder seen after) a m n b meeting.2 fills later.2,
       (λ reads. (
         still_goes it.path start b (later.0.1 ∙ entering.1.1) entering.3,
         still_goes_in wants it.path inside n b later.0.1 within_it.2.2 reads,
@@ -231,11 +252,11 @@ store_met says wants tree numbers a b checks nothing = by checks.whole checks.fi
     inside : Forest
     inside = below_root tree
 
-    holds : List ℕ → Bool
-    holds prefix = has_object (finding_of (root_folder prefix).here (listing_of inside))
+    seen : List ℕ → Finding
+    seen prefix = finding_of wants.form (root_folder prefix).here (listing_of inside)
 
     AreClean : List ℕ → Type 0
-    AreClean prefix = IsCleanFolder wants (root_folder prefix) (listing_of inside) × IsClean wants (root_folder prefix) (holds prefix) inside
+    AreClean prefix = IsCleanFolder wants (root_folder prefix) (listing_of inside) × IsClean wants (root_folder prefix) (seen prefix) inside
 
     root_path : Path
     root_path = pairtree_root ∷ []

@@ -31,7 +31,7 @@ use Rattle.std.proofs.Common.{
 use Rattle.std.proofs.lemmas.Bool.{ltb-false}
 use Rattle.std.specs.Prelude.{◌⊎◌, nat_lt}
 use Rattle.pt_check.specs.Clean.{AreCleanBytes, IsCleanEntry, IsCleanFolder}
-use Rattle.pt_check.specs.Counting.{with_bytes, with_entry, with_object, with_object_begun}
+use Rattle.pt_check.specs.Counting.{with_bytes, with_entry, with_object_begun}
 use Rattle.pt_check.specs.Goes.{GoesBy}
 use Rattle.pt_check.specs.Lines.{Told}
 use Rattle.pt_check.specs.Visits.{
@@ -52,14 +52,16 @@ use Rattle.pt_check.specs.Visits.{
   TellsUnlisted,
   count_trouble,
   counting,
+  ended,
   entry_trouble,
   finding_of,
   folder_trouble,
-  has_object,
+  holder_in,
   reserved_trouble,
   room_trouble,
   size_trouble,
   with_folder,
+  with_found,
 }
 use Rattle.pt_check.specs.declared.numbers.Numbers.{Numbers}
 use Rattle.pt_check.specs.declared.trouble.Trouble.{Trouble}
@@ -73,7 +75,9 @@ use Rattle.pt_tree.specs.Listing.{Item}
 use Rattle.pt_tree.specs.Path.{Path, joined}
 use Rattle.pt_tree.specs.declared.kind.Kind.{Kind}
 use Rattle.pt_tree.specs.declared.kind.Kind.TheVariants as kind
-use Rattle.pt_check.proofs.FilesHeld.{Fills, held_by, met_fills, one_of}
+use Rattle.pt_walk.specs.declared.site.Finding.{Finding}
+use Rattle.pt_walk.specs.declared.site.Finding.TheVariants as finding
+use Rattle.pt_check.proofs.FilesHeld.{Fills, HeldAt, held_by, judged_held, met_fills, one_of}
 
 -- how many lines told of something
 abbrev pub told_by : CheckState → ℕ
@@ -123,19 +127,20 @@ entry_told kind.File bytes n = refl
 entry_told kind.Dir bytes n = refl
 entry_told kind.Other bytes n = refl
 
-pub met : (wants : Wants) (folder : Folder) (name : List ℕ) (k : Kind) (a m : CheckState) → Meets wants (folder.path ++ name ∷ []) folder.here (name, k) a m
-    → told_by m ≡ 0
-    → IsCleanEntry wants folder name k × Quiet a m × Fills folder.here (one_of k) a m
-met wants folder name k a m (s, crowds, n, tells, fits) nothing =
+pub met : (wants : Wants) (folder : Folder) (seen : Finding) (name : List ℕ) (k : Kind) (a m : CheckState)
+    → Meets wants (folder.path ++ name ∷ []) (holder_in folder seen) (name, k) a m → told_by m ≡ 0
+    → IsCleanEntry wants folder seen name k × Quiet a m × Fills (holder_in folder seen) (one_of k) a m
+met wants folder seen name k a m (s, crowds, n, tells, fits) nothing =
     let path = folder.path ++ name ∷ [] in
+    let here = holder_in folder seen in
     let bytes = length (joined path) in
-    let room = tells_if path (room_trouble wants.room folder.here k bytes) n m fits nothing in
+    let room = tells_if path (room_trouble wants.room here k bytes) n m fits nothing in
     let last : told_by n ≡ 0 = ap told_by (sym room.1) ∙ nothing in
-    let clean = tells_if path (entry_trouble folder.here name k bytes) s n tells last in
+    let clean = tells_if path (entry_trouble here name k bytes) s n tells last in
     let before : told_by s ≡ 0 = ap told_by (sym clean.1) ∙ last in
-    let few = tells_if path (count_trouble folder.here k a.numbers.held) (counting (with_entry k bytes) a) s crowds before in
+    let few = tells_if path (count_trouble here k a.numbers.held) (counting (with_entry k bytes) a) s crowds before in
     let same = room.1 ∙ clean.1 ∙ few.1 in
-    ((clean.0, room.0), counted (with_entry k bytes) a m (entry_told k bytes) same nothing, met_fills folder.here k bytes a m few.0 same)
+    ((clean.0, room.0), counted (with_entry k bytes) a m (entry_told k bytes) same nothing, met_fills here k bytes a m few.0 same)
 
 -- of a file that was opened
 abbrev Opened : Bool → Path → List ℕ → CheckState → CheckState → Type 0
@@ -150,68 +155,88 @@ few_bytes true bytes clean reads = by (nat_lt (2 ^ 43) (length bytes)) refl clea
     by true is e = absurd (cc)
     by false is e = let few = ltb-false (2 ^ 43) (length bytes) is in omega (arith, few)
 
-pub opened : (reads : Bool) (path : Path) (bytes : List ℕ) (a b : CheckState) → Opens reads path bytes a b → told_by b ≡ 0 → Opened reads path bytes a b
-opened reads path bytes a b (inl (tells, goes)) nothing =
+bytes_told : (here : Within) (bytes : ℕ) (n : Numbers) → (with_bytes here bytes n).told ≡ n.told
+bytes_told (within.Object before) bytes n = refl
+bytes_told (within.Site at) bytes n = refl
+bytes_told within.Past bytes n = refl
+bytes_told within.Beside bytes n = refl
+
+bytes_held : (here : Within) (bytes : ℕ) (n : Numbers) → (with_bytes here bytes n).held ≡ n.held
+bytes_held (within.Object before) bytes n = refl
+bytes_held (within.Site at) bytes n = refl
+bytes_held within.Past bytes n = refl
+bytes_held within.Beside bytes n = refl
+
+pub opened : (reads : Bool) (path : Path) (here : Within) (bytes : List ℕ) (a b : CheckState) → Opens reads path here bytes a b → told_by b ≡ 0
+    → Opened reads path bytes a b
+opened reads path here bytes a b (inl (tells, goes)) nothing =
     let count = cond reads (length bytes) 0 in
-    let clean = tells_if path (size_trouble count) (counting (with_bytes count) a) b tells nothing in
-    (clean.0, counted (with_bytes count) a b (λ n. refl) clean.1 nothing, ap held_by clean.1, (λ is. goes is (few_bytes reads bytes clean.0 is)))
-opened reads path bytes a b (inr fails) nothing = absurd (fails_told path a b fails nothing)
+    let clean = tells_if path (size_trouble count) (counting (with_bytes here count) a) b tells nothing in (
+      clean.0,
+      counted (with_bytes here count) a b (bytes_told here count) clean.1 nothing,
+      ap held_by clean.1 ∙ bytes_held here count a.numbers,
+      (λ is. goes is (few_bytes reads bytes clean.0 is)),
+    )
+opened reads path here bytes a b (inr fails) nothing = absurd (fails_told path a b fails nothing)
 
-folder_told : (here : Within) (holds : Bool) (n : Numbers) → (with_folder here holds n).told ≡ n.told
-folder_told (within.Site at) holds n = refl
-folder_told within.Past holds n = refl
-folder_told (within.Object before) holds n = refl
-folder_told within.Beside holds n = refl
+found_told : (seen : Finding) (n : Numbers) → (with_found seen n).told ≡ n.told
+found_told finding.Interior n = refl
+found_told (finding.Skip why) n = refl
+found_told (finding.Candidate i) n = refl
+found_told finding.Gathered n = refl
 
-folder_held : (here : Within) (holds : Bool) (n : Numbers) → (with_folder here holds n).held ≡ n.held
-folder_held (within.Site at) holds n = refl
-folder_held within.Past holds n = refl
-folder_held (within.Object before) holds n = refl
-folder_held within.Beside holds n = refl
+folder_told : (here : Within) (seen : Finding) (n : Numbers) → (with_folder here seen n).told ≡ n.told
+folder_told (within.Site at) seen n = found_told seen n
+folder_told within.Past seen n = refl
+folder_told (within.Object before) seen n = refl
+folder_told within.Beside seen n = refl
 
 judged : (wants : Wants) (folder : Folder) (items : List Item) (a m : CheckState) → Judges wants (folder.path, folder.prefix) folder.here items a m
     → told_by m ≡ 0
-    → ((folder_trouble folder.here (finding_of folder.here items) folder.path ≡ None)
-    × (reserved_trouble wants.layout folder.prefix (finding_of folder.here items) folder.path ≡ None)) × Quiet a m × (m.numbers.held ≡ a.numbers.held)
+    → ((folder_trouble folder.here (finding_of wants.form folder.here items) folder.path ≡ None)
+    × (reserved_trouble wants.layout folder.prefix (finding_of wants.form folder.here items) folder.path ≡ None)) × Quiet a m
+    × HeldAt (finding_of wants.form folder.here items) a m
 judged wants folder items a m (n, judges, places) nothing =
-    let what = finding_of folder.here items in
+    let what = finding_of wants.form folder.here items in
     let free = tells_if folder.path (reserved_trouble wants.layout folder.prefix what folder.path) n m places nothing in
     let before : told_by n ≡ 0 = ap told_by (sym free.1) ∙ nothing in
-    let clean = tells_if folder.path (folder_trouble folder.here what folder.path) (counting (with_folder folder.here (has_object what)) a) n judges before in
+    let clean = tells_if folder.path (folder_trouble folder.here what folder.path) (counting (with_folder folder.here what) a) n judges before in
     let same = free.1 ∙ clean.1 in (
       (clean.0, free.0),
-      counted (with_folder folder.here (has_object what)) a m (folder_told folder.here (has_object what)) same nothing,
-      ap held_by same ∙ folder_held folder.here (has_object what) a.numbers,
+      counted (with_folder folder.here what) a m (folder_told folder.here what) same nothing,
+      judged_held wants.form folder.here items a m (ap held_by same),
     )
 
 -- of a folder that was entered
 abbrev Entered : Wants → Folder → List Item → (CheckState → Type 0) → CheckState → CheckState → Type 0
-Entered wants folder items P a b = IsCleanFolder wants folder items × Quiet a b × ((m : CheckState) × (m.numbers.held ≡ a.numbers.held) × P m)
-    × GoesAt folder.path a
+Entered wants folder items P a b = IsCleanFolder wants folder items × Quiet a b
+    × ((m : CheckState) × HeldAt (finding_of wants.form folder.here items) a m × P m) × GoesAt folder.path a
 
-pub entered : (says : Says) (wants : Wants) (folder : Folder) (items : List Item) (visits : Bool → CheckState → CheckState → Type 0) (P : Bool → CheckState
+pub entered : (says : Says) (wants : Wants) (folder : Folder) (items : List Item) (visits : Finding → CheckState → CheckState → Type 0) (P : Finding → CheckState
     → Type 0) (a b : CheckState)
-    → ((holds : Bool) (m : CheckState) → visits holds m b → Quiet m b × P holds m)
-    → Enters says wants folder items visits a b → told_by b ≡ 0 → Entered wants folder items (P (has_object (finding_of folder.here items))) a b
+    → ((seen : Finding) (m : CheckState) → visits seen m b → Quiet m b × P seen m)
+    → Enters says wants folder items visits a b → told_by b ≡ 0 → Entered wants folder items (P (finding_of wants.form folder.here items)) a b
 entered says wants folder items visits P a b on enters nothing = by (folder.left == 0) refl enters
   where
     by : (t : Bool) → (folder.left == 0) ≡ t → cond t (Tells (Told folder.path trouble.Deep) a b)
-        (TellsUnlisted says folder.path false a b ⊎ ((holds : Bool) × (m : CheckState) × Begins says wants folder items holds a m × visits holds m b))
-        → Entered wants folder items (P (has_object (finding_of folder.here items))) a b
+        (TellsUnlisted says folder.path false a b ⊎ ((seen : Finding) × (m : CheckState) × Begins says wants folder items seen a m × visits seen m b))
+        → Entered wants folder items (P (finding_of wants.form folder.here items)) a b
     by true is tells = absurd (puts_told _ a b tells nothing)
     by false is (inl fails) = absurd (unlisted_told says folder.path false a b fails nothing)
-    by false is (inr (holds, m, inl (judges, holds_is, goes), visited)) =
-        let rest = on holds m visited in
+    by false is (inr (seen, m, inl (judges, seen_is, goes), visited)) =
+        let rest = on seen m visited in
         let first = judged wants folder items a m judges rest.0.0 in
-        ((is, first.0.0, first.0.1), (first.1.0, rest.0.1 ∙ first.1.1), (m, first.2, subst (λ (h : Bool). P h m) holds_is rest.1), goes)
-    by false is (inr (holds, m, inr (tells, holds_is), visited)) =
-        let rest = on holds m visited in
+        ((is, first.0.0, first.0.1), (first.1.0, rest.0.1 ∙ first.1.1), (m, first.2, subst (λ (f : Finding). P f m) seen_is rest.1), goes)
+    by false is (inr (seen, m, inr (tells, seen_is), visited)) =
+        let rest = on seen m visited in
         absurd (unlisted_told says folder.path true a m tells rest.0.0)
 
 pub begun_told : (t : Bool) (n : Numbers) → (cond t (with_object_begun n) n).told ≡ n.told
 begun_told true n = refl
 begun_told false n = refl
 
-pub ended_told : (t : Bool) (before : ℕ) (n : Numbers) → (cond t (with_object before n) n).told ≡ n.told
-ended_told true before n = refl
-ended_told false before n = refl
+pub ended_told : (here : Within) (before n : Numbers) → (ended here before n).told ≡ n.told
+ended_told (within.Object bytes) before n = refl
+ended_told (within.Site at) before n = refl
+ended_told within.Past before n = refl
+ended_told within.Beside before n = refl

@@ -49,14 +49,15 @@ use Rattle.pt_check.specs.Visits.{
   begun,
   counting,
   ended,
-  finding_of,
   folder_in,
-  has_object,
+  found_by,
+  holder_in,
 }
 use Rattle.pt_check.specs.Within.{below}
 use Rattle.pt_check.specs.declared.trouble.Trouble.TheVariants as trouble
 use Rattle.pt_check.specs.declared.wants.Wants.{Wants}
 use Rattle.pt_check.specs.declared.within.Within.{Within}
+use Rattle.pt_walk.specs.declared.site.Finding.{Finding}
 use Rattle.pt_tree.specs.Forest.{Forest, Node, File, Dir, Other, as_dir, as_file, dir_at, file_at, find, is_proper, kind_of, listing_at, listing_of, node_at}
 use Rattle.pt_tree.specs.Listing.{Item}
 use Rattle.pt_tree.specs.Path.{Path, joined}
@@ -74,10 +75,10 @@ abbrev pub IsProperTold : Option Reading → Type 0
 IsProperTold told = ForSome told (λ s. is_proper s.tree ≡ true)
 
 -- of the folder at this path what was visited up to a place leads on: whatever visiting the rest comes to, visiting all comes to it
-abbrev pub VisitedTo : Says → Wants → Folder → Bool → Forest → ℕ → CheckState → CheckState → Type 0
-VisitedTo says wants folder holds top place first now = (last : CheckState)
-    → Visits says wants folder holds (entries_from place (inside_at top folder.path)) now last
-    → Visits says wants folder holds (inside_at top folder.path) first last
+abbrev pub VisitedTo : Says → Wants → Folder → Finding → Forest → ℕ → CheckState → CheckState → Type 0
+VisitedTo says wants folder seen top place first now = (last : CheckState)
+    → Visits says wants folder seen (entries_from place (inside_at top folder.path)) now last
+    → Visits says wants folder seen (inside_at top folder.path) first last
 
 -- a file that is listed stands there
 pub file_stands : (top : Forest) (path : Path) (items : List Item) (place : ℕ) (name : List ℕ) → is_proper top ≡ true → listing_at top path ≡ Some items
@@ -87,40 +88,40 @@ file_stands top path items place name proper listed at =
     subst (λ (o : Option (List ℕ)). IsSome o) (sym ahead.file_is) refl
 
 -- a file was met and opened
-pub visited_file : (says : Says) (wants : Wants) (folder : Folder) (holds : Bool) (top : Forest) (items : List Item) (place : ℕ) (name : List ℕ)
+pub visited_file : (says : Says) (wants : Wants) (folder : Folder) (seen : Finding) (top : Forest) (items : List Item) (place : ℕ) (name : List ℕ)
     (first now met opened : CheckState)
     → is_proper top ≡ true → listing_at top folder.path ≡ Some items → slice_get items place ≡ Some (name, kind.File)
-    → VisitedTo says wants folder holds top place first now
-    → Meets wants (folder.path ++ name ∷ []) folder.here (name, kind.File) now met
-    → Opens wants.reads (folder.path ++ name ∷ []) (bytes_at top (folder.path ++ name ∷ [])) met opened
-    → VisitedTo says wants folder holds top (place + 1) first opened
-visited_file says wants folder holds top items place name first now met opened proper listed at to meets opens last rest =
+    → VisitedTo says wants folder seen top place first now
+    → Meets wants (folder.path ++ name ∷ []) (holder_in folder seen) (name, kind.File) now met
+    → Opens wants.reads (folder.path ++ name ∷ []) (holder_in folder seen) (bytes_at top (folder.path ++ name ∷ [])) met opened
+    → VisitedTo says wants folder seen top (place + 1) first opened
+visited_file says wants folder seen top items place name first now met opened proper listed at to meets opens last rest =
     let ahead = file_ahead top folder.path items place name proper listed at in
-    to last (subst (λ (f : Forest). Visits says wants folder holds f now last) (sym ahead.rest_is) (met, meets, opened, opens, rest))
+    to last (subst (λ (f : Forest). Visits says wants folder seen f now last) (sym ahead.rest_is) (met, meets, opened, opens, rest))
 
 -- what is neither a file nor a directory was met
-pub visited_other : (says : Says) (wants : Wants) (folder : Folder) (holds : Bool) (top : Forest) (items : List Item) (place : ℕ) (name : List ℕ)
+pub visited_other : (says : Says) (wants : Wants) (folder : Folder) (seen : Finding) (top : Forest) (items : List Item) (place : ℕ) (name : List ℕ)
     (first now met : CheckState)
     → is_proper top ≡ true → listing_at top folder.path ≡ Some items → slice_get items place ≡ Some (name, kind.Other)
-    → VisitedTo says wants folder holds top place first now
-    → Meets wants (folder.path ++ name ∷ []) folder.here (name, kind.Other) now met
-    → VisitedTo says wants folder holds top (place + 1) first met
-visited_other says wants folder holds top items place name first now met proper listed at to meets last rest =
+    → VisitedTo says wants folder seen top place first now
+    → Meets wants (folder.path ++ name ∷ []) (holder_in folder seen) (name, kind.Other) now met
+    → VisitedTo says wants folder seen top (place + 1) first met
+visited_other says wants folder seen top items place name first now met proper listed at to meets last rest =
     let ahead = other_ahead top folder.path items place name proper listed at in
-    to last (subst (λ (f : Forest). Visits says wants folder holds f now last) (sym ahead) (met, meets, rest))
+    to last (subst (λ (f : Forest). Visits says wants folder seen f now last) (sym ahead) (met, meets, rest))
 
 -- a folder was met and visited
-pub visited_dir : (says : Says) (wants : Wants) (folder : Folder) (holds : Bool) (top : Forest) (items : List Item) (place : ℕ) (name : List ℕ)
+pub visited_dir : (says : Says) (wants : Wants) (folder : Folder) (seen : Finding) (top : Forest) (items : List Item) (place : ℕ) (name : List ℕ)
     (first now met left : CheckState)
     → is_proper top ≡ true → listing_at top folder.path ≡ Some items → slice_get items place ≡ Some (name, kind.Dir)
-    → VisitedTo says wants folder holds top place first now
-    → Meets wants (folder.path ++ name ∷ []) folder.here (name, kind.Dir) now met
-    → VisitsFolder says wants (folder_in folder holds name) (inside_at top (folder.path ++ name ∷ []))
-    (counting (begun (folder_in folder holds name).here folder.here) met) left
-    → VisitedTo says wants folder holds top (place + 1) first (counting (ended (folder_in folder holds name).here folder.here met.numbers.bytes) left)
-visited_dir says wants folder holds top items place name first now met left proper listed at to meets visits last rest =
+    → VisitedTo says wants folder seen top place first now
+    → Meets wants (folder.path ++ name ∷ []) (holder_in folder seen) (name, kind.Dir) now met
+    → VisitsFolder says wants (folder_in folder seen name) (inside_at top (folder.path ++ name ∷ []))
+    (counting (begun (folder_in folder seen name).here (holder_in folder seen)) met) left
+    → VisitedTo says wants folder seen top (place + 1) first (counting (ended (folder_in folder seen name).here met.numbers) left)
+visited_dir says wants folder seen top items place name first now met left proper listed at to meets visits last rest =
     let ahead = dir_ahead top folder.path items place name proper listed at in
-    to last (subst (λ (f : Forest). Visits says wants folder holds f now last) (sym ahead.rest_is) (met, meets, left, visits, rest))
+    to last (subst (λ (f : Forest). Visits says wants folder seen f now last) (sym ahead.rest_is) (met, meets, left, visits, rest))
 
 -- before its end there is an entry
 pub goes_past : (items : List Item) (place : ℕ) → place < length items → slice_get items place ≡ None → ⊥
@@ -132,27 +133,27 @@ goes_past items place less is = by (slice_get_cases items place).1
     by (inr (past, none_is)) = omega (arith, less, past)
 
 -- at the end of the listing all was visited
-pub visited_all : (says : Says) (wants : Wants) (folder : Folder) (holds : Bool) (top : Forest) (items : List Item) (place : ℕ) (first now : CheckState)
+pub visited_all : (says : Says) (wants : Wants) (folder : Folder) (seen : Finding) (top : Forest) (items : List Item) (place : ℕ) (first now : CheckState)
     → listing_at top folder.path ≡ Some items → slice_get items place ≡ None
-    → VisitedTo says wants folder holds top place first now → Visits says wants folder holds (inside_at top folder.path) first now
-visited_all says wants folder holds top items place first now listed at to =
+    → VisitedTo says wants folder seen top place first now → Visits says wants folder seen (inside_at top folder.path) first now
+visited_all says wants folder seen top items place first now listed at to =
     let ahead = nothing_ahead top folder.path items place listed at in
-    to now (subst (λ (f : Forest). Visits says wants folder holds f now now) (sym ahead) refl)
+    to now (subst (λ (f : Forest). Visits says wants folder seen f now now) (sym ahead) refl)
 
 -- an entry that is no folder was met, and opened if it is a file
-pub visited_leaf : (says : Says) (wants : Wants) (folder : Folder) (holds : Bool) (top : Forest) (items : List Item) (place : ℕ) (name : List ℕ) (here : Kind)
+pub visited_leaf : (says : Says) (wants : Wants) (folder : Folder) (seen : Finding) (top : Forest) (items : List Item) (place : ℕ) (name : List ℕ) (here : Kind)
     (first now met left : CheckState)
     → is_proper top ≡ true → listing_at top folder.path ≡ Some items → slice_get items place ≡ Some (name, here) → (here ≡ kind.Dir → ⊥)
-    → VisitedTo says wants folder holds top place first now
-    → Meets wants (folder.path ++ name ∷ []) folder.here (name, here) now met
-    → OpensIf wants.reads (folder.path ++ name ∷ []) here (bytes_at top (folder.path ++ name ∷ [])) met left
-    → VisitedTo says wants folder holds top (place + 1) first left
-visited_leaf says wants folder holds top items place name kind.File first now met left proper listed at leaf to meets opens =
-    visited_file says wants folder holds top items place name first now met left proper listed at to meets opens
-visited_leaf says wants folder holds top items place name kind.Dir first now met left proper listed at leaf to meets opens = absurd (leaf refl)
-visited_leaf says wants folder holds top items place name kind.Other first now met left proper listed at leaf to meets opens =
-    subst (λ (s : CheckState). VisitedTo says wants folder holds top (place + 1) first s) (sym opens)
-    (visited_other says wants folder holds top items place name first now met proper listed at to meets)
+    → VisitedTo says wants folder seen top place first now
+    → Meets wants (folder.path ++ name ∷ []) (holder_in folder seen) (name, here) now met
+    → OpensIf wants.reads (folder.path ++ name ∷ []) (holder_in folder seen, here) (bytes_at top (folder.path ++ name ∷ [])) met left
+    → VisitedTo says wants folder seen top (place + 1) first left
+visited_leaf says wants folder seen top items place name kind.File first now met left proper listed at leaf to meets opens =
+    visited_file says wants folder seen top items place name first now met left proper listed at to meets opens
+visited_leaf says wants folder seen top items place name kind.Dir first now met left proper listed at leaf to meets opens = absurd (leaf refl)
+visited_leaf says wants folder seen top items place name kind.Other first now met left proper listed at leaf to meets opens =
+    subst (λ (s : CheckState). VisitedTo says wants folder seen top (place + 1) first s) (sym opens)
+    (visited_other says wants folder seen top items place name first now met proper listed at to meets)
 
 -- what is no folder may be opened if it is a file
 pub leaf_stands : (top : Forest) (path : Path) (items : List Item) (place : ℕ) (name : List ℕ) (here : Kind) → is_proper top ≡ true
@@ -201,88 +202,88 @@ pub in_same : (P : Forest → Type 0) (old new : Option Forest) → new ≡ old 
 in_same P old new same holds tree is = holds tree (sym same ∙ is)
 
 -- a folder that isn't too deep is told as unreadable, or begun and visited
-pub enters : (says : Says) (wants : Wants) (folder : Folder) (items : List Item) (visits : Bool → CheckState → CheckState → Type 0) (a b : CheckState)
+pub enters : (says : Says) (wants : Wants) (folder : Folder) (items : List Item) (visits : Finding → CheckState → CheckState → Type 0) (a b : CheckState)
     → (folder.left ≡ 0 → ⊥)
-    → TellsUnlisted says folder.path false a b ⊎ ((holds : Bool) × (m : CheckState) × Begins says wants folder items holds a m × visits holds m b)
+    → TellsUnlisted says folder.path false a b ⊎ ((seen : Finding) × (m : CheckState) × Begins says wants folder items seen a m × visits seen m b)
     → Enters says wants folder items visits a b
 enters says wants folder items visits a b some does = by (folder.left == 0) (ne_eqb folder.left 0 some)
   where
     by : (t : Bool) → t ≡ false → cond t (Tells (Told folder.path trouble.Deep) a b)
-        (TellsUnlisted says folder.path false a b ⊎ ((holds : Bool) × (m : CheckState) × Begins says wants folder items holds a m × visits holds m b))
+        (TellsUnlisted says folder.path false a b ⊎ ((seen : Finding) × (m : CheckState) × Begins says wants folder items seen a m × visits seen m b))
     by true is = absurd (cc)
     by false is = does
 
 -- a folder was found, and judged where it was listed whole
-pub begins : (says : Says) (wants : Wants) (folder : Folder) (items : List Item) (whole holds : Bool) (a m b : CheckState) → Finds says folder.path whole a m
+pub begins : (says : Says) (wants : Wants) (folder : Folder) (items : List Item) (whole : Bool) (seen : Finding) (a m b : CheckState) → Finds says folder.path whole a m
     → cond whole (Judges wants (folder.path, folder.prefix) folder.here items m b) (b ≡ m)
-    → holds ≡ cond whole (has_object (finding_of folder.here items)) false
-    → Begins says wants folder items holds a b
-begins says wants folder items true holds a m b (same, goes) judges holds_is =
-    inl (subst (λ (s : CheckState). Judges wants (folder.path, folder.prefix) folder.here items s b) same judges, holds_is, goes)
-begins says wants folder items false holds a m b tells same holds_is = inr
-    (subst (λ (s : CheckState). TellsUnlisted says folder.path true a s) (sym same) tells, holds_is)
+    → seen ≡ found_by whole wants.form folder.here items
+    → Begins says wants folder items seen a b
+begins says wants folder items true seen a m b (same, goes) judges seen_is =
+    inl (subst (λ (s : CheckState). Judges wants (folder.path, folder.prefix) folder.here items s b) same judges, seen_is, goes)
+begins says wants folder items false seen a m b tells same seen_is = inr
+    (subst (λ (s : CheckState). TellsUnlisted says folder.path true a s) (sym same) tells, seen_is)
 
 -- a folder among the entries was met and visited
 pub dir_step : (says : Says) (told : Option Reading) → IsProperTold told
-    → (wants again : Wants) (folder : Folder) (holds : Bool) (items : List Item) (place : ℕ) (name : List ℕ) (what : Kind) (entry : Path)
+    → (wants again : Wants) (folder : Folder) (seen : Finding) (items : List Item) (place : ℕ) (name : List ℕ) (what : Kind) (entry : Path)
     (inside : Within) (first now met start after final : CheckState) (there : Option Forest)
     → ForSome (tree_in told) (λ t. listing_at t folder.path ≡ Some items)
     → slice_get items place ≡ Some (name, what) → what ≡ kind.Dir → entry ≡ folder.path ++ name ∷ []
-    → inside ≡ below folder.here holds name (length (joined entry))
-    → ForSome (tree_in told) (λ t. VisitedTo says wants folder holds t place first now) → Meets wants entry folder.here (name, what) now met
+    → inside ≡ below folder.here seen name (length (joined folder.path)) (length (joined entry))
+    → ForSome (tree_in told) (λ t. VisitedTo says wants folder seen t place first now) → Meets wants entry (holder_in folder seen) (name, what) now met
     → there ≡ tree_in told → again ≡ wants
-    → start ≡ counting (begun inside folder.here) met
+    → start ≡ counting (begun inside (holder_in folder seen)) met
     → ForSome there (λ t. VisitsFolder says again (record { path = entry; prefix = folder.prefix; here = inside; left = folder.left - 1 }) (inside_at t entry)
     start after)
-    → final ≡ counting (ended inside folder.here met.numbers.bytes) after
-    → ForSome (tree_in told) (λ t. VisitedTo says wants folder holds t (place + 1) first final)
-dir_step says told proper wants again folder holds items place name what entry inside first now met start after final there listed at is_dir entry_is inside_is
+    → final ≡ counting (ended inside met.numbers) after
+    → ForSome (tree_in told) (λ t. VisitedTo says wants folder seen t (place + 1) first final)
+dir_step says told proper wants again folder seen items place name what entry inside first now met start after final there listed at is_dir entry_is inside_is
     to meets there_is same_wants start_is visits final_is tree is =
     let path : Path = folder.path ++ name ∷ [] in
     let make : Path → Within → Folder = λ q w. record { path = q; prefix = folder.prefix; here = w; left = folder.left - 1 } in
-    let whole : inside ≡ below folder.here holds name (length (joined path)) = inside_is
-    ∙ ap (λ (q : Path). below folder.here holds name (length (joined q))) entry_is in
-    let it : make entry inside ≡ folder_in folder holds name = ap (λ (q : Path). make q inside) entry_is ∙ ap (make path) whole in
+    let whole : inside ≡ below folder.here seen name (length (joined folder.path)) (length (joined path)) = inside_is
+    ∙ ap (λ (q : Path). below folder.here seen name (length (joined folder.path)) (length (joined q))) entry_is in
+    let it : make entry inside ≡ folder_in folder seen name = ap (λ (q : Path). make q inside) entry_is ∙ ap (make path) whole in
     let visited : VisitsFolder says again (make entry inside) (inside_at tree entry) start after = visits tree (there_is ∙ is) in
     let read : VisitsFolder says wants (make entry inside) (inside_at tree entry) start after =
     subst (λ (r : Wants). VisitsFolder says r (make entry inside) (inside_at tree entry) start after) same_wants visited in
-    let named : VisitsFolder says wants (folder_in folder holds name) (inside_at tree entry) start after =
+    let named : VisitsFolder says wants (folder_in folder seen name) (inside_at tree entry) start after =
     subst (λ (f : Folder). VisitsFolder says wants f (inside_at tree entry) start after) it read in
-    let below_it : VisitsFolder says wants (folder_in folder holds name) (inside_at tree path) start after =
-    subst (λ (q : Path). VisitsFolder says wants (folder_in folder holds name) (inside_at tree q) start after) entry_is named in
-    let met_dir : Meets wants entry folder.here (name, kind.Dir) now met = subst (λ (k : Kind). Meets wants entry folder.here (name, k) now met) is_dir meets in
-    let met_it : Meets wants path folder.here (name, kind.Dir) now met = subst (λ (q : Path). Meets wants q folder.here (name, kind.Dir) now met) entry_is
+    let below_it : VisitsFolder says wants (folder_in folder seen name) (inside_at tree path) start after =
+    subst (λ (q : Path). VisitsFolder says wants (folder_in folder seen name) (inside_at tree q) start after) entry_is named in
+    let met_dir : Meets wants entry (holder_in folder seen) (name, kind.Dir) now met = subst (λ (k : Kind). Meets wants entry (holder_in folder seen) (name, k) now met) is_dir meets in
+    let met_it : Meets wants path (holder_in folder seen) (name, kind.Dir) now met = subst (λ (q : Path). Meets wants q (holder_in folder seen) (name, kind.Dir) now met) entry_is
     met_dir in
     let at_dir : slice_get items place ≡ Some (name, kind.Dir) = at ∙ ap (λ (k : Kind). Some (name, k)) is_dir in
-    let begins : start ≡ counting (begun (folder_in folder holds name).here folder.here) met =
-    start_is ∙ ap (λ (w : Within). counting (begun w folder.here) met) whole in
-    let from_start : VisitsFolder says wants (folder_in folder holds name) (inside_at tree path)
-    (counting (begun (folder_in folder holds name).here folder.here) met) after =
-    subst (λ (s : CheckState). VisitsFolder says wants (folder_in folder holds name) (inside_at tree path) s after) begins below_it in
-    let ends : final ≡ counting (ended (folder_in folder holds name).here folder.here met.numbers.bytes) after =
-    final_is ∙ ap (λ (w : Within). counting (ended w folder.here met.numbers.bytes) after) whole in
-    subst (λ (s : CheckState). VisitedTo says wants folder holds tree (place + 1) first s) (sym ends)
-    (visited_dir says wants folder holds tree items place name first now met after (proper_in told proper tree is) (listed tree is) at_dir (to tree is) met_it
+    let begins : start ≡ counting (begun (folder_in folder seen name).here (holder_in folder seen)) met =
+    start_is ∙ ap (λ (w : Within). counting (begun w (holder_in folder seen)) met) whole in
+    let from_start : VisitsFolder says wants (folder_in folder seen name) (inside_at tree path)
+    (counting (begun (folder_in folder seen name).here (holder_in folder seen)) met) after =
+    subst (λ (s : CheckState). VisitsFolder says wants (folder_in folder seen name) (inside_at tree path) s after) begins below_it in
+    let ends : final ≡ counting (ended (folder_in folder seen name).here met.numbers) after =
+    final_is ∙ ap (λ (w : Within). counting (ended w met.numbers) after) whole in
+    subst (λ (s : CheckState). VisitedTo says wants folder seen tree (place + 1) first s) (sym ends)
+    (visited_dir says wants folder seen tree items place name first now met after (proper_in told proper tree is) (listed tree is) at_dir (to tree is) met_it
     from_start)
 
 -- another entry was met, and opened if it is a file
 pub leaf_step : (says : Says) (told : Option Reading) → IsProperTold told
-    → (wants again : Wants) (folder : Folder) (holds : Bool) (items : List Item) (place : ℕ) (name : List ℕ) (here : Kind) (entry : Path)
+    → (wants again : Wants) (folder : Folder) (seen : Finding) (items : List Item) (place : ℕ) (name : List ℕ) (here : Kind) (entry : Path)
     (first now met after : CheckState) (there : Option Forest) → ForSome (tree_in told) (λ t. listing_at t folder.path ≡ Some items)
     → slice_get items place ≡ Some (name, here) → (here ≡ kind.Dir → ⊥) → entry ≡ folder.path ++ name ∷ []
-    → ForSome (tree_in told) (λ t. VisitedTo says wants folder holds t place first now) → Meets wants entry folder.here (name, here) now met
+    → ForSome (tree_in told) (λ t. VisitedTo says wants folder seen t place first now) → Meets wants entry (holder_in folder seen) (name, here) now met
     → there ≡ tree_in told
-    → again ≡ wants → ForSome there (λ t. OpensIf again.reads entry here (bytes_at t entry) met after)
-    → ForSome (tree_in told) (λ t. VisitedTo says wants folder holds t (place + 1) first after)
-leaf_step says told proper wants again folder holds items place name here entry first now met after there listed at leaf entry_is to meets there_is same_wants
+    → again ≡ wants → ForSome there (λ t. OpensIf again.reads entry (holder_in folder seen, here) (bytes_at t entry) met after)
+    → ForSome (tree_in told) (λ t. VisitedTo says wants folder seen t (place + 1) first after)
+leaf_step says told proper wants again folder seen items place name here entry first now met after there listed at leaf entry_is to meets there_is same_wants
     opens tree is =
     let path : Path = folder.path ++ name ∷ [] in
-    let read : OpensIf wants.reads entry here (bytes_at tree entry) met after = subst
-    (λ (r : Wants). OpensIf r.reads entry here (bytes_at tree entry) met after) same_wants (opens tree (there_is ∙ is)) in
-    let opened : OpensIf wants.reads path here (bytes_at tree path) met after =
-    subst (λ (q : Path). OpensIf wants.reads q here (bytes_at tree q) met after) entry_is read in
-    let met_it : Meets wants path folder.here (name, here) now met = subst (λ (q : Path). Meets wants q folder.here (name, here) now met) entry_is meets in
-    visited_leaf says wants folder holds tree items place name here first now met after (proper_in told proper tree is) (listed tree is) at leaf (to tree is)
+    let read : OpensIf wants.reads entry (holder_in folder seen, here) (bytes_at tree entry) met after = subst
+    (λ (r : Wants). OpensIf r.reads entry (holder_in folder seen, here) (bytes_at tree entry) met after) same_wants (opens tree (there_is ∙ is)) in
+    let opened : OpensIf wants.reads path (holder_in folder seen, here) (bytes_at tree path) met after =
+    subst (λ (q : Path). OpensIf wants.reads q (holder_in folder seen, here) (bytes_at tree q) met after) entry_is read in
+    let met_it : Meets wants path (holder_in folder seen) (name, here) now met = subst (λ (q : Path). Meets wants q (holder_in folder seen) (name, here) now met) entry_is meets in
+    visited_leaf says wants folder seen tree items place name here first now met after (proper_in told proper tree is) (listed tree is) at leaf (to tree is)
     met_it opened
 
 -- the folder that is visited next stands there
@@ -309,16 +310,16 @@ leaf_there told proper path entry items place name what there listed at entry_is
     (listed tree here) at is_file)
 
 -- at the end of its listing a folder was visited
-pub all_step : (says : Says) (told : Option Reading) (wants : Wants) (folder : Folder) (holds : Bool) (items : List Item) (place : ℕ) (a first now : CheckState)
+pub all_step : (says : Says) (told : Option Reading) (wants : Wants) (folder : Folder) (seen : Finding) (items : List Item) (place : ℕ) (a first now : CheckState)
     → ForSome (tree_in told) (λ t. listing_at t folder.path ≡ Some items) → length items ≤ place → (folder.left ≡ 0 → ⊥)
-    → Begins says wants folder items holds a first
-    → ForSome (tree_in told) (λ t. VisitedTo says wants folder holds t place first now)
+    → Begins says wants folder items seen a first
+    → ForSome (tree_in told) (λ t. VisitedTo says wants folder seen t place first now)
     → ForSome (tree_in told) (λ t. VisitsFolder says wants folder (inside_at t folder.path) a now)
-all_step says told wants folder holds items place a first now listed past some started to tree is =
+all_step says told wants folder seen items place a first now listed past some started to tree is =
     let inside = inside_at tree folder.path in
     let lists : items ≡ listing_of inside = sym (inside_lists tree folder.path items (listed tree is)) in
-    let starts : Begins says wants folder (listing_of inside) holds a first = subst (λ (l : List Item). Begins says wants folder l holds a first) lists started
+    let starts : Begins says wants folder (listing_of inside) seen a first = subst (λ (l : List Item). Begins says wants folder l seen a first) lists started
     in
-    let all : Visits says wants folder holds inside first now = visited_all says wants folder holds tree items place first now (listed tree is)
+    let all : Visits says wants folder seen inside first now = visited_all says wants folder seen tree items place first now (listed tree is)
     (slice_get_past items place past) (to tree is) in
-    enters says wants folder (listing_of inside) (λ h. Visits says wants folder h inside) a now some (inr (holds, first, starts, all))
+    enters says wants folder (listing_of inside) (λ h. Visits says wants folder h inside) a now some (inr (seen, first, starts, all))

@@ -1,5 +1,5 @@
 -- A store of which a check has nothing to tell.
-use Rattle.std.specs.Prelude.{◌≡◌, ◌≢◌, ◌≤◌, ◌+◌, ◌==◌, ◌||◌, ⊤, ℕ, suc, Bool, true, false, cond, length, take, List, [], ◌∷◌, ◌++◌, Option, None, Some}
+use Rattle.std.specs.Prelude.{◌≡◌, ◌≢◌, ◌≤◌, ◌+◌, ◌==◌, ◌||◌, ◌⊎◌, ⊤, ℕ, suc, Bool, true, false, cond, length, take, List, [], ◌∷◌, ◌++◌, Option, None, Some}
 use Rattle.pt_check.specs.Prefix.{prefix_trouble}
 use Rattle.pt_check.specs.Visits.{
   Checks,
@@ -11,7 +11,7 @@ use Rattle.pt_check.specs.Visits.{
   finding_of,
   folder_in,
   folder_trouble,
-  has_object,
+  holder_in,
   prefix_path,
   reserved_trouble,
   room_trouble,
@@ -23,7 +23,7 @@ use Rattle.pt_check.specs.declared.numbers.Numbers.{Numbers}
 use Rattle.pt_check.specs.declared.wants.Wants.{Wants}
 use Rattle.pt_check.specs.declared.within.Within.{Within}
 use Rattle.pt_plan.specs.Items.{Item as WalkItem, Named, PairtreeObject, Skip, cause_of, items}
-use Rattle.pt_plan.specs.Job.{Job}
+use Rattle.pt_plan.specs.Job.{Job, form_of}
 use Rattle.pt_plan.specs.Store.{pairtree_root, prefix_file, prefix_of, version_file}
 use Rattle.pt_plan.specs.SourceFailures.{FailsAtOpen, FailsOnlyWhereAsked, IsAskedFor, SourceView, StandsAt}
 use Rattle.pt_plan.specs.TurnStart.{is_dir_kind, is_file_kind, kind_in}
@@ -36,17 +36,21 @@ use Rattle.pt_tree.specs.declared.kind.Kind.{Kind}
 use Rattle.pt_tree.specs.declared.kind.Kind.TheVariants as kind
 use Rattle.pt_walk.specs.Left.{bytes_at, inside_at}
 use Rattle.pt_walk.specs.Limits.{greatest_limits}
+use Rattle.pt_walk.specs.Object.{without_shorties}
 use Rattle.pt_walk.specs.declared.cause.Cause.TheVariants as cause
+use Rattle.pt_walk.specs.declared.site.Finding.{Finding}
+use Rattle.pt_walk.specs.declared.site.Finding.TheVariants as finding
+use Rattle.pt_walk.specs.declared.site.Form.TheVariants as form
 
--- there is nothing to tell of an entry of this name and kind in a folder, of which this is wanted
-abbrev pub IsCleanEntry : Wants → Folder → List ℕ → Kind → Type 0
-IsCleanEntry wants folder name what = let bytes = length (joined (folder.path ++ name ∷ [])) in
-    (entry_trouble folder.here name what bytes ≡ None)
-    × (room_trouble wants.room folder.here what bytes ≡ None)
+-- there is nothing to tell of an entry of this name and kind in a folder, which is found to be this, of which that is wanted
+abbrev pub IsCleanEntry : Wants → Folder → Finding → List ℕ → Kind → Type 0
+IsCleanEntry wants folder seen name what = let bytes = length (joined (folder.path ++ name ∷ [])) in
+    (entry_trouble (holder_in folder seen) name what bytes ≡ None)
+    × (room_trouble wants.room (holder_in folder seen) what bytes ≡ None)
 
 -- nor of a folder that lists these entries: it isn't too deep either
 abbrev pub IsCleanFolder : Wants → Folder → List Item → Type 0
-IsCleanFolder wants folder items = let what = finding_of folder.here items in
+IsCleanFolder wants folder items = let what = finding_of wants.form folder.here items in
     ((folder.left == 0) ≡ false) × (folder_trouble folder.here what folder.path ≡ None)
     × (reserved_trouble wants.layout folder.prefix what folder.path ≡ None)
 
@@ -61,25 +65,32 @@ file_count (file name bytes after) = suc (file_count after)
 file_count (other name after) = file_count after
 file_count (dir name inside after) = file_count inside + file_count after
 
--- where an object begins with this folder, in one that is that, a run has room for its files
+-- where an object begins with this folder, in what is that, a run has room for its files
 abbrev pub HasRoom : Folder → Within → Forest → Type 0
 HasRoom folder above inside =
     starts_object folder.here above ≡ true → file_count inside ≤ greatest_limits.files
 
--- nor of the entries of a folder, which has an object or not, and of all that stands in them
-abbrev pub IsClean : Wants → Folder → Bool → Forest → Type 0
-IsClean wants folder holds none = ⊤
-IsClean wants folder holds (file name bytes after) =
-    IsCleanEntry wants folder name kind.File × AreCleanBytes wants.reads bytes
-    × IsClean wants folder holds after
-IsClean wants folder holds (other name after) =
-    IsCleanEntry wants folder name kind.Other × IsClean wants folder holds after
-IsClean wants folder holds (dir name inside after) =
-    let it = folder_in folder holds name in
-    IsCleanEntry wants folder name kind.Dir × IsCleanFolder wants it (listing_of inside)
-    × HasRoom it folder.here inside
-    × IsClean wants it (has_object (finding_of it.here (listing_of inside))) inside
-    × IsClean wants folder holds after
+-- and so it has where a site that is found to be this is an object itself
+abbrev pub HasRoomFor : Finding → Forest → Type 0
+HasRoomFor finding.Interior inside = ⊤
+HasRoomFor (finding.Skip why) inside = ⊤
+HasRoomFor (finding.Candidate i) inside = ⊤
+HasRoomFor finding.Gathered inside = file_count (without_shorties inside) ≤ greatest_limits.files
+
+-- nor of the entries of a folder, which is found to be this, and of all that stands in them
+abbrev pub IsClean : Wants → Folder → Finding → Forest → Type 0
+IsClean wants folder what none = ⊤
+IsClean wants folder what (file name bytes after) =
+    IsCleanEntry wants folder what name kind.File × AreCleanBytes wants.reads bytes
+    × IsClean wants folder what after
+IsClean wants folder what (other name after) =
+    IsCleanEntry wants folder what name kind.Other × IsClean wants folder what after
+IsClean wants folder what (dir name inside after) =
+    let it = folder_in folder what name in
+    let seen = finding_of wants.form it.here (listing_of inside) in
+    IsCleanEntry wants folder what name kind.Dir × IsCleanFolder wants it (listing_of inside)
+    × (HasRoom it (holder_in folder what) inside × HasRoomFor seen inside) × IsClean wants it seen inside
+    × IsClean wants folder what after
 
 -- nor of what stands at the name of the prefix, with these bytes
 abbrev pub IsCleanPrefix : Option Kind → List ℕ → Type 0
@@ -102,7 +113,7 @@ pub record IsCleanStore (wants : Wants) (tree : Forest) : Type 0 where
   pub version : is_file_kind (kind_in (listing_of tree) version_file) ≡ true
   pub root : is_dir_kind (kind_in (listing_of tree) pairtree_root) ≡ true
   pub top : IsCleanFolder wants (root_of tree) (listing_of (below_root tree))
-  pub inside : IsClean wants (root_of tree) (has_object (finding_of (root_of tree).here (listing_of (below_root tree))))
+  pub inside : IsClean wants (root_of tree) (finding_of wants.form (root_of tree).here (listing_of (below_root tree)))
       (below_root tree)
 
 -- a check of a store that ended well and told nothing met one of which there is nothing to tell, and its source failed at nothing
@@ -157,11 +168,17 @@ IsNotSkippedForLimit job item = (item.verdict ≢ Skip cause.Limit)
     × ((id : List ℕ) (object : PairtreeObject) → item.verdict ≡ Named id object
     → cause_of job.limits object ≢ Some cause.Limit)
 
+-- what is wanted is of the form of that run, or of the one that gathers nothing: a store of which there is nothing to tell without gathering
+-- has nothing that a run would gather
+abbrev pub CoversForm : Wants → Job → Type 0
+CoversForm wants job = (wants.form ≡ form.Plain) ⊎ (wants.form ≡ form_of job)
+
 -- no run with the limits of a check passes anything over for a limit in a store of which there is nothing to tell where its files
 -- are read whole
 abbrev pub NoRunSkipsForLimit : Type 0
 NoRunSkipsForLimit =
-    (wants : Wants) (job : Job) (tree : Forest) → wants.reads ≡ true → job.limits ≡ greatest_limits
+    (wants : Wants) (job : Job) (tree : Forest) → CoversForm wants job → wants.reads ≡ true
+    → job.limits ≡ greatest_limits
     → IsCleanStore wants tree → Each (IsNotSkippedForLimit job) (items job tree)
 
 -- an item isn't passed over since the place of its identifier is the storage root's own
@@ -171,5 +188,6 @@ IsNotSkippedForReserved item = item.verdict ≢ Skip cause.Reserved
 -- no run with the tuples that a check was told passes anything over for that cause in a store of which there is nothing to tell
 abbrev pub NoRunSkipsForReserved : Type 0
 NoRunSkipsForReserved =
-    (wants : Wants) (job : Job) (tree : Forest) → wants.layout ≡ job.tuples → IsCleanStore wants tree
+    (wants : Wants) (job : Job) (tree : Forest) → CoversForm wants job → wants.layout ≡ job.tuples
+    → IsCleanStore wants tree
     → Each IsNotSkippedForReserved (items job tree)

@@ -1,6 +1,8 @@
 -- What a check counts.
-use Rattle.std.specs.Prelude.{◌+◌, ◌-◌, ℕ, Bool, cond, max, min}
+use Rattle.std.specs.Prelude.{◌+◌, ℕ, Bool, cond, max, min}
 use Rattle.pt_check.specs.declared.numbers.Numbers.{Numbers}
+use Rattle.pt_check.specs.declared.within.Within.{Within}
+use Rattle.pt_check.specs.declared.within.Within.TheVariants as within
 use Rattle.pt_tree.specs.Failures.{greatest_count}
 use Rattle.pt_tree.specs.declared.kind.Kind.{Kind}
 use Rattle.pt_tree.specs.declared.kind.Kind.TheVariants as kind
@@ -17,6 +19,7 @@ no_numbers = record {
   largest = 0;
   longest = 0;
   held = 0;
+  held_bytes = 0;
 }
 
 -- two numbers together, up to the greatest that is counted
@@ -44,14 +47,20 @@ with_entry kind.Dir length numbers =
     record numbers { folders = plus numbers.folders 1; longest = max numbers.longest length }
 with_entry kind.Other length numbers = record numbers { longest = max numbers.longest length }
 
--- a file of so many bytes was read
-abbrev pub with_bytes : ℕ → Numbers → Numbers
-with_bytes bytes numbers = record numbers { bytes = plus numbers.bytes bytes }
+-- of a file in a folder that is this so many bytes were read: those of an object are compared with the most of any
+abbrev pub with_bytes : Within → ℕ → Numbers → Numbers
+with_bytes (within.Object before) bytes numbers =
+    record numbers {
+      bytes = plus numbers.bytes bytes;
+      largest = max numbers.largest (plus numbers.held_bytes bytes);
+      held_bytes = plus numbers.held_bytes bytes;
+    }
+with_bytes _ bytes numbers = record numbers { bytes = plus numbers.bytes bytes }
 
 -- an object begins
 abbrev pub with_object_begun : Numbers → Numbers
-with_object_begun numbers = record numbers { held = 0 }
+with_object_begun numbers = record numbers { held = 0; held_bytes = 0 }
 
--- an object is at its end, before which so many bytes were read
-abbrev pub with_object : ℕ → Numbers → Numbers
-with_object before numbers = record numbers { largest = max numbers.largest (numbers.bytes - before) }
+-- the object at hand is again the one that was before
+abbrev pub back_at : Numbers → Numbers → Numbers
+back_at before numbers = record numbers { held = before.held; held_bytes = before.held_bytes }

@@ -29,11 +29,11 @@ use Rattle.std.specs.Prelude.{
 use Rattle.std.specs.Io.KnownBytes.{Appends}
 use Rattle.std.specs.List.{concat}
 use Rattle.std.specs.Str.{bytes_eq, is_utf8}
-use Rattle.pt_check.specs.Counting.{plus, with_bytes, with_entry, with_line, with_object, with_object_begun, with_site}
+use Rattle.pt_check.specs.Counting.{back_at, plus, with_bytes, with_entry, with_line, with_object_begun, with_site}
 use Rattle.pt_check.specs.Goes.{GoesBy}
 use Rattle.pt_check.specs.Lines.{Line, End, Told, Unreadable, line_text}
 use Rattle.pt_check.specs.Prefix.{prefix_trouble}
-use Rattle.pt_check.specs.Within.{below, starts_object}
+use Rattle.pt_check.specs.Within.{below, holder, starts_object}
 use Rattle.pt_check.specs.declared.checking.Check.{Check}
 use Rattle.pt_check.specs.declared.numbers.Numbers.{Numbers}
 use Rattle.pt_check.specs.declared.trouble.Trouble.{Trouble}
@@ -69,7 +69,7 @@ use Rattle.pt_walk.specs.declared.site.At.TheVariants as at
 use Rattle.pt_walk.specs.declared.cause.Cause.TheVariants as cause
 use Rattle.pt_walk.specs.declared.site.Finding.{Finding}
 use Rattle.pt_walk.specs.declared.site.Finding.TheVariants as finding
-use Rattle.pt_walk.specs.declared.site.Form.TheVariants as form
+use Rattle.pt_walk.specs.declared.site.Form.{Form}
 
 -- how far a check is: at which paths its source fails, if it tells that, and how often it failed; what its log holds, and what it
 -- has counted
@@ -144,19 +144,17 @@ counting change a = record a { numbers = change a.numbers }
 
 -- ---- a folder
 
--- what a site is; another folder only leads on
-abbrev pub finding_of : Within → List Item → Finding
-finding_of (within.Site at) items = found items at form.Plain
-finding_of within.Past items = finding.Interior
-finding_of (within.Object before) items = finding.Interior
-finding_of within.Beside items = finding.Interior
+-- what a site is to a run of this form; another folder only leads on
+abbrev pub finding_of : Form → Within → List Item → Finding
+finding_of form (within.Site at) items = found items at form
+finding_of form within.Past items = finding.Interior
+finding_of form (within.Object before) items = finding.Interior
+finding_of form within.Beside items = finding.Interior
 
--- it has an object
-abbrev pub has_object : Finding → Bool
-has_object finding.Interior = false
-has_object (finding.Skip why) = false
-has_object (finding.Candidate i) = true
-has_object finding.Gathered = false
+-- what a folder is taken for, by whether it was listed whole: another one only leads on
+abbrev pub found_by : Bool → Form → Within → List Item → Finding
+found_by true form here items = finding_of form here items
+found_by false form here items = finding.Interior
 
 -- whether the names of a site, which join to this text, are those of this identifier's own pairpath
 abbrev pub spelling_trouble : List ℕ → List ℕ → Option Trouble
@@ -178,7 +176,7 @@ folder_trouble within.Past found path = Some (trouble.Skipped cause.Past)
 folder_trouble _ finding.Interior path = None
 folder_trouble _ (finding.Skip why) path = Some (trouble.Skipped why)
 folder_trouble _ (finding.Candidate i) path = trouble_of_names (concat (drop 1 path))
-folder_trouble _ finding.Gathered path = None
+folder_trouble _ finding.Gathered path = trouble_of_names (concat (drop 1 path))
 
 -- what is told of an object of which this is said: no run carries it, since its place is the storage root's own
 abbrev pub reserved_by : Identification → Option Trouble
@@ -200,21 +198,29 @@ reserved_trouble tuples prefix finding.Interior path = None
 reserved_trouble tuples prefix (finding.Skip why) path = None
 reserved_trouble tuples prefix (finding.Candidate i) path =
     cond (tuples.count == 0) (reserved_at tuples prefix (drop 1 path)) None
-reserved_trouble tuples prefix finding.Gathered path = None
+reserved_trouble tuples prefix finding.Gathered path =
+    cond (tuples.count == 0) (reserved_at tuples prefix (drop 1 path)) None
 
--- a site is counted, with an object or without
-abbrev pub with_folder : Within → Bool → Numbers → Numbers
-with_folder (within.Site at) holds numbers = with_site holds numbers
-with_folder within.Past holds numbers = numbers
-with_folder (within.Object before) holds numbers = numbers
-with_folder within.Beside holds numbers = numbers
+-- a site that is found to be this is counted; one that is gathered is where its object begins
+abbrev pub with_found : Finding → Numbers → Numbers
+with_found finding.Interior numbers = with_site false numbers
+with_found (finding.Skip why) numbers = with_site false numbers
+with_found (finding.Candidate i) numbers = with_site true numbers
+with_found finding.Gathered numbers = with_object_begun (with_site true numbers)
+
+-- a folder that is this, and found to be that, is counted if it is a site
+abbrev pub with_folder : Within → Finding → Numbers → Numbers
+with_folder (within.Site at) what numbers = with_found what numbers
+with_folder within.Past what numbers = numbers
+with_folder (within.Object before) what numbers = numbers
+with_folder within.Beside what numbers = numbers
 
 -- a folder at a path in a store of this prefix, which are a pair, that lists these entries is judged: it is counted, and told if there is trouble
 abbrev pub Judges : Wants → Path × List ℕ → Within → List Item → CheckState → CheckState → Type 0
 Judges wants at here items a b =
-    let what = finding_of here items in
+    let what = finding_of wants.form here items in
     (m : CheckState)
-    × TellsIf at.0 (folder_trouble here what at.0) (counting (with_folder here (has_object what)) a) m
+    × TellsIf at.0 (folder_trouble here what at.0) (counting (with_folder here what) a) m
     × TellsIf at.0 (reserved_trouble wants.layout at.1 what at.0) m b
 
 -- ---- an entry
@@ -267,19 +273,19 @@ Meets wants path here item a b =
 abbrev pub size_trouble : ℕ → Option Trouble
 size_trouble bytes = cond (nat_lt greatest_limits.file_bytes bytes) (Some trouble.Large) None
 
--- a file with these bytes is opened, read whole if that is wanted, and told if it is too large; or it is told that it can't be. Where it
+-- a file with these bytes, in a folder that is this, is opened, read whole if that is wanted, and told if it is too large; or it is told that it can't be. Where it
 -- was read whole, and has fewer bytes than the greatest count, the source doesn't fail there.
-abbrev pub Opens : Bool → Path → List ℕ → CheckState → CheckState → Type 0
-Opens reads path bytes a b =
+abbrev pub Opens : Bool → Path → Within → List ℕ → CheckState → CheckState → Type 0
+Opens reads path here bytes a b =
     let count = cond reads (length bytes) 0 in
-    TellsIf path (size_trouble count) (counting (with_bytes count) a) b
+    TellsIf path (size_trouble count) (counting (with_bytes here count) a) b
     × (reads ≡ true → length bytes < greatest_count → GoesAt path a) ⊎ TellsFailure path a b
 
 -- the same of an entry of this kind, if it is a file
-abbrev pub OpensIf : Bool → Path → Kind → List ℕ → CheckState → CheckState → Type 0
-OpensIf reads path kind.File bytes a b = Opens reads path bytes a b
-OpensIf reads path kind.Dir bytes a b = b ≡ a
-OpensIf reads path kind.Other bytes a b = b ≡ a
+abbrev pub OpensIf : Bool → Path → Within × Kind → List ℕ → CheckState → CheckState → Type 0
+OpensIf reads path (here, kind.File) bytes a b = Opens reads path here bytes a b
+OpensIf reads path (here, kind.Dir) bytes a b = b ≡ a
+OpensIf reads path (here, kind.Other) bytes a b = b ≡ a
 
 -- ---- the walk
 
@@ -291,24 +297,29 @@ pub record Folder : Type 0 where
   pub here : Within
   pub left : ℕ
 
--- the folder of this name in one which is this and has an object or not
-abbrev pub folder_in : Folder → Bool → List ℕ → Folder
-folder_in folder holds name =
+-- the folder of this name in one which is this, and found to be that
+abbrev pub folder_in : Folder → Finding → List ℕ → Folder
+folder_in folder what name =
     let path = folder.path ++ name ∷ [] in
     record {
       path = path;
       prefix = folder.prefix;
-      here = below folder.here holds name (length (joined path));
+      here = below folder.here what name (length (joined folder.path)) (length (joined path));
       left = folder.left - 1;
     }
 
--- where an object begins with a folder that is this, in one that is that, it has no files yet
+-- what holds the entries of a folder which is found to be that
+abbrev pub holder_in : Folder → Finding → Within
+holder_in folder what = holder folder.here what (length (joined folder.path))
+
+-- where an object begins with a folder that is this, in what is that, it has no files yet
 abbrev pub begun : Within → Within → Numbers → Numbers
 begun here above numbers = cond (starts_object here above) (with_object_begun numbers) numbers
 
--- where an object ends with such a folder, before which so many bytes were read, its bytes are compared with the most of any
-abbrev pub ended : Within → Within → ℕ → Numbers → Numbers
-ended here above before after = cond (starts_object here above) (with_object before after) after
+-- behind a folder that is this, and in no object, the object at hand is again the one that was before it
+abbrev pub ended : Within → Numbers → Numbers → Numbers
+ended (within.Object bytes) before after = after
+ended _ before after = back_at before after
 
 -- what may be said of a folder at a path that a source failed to list: that for these reasons, and whether what has names in it can be listed
 abbrev pub Says : Type 0
@@ -333,42 +344,44 @@ module _ (says : Says) where
   abbrev pub Finds : Path → Bool → CheckState → CheckState → Type 0
   Finds path whole a b = cond whole ((b ≡ a) × GoesAt path a) (TellsUnlisted path true a b)
 
-  -- a folder that was listed whole, with these entries, is judged, and has an object or not; or it can't be listed whole, and that is
-  -- told in its place: it counts as no site, and is taken for one without an object
-  abbrev pub Begins : Wants → Folder → List Item → Bool → CheckState → CheckState → Type 0
-  Begins wants folder items holds a b = (Judges wants (folder.path, folder.prefix) folder.here items a b
-      × (holds ≡ has_object (finding_of folder.here items)) × GoesAt folder.path a) ⊎ (TellsUnlisted folder.path true a b × (holds ≡ false))
+  -- a folder that was listed whole, with these entries, is judged, and found to be this; or it can't be listed whole, and that is
+  -- told in its place: it counts as no site, and is taken for one that only leads on
+  abbrev pub Begins : Wants → Folder → List Item → Finding → CheckState → CheckState → Type 0
+  Begins wants folder items what a b = (Judges wants (folder.path, folder.prefix) folder.here items a b
+      × (what ≡ finding_of wants.form folder.here items) × GoesAt folder.path a)
+      ⊎ (TellsUnlisted folder.path true a b × (what ≡ finding.Interior))
 
   -- a folder is met that lists these entries, by what is then done with them: it is too deep and told so, nothing of it can be listed
   -- and that is told, or it is begun and its entries are visited. Where it can't be listed whole these are those that have names, and
   -- in a tree that is told each has one.
-  abbrev pub Enters : Wants → Folder → List Item → (Bool → CheckState → CheckState → Type 0) → CheckState → CheckState → Type 0
+  abbrev pub Enters : Wants → Folder → List Item → (Finding → CheckState → CheckState → Type 0) → CheckState → CheckState → Type 0
   Enters wants folder items visits a b = cond (folder.left == 0) (Tells (Told folder.path trouble.Deep) a b)
       (TellsUnlisted folder.path false a b
-      ⊎ ((holds : Bool) × (m : CheckState) × Begins wants folder items holds a m × visits holds m b))
+      ⊎ ((what : Finding) × (m : CheckState) × Begins wants folder items what a m × visits what m b))
 
-  -- the entries of a folder, which has an object or not, are visited one after another, each once, and all that stands in them
-  abbrev pub Visits : Wants → Folder → Bool → Forest → CheckState → CheckState → Type 0
-  Visits wants folder holds none a b = b ≡ a
-  Visits wants folder holds (file name bytes after) a b =
+  -- the entries of a folder, which is found to be this, are visited one after another, each once, and all that stands in them
+  abbrev pub Visits : Wants → Folder → Finding → Forest → CheckState → CheckState → Type 0
+  Visits wants folder what none a b = b ≡ a
+  Visits wants folder what (file name bytes after) a b =
       let path = folder.path ++ name ∷ [] in
-      (m : CheckState) × Meets wants path folder.here (name, kind.File) a m
-      × (n : CheckState) × Opens wants.reads path bytes m n
-      × Visits wants folder holds after n b
-  Visits wants folder holds (other name after) a b =
-      (m : CheckState) × Meets wants (folder.path ++ name ∷ []) folder.here (name, kind.Other) a m
-      × Visits wants folder holds after m b
-  Visits wants folder holds (dir name inside after) a b =
-      let it = folder_in folder holds name in
-      (m : CheckState) × Meets wants it.path folder.here (name, kind.Dir) a m
-      × (n : CheckState) × Enters wants it (listing_of inside) (λ holds_it. Visits wants it holds_it inside)
-      (counting (begun it.here folder.here) m) n
-      × Visits wants folder holds after (counting (ended it.here folder.here m.numbers.bytes) n) b
+      let here = holder_in folder what in
+      (m : CheckState) × Meets wants path here (name, kind.File) a m
+      × (n : CheckState) × Opens wants.reads path here bytes m n
+      × Visits wants folder what after n b
+  Visits wants folder what (other name after) a b =
+      (m : CheckState) × Meets wants (folder.path ++ name ∷ []) (holder_in folder what) (name, kind.Other) a m
+      × Visits wants folder what after m b
+  Visits wants folder what (dir name inside after) a b =
+      let it = folder_in folder what name in
+      (m : CheckState) × Meets wants it.path (holder_in folder what) (name, kind.Dir) a m
+      × (n : CheckState) × Enters wants it (listing_of inside) (λ seen. Visits wants it seen inside)
+      (counting (begun it.here (holder_in folder what)) m) n
+      × Visits wants folder what after (counting (ended it.here m.numbers) n) b
 
   -- a folder of the store and all that stands in it are visited
   abbrev pub VisitsFolder : Wants → Folder → Forest → CheckState → CheckState → Type 0
   VisitsFolder wants folder inside =
-      Enters wants folder (listing_of inside) (λ holds. Visits wants folder holds inside)
+      Enters wants folder (listing_of inside) (λ what. Visits wants folder what inside)
 
 -- ---- a store
 

@@ -31,25 +31,25 @@ ghost use Rattle.pt_tree.specs.Path.{joined};
 ghost use Rattle.pt_check.specs.Visits.{Checks, Finds, Judges, Keeps, Looks, Meets, Opens, OpensIf};
 ghost use Rattle.pt_check.specs.Visits.{ReadsFront, ReadsPrefix, TellsReasons, TellsUnlisted};
 ghost use Rattle.pt_check.specs.Visits.{VisitsFolder, begun, ended, finding_of as finding_of_items};
-ghost use Rattle.pt_check.specs.Visits.{has_object as has_object_in, missing as missing_by};
+ghost use Rattle.pt_check.specs.Visits.{found_by, missing as missing_by};
 ghost use Rattle.pt_check.specs.Visits.{prefix_path, check_state, tree_by, with_folder};
 ghost use Rattle.pt_tree.specs.Forest.{dir_at, file_at, listing_at};
 ghost use Rattle.pt_tree.specs.declared.kind.Kind.TheVariants as kind;
 ghost use Rattle.pt_walk.specs.Left.{bytes_at, inside_at};
 
 use crate::judging::{
-    count_trouble, entry_trouble, finding_of, folder_trouble, has_object, reserved_trouble,
-    room_trouble, size_trouble,
+    count_trouble, entry_trouble, finding_of, folder_trouble, reserved_trouble, room_trouble,
+    size_trouble,
 };
 use crate::prefix::open_prefix;
 use crate::reading::open_whole;
 use crate::unlisted::{Explains, UnlistedFolder};
-use crate::{CheckDevices, Numbers, Trouble, Wants, Within};
+use crate::{CheckDevices, FoundFolder, Numbers, Trouble, Wants, Within};
 use pt_object::WellKnownName;
 use pt_plan::Fault;
 use pt_plan::kinds::{is_dir, is_file, kind_in};
 use pt_tree::{Kind, KnownName, Listing, Log, Name, NamePath, Source, TreeFault};
-use pt_walk::{At, Limits};
+use pt_walk::{At, Finding, Limits};
 use std::alloc::Global;
 
 /// A check under way: what it goes over, and what it has counted.
@@ -240,125 +240,136 @@ impl<S: Source, L: Log, E: Explains<S> + Drop> Check<S, L, E> {
         let FolderListing::Entries(found) = self.list(path)? else {
             return Ok(());
         };
-        let has_object = self.judge_found(path, prefix, within, &found)?;
+        let finding = self.judge_found(path, prefix, within, &found)?;
+        let length = path.join()?.len() as u64;
+        let folder = FoundFolder {
+            within,
+            finding,
+            length,
+        };
+        let holder = folder.holder();
         for i in 0..found.listing.len() {
             let Some((name, kind)) = found.listing.get(i) else {
                 unreachable!()
             };
             let entry = path.child(name)?;
-            let bytes = self.meet(&entry, within, name, kind)?;
+            let bytes = self.meet(&entry, holder, name, kind)?;
             if let Kind::Dir = kind {
-                let inside = within.of_child(has_object, name, bytes);
-                let before = self.begin(inside, within);
+                let inside = folder.child(name, bytes);
+                let before = self.begin(inside, holder);
                 self.visit(&entry, prefix, inside, left - 1)?;
-                self.end(inside, within, before);
+                self.end(inside, before);
                 continue;
             }
-            self.visit_leaf(&entry, kind)?;
+            self.visit_leaf(&entry, holder, kind)?;
         }
         Ok(())
     }
 
-    // Opens an entry that is no folder, if it is a file.
-    fn visit_leaf(&mut self, path: &NamePath, here: Kind) -> Result<(), Fault>
+    // Opens an entry that is no folder, in a folder that is this, if it is a file.
+    fn visit_leaf(&mut self, path: &NamePath, within: Within, here: Kind) -> Result<(), Fault>
         requires { ForSome (tree_by S.told self.old)
             (λ tree. here ≡ kind.File → IsSome (file_at tree path.now)) }
         ensures opened { OnOk result (ForSome (tree_by S.told self.old)
-            (λ tree. OpensIf self.old.wants.reads path.now here (bytes_at tree path.now)
+            (λ tree. OpensIf self.old.wants.reads path.now (within, here) (bytes_at tree path.now)
             (check_state S.Source L.Log self.old) (check_state S.Source L.Log self.new))) }
         ensures keeps { Keeps S.told S.keeps L.told self.old self.new }
         ensures fault { LogFailsAs (L.failed self.old.log) (L.failed self.new.log) result }
     {
         match here {
-            Kind::File => self.open(path),
+            Kind::File => self.open(path, within),
             Kind::Dir | Kind::Other => Ok(()),
         }
     }
 
-    // Where an object begins with a folder, it has no files yet. Gives how many bytes were read so
-    // far.
-    fn begin(&mut self, within: Within, above: Within) -> u64
+    // Where an object begins with a folder, it has no files yet. Gives the numbers so far.
+    fn begin(&mut self, within: Within, above: Within) -> Numbers
         ensures numbers { self.new.numbers ≡ begun within above self.old.numbers }
-        ensures bytes { result ≡ self.old.numbers.bytes }
+        ensures before { result ≡ self.old.numbers }
         ensures rest { self.new ≡ record self.old { numbers = self.new.numbers } }
     {
+        let before = self.numbers;
         if within.starts_object(above) {
-            self.numbers = self.numbers.with_object_begun();
+            self.numbers = before.with_object_begun();
         }
-        self.numbers.bytes
+        before
     }
 
-    // Where an object ends with a folder, its bytes are compared with the most of any.
-    fn end(&mut self, within: Within, above: Within, before: u64)
-        ensures numbers { self.new.numbers ≡ ended within above before self.old.numbers }
+    // Behind a folder that is in no object, the object at hand is the one that was before it.
+    fn end(&mut self, within: Within, before: Numbers)
+        ensures numbers { self.new.numbers ≡ ended within before self.old.numbers }
         ensures rest { self.new ≡ record self.old { numbers = self.new.numbers } }
     {
-        if within.starts_object(above) {
-            self.numbers = self.numbers.with_object(before);
+        match within {
+            Within::Object(_) => {}
+            _ => self.numbers = self.numbers.back_at(before),
         }
     }
 
-    // Counts a site.
-    fn count(&mut self, within: Within, has_object: bool)
-        ensures numbers { self.new.numbers ≡ with_folder within has_object self.old.numbers }
+    // Counts a site. One that is gathered is where its object begins.
+    fn count(&mut self, within: Within, finding: Finding)
+        ensures numbers { self.new.numbers ≡ with_folder within finding self.old.numbers }
         ensures rest { self.new ≡ record self.old { numbers = self.new.numbers } }
     {
         if let Within::Site(_) = within {
-            self.numbers = self.numbers.with_site(has_object);
+            self.numbers = match finding {
+                Finding::Gathered => self.numbers.with_site(true).with_object_begun(),
+                Finding::Candidate(_) => self.numbers.with_site(true),
+                _ => self.numbers.with_site(false),
+            };
         }
     }
 
     // Judges a folder that was listed whole, as below. What another one is can't be said: it isn't
-    // judged, counts as no site, and is taken for one without an object.
+    // judged, counts as no site, and is taken for one that only leads on.
     fn judge_found(
         &mut self,
         path: &NamePath,
         prefix: &str,
         within: Within,
         found: &ListedEntries,
-    ) -> Result<bool, Fault>
+    ) -> Result<Finding, Fault>
         ensures judged { OnOk result (cond found.now.is_whole
             (Judges self.old.wants (path.now, prefix.now) within found.now.listing
             (check_state S.Source L.Log self.old) (check_state S.Source L.Log self.new))
             (check_state S.Source L.Log self.new ≡ check_state S.Source L.Log self.old)) }
-        ensures object { IfOk result (λ holds. holds ≡ cond found.now.is_whole
-            (has_object_in (finding_of_items within found.now.listing)) false) }
+        ensures finding { IfOk result (λ finding. finding
+            ≡ found_by found.now.is_whole self.old.wants.form within found.now.listing) }
         ensures keeps { Keeps S.told S.keeps L.told self.old self.new }
         ensures fault { LogFailsAs (L.failed self.old.log) (L.failed self.new.log) result }
     {
         if found.is_whole {
             self.judge(path, prefix, within, &found.listing)
         } else {
-            Ok(false)
+            Ok(Finding::Interior)
         }
     }
 
     // Judges a folder of a store of this prefix by what it lists: it is counted, and told if there
-    // is trouble. Gives whether it has an object.
+    // is trouble. Gives what it is found to be.
     fn judge(
         &mut self,
         path: &NamePath,
         prefix: &str,
         within: Within,
         listing: &Listing,
-    ) -> Result<bool, Fault>
+    ) -> Result<Finding, Fault>
         ensures judged { OnOk result (Judges self.old.wants
             (path.now, prefix.now) within listing.now
             (check_state S.Source L.Log self.old) (check_state S.Source L.Log self.new)) }
-        ensures object { IfOk result (λ holds. holds
-            ≡ has_object_in (finding_of_items within listing.now)) }
+        ensures finding { IfOk result (λ finding. finding
+            ≡ finding_of_items self.old.wants.form within listing.now) }
         ensures keeps { Keeps S.told S.keeps L.told self.old self.new }
         ensures fault { LogFailsAs (L.failed self.old.log) (L.failed self.new.log) result }
     {
-        let finding = finding_of(within, listing);
-        let has_object = has_object(finding);
-        self.count(within, has_object);
+        let finding = finding_of(self.wants.form, within, listing);
+        self.count(within, finding);
         let layout = self.wants.layout;
         let trouble = folder_trouble(self.alloc, within, finding, path)?;
         self.tell_if(path, trouble)?;
         let trouble = reserved_trouble(layout, prefix, finding, path)?;
         self.tell_if(path, trouble)?;
-        Ok(has_object)
+        Ok(finding)
     }
 
     // Meets an entry of a folder that is this: it is counted, and told if there is trouble. Gives
@@ -443,18 +454,19 @@ impl<S: Source, L: Log, E: Explains<S> + Drop> Check<S, L, E> {
         }
     }
 
-    // Opens a file, and reads it whole where that is wanted; where that can't be done it is told.
-    fn open(&mut self, path: &NamePath) -> Result<(), Fault>
+    // Opens a file in a folder that is this, and reads it whole where that is wanted; where that
+    // can't be done it is told.
+    fn open(&mut self, path: &NamePath, within: Within) -> Result<(), Fault>
         requires { ForSome (tree_by S.told self.old) (λ tree. IsSome (file_at tree path.now)) }
         ensures opened { OnOk result (ForSome (tree_by S.told self.old)
-            (λ tree. Opens self.old.wants.reads path.now (bytes_at tree path.now)
+            (λ tree. Opens self.old.wants.reads path.now within (bytes_at tree path.now)
             (check_state S.Source L.Log self.old) (check_state S.Source L.Log self.new))) }
         ensures keeps { Keeps S.told S.keeps L.told self.old self.new }
         ensures fault { LogFailsAs (L.failed self.old.log) (L.failed self.new.log) result }
     {
         match open_whole(&mut self.source, path, self.wants.reads) {
             Ok(bytes) => {
-                self.numbers = self.numbers.with_bytes(bytes);
+                self.numbers = self.numbers.with_bytes(within, bytes);
                 self.tell_if(path, size_trouble(bytes))
             }
             Err(TreeFault::Device) => self.tell_failure(path),

@@ -2,7 +2,7 @@
 //!
 //! At each it is exactly what `folder_trouble`, `reserved_trouble`, `count_trouble`,
 //! `entry_trouble` and `room_trouble` say of it, each by a line of its own (`Tells`): the cause for
-//! which a run without `--gather` passes a site over, names that aren't those of the identifier's
+//! which a run of the form that is wanted passes a site over, names that aren't those of the identifier's
 //! own pairpath, the first file over the limit of an object, names that desktops leave, links and
 //! special files, and paths in an object that are too long, for a run or for the room that a
 //! destination has. `reserved` is that of the layout that is asked for, and of the prefix as it was
@@ -18,7 +18,6 @@ ghost use Rattle.pt_check.specs.Visits.{count_trouble as count_trouble_of};
 ghost use Rattle.pt_check.specs.Visits.{entry_trouble as entry_trouble_of};
 ghost use Rattle.pt_check.specs.Visits.{finding_of as finding_of_items};
 ghost use Rattle.pt_check.specs.Visits.{folder_trouble as folder_trouble_of};
-ghost use Rattle.pt_check.specs.Visits.{has_object as has_object_in};
 ghost use Rattle.pt_check.specs.Visits.{is_long as is_long_path};
 ghost use Rattle.pt_check.specs.Visits.{is_of_desktop as is_of_desktop_name};
 ghost use Rattle.pt_check.specs.Visits.{name_trouble as name_trouble_of};
@@ -37,21 +36,14 @@ use pt_tree::{Kind, Listing, MemoryFault, Name, NamePath};
 use pt_walk::{Cause, Finding, Form, Limits, judge};
 use std::alloc::Global;
 
-/// What a site is, by what it lists; another folder only leads on.
-pub(crate) fn finding_of(within: Within, listing: &Listing) -> Finding
-    ensures { result ≡ finding_of_items within listing.now }
+/// What a site is to a run of this form, by what it lists; another folder only leads on.
+pub(crate) fn finding_of(form: Form, within: Within, listing: &Listing) -> Finding
+    ensures { result ≡ finding_of_items form within listing.now }
 {
     match within {
-        Within::Site(at) => judge(listing, at, Form::Plain),
+        Within::Site(at) => judge(listing, at, form),
         _ => Finding::Interior,
     }
-}
-
-/// Whether what is found to be this has an object.
-pub(crate) fn has_object(finding: Finding) -> bool
-    ensures { result ≡ has_object_in finding }
-{
-    matches!(finding, Finding::Candidate(_))
 }
 
 /// What is told of a folder at a path from the store's folder on, which is found to be this.
@@ -66,7 +58,7 @@ pub(crate) fn folder_trouble(
     match (within, finding) {
         (Within::Past, _) => Ok(Some(Trouble::Skipped(Cause::Past))),
         (_, Finding::Skip(cause)) => Ok(Some(Trouble::Skipped(cause))),
-        (_, Finding::Candidate(_)) => identifier_trouble(alloc, path),
+        (_, Finding::Candidate(_) | Finding::Gathered) => identifier_trouble(alloc, path),
         _ => Ok(None),
     }
 }
@@ -126,7 +118,9 @@ pub(crate) fn reserved_trouble(
         ≡ reserved_trouble_of layout prefix.now finding path.now) }
 {
     match finding {
-        Finding::Candidate(_) if layout.count() == 0 => reserved_at(layout, prefix, path),
+        Finding::Candidate(_) | Finding::Gathered if layout.count() == 0 => {
+            reserved_at(layout, prefix, path)
+        }
         _ => Ok(None),
     }
 }

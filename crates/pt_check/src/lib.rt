@@ -52,4 +52,4 @@ pub use numbers::Numbers;
 pub use trouble::Trouble;
 pub use unlisted::{Explains, UnlistedFolder};
 pub use wants::Wants;
-pub use within::Within;
+pub use within::{FoundFolder, Within};

@@ -1,9 +1,10 @@
-//! The numbers of a check are those of what was visited (`with_site`, `with_entry`, `with_bytes`,
-//! `with_object`); `told` is that of the lines. The last line has them, and they are its answer.
+//! The numbers of a check are those of what was visited (`with_site`, `with_entry`,
+//! `with_bytes`); `told` is that of the lines. The last line has them, and they are its answer.
 ghost use Rattle.std.specs.Prelude.{◌≡◌};
-ghost use Rattle.pt_check.specs.Counting.{no_numbers, with_bytes, with_entry, with_line};
-ghost use Rattle.pt_check.specs.Counting.{with_object, with_object_begun, with_site};
+ghost use Rattle.pt_check.specs.Counting.{back_at, no_numbers, with_bytes, with_entry, with_line};
+ghost use Rattle.pt_check.specs.Counting.{with_object_begun, with_site};
 
+use crate::Within;
 use pt_tree::Kind;
 
 /// What a check counts, each number up to 2^64 - 1.
@@ -27,6 +28,8 @@ pub struct Numbers {
     pub longest: u64,
     /// The files since an object began last: those of the object at hand, so far.
     pub held: u64,
+    /// The bytes that were read of these.
+    pub held_bytes: u64,
 }
 
 impl Numbers {
@@ -44,6 +47,7 @@ impl Numbers {
             largest: 0,
             longest: 0,
             held: 0,
+            held_bytes: 0,
         }
     }
 
@@ -89,13 +93,25 @@ impl Numbers {
         }
     }
 
-    /// With a file of so many bytes read.
-    pub fn with_bytes(self, bytes: u64) -> Numbers
-        ensures { result ≡ with_bytes bytes self }
+    /// With a file of so many bytes read, in a folder that is this.
+    pub fn with_bytes(self, within: Within, bytes: u64) -> Numbers
+        ensures { result ≡ with_bytes within bytes self }
     {
-        Numbers {
-            bytes: self.bytes.saturating_add(bytes),
-            ..self
+        let total = self.bytes.saturating_add(bytes);
+        match within {
+            Within::Object(_) => {
+                let held_bytes = self.held_bytes.saturating_add(bytes);
+                Numbers {
+                    bytes: total,
+                    largest: self.largest.max(held_bytes),
+                    held_bytes,
+                    ..self
+                }
+            }
+            _ => Numbers {
+                bytes: total,
+                ..self
+            },
         }
     }
 
@@ -103,15 +119,20 @@ impl Numbers {
     pub fn with_object_begun(self) -> Numbers
         ensures { result ≡ with_object_begun self }
     {
-        Numbers { held: 0, ..self }
+        Numbers {
+            held: 0,
+            held_bytes: 0,
+            ..self
+        }
     }
 
-    /// With an object at its end, before which so many bytes were read.
-    pub fn with_object(self, before: u64) -> Numbers
-        ensures { result ≡ with_object before self }
+    /// With the object at hand that there was before, when the numbers were those.
+    pub fn back_at(self, before: Numbers) -> Numbers
+        ensures { result ≡ back_at before self }
     {
         Numbers {
-            largest: self.largest.max(self.bytes.saturating_sub(before)),
+            held: before.held,
+            held_bytes: before.held_bytes,
             ..self
         }
     }

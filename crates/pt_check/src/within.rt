@@ -1,8 +1,8 @@
 ghost use Rattle.std.specs.Prelude.{◌≡◌};
-ghost use Rattle.pt_check.specs.Within.{below as below_of, starts_object as starts_object_in};
+ghost use Rattle.pt_check.specs.Within.{below, holder, starts_object as starts_object_in};
 
 use pt_tree::{Kind, Name};
-use pt_walk::{At, is_shorty};
+use pt_walk::{At, Finding, is_shorty};
 
 /// What a folder is to a run over the store.
 #[derive(Clone, Copy, Debug, PartialEq, Eq)]
@@ -18,25 +18,48 @@ pub enum Within {
     Beside,
 }
 
-impl Within {
-    /// What a folder of this name is that stands in one which is this, and whose path has so many
-    /// bytes. Where that is a site, it has an object or not.
-    pub fn of_child(self, has_object: bool, name: &Name, length: u64) -> Within
-        ensures { result ≡ below_of self has_object name.now length }
-    {
-        match self {
-            Within::Site(at) if is_shorty(name, Kind::Dir) => below_site(at, name),
-            Within::Site(_) if has_object => Within::Object(length.saturating_add(1)),
-            Within::Object(before) => Within::Object(before),
-            _ => Within::Beside,
-        }
-    }
+/// A folder, what it is found to be, and how many bytes its path has from the store's folder on.
+#[derive(Clone, Copy, Debug, PartialEq, Eq)]
+pub struct FoundFolder {
+    /// What it is to a run.
+    pub within: Within,
+    /// What it is found to be; what is no site only leads on.
+    pub finding: Finding,
+    /// The length of its path.
+    pub length: u64,
+}
 
-    /// Whether an object starts with a folder that is this, which stands in one that is that.
+impl Within {
+    /// Whether an object starts with a folder that is this, which stands in what is that.
     pub fn starts_object(self, above: Within) -> bool
         ensures { result ≡ starts_object_in self above }
     {
         matches!((self, above), (Within::Object(_), Within::Site(_)))
+    }
+}
+
+impl FoundFolder {
+    /// What holds its entries that are no folders: itself, or the object that a site is.
+    pub fn holder(self) -> Within
+        ensures { result ≡ holder self.within self.finding self.length }
+    {
+        match self.finding {
+            Finding::Gathered => Within::Object(self.length.saturating_add(1)),
+            _ => self.within,
+        }
+    }
+
+    /// What a folder in it is that has this name, and whose path has so many bytes.
+    pub fn child(self, name: &Name, length: u64) -> Within
+        ensures { result ≡ below self.within self.finding name.now self.length length }
+    {
+        match (self.within, self.finding) {
+            (Within::Site(at), _) if is_shorty(name, Kind::Dir) => below_site(at, name),
+            (Within::Site(_), Finding::Candidate(_)) => Within::Object(length.saturating_add(1)),
+            (Within::Site(_), Finding::Gathered) => self.holder(),
+            (Within::Object(before), _) => Within::Object(before),
+            _ => Within::Beside,
+        }
     }
 }
 

@@ -239,7 +239,7 @@ module _ (spelled others : Spelled) where
       (refl, refl, refl),
       (
         (refl, refl, refl),
-        ((refl, refl, refl), ((refl, refl, refl), ((refl, refl, refl), ((refl, refl, refl), tt)))),
+        ((refl, refl, refl), ((refl, refl, refl), ((refl, refl, refl), ((refl, refl, refl), ((refl, refl, refl), tt))))),
       ),
     ),
   )

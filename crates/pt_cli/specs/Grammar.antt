@@ -200,7 +200,7 @@ IsAuditApp app = (words : Spelled) × (app ≡ audit_app words)
 -- `check [OPTIONS] SOURCE`
 abbrev pub check_app : App
 check_app = on_top
-    (λ s. record s { rules = read_rule ∷ into_rule ∷ size_rule ∷ count_rule ∷ ignore_rule ∷ source_rule ∷ [] })
+    (λ s. record s { rules = read_rule ∷ gather_rule ∷ into_rule ∷ size_rule ∷ count_rule ∷ ignore_rule ∷ source_rule ∷ [] })
     (new_app (codes "check"))
 
 -- `pairtree2ocfl` with a command behind it, or `--version`

@@ -169,6 +169,7 @@ check_in rows = do
   Ok (Check (record {
     options = record {
       reads = is_set_in (codes "read") rows;
+      gather = is_set_in (codes "gather") rows;
       ignored = ignored;
       dest = dest;
       layout = layout;

@@ -278,6 +278,14 @@ pub(crate) const CHECK_SPECS: &[ArgSpec] = &[
         more: None,
     },
     ArgSpec {
+        id: GATHER,
+        form: Form::Flag,
+        help: "Check for a run that carries what lies directly in an identifier's folder",
+        more: Some(
+            "Check for a run that carries what lies directly in an identifier's folder too [default: it is told]",
+        ),
+    },
+    ArgSpec {
         id: INTO,
         form: Form::Value("DEST"),
         help: "Tell what would be too long for a run into this folder",

@@ -5,7 +5,7 @@ ghost use Rattle.pt_cli.specs.Options.{check_in};
 
 use crate::arguments::{is_set, require, text};
 use crate::faults::Unread;
-use crate::ids::{INTO, READ, SOURCE};
+use crate::ids::{GATHER, INTO, READ, SOURCE};
 use crate::ignore_words::ignored_names;
 use crate::layout_words::layout;
 use crate::path_words::path_of;
@@ -24,6 +24,7 @@ pub(crate) fn check_command(alloc: Global, matches: &ArgMatches<'_>) -> Result<C
     let source = require(text(matches, SOURCE))?;
     let options = CheckOptions {
         reads: is_set(matches, READ),
+        gather: is_set(matches, GATHER),
         ignored,
         dest,
         layout,

@@ -1,5 +1,5 @@
 -- What a check of a store on a machine comes to.
-use Rattle.std.specs.Prelude.{◌≡◌, ◌==◌, ⊤, ℕ, Bool, true, if◌then◌else◌, IfErr, IfOk, List, Option, Result, Ok, Err}
+use Rattle.std.specs.Prelude.{◌≡◌, ◌==◌, ⊤, ℕ, Bool, cond, true, if◌then◌else◌, IfErr, IfOk, List, Option, Result, Ok, Err}
 use Rattle.std.specs.Option.{ForSome, option_map}
 use Rattle.pt_check.specs.Counting.{no_numbers}
 use Rattle.pt_check.specs.Visits.{Checks, Says, CheckState}
@@ -16,6 +16,7 @@ use Rattle.pt_host.specs.Room.{room_in}
 use Rattle.pt_host.specs.Machine.{HostIoOf, HostIoWords, MachineWords}
 use Rattle.pt_host.specs.declared.host.HostIo.{HostIo}
 use Rattle.pt_host.specs.declared.options.CheckOptions.{CheckOptions}
+use Rattle.pt_walk.specs.declared.site.Form.TheVariants as form
 
 -- of a check: 0 where it told nothing, 1 where it told something, 3 after a fault
 abbrev pub check_status : Result Numbers Fault → ℕ
@@ -52,6 +53,7 @@ unbegun failing held = record { failing = failing; failed = 0; held = held; numb
 abbrev pub wants_of : CheckOptions → Wants
 wants_of options = record {
   reads = options.reads;
+  form = cond options.gather form.Gathering form.Plain;
   room = option_map (λ dest. room_in dest options.layout) options.dest;
   layout = options.layout;
 }

@@ -20,6 +20,7 @@ use pt_check::{Check, CheckDevices, Numbers, Wants};
 use pt_folder::{HostSource, System};
 use pt_move::Fault;
 use pt_tree::Ignoring;
+use pt_walk::Form;
 use std::alloc::AllocGlobal;
 use std::io::Write;
 
@@ -96,6 +97,11 @@ fn wants_of(options: &CheckOptions) -> Wants
     };
     Wants {
         reads: options.reads,
+        form: if options.gather {
+            Form::Gathering
+        } else {
+            Form::Plain
+        },
         room,
         layout: options.layout,
     }

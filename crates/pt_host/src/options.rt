@@ -55,6 +55,9 @@ pub struct AuditOptions {
 pub struct CheckOptions {
     /// Whether each file is read whole.
     pub reads: bool,
+    /// Whether what lies directly in an identifier's folder is an object, as to a run with
+    /// `--gather`.
+    pub gather: bool,
     /// The names of the entries of the store that are left out.
     pub ignored: Ignored,
     /// The path of the folder in which a run would make the root, if one is named. Nothing of it is

@@ -5,11 +5,12 @@ use crate::spoiled_stores::{ItFailed, spoiled_store};
 use pt_check::{Check, CheckDevices, Wants};
 use pt_memory::{MemLog, MemSource, SpoiledSource};
 use pt_name::Layout;
+use pt_walk::Form;
 use std::alloc::Global;
 
 // A check: the store's entries, where nothing can be read, how many calls of it pass, the further
-// reasons of one that doesn't, the room of a destination, whether its places have tuples, and the
-// log.
+// reasons of one that doesn't, the room of a destination, whether its places have tuples, the form
+// of the run that it is made for, and the log.
 struct Row {
     entries: &'static str,
     spoiled: &'static [&'static str],
@@ -17,6 +18,7 @@ struct Row {
     further: &'static [&'static str],
     room: Option<u64>,
     has_tuples: bool,
+    form: Form,
     log: &'static str,
 }
 
@@ -27,6 +29,7 @@ const WHOLE: Row = Row {
     further: &[],
     room: None,
     has_tuples: true,
+    form: Form::Plain,
     log: "{\"as\":\"end\",\"bytes\":3,\"files\":1,\"folders\":3,\"largest\":3,\"longest\":24,\"objects\":1,\"sites\":3,\"told\":0}\n",
 };
 
@@ -37,6 +40,7 @@ const TWO_OBJECTS: Row = Row {
     further: &[],
     room: None,
     has_tuples: true,
+    form: Form::Plain,
     log: "{\"as\":\"end\",\"bytes\":9,\"files\":4,\"folders\":6,\"largest\":6,\"longest\":26,\"objects\":2,\"sites\":4,\"told\":0}\n",
 };
 
@@ -47,6 +51,7 @@ const STRAY: Row = Row {
     further: &[],
     room: None,
     has_tuples: true,
+    form: Form::Plain,
     log: "{\"as\":\"split\",\"path\":\"pairtree_root/ab/c\"}\n{\"as\":\"desktop\",\"path\":\"pairtree_root/ab/c/.DS_Store\"}\n{\"as\":\"end\",\"bytes\":4,\"files\":2,\"folders\":3,\"largest\":0,\"longest\":28,\"objects\":0,\"sites\":3,\"told\":2}\n",
 };
 
@@ -57,6 +62,7 @@ const OTHER: Row = Row {
     further: &[],
     room: None,
     has_tuples: true,
+    form: Form::Plain,
     log: "{\"as\":\"other\",\"path\":\"pairtree_root/ab/c/obj/l\"}\n{\"as\":\"end\",\"bytes\":0,\"files\":0,\"folders\":3,\"largest\":0,\"longest\":24,\"objects\":1,\"sites\":3,\"told\":1}\n",
 };
 
@@ -67,6 +73,7 @@ const BAD_NAME: Row = Row {
     further: &[],
     room: None,
     has_tuples: true,
+    form: Form::Plain,
     log: "{\"as\":\"name\",\"path\":\"pairtree_root/^z/c\"}\n{\"as\":\"end\",\"bytes\":0,\"files\":1,\"folders\":3,\"largest\":0,\"longest\":24,\"objects\":1,\"sites\":3,\"told\":1}\n",
 };
 
@@ -78,6 +85,7 @@ const SPELLING: Row = Row {
     further: &[],
     room: None,
     has_tuples: true,
+    form: Form::Plain,
     log: "{\"as\":\"spelling\",\"path\":\"pairtree_root/^6/1b\"}\n{\"as\":\"end\",\"bytes\":0,\"files\":1,\"folders\":3,\"largest\":0,\"longest\":25,\"objects\":1,\"sites\":3,\"told\":1}\n",
 };
 
@@ -88,6 +96,7 @@ const PAST: Row = Row {
     further: &[],
     room: None,
     has_tuples: true,
+    form: Form::Plain,
     log: "{\"as\":\"past\",\"path\":\"pairtree_root/a/bc\"}\n{\"as\":\"end\",\"bytes\":0,\"files\":1,\"folders\":3,\"largest\":0,\"longest\":24,\"objects\":0,\"sites\":2,\"told\":1}\n",
 };
 
@@ -100,6 +109,7 @@ const FAILING: Row = Row {
     further: &[],
     room: None,
     has_tuples: true,
+    form: Form::Plain,
     log: "{\"as\":\"unreadable\",\"path\":\"pairtree_root/ab/c\",\"reason\":\"it failed\"}\n{\"as\":\"unreadable\",\"path\":\"pairtree_root/de\",\"reason\":\"it failed\"}\n{\"as\":\"end\",\"bytes\":0,\"files\":0,\"folders\":3,\"largest\":0,\"longest\":18,\"objects\":0,\"sites\":2,\"told\":2}\n",
 };
 
@@ -112,6 +122,7 @@ const PART: Row = Row {
     further: &["again", "and again"],
     room: None,
     has_tuples: true,
+    form: Form::Plain,
     log: "{\"as\":\"unreadable\",\"path\":\"pairtree_root/ab/c\",\"reason\":\"it failed\"}\n{\"as\":\"unreadable\",\"path\":\"pairtree_root/ab/c\",\"reason\":\"again\"}\n{\"as\":\"unreadable\",\"path\":\"pairtree_root/ab/c\",\"reason\":\"and again\"}\n{\"as\":\"past\",\"path\":\"pairtree_root/ab/c/de\"}\n{\"as\":\"other\",\"path\":\"pairtree_root/ab/c/de/obj/l\"}\n{\"as\":\"end\",\"bytes\":5,\"files\":2,\"folders\":8,\"largest\":2,\"longest\":27,\"objects\":1,\"sites\":4,\"told\":5}\n",
 };
 
@@ -123,6 +134,7 @@ const PART_OF_TOP: Row = Row {
     further: &["again"],
     room: None,
     has_tuples: true,
+    form: Form::Plain,
     log: "{\"as\":\"unreadable\",\"path\":\"\",\"reason\":\"it failed\"}\n{\"as\":\"unreadable\",\"path\":\"\",\"reason\":\"again\"}\n{\"as\":\"end\",\"bytes\":3,\"files\":1,\"folders\":3,\"largest\":3,\"longest\":24,\"objects\":1,\"sites\":3,\"told\":2}\n",
 };
 
@@ -135,7 +147,21 @@ const ROOM: Row = Row {
     further: &[],
     room: Some(2),
     has_tuples: true,
+    form: Form::Plain,
     log: "{\"as\":\"place\",\"path\":\"pairtree_root/ab/c/obj/d/f\"}\n{\"as\":\"end\",\"bytes\":5,\"files\":2,\"folders\":8,\"largest\":5,\"longest\":29,\"objects\":2,\"sites\":5,\"told\":1}\n",
+};
+
+// What lies beside the shorty `de` is one object: `a` and `far`, and not what is below `de`, which
+// has an object of its own. So `far/g` has five bytes there, and the largest object six.
+const GATHERED: Row = Row {
+    entries: " ab/cd/a=abc ab/cd/de/obj/f=defg ab/cd/far/g=ghi gh/obj/f=k gh/xy/",
+    spoiled: &[],
+    calls: None,
+    further: &[],
+    room: Some(2),
+    has_tuples: true,
+    form: Form::Gathering,
+    log: "{\"as\":\"place\",\"path\":\"pairtree_root/ab/cd/far/g\"}\n{\"as\":\"empty\",\"path\":\"pairtree_root/gh/xy\"}\n{\"as\":\"end\",\"bytes\":11,\"files\":4,\"folders\":8,\"largest\":6,\"longest\":28,\"objects\":3,\"sites\":6,\"told\":2}\n",
 };
 
 // Without tuples the place of `extensions` is the root's own.
@@ -146,6 +172,7 @@ const RESERVED: Row = Row {
     further: &[],
     room: None,
     has_tuples: false,
+    form: Form::Plain,
     log: "{\"as\":\"reserved\",\"path\":\"pairtree_root/ex/te/ns/io/ns\"}\n{\"as\":\"end\",\"bytes\":0,\"files\":1,\"folders\":6,\"largest\":0,\"longest\":34,\"objects\":1,\"sites\":6,\"told\":1}\n",
 };
 
@@ -154,7 +181,7 @@ const RESERVED: Row = Row {
 const EMPTY: &str =
     "{\"as\":\"missing\",\"path\":\"pairtree_version0_1\"}\n{\"as\":\"missing\",\"path\":\"pairtree_root\"}\n{\"as\":\"end\",\"bytes\":0,\"files\":0,\"folders\":0,\"largest\":0,\"longest\":0,\"objects\":0,\"sites\":0,\"told\":2}\n";
 
-const ROWS: [Row; 12] = [
+const ROWS: [Row; 13] = [
     WHOLE,
     TWO_OBJECTS,
     STRAY,
@@ -166,17 +193,19 @@ const ROWS: [Row; 12] = [
     PART,
     PART_OF_TOP,
     ROOM,
+    GATHERED,
     RESERVED,
 ];
 
 // What is wanted of a check that reads each file whole.
-fn wanted(room: Option<u64>, has_tuples: bool) -> Wants {
+fn wanted(form: Form, room: Option<u64>, has_tuples: bool) -> Wants {
     let layout = match Layout::of(0, 0) {
         Ok(flat) if !has_tuples => flat,
         _ => Layout::default_form(),
     };
     Wants {
         reads: true,
+        form,
         room,
         layout,
     }
@@ -204,7 +233,7 @@ fn tells(
 fn holds(alloc: Global, row: &Row) -> bool {
     match spoiled_store(alloc, row.entries, row.spoiled, row.calls) {
         Ok(source) => {
-            let wants = wanted(row.room, row.has_tuples);
+            let wants = wanted(row.form, row.room, row.has_tuples);
             tells(alloc, source, row.further, wants, row.log)
         }
         Err(_) => false,
@@ -224,7 +253,7 @@ fn what_a_store_must_have_is_told_as_missing(rt: HostRuntime) {
             rt.alloc(),
             SpoiledSource::new(MemSource::new(rt.alloc()), Vec::new(rt.alloc())),
             &[],
-            wanted(None, true),
+            wanted(Form::Plain, None, true),
             EMPTY
         )
     );

@@ -8,6 +8,7 @@ use pt_memory::texts::{path, store};
 use pt_memory::{MemDest, MemLog, SpoiledSource};
 use pt_name::Layout;
 use pt_tree::{MemoryFault, NamePath, TreeFault};
+use pt_walk::Form;
 use std::alloc::Global;
 
 // A store, and where nothing can be read in it; how many lines a check tells, and the number of the
@@ -121,6 +122,7 @@ fn check(alloc: Global, source: SpoiledSource, reads: bool) -> (Option<u64>, Spo
     };
     let wants = Wants {
         reads,
+        form: Form::Plain,
         room: None,
         layout: Layout::default_form(),
     };

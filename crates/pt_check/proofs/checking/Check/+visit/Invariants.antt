@@ -12,6 +12,6 @@ invariant-loop-i g l = record {
   keeps : Keeps g.S.Source.told g.S.Source.keeps g.L.Log.told l.fn.self l.self;
   unfailed : g.L.Log.failed l.self.log ≡ g.L.Log.failed l.fn.self.log;
   visited : ForSome (tree_by g.S.Source.told l.fn.self) (λ tree. VisitedTo g.E.Explains.says l.fn.self.wants
-      (record { path = l.path; prefix = l.prefix; here = l.within; left = l.left }) l.has_object tree l.i
+      (record { path = l.path; prefix = l.prefix; here = l.folder.within; left = l.left }) l.folder.finding tree l.i
       (check_state g.S.Source g.L.Log l.initial.self) (check_state g.S.Source g.L.Log l.self));
 }

@@ -1,6 +1,6 @@
-use Rattle.std.proofs.Common.{ap, subst, Bool, ◌≡◌, ◌∙◌}
+use Rattle.std.proofs.Common.{ap, subst, ◌≡◌, ◌∙◌}
 use Rattle.std.specs.Prelude.{Option}
-use Rattle.pt_check.specs.Visits.{CheckState, TellsIf, finding_of, folder_trouble, has_object, reserved_trouble, check_state, with_folder}
+use Rattle.pt_check.specs.Visits.{CheckState, TellsIf, finding_of, folder_trouble, reserved_trouble, check_state, with_folder}
 use Rattle.pt_check.specs.declared.trouble.Trouble.{Trouble}
 use Rattle.pt_name.specs.Tuples.{Tuples}
 use Rattle.pt_walk.specs.declared.site.Finding.{Finding}
@@ -16,14 +16,13 @@ returns-in_err-tell_if-2-clause-keeps g c =
 pub returns-clause-judged : goal.returns-clause-judged
 returns-clause-judged g c =
     let path = c.args.path.now in
-    let what = finding_of c.args.within c.args.listing.now in
+    let what = finding_of c.args.self.now.wants.form c.args.within c.args.listing.now in
     let a = check_state g.S.Source g.L.Log c.args.self.now in
     let n = check_state g.S.Source g.L.Log c.count.new.self in
     let m = check_state g.S.Source g.L.Log c.tell_if.new.self in
     let b = check_state g.S.Source g.L.Log c.tell_if-2.new.self in
-    let holds = c.has_object-has_object.ensures ∙ ap has_object c.finding_of-finding.ensures in
     let counts = recounted g.S.Source g.L.Log c.args.self.now c.count.new.self _ c.count.ensures.rest (c.count.ensures.numbers
-    ∙ ap (λ (h : Bool). with_folder c.args.within h a.numbers) holds) in
+    ∙ ap (λ (f : Finding). with_folder c.args.within f a.numbers) c.finding_of-finding.ensures) in
     let layout : c.count.new.self.wants.layout ≡ c.args.self.now.wants.layout = ap (λ s. s.wants.layout) c.count.ensures.rest in
     let first = c.in_ok-trouble.ensures ∙ ap (λ (f : Finding). folder_trouble c.args.within f path) c.finding_of-finding.ensures in
     let second = c.in_ok-trouble-2.ensures ∙ ap (λ (f : Finding). reserved_trouble c.count.new.self.wants.layout c.args.prefix.now f path)
