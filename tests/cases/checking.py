@@ -1,5 +1,6 @@
 """Cases of `check`: stores with each kind of trouble, as root and as another user, which it tells and passes; what it counts; and what it leaves alone."""
 
+import collections
 import contextlib
 import fcntl
 import os
@@ -56,9 +57,15 @@ def checked(program, folder, *words, before=(), source="s", **options):
     return done.returncode, done.stdout, done.stderr
 
 
+# What is told and would stop a run.
+STOPPING = {"missing", "unreadable", "prefix", "place"}
+
+
 def answer(*entries):
-    """The answer of a check whose output has these lines, the last of them that of the numbers."""
-    return int(len(entries) > 1), lines(*entries), b""
+    """The answer of a check whose output has these lines, the last of them that of the numbers, with how many lines of each kind there are."""
+    *told, last = entries
+    kinds = collections.Counter(entry["as"] for entry in told)
+    return 3 if STOPPING & kinds.keys() else int(bool(told)), lines(*told, {**last, **kinds}), b""
 
 
 # Stores with each kind of trouble: what lies in `pairtree_root`, the lines without the last one, and how many sites and objects there are.
@@ -324,7 +331,7 @@ def long_in_a_destination(program, folder):
             made_by_steps(folder, f"{source}/pairtree_root/ab/d/obj/{file_at(most + 1)}")
             long = of_path("place", f"ab/d/obj/{file_at(most + 1)}")
             status, output, errors = checked(program, folder, "--dest", dest, *layout, source=source)
-            faults += differs(**{f"{source} told": (output.splitlines()[:-1], lines(long).splitlines()), f"{source} status": ((status, errors), (1, b""))})
+            faults += differs(**{f"{source} told": (output.splitlines()[:-1], lines(long).splitlines()), f"{source} status": ((status, errors), (3, b""))})
             faults += differs(**{f"{source} without": (checked(program, folder, source=source)[0], 0)})
     faults += differs(made=(os.path.lexists(f"{folder}/D") or os.path.lexists(f"{folder}/away"), False))
     return faults + as_a_run_into_it(program, folder)

@@ -1,28 +1,5 @@
 -- How many files an object has after a step of a check: as many more as were met, while there is room for them.
-use Rattle.std.proofs.Common.{
-  ◌≡◌,
-  ◌≤◌,
-  ◌==◌,
-  ◌∙◌,
-  ◌+◌,
-  ◌++◌,
-  ◌∷◌,
-  ℕ,
-  suc,
-  Bool,
-  true,
-  false,
-  cond,
-  length,
-  min,
-  List,
-  None,
-  Some,
-  refl,
-  ap,
-  subst,
-  arith,
-}
+use Rattle.std.proofs.Common.{◌≡◌, ◌≤◌, ◌==◌, ◌+◌, ℕ, suc, Bool, true, false, cond, length, min, List, None, Some, refl, ap, subst, arith}
 use Rattle.std.proofs.lemmas.Bool.{eqb-false}
 use Rattle.std.specs.Prelude.{⊤}
 use Rattle.pt_check.specs.Clean.{HasRoomFor, file_count}

@@ -1,3 +1,4 @@
+mod EndLine
 mod Goes
 mod FilesHeld
 mod Keeping
@@ -5,6 +6,7 @@ mod Kept
 mod NamesRead
 mod Blocks
 mod Stepping
+mod PartListed
 mod Parts
 mod Others
 mod Quiet

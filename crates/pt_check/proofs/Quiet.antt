@@ -69,7 +69,7 @@ use Rattle.pt_name.specs.declared.prefix.PrefixFault.TheVariants as fault
 use Rattle.pt_plan.specs.Store.{pairtree_root, prefix_file, prefix_in, prefix_of, version_file}
 use Rattle.pt_plan.specs.TurnStart.{is_dir_kind, is_file_kind, kind_in}
 use Rattle.pt_tree.specs.Forest.{Forest, Node, File, Dir, Other, none, file, other, dir, as_file, find, kind_of, listing_of, node_at}
-use Rattle.pt_tree.specs.Path.{Path, joined}
+use Rattle.pt_tree.specs.Path.{Path}
 use Rattle.pt_tree.specs.declared.kind.Kind.{Kind}
 use Rattle.pt_tree.specs.declared.kind.Kind.TheVariants as kind
 use Rattle.pt_walk.specs.Left.{bytes_at}

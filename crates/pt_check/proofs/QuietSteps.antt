@@ -63,6 +63,7 @@ use Rattle.pt_check.specs.Visits.{
   with_folder,
   with_found,
 }
+use Rattle.pt_check.specs.declared.line_kind.LineKind.{LineKind}
 use Rattle.pt_check.specs.declared.numbers.Numbers.{Numbers}
 use Rattle.pt_check.specs.declared.trouble.Trouble.{Trouble}
 use Rattle.pt_check.specs.declared.trouble.Trouble.TheVariants as trouble
@@ -70,7 +71,6 @@ use Rattle.pt_check.specs.declared.wants.Wants.{Wants}
 use Rattle.pt_check.specs.declared.within.Within.{Within}
 use Rattle.pt_check.specs.declared.within.Within.TheVariants as within
 use Rattle.pt_tree.specs.Failures.{greatest_count}
-use Rattle.pt_tree.specs.Forest.{File, Dir, Other}
 use Rattle.pt_tree.specs.Listing.{Item}
 use Rattle.pt_tree.specs.Path.{Path, joined}
 use Rattle.pt_tree.specs.declared.kind.Kind.{Kind}
@@ -87,7 +87,7 @@ told_by s = s.numbers.told
 line_told : (n : ℕ) → min (n + 1) greatest_count ≡ 0 → ⊥
 line_told n e = omega (arith, e)
 
-pub puts_told : (text : List ℕ) (a b : CheckState) → Puts text a b → told_by b ≡ 0 → ⊥
+pub puts_told : {kind : LineKind} (text : List ℕ) (a b : CheckState) → Puts kind text a b → told_by b ≡ 0 → ⊥
 puts_told text a b puts nothing = line_told (told_by a) (sym (ap (λ (n : Numbers). n.told) puts.numbers) ∙ nothing)
 
 pub fails_told : (path : Path) (a b : CheckState) → TellsFailure path a b → told_by b ≡ 0 → ⊥

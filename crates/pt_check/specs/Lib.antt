@@ -1,8 +1,10 @@
 pub mod Clean
 pub mod Counting
+pub mod EndKey
 pub mod Faults
 pub mod FolderListing
 pub mod Goes
+pub mod LineKind
 pub mod Lines
 pub mod Prefix
 pub mod Trouble

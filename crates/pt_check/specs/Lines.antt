@@ -1,11 +1,17 @@
 -- The lines of a check: each one compact JSON object with its keys in byte order, and LF.
-use Rattle.std.specs.Prelude.{ℕ, List, [], ◌∷◌, ◌++◌, codes}
+use Rattle.std.specs.Prelude.{◌≡◌, ℕ, cond, List, [], ◌∷◌, ◌++◌, codes}
+use Rattle.pt_check.specs.EndKey.{end_keys, end_number, end_word, is_told}
 use Rattle.pt_check.specs.Trouble.{trouble_word}
+use Rattle.pt_check.specs.declared.end_key.EndKey.{EndKey}
+use Rattle.pt_check.specs.declared.line_kind.LineKind.{LineKind}
+use Rattle.pt_check.specs.declared.line_kind.LineKind.TheVariants as kind
 use Rattle.pt_check.specs.declared.numbers.Numbers.{Numbers}
 use Rattle.pt_check.specs.declared.trouble.Trouble.{Trouble}
 use Rattle.pt_plan.specs.Lines.{number_member, text_member}
+use Rattle.pt_plan.specs.Members.{members_tree}
+use Rattle.pt_plan.specs.declared.members.Member.{Member}
 use Rattle.pt_tree.specs.Path.{Path, joined}
-use Rattle.serde_json.specs.Data.{Data, no_members}
+use Rattle.serde_json.specs.Data.{Data, Members, no_members}
 use Rattle.serde_json.specs.Data as json
 use Rattle.serde_json.specs.Written.{compact_text}
 
@@ -14,6 +20,27 @@ pub data Line : Type 0 where
   Told : (path : Path) → (trouble : Trouble) → Line
   Unreadable : (path : Path) → (reason : List ℕ) → Line
   End : (numbers : Numbers) → Line
+
+-- the kind of a line; one of the numbers tells nothing, and none is asked
+abbrev pub line_kind : Line → LineKind
+line_kind (Told path trouble) = kind.Troubled trouble
+line_kind (Unreadable path reason) = kind.Unreadable
+line_kind (End numbers) = kind.Unreadable
+
+-- the member of a key before others, if a line of these numbers has it
+abbrev pub end_member : Numbers → EndKey → Members → Members
+end_member numbers key others =
+    cond (is_told numbers key) (number_member (end_word key) (end_number numbers key) others) others
+
+-- the members of these keys that a line of these numbers has, before others
+abbrev pub end_members : Numbers → List EndKey → Members → Members
+end_members numbers [] others = others
+end_members numbers (key ∷ keys) others = end_member numbers key (end_members numbers keys others)
+
+-- to these members that of a key is added, if a line of these numbers has it
+abbrev pub AddsKey : Numbers → EndKey → List Member → List Member → Type 0
+AddsKey numbers key old new = (added : List Member) × (new ≡ old ++ added)
+    × ((others : List Member) → members_tree (added ++ others) ≡ end_member numbers key (members_tree others))
 
 -- the line as a tree of JSON
 abbrev pub line_tree : Line → Data
@@ -25,15 +52,7 @@ line_tree (Unreadable path reason) = json.object
     (text_member (codes "path") (joined path)
     (text_member (codes "reason") reason no_members)))
 line_tree (End numbers) = json.object
-    (text_member (codes "as") (codes "end")
-    (number_member (codes "bytes") numbers.bytes
-    (number_member (codes "files") numbers.files
-    (number_member (codes "folders") numbers.folders
-    (number_member (codes "largest") numbers.largest
-    (number_member (codes "longest") numbers.longest
-    (number_member (codes "objects") numbers.objects
-    (number_member (codes "sites") numbers.sites
-    (number_member (codes "told") numbers.told no_members)))))))))
+    (text_member (codes "as") (codes "end") (end_members numbers end_keys no_members))
 
 -- the compact text of the line, and LF
 abbrev pub line_text : Line → List ℕ

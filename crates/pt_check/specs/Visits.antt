@@ -31,10 +31,11 @@ use Rattle.std.specs.List.{concat}
 use Rattle.std.specs.Str.{bytes_eq, is_utf8}
 use Rattle.pt_check.specs.Counting.{back_at, plus, with_bytes, with_entry, with_line, with_object_begun, with_site}
 use Rattle.pt_check.specs.Goes.{GoesBy}
-use Rattle.pt_check.specs.Lines.{Line, End, Told, Unreadable, line_text}
+use Rattle.pt_check.specs.Lines.{Line, End, Told, Unreadable, line_kind, line_text}
 use Rattle.pt_check.specs.Prefix.{prefix_trouble}
 use Rattle.pt_check.specs.Within.{below, holder, starts_object}
 use Rattle.pt_check.specs.declared.checking.Check.{Check}
+use Rattle.pt_check.specs.declared.line_kind.LineKind.{LineKind}
 use Rattle.pt_check.specs.declared.numbers.Numbers.{Numbers}
 use Rattle.pt_check.specs.declared.trouble.Trouble.{Trouble}
 use Rattle.pt_check.specs.declared.trouble.Trouble.TheVariants as trouble
@@ -107,16 +108,16 @@ pub record Keeps {S L E : Type 0} (told : S → Option Reading) (keeps : S → S
 
 -- ---- what is told
 
--- this text of a line is put into the log and counted, and nothing fails
-pub record Puts (text : List ℕ) (a b : CheckState) : Type 0 where
+-- this text of a line of this kind is put into the log and counted, and nothing fails
+pub record Puts (kind : LineKind) (text : List ℕ) (a b : CheckState) : Type 0 where
   pub failing : b.failing ≡ a.failing
   pub failed : b.failed ≡ a.failed
-  pub numbers : b.numbers ≡ with_line a.numbers
+  pub numbers : b.numbers ≡ with_line kind a.numbers
   pub held : Appends a.held b.held text
 
 -- a line is told
 abbrev pub Tells : Line → CheckState → CheckState → Type 0
-Tells line = Puts (line_text line)
+Tells line = Puts (line_kind line) (line_text line)
 
 -- it is told of this path that it can't be read, with a reason
 abbrev pub TellsUnread : Path → CheckState → CheckState → Type 0

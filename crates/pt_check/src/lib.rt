@@ -34,8 +34,10 @@
 
 mod checking;
 mod devices;
+mod end_key;
 mod judging;
 pub mod laws;
+mod line_kind;
 mod lines;
 mod numbers;
 mod prefix;
@@ -48,6 +50,8 @@ mod within;
 
 pub use checking::Check;
 pub use devices::CheckDevices;
+pub use end_key::EndKey;
+pub use line_kind::LineKind;
 pub use numbers::Numbers;
 pub use trouble::Trouble;
 pub use unlisted::{Explains, UnlistedFolder};

@@ -1,15 +1,16 @@
 //! The lines of a check: each one compact JSON object with its keys in byte order, and LF.
-ghost use Rattle.std.specs.Prelude.{◌≡◌, IfOk};
+ghost use Rattle.std.specs.Prelude.{◌≡◌, IfOk, OnOk};
 ghost use Rattle.std.specs.String.{string_bytes};
-ghost use Rattle.pt_check.specs.Lines.{line_text};
+ghost use Rattle.pt_check.specs.Lines.{AddsKey, line_text};
 ghost use Rattle.pt_check.specs.Lines as line;
 
-use crate::{Numbers, Trouble};
+use crate::end_key::end_keys;
+use crate::{EndKey, Numbers, Trouble};
 use pt_plan::lines::text_of;
 use pt_plan::members::Member::{Number, Path, Text};
-use pt_plan::members::line_with;
+use pt_plan::members::{Member, line_with};
 use pt_tree::{MemoryFault, NamePath};
-use std::alloc::Global;
+use std::alloc::{AllocError, Global};
 
 /// The line of a trouble at a path.
 pub(crate) fn trouble_line(
@@ -40,20 +41,30 @@ pub(crate) fn unreadable_line(
     line_with(alloc, &members)
 }
 
-/// The line of the numbers at the end.
+/// The line of the numbers at the end: those of a check, and those of the lines of each kind that
+/// there is.
 pub(crate) fn end_line(alloc: Global, numbers: &Numbers) -> Result<String, MemoryFault>
     ensures { IfOk result (λ text. string_bytes text ≡ line_text (line.End numbers.now)) }
 {
-    let members = [
-        Text("as", "end"),
-        Number("bytes", numbers.bytes),
-        Number("files", numbers.files),
-        Number("folders", numbers.folders),
-        Number("largest", numbers.largest),
-        Number("longest", numbers.longest),
-        Number("objects", numbers.objects),
-        Number("sites", numbers.sites),
-        Number("told", numbers.told),
-    ];
-    line_with(alloc, &members)
+    let keys = end_keys();
+    let mut members = Vec::with_capacity(alloc, keys.len() + 1)?;
+    members.push(Text("as", "end"))?;
+    for key in keys {
+        push_key(&mut members, key, numbers)?;
+    }
+    line_with(alloc, members.as_slice())
+}
+
+// Adds the member of a key to others, if a line of these numbers has it.
+fn push_key(
+    members: &mut Vec<Member<'static>>,
+    key: &EndKey,
+    numbers: &Numbers,
+) -> Result<(), AllocError>
+    ensures { OnOk result (AddsKey numbers.now key.now members.old.items members.new.items) }
+{
+    if key.is_told(numbers) {
+        members.push(Number(key.word(), key.count(numbers)))?;
+    }
+    Ok(())
 }

@@ -2,9 +2,10 @@
 //! `with_bytes`); `told` is that of the lines. The last line has them, and they are its answer.
 ghost use Rattle.std.specs.Prelude.{◌≡◌};
 ghost use Rattle.pt_check.specs.Counting.{back_at, no_numbers, with_bytes, with_entry, with_line};
-ghost use Rattle.pt_check.specs.Counting.{with_object_begun, with_site};
+ghost use Rattle.pt_check.specs.Counting.{stops_run, told_of, with_object_begun, with_site};
 
-use crate::Within;
+use crate::line_kind::KINDS;
+use crate::{LineKind, Trouble, Within};
 use pt_tree::Kind;
 
 /// What a check counts, each number up to 2^64 - 1.
@@ -30,6 +31,8 @@ pub struct Numbers {
     pub held: u64,
     /// The bytes that were read of these.
     pub held_bytes: u64,
+    /// The lines of each kind that told of something, by the kind's number.
+    pub kinds: [u64; KINDS],
 }
 
 impl Numbers {
@@ -48,17 +51,39 @@ impl Numbers {
             longest: 0,
             held: 0,
             held_bytes: 0,
+            kinds: [0; KINDS],
         }
     }
 
-    /// With a line more.
-    pub fn with_line(self) -> Numbers
-        ensures { result ≡ with_line self }
+    /// With a line more, of this kind.
+    pub fn with_line(self, kind: LineKind) -> Numbers
+        ensures { result ≡ with_line kind self }
     {
+        let mut kinds = self.kinds;
+        let number = usize::from(kind.number());
+        kinds[number] = kinds[number].saturating_add(1);
         Numbers {
             told: self.told.saturating_add(1),
+            kinds,
             ..self
         }
+    }
+
+    /// How many lines of this kind there are.
+    pub fn told_of(&self, kind: LineKind) -> u64
+        ensures { result ≡ told_of kind self.now }
+    {
+        self.kinds[usize::from(kind.number())]
+    }
+
+    /// Whether something was told that would stop a run.
+    pub fn stops_run(&self) -> bool
+        ensures { result ≡ stops_run self.now }
+    {
+        self.told_of(LineKind::Unreadable) > 0
+            || self.told_of(LineKind::Troubled(Trouble::Missing)) > 0
+            || self.told_of(LineKind::Troubled(Trouble::Prefix)) > 0
+            || self.told_of(LineKind::Troubled(Trouble::Place)) > 0
     }
 
     /// With a site more, which has an object or not.

@@ -9,7 +9,7 @@ ghost use Rattle.pt_check.specs.Visits.{check_state};
 use crate::checking::Check;
 use crate::lines::{end_line, trouble_line, unreadable_line};
 use crate::unlisted::Explains;
-use crate::{Numbers, Trouble};
+use crate::{LineKind, Numbers, Trouble};
 use pt_plan::Fault;
 use pt_tree::{Log, NamePath, Source};
 
@@ -54,7 +54,7 @@ impl<S: Source, L: Log, E: Explains<S> + Drop> Check<S, L, E> {
         ensures fault { LogFailsAs (L.failed self.old.log) (L.failed self.new.log) result }
     {
         let line = trouble_line(self.alloc, path, trouble)?;
-        self.put(line.as_str())
+        self.put(LineKind::Troubled(trouble), line.as_str())
     }
 
     // Tells that the source failed at a path.
@@ -78,7 +78,7 @@ impl<S: Source, L: Log, E: Explains<S> + Drop> Check<S, L, E> {
         ensures fault { LogFailsAs (L.failed self.old.log) (L.failed self.new.log) result }
     {
         let line = unreadable_line(self.alloc, path, reason)?;
-        self.put(line.as_str())
+        self.put(LineKind::Unreadable, line.as_str())
     }
 
     // The same for each of these reasons.
@@ -96,9 +96,9 @@ impl<S: Source, L: Log, E: Explains<S> + Drop> Check<S, L, E> {
         Ok(())
     }
 
-    // Puts a line, and counts it.
-    fn put(&mut self, line: &str) -> Result<(), Fault>
-        ensures put { OnOk result (Puts line.now
+    // Puts a line of this kind, and counts it.
+    fn put(&mut self, kind: LineKind, line: &str) -> Result<(), Fault>
+        ensures put { OnOk result (Puts kind line.now
             (check_state S.Source L.Log self.old) (check_state S.Source L.Log self.new)) }
         ensures source { self.new.source ≡ self.old.source }
         ensures keeps { Keeps S.told S.keeps L.told self.old self.new }
@@ -106,7 +106,7 @@ impl<S: Source, L: Log, E: Explains<S> + Drop> Check<S, L, E> {
     {
         match self.log.put(line.as_bytes()) {
             Ok(()) => {
-                self.numbers = self.numbers.with_line();
+                self.numbers = self.numbers.with_line(kind);
                 Ok(())
             }
             Err(fault) => Err(Fault::of_log(fault)),

@@ -1,7 +1,7 @@
 -- What a check of a store on a machine comes to.
 use Rattle.std.specs.Prelude.{◌≡◌, ◌==◌, ⊤, ℕ, Bool, cond, true, if◌then◌else◌, IfErr, IfOk, List, Option, Result, Ok, Err}
 use Rattle.std.specs.Option.{ForSome, option_map}
-use Rattle.pt_check.specs.Counting.{no_numbers}
+use Rattle.pt_check.specs.Counting.{no_numbers, stops_run}
 use Rattle.pt_check.specs.Visits.{Checks, Says, CheckState}
 use Rattle.pt_tree.specs.Log.{Grows}
 use Rattle.pt_check.specs.declared.numbers.Numbers.{Numbers}
@@ -18,9 +18,12 @@ use Rattle.pt_host.specs.declared.host.HostIo.{HostIo}
 use Rattle.pt_host.specs.declared.options.CheckOptions.{CheckOptions}
 use Rattle.pt_walk.specs.declared.site.Form.TheVariants as form
 
--- of a check: 0 where it told nothing, 1 where it told something, 3 after a fault
+-- of a check: 3 after a fault, and where it told something that would stop a run, else 0 where it told nothing and 1 where it told something
 abbrev pub check_status : Result Numbers Fault → ℕ
-check_status (Ok numbers) = if numbers.told == 0 then 0 else 1
+check_status (Ok numbers) =
+    if stops_run numbers then 3
+    else if numbers.told == 0 then 0
+    else 1
 check_status (Err fault) = 3
 
 -- a fault that a check answers: the output's, or want of memory

@@ -25,7 +25,8 @@ use std::alloc::AllocGlobal;
 use std::io::Write;
 
 /// Checks the store in a folder on a machine, and gives the exit status: 0 nothing was told; 1 the
-/// output has lines that tell of something; 3 a fault, of which standard error tells.
+/// output has lines that tell of something, none of which would stop a run; 3 it has one that
+/// would, or a fault, of which standard error tells.
 ///
 /// The machine is asked for no lock and no file. What it lends is given back, that of a destination
 /// as it was. What the source fails at is told on the output, and passed; so a fault is the
@@ -112,6 +113,7 @@ fn status_of(ran: &Result<Numbers, Fault>) -> u8
     ensures { result ≡ check_status ran.now }
 {
     match ran {
+        Ok(numbers) if numbers.stops_run() => FAILED,
         Ok(numbers) if numbers.told > 0 => INCOMPLETE,
         Ok(_) => DONE,
         Err(_) => FAILED,
