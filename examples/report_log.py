@@ -24,6 +24,8 @@ LACKED = {"stray": {"reason"}}
 AUDIT = ("absent", "differs", "same", "skip")
 CHECK = ("bytes", "files", "folders", "largest", "longest", "objects", "sites", "told")
 ENDS = {("done", "present", "skip"): "run", AUDIT: "audit", (*AUDIT, "extra", "stray"): "audit", CHECK: "check"}
+# That of a check has one of these too for each kind that it told.
+BESIDE = {"check": set(TROUBLES)}
 # The keys by which an event is told from a log, and how many bytes one has at most: more than a command line may have.
 EVENT_KEYS = {"as", "begin", "dest", "options", "source"}
 LONGEST = 1 << 26
@@ -68,7 +70,7 @@ def by_json(line):
         entry = json.loads(line.decode())
         kind = entry.pop("as")
         if kind == "end":
-            what = next(what for keys, what in ENDS.items() if set(keys) == set(entry))
+            what = next(what for keys, what in ENDS.items() if set(keys) == set(entry) - BESIDE.get(what, set()))
             return kind, (what, {key: int(value_of("files", value)) for key, value in entry.items()})
         if set(KEYS[kind]) != set(entry) | LACKED.get(kind, set()):
             raise ValueError

@@ -162,9 +162,8 @@ class Log:
         since = self.kinds - (self.at_end or collections.Counter())
         if what == "check":
             self.met = told
-            self.uneven = self.uneven or sum(since.values()) != told["told"]
-        else:
-            self.uneven = self.uneven or since != +collections.Counter(told)
+            told = {kind: told.get(kind, 0) for kind in TROUBLES}
+        self.uneven = self.uneven or since != +collections.Counter(told)
         self.ended_as.add(what)
         self.at_end = self.kinds.copy()
 

@@ -1,5 +1,7 @@
 """How a migration stands by its logs and events, in a sentence or two at the head of the page of report.py."""
 
+from report_words import STOPPING, TROUBLES
+
 
 def given(event, name):
     """The word that an event has for one of its folders; nothing where it has none."""
@@ -69,6 +71,7 @@ class Verdict:
     def open(self):
         """What is still to be done, each a part of the sentence."""
         state, report = self.state, self.report
+        stopping, beside = self.told_by_checks()
         parts = (
             (sum(log.bad.count for log in report.logs), "{} line is none of a log", "{} lines are none of a log"),
             (sum(not log.is_whole() and not log.goes_on for log in report.logs), "{} log was cut short, and no later log goes on behind it",
@@ -82,10 +85,16 @@ class Verdict:
             (report.lacking.count - len(report.reasons), "{} path of the root is of nothing in the store",
              "{} paths of the root are of nothing in the store"),
             (len(report.unlisted), "{} folder of the root couldn't be listed whole", "{} folders of the root couldn't be listed whole"),
-            (report.troubles.count if not self.runs else 0, "the check told {} line", "the check told {} lines"),
+            (stopping, "the check told {} line of what would stop a run", "the check told {} lines of what would stop a run"),
+            (beside, "the check told {} line of what a run skips, or what may surprise", "the check told {} lines of what a run skips, or what may surprise"),
             (self.broken(), "the last event has a fault or no end", ""),
         )
         return [many(count, one, more) for count, one, more in parts if count]
+
+    def told_by_checks(self):
+        """How many lines of checks tell of what would stop a run, and how many of anything else; none where a run was made."""
+        told = [] if self.runs else [(log.kinds[kind], kind in STOPPING) for log in self.checks for kind in TROUBLES]
+        return tuple(sum(count for count, stops in told if stops == which) for which in (True, False))
 
     def broken(self):
         """Whether the event that began last is of what a fault ended, or of what has no end."""

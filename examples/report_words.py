@@ -42,9 +42,13 @@ TROUBLES = {
     "at it with <code>od -c</code>, and mend it if it isn't meant.",
     "spelling": "The names of these folders aren't the identifier's own. Where the folders with those stand too, both are one identifier, of which one is "
     "carried: compare the two by hand. Alone it is carried as it is.",
+    "width": "The name of this folder has more than two bytes, and in it stand folders of one or two, as if the store were cut into longer pieces. A run takes "
+    "it for an object's own folder with files in it, or for none: cut the names anew. Where it is meant so, leave it.",
     "desktop": "A desktop left it. Beside an object's folder it makes the object <code>split</code>, within an object it is carried: remove it, or name it by "
     "<code>--ignore</code>.",
 }
+# Those that stop a run, by which a check has status 3.
+STOPPING = ("missing", "unreadable", "prefix", "place")
 # Where the guide says more of a trouble that is no cause.
 OF_LIMIT = ("deep", "long", "many", "large")
 WHYS = {

@@ -73,7 +73,7 @@ TROUBLES = {
     "a store with nothing in it": ({}, [], 1, 0),
     "one object": ({"ab/c/obj/f": b"abc"}, [], 3, 1),
     "objects and a folder that leads on": ({"ab/c/obj/f": b"1", "ab/cd/e/obj/d/f": b"2", "ab/cd/obj/f": b"3"}, [], 5, 3),
-    "an object with empty folders": ({"ab/c/obj/d": DIR}, [], 3, 1),
+    "an object with empty folders": ({"ab/c/obj/empty": DIR}, [], 3, 1),
     "a file in pairtree_root": ({"f": b""}, [of_path("root")], 1, 0),
     "an empty folder of an identifier": ({"ab/c": DIR}, [of_path("empty", "ab/c")], 3, 0),
     "a file beside an object": ({"ab/c/f": b"", "ab/c/obj/f": b""}, [of_path("split", "ab/c")], 3, 0),
@@ -103,6 +103,13 @@ TROUBLES = {
         7,
         4,
     ),
+    "pieces of three bytes": (
+        {"ab/cde/f/obj/g": b"", "ab/fgh/obj/f": b"", "abc/de/f": b""},
+        [of_path("root"), of_path("split", "ab"), of_path("width", "ab/cde"), of_path("width", "abc")],
+        2,
+        0,
+    ),
+    "an object with folders of two bytes beside a file": ({"ab/cd/obj/f": b"", "ab/cd/obj/v1/f": b"", "ab/ef/obj/data/v1/f": b""}, [], 4, 2),
     "characters that JSON escapes": ({'ab/c/obj/"\n\\é': Link("x")}, [of_path("other", 'ab/c/obj/"\n\\é')], 3, 1),
 }
 
@@ -397,6 +404,27 @@ def deep_folders(program, folder):
     return faults
 
 
+# A store that is carried with --gather: its objects lie in their identifiers' folders, one of them above another.
+DIRECT = {"ab/cd/a": b"abc", "ab/cd/de/b": b"defg", "ab/cd/far/c": b"ghi", "gh/obj/f": b"k", "gh/xy": DIR}
+
+
+def gathering(program, folder):
+    """With --gather a site is told only where a run with it passes it over; what it carries counts as an object, without what is below it."""
+    build(f"{folder}/t", store(DIRECT))
+    plain = [of_path("split", "ab/cd"), of_path("split", "ab/cd/de"), of_path("empty", "gh/xy")]
+    empty = of_path("empty", "gh/xy")
+    faults = differs(
+        plain=(checked(program, folder, source="t"), answer(*plain, end(store(DIRECT), 3, 6, 1))),
+        gathered=(checked(program, folder, "--gather", source="t"), answer(empty, end(store(DIRECT), 1, 6, 3))),
+        read=(checked(program, folder, "--gather", "--read", source="t"), answer(empty, end(store(DIRECT), 1, 6, 3, bytes=11, largest=6))),
+    )
+    build(f"{folder}/s", store({"ab/cd/.DS_Store": b"", "^z/a": b"", "^6/1b/f": b""}))
+    told = [of_path("name", "^z"), of_path("spelling", "^6/1b"), of_path("desktop", "ab/cd/.DS_Store")]
+    told = sorted(told, key=lambda entry: entry["path"].encode())
+    tree = store({"ab/cd/.DS_Store": b"", "^z/a": b"", "^6/1b/f": b""})
+    return faults + differs(names=(checked(program, folder, "--gather"), answer(*told, end(tree, 3, 6, 3))))
+
+
 def counting(program, folder):
     """With --read each file is read whole and its bytes are counted, also those of the largest object; --ignore leaves entries out."""
     tree = {"ab/c/obj/big": b"x" * 20_000, "ab/c/obj/d/f": b"y" * 300, "ab/c/obj/.DS_Store": b"z" * 7, "ab/d/obj/f": b"w" * 20_306}
@@ -477,6 +505,7 @@ CASES = [
         ("paths that are too long in a destination", long_in_a_destination),
         ("an identifier whose place is the root's own", a_place_of_the_roots_own),
         ("deep folders", deep_folders),
+        ("what a run gathers", gathering),
         ("what is counted", counting),
         ("files that can't be read", failing_reads),
         ("no lock, and an output that fails", beside_a_run),

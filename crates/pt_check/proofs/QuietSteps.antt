@@ -63,6 +63,7 @@ use Rattle.pt_check.specs.Visits.{
   with_folder,
   with_found,
 }
+use Rattle.pt_check.specs.Width.{width_trouble}
 use Rattle.pt_check.specs.declared.line_kind.LineKind.{LineKind}
 use Rattle.pt_check.specs.declared.numbers.Numbers.{Numbers}
 use Rattle.pt_check.specs.declared.trouble.Trouble.{Trouble}
@@ -194,15 +195,18 @@ folder_told within.Beside seen n = refl
 judged : (wants : Wants) (folder : Folder) (items : List Item) (a m : CheckState) → Judges wants (folder.path, folder.prefix) folder.here items a m
     → told_by m ≡ 0
     → ((folder_trouble folder.here (finding_of wants.form folder.here items) folder.path ≡ None)
-    × (reserved_trouble wants.layout folder.prefix (finding_of wants.form folder.here items) folder.path ≡ None)) × Quiet a m
+    × (reserved_trouble wants.layout folder.prefix (finding_of wants.form folder.here items) folder.path ≡ None)
+    × (width_trouble folder.path items ≡ None)) × Quiet a m
     × HeldAt (finding_of wants.form folder.here items) a m
-judged wants folder items a m (n, judges, places) nothing =
+judged wants folder items a m (n, judges, o, places, cuts) nothing =
     let what = finding_of wants.form folder.here items in
-    let free = tells_if folder.path (reserved_trouble wants.layout folder.prefix what folder.path) n m places nothing in
-    let before : told_by n ≡ 0 = ap told_by (sym free.1) ∙ nothing in
+    let cut = tells_if folder.path (width_trouble folder.path items) o m cuts nothing in
+    let later : told_by o ≡ 0 = ap told_by (sym cut.1) ∙ nothing in
+    let free = tells_if folder.path (reserved_trouble wants.layout folder.prefix what folder.path) n o places later in
+    let before : told_by n ≡ 0 = ap told_by (sym free.1) ∙ later in
     let clean = tells_if folder.path (folder_trouble folder.here what folder.path) (counting (with_folder folder.here what) a) n judges before in
-    let same = free.1 ∙ clean.1 in (
-      (clean.0, free.0),
+    let same = cut.1 ∙ free.1 ∙ clean.1 in (
+      (clean.0, free.0, cut.0),
       counted (with_folder folder.here what) a m (folder_told folder.here what) same nothing,
       judged_held wants.form folder.here items a m (ap held_by same),
     )
@@ -226,7 +230,7 @@ entered says wants folder items visits P a b on enters nothing = by (folder.left
     by false is (inr (seen, m, inl (judges, seen_is, goes), visited)) =
         let rest = on seen m visited in
         let first = judged wants folder items a m judges rest.0.0 in
-        ((is, first.0.0, first.0.1), (first.1.0, rest.0.1 ∙ first.1.1), (m, first.2, subst (λ (f : Finding). P f m) seen_is rest.1), goes)
+        ((is, first.0.0, first.0.1, first.0.2), (first.1.0, rest.0.1 ∙ first.1.1), (m, first.2, subst (λ (f : Finding). P f m) seen_is rest.1), goes)
     by false is (inr (seen, m, inr (tells, seen_is), visited)) =
         let rest = on seen m visited in
         absurd (unlisted_told says folder.path true a m tells rest.0.0)

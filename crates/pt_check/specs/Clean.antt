@@ -18,6 +18,7 @@ use Rattle.pt_check.specs.Visits.{
   root_folder,
   size_trouble,
 }
+use Rattle.pt_check.specs.Width.{width_trouble}
 use Rattle.pt_check.specs.Within.{starts_object}
 use Rattle.pt_check.specs.declared.numbers.Numbers.{Numbers}
 use Rattle.pt_check.specs.declared.wants.Wants.{Wants}
@@ -53,6 +54,7 @@ abbrev pub IsCleanFolder : Wants → Folder → List Item → Type 0
 IsCleanFolder wants folder items = let what = finding_of wants.form folder.here items in
     ((folder.left == 0) ≡ false) × (folder_trouble folder.here what folder.path ≡ None)
     × (reserved_trouble wants.layout folder.prefix what folder.path ≡ None)
+    × (width_trouble folder.path items ≡ None)
 
 -- nor of the bytes of a file, if they are read
 abbrev pub AreCleanBytes : Bool → List ℕ → Type 0

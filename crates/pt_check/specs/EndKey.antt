@@ -39,6 +39,7 @@ end_keys =
     ∷ key.Told
     ∷ key.Kind kind.Unreadable
     ∷ key.Kind (kind.Troubled (trouble.Skipped cause.Utf8))
+    ∷ key.Kind (kind.Troubled trouble.Width)
     ∷ []
 
 -- the word of a key

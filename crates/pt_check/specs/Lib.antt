@@ -9,4 +9,5 @@ pub mod Lines
 pub mod Prefix
 pub mod Trouble
 pub mod Visits
+pub mod Width
 pub mod Within

@@ -6,7 +6,7 @@ use Rattle.pt_check.specs.declared.line_kind.LineKind.TheVariants as kind
 
 -- so many kinds there are
 abbrev pub kinds : ℕ
-kinds = 20
+kinds = 21
 
 -- the number of a kind, below that
 abbrev pub kind_number : LineKind → ℕ

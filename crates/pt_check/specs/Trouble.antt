@@ -17,6 +17,7 @@ trouble_number trouble.Doubtful = 16
 trouble_number trouble.Many = 17
 trouble_number trouble.Large = 18
 trouble_number trouble.Place = 19
+trouble_number trouble.Width = 20
 
 -- its word in a line
 abbrev pub trouble_word : Trouble → List ℕ
@@ -31,3 +32,4 @@ trouble_word trouble.Doubtful = codes "doubtful"
 trouble_word trouble.Many = codes "many"
 trouble_word trouble.Large = codes "large"
 trouble_word trouble.Place = codes "place"
+trouble_word trouble.Width = codes "width"

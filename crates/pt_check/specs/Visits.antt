@@ -33,6 +33,7 @@ use Rattle.pt_check.specs.Counting.{back_at, plus, with_bytes, with_entry, with_
 use Rattle.pt_check.specs.Goes.{GoesBy}
 use Rattle.pt_check.specs.Lines.{Line, End, Told, Unreadable, line_kind, line_text}
 use Rattle.pt_check.specs.Prefix.{prefix_trouble}
+use Rattle.pt_check.specs.Width.{width_trouble}
 use Rattle.pt_check.specs.Within.{below, holder, starts_object}
 use Rattle.pt_check.specs.declared.checking.Check.{Check}
 use Rattle.pt_check.specs.declared.line_kind.LineKind.{LineKind}
@@ -222,7 +223,8 @@ Judges wants at here items a b =
     let what = finding_of wants.form here items in
     (m : CheckState)
     × TellsIf at.0 (folder_trouble here what at.0) (counting (with_folder here what) a) m
-    × TellsIf at.0 (reserved_trouble wants.layout at.1 what at.0) m b
+    × (n : CheckState) × TellsIf at.0 (reserved_trouble wants.layout at.1 what at.0) m n
+    × TellsIf at.0 (width_trouble at.0 items) n b
 
 -- ---- an entry
 

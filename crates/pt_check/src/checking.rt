@@ -39,7 +39,7 @@ ghost use Rattle.pt_walk.specs.Left.{bytes_at, inside_at};
 
 use crate::judging::{
     count_trouble, entry_trouble, finding_of, folder_trouble, reserved_trouble, room_trouble,
-    size_trouble,
+    size_trouble, width_trouble,
 };
 use crate::prefix::open_prefix;
 use crate::reading::open_whole;
@@ -369,6 +369,7 @@ impl<S: Source, L: Log, E: Explains<S> + Drop> Check<S, L, E> {
         self.tell_if(path, trouble)?;
         let trouble = reserved_trouble(layout, prefix, finding, path)?;
         self.tell_if(path, trouble)?;
+        self.tell_if(path, width_trouble(path, listing))?;
         Ok(finding)
     }
 

@@ -29,7 +29,7 @@ pub enum EndKey {
 }
 
 // The keys in the order in which a line has them, that of their bytes.
-const END_KEYS: [EndKey; 27] = [
+const END_KEYS: [EndKey; 28] = [
     EndKey::Bytes,
     EndKey::Kind(LineKind::Troubled(Trouble::Deep)),
     EndKey::Kind(LineKind::Troubled(Trouble::Desktop)),
@@ -57,6 +57,7 @@ const END_KEYS: [EndKey; 27] = [
     EndKey::Told,
     EndKey::Kind(LineKind::Unreadable),
     EndKey::Kind(LineKind::Troubled(Trouble::Skipped(Cause::Utf8))),
+    EndKey::Kind(LineKind::Troubled(Trouble::Width)),
 ];
 
 /// The keys, in the order in which a line has them: that of their bytes.

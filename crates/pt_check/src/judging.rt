@@ -1,7 +1,7 @@
 //! What is told of a folder and of an entry, by what a check sees of them.
 //!
-//! At each it is exactly what `folder_trouble`, `reserved_trouble`, `count_trouble`,
-//! `entry_trouble` and `room_trouble` say of it, each by a line of its own (`Tells`): the cause for
+//! At each it is exactly what `folder_trouble`, `reserved_trouble`, `width_trouble`,
+//! `count_trouble`, `entry_trouble` and `room_trouble` say of it, each by a line of its own (`Tells`): the cause for
 //! which a run of the form that is wanted passes a site over, names that aren't those of the identifier's
 //! own pairpath, the first file over the limit of an object, names that desktops leave, links and
 //! special files, and paths in an object that are too long, for a run or for the room that a
@@ -27,13 +27,19 @@ ghost use Rattle.pt_check.specs.Visits.{reserved_trouble as reserved_trouble_of}
 ghost use Rattle.pt_check.specs.Visits.{room_trouble as room_trouble_of};
 ghost use Rattle.pt_check.specs.Visits.{size_trouble as size_trouble_of};
 ghost use Rattle.pt_check.specs.Visits.{spelling_trouble as spelling_trouble_of, trouble_of_names};
+ghost use Rattle.pt_check.specs.Width.{has_shorties_alone as has_shorties_alone_of};
+ghost use Rattle.pt_check.specs.Width.{is_among_shorties as is_among_shorties_path};
+ghost use Rattle.pt_check.specs.Width.{width_trouble as width_trouble_of};
+ghost use Rattle.pt_walk.specs.Site.{found};
+ghost use Rattle.pt_walk.specs.declared.site.At.TheVariants as at;
+ghost use Rattle.pt_walk.specs.declared.site.Form.TheVariants as form;
 
 use crate::{Trouble, Within};
 use pt_name::{
     Identification, Layout, Refusal, Share, UncleanFault, clean, concatenate, identify, unclean,
 };
 use pt_tree::{Kind, Listing, MemoryFault, Name, NamePath};
-use pt_walk::{Cause, Finding, Form, Limits, judge};
+use pt_walk::{At, Cause, Finding, Form, Limits, is_shorty, judge};
 use std::alloc::Global;
 
 /// What a site is to a run of this form, by what it lists; another folder only leads on.
@@ -166,6 +172,40 @@ fn reserved_by(said: Identification) -> Option<Trouble>
     match said {
         Identification::Refused(Refusal::Reserved) => Some(Trouble::Skipped(Cause::Reserved)),
         _ => None,
+    }
+}
+
+/// What is told of a folder at a path from the store's folder on, by its name and what it lists.
+pub(crate) fn width_trouble(path: &NamePath, listing: &Listing) -> Option<Trouble>
+    ensures { result ≡ width_trouble_of path.now listing.now }
+{
+    if is_among_shorties(names_below(path)) && has_shorties_alone(listing) {
+        Some(Trouble::Width)
+    } else {
+        None
+    }
+}
+
+// Whether the last of these names has over two bytes, and no other.
+fn is_among_shorties(names: &[Name]) -> bool
+    ensures { result ≡ is_among_shorties_path names.now }
+{
+    match names {
+        [] => false,
+        [name] => !is_shorty(name, Kind::Dir),
+        [name, below @ ..] => is_shorty(name, Kind::Dir) && is_among_shorties(below),
+    }
+}
+
+// Whether what lists these entries would lead on as a site, or have an object beside shorties.
+fn has_shorties_alone(listing: &Listing) -> bool
+    ensures { result ≡ has_shorties_alone_of (length listing.now)
+        (found listing.now at.Pair form.Plain) }
+{
+    match judge(listing, At::Pair, Form::Plain) {
+        Finding::Interior => true,
+        Finding::Candidate(_) => listing.len() > 1,
+        _ => false,
     }
 }
 

@@ -4,7 +4,7 @@ ghost use Rattle.pt_check.specs.LineKind.{kind_number, kind_word, kinds};
 use crate::Trouble;
 
 /// How many kinds of lines tell of something, each with a number of its own below this.
-pub const KINDS: usize = 20;
+pub const KINDS: usize = 21;
 
 /// What a line tells of a path.
 #[derive(Clone, Copy, Debug, PartialEq, Eq)]

@@ -29,11 +29,16 @@ pub enum Trouble {
     Large,
     /// The path of a file would be too long at its place in the destination.
     Place,
+    /// A folder that stands where shorties stand is none by its name, and holds shorties, as if the
+    /// store were cut into longer pieces: by the rules it is no site, and these are files of an
+    /// object, if it has one.
+    Width,
 }
 
 impl Trouble {
     /// The trouble's number: that of its cause, 1 to 9; 10 `Desktop`, 11 `Long`, 12 `Deep`, 13
-    /// `Missing`, 14 `Spelling`, 15 `Prefix`, 16 `Doubtful`, 17 `Many`, 18 `Large`, 19 `Place`.
+    /// `Missing`, 14 `Spelling`, 15 `Prefix`, 16 `Doubtful`, 17 `Many`, 18 `Large`, 19 `Place`, 20
+    /// `Width`.
     pub fn number(&self) -> u8
         ensures { result ≡ trouble_number self.now }
     {
@@ -49,11 +54,12 @@ impl Trouble {
             Trouble::Many => 17,
             Trouble::Large => 18,
             Trouble::Place => 19,
+            Trouble::Width => 20,
         }
     }
 
     /// The trouble's word in a line: that of its cause; `desktop`, `long`, `deep`, `missing`,
-    /// `spelling`, `prefix`, `doubtful`, `many`, `large`, `place`.
+    /// `spelling`, `prefix`, `doubtful`, `many`, `large`, `place`, `width`.
     pub fn word(&self) -> &'static str
         ensures { result.now ≡ trouble_word self.now }
     {
@@ -69,6 +75,7 @@ impl Trouble {
             Trouble::Many => "many",
             Trouble::Large => "large",
             Trouble::Place => "place",
+            Trouble::Width => "width",
         }
     }
 }

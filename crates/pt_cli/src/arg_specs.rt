@@ -280,10 +280,8 @@ pub(crate) const CHECK_SPECS: &[ArgSpec] = &[
     ArgSpec {
         id: GATHER,
         form: Form::Flag,
-        help: "Check for a run that carries what lies directly in an identifier's folder",
-        more: Some(
-            "Check for a run that carries what lies directly in an identifier's folder too [default: it is told]",
-        ),
+        help: "Check for a run with this option, which carries more objects",
+        more: Some("Check for a run that carries what lies directly in an identifier's folder too"),
     },
     ArgSpec {
         id: INTO,

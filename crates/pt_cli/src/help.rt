@@ -70,12 +70,14 @@ Each line says under "as" what is at "path" in the source:
   large       it has more than 8 TiB (with --read)
   place       its path would be too long in DEST (with --dest)
   desktop     it is one of what desktops leave: .DS_Store, Thumbs.db, desktop.ini, ._*
+  width       it stands among folders of one or two bytes, has a longer name, and holds such folders
   root, empty, split, past, name, utf8, reserved, other
               a run doesn't carry it, for the cause that migrate gives
-  end         the last line: how much there is of all that was met
+  end         the last line: how much there is of all that was met, and of each kind of line
 
 Exit status:
   0  nothing was told
-  1  something was told
+  1  something was told, and nothing of what has status 3
   2  the words were refused, and nothing was done
-  3  a fault ended the check, and standard error says which"#;
+  3  what would stop a run was told (unreadable, missing, prefix, place),
+     or a fault ended the check, and standard error says which"#;

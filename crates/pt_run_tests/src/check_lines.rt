@@ -164,6 +164,19 @@ const GATHERED: Row = Row {
     log: "{\"as\":\"place\",\"path\":\"pairtree_root/ab/cd/far/g\"}\n{\"as\":\"empty\",\"path\":\"pairtree_root/gh/xy\"}\n{\"as\":\"end\",\"bytes\":11,\"empty\":1,\"files\":4,\"folders\":8,\"largest\":6,\"longest\":28,\"objects\":3,\"place\":1,\"sites\":6,\"told\":2}\n",
 };
 
+// Longer pieces: `def` and `ghi` hold shorties, `ghi` beside one folder; `xyz` has a file too, and
+// `obj` lies below one that is told.
+const WIDTH: Row = Row {
+    entries: " ab/cd/def/f/obj/g= ab/ef/ghi/j/obj/g= ab/ef/ghi/jkl/f= ab/gh/xyz/f= ab/gh/xyz/v1/g=",
+    spoiled: &[],
+    calls: None,
+    further: &[],
+    room: None,
+    has_tuples: true,
+    form: Form::Plain,
+    log: "{\"as\":\"width\",\"path\":\"pairtree_root/ab/cd/def\"}\n{\"as\":\"width\",\"path\":\"pairtree_root/ab/ef/ghi\"}\n{\"as\":\"end\",\"bytes\":0,\"files\":5,\"folders\":13,\"largest\":0,\"longest\":31,\"objects\":3,\"sites\":5,\"told\":2,\"width\":2}\n",
+};
+
 // Without tuples the place of `extensions` is the root's own.
 const RESERVED: Row = Row {
     entries: " ex/te/ns/io/ns/obj/f=",
@@ -181,7 +194,7 @@ const RESERVED: Row = Row {
 const EMPTY: &str =
     "{\"as\":\"missing\",\"path\":\"pairtree_version0_1\"}\n{\"as\":\"missing\",\"path\":\"pairtree_root\"}\n{\"as\":\"end\",\"bytes\":0,\"files\":0,\"folders\":0,\"largest\":0,\"longest\":0,\"missing\":2,\"objects\":0,\"sites\":0,\"told\":2}\n";
 
-const ROWS: [Row; 13] = [
+const ROWS: [Row; 14] = [
     WHOLE,
     TWO_OBJECTS,
     STRAY,
@@ -194,6 +207,7 @@ const ROWS: [Row; 13] = [
     PART_OF_TOP,
     ROOM,
     GATHERED,
+    WIDTH,
     RESERVED,
 ];
 

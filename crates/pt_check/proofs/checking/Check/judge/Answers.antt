@@ -13,6 +13,12 @@ returns-in_err-tell_if-2-clause-keeps g c =
     let counts = ends_on g.S.Source.told g.S.Source.keeps g.L.Log.told g.met.S.Source.is_kept c.args.self.now c.count.new.self _ c.count.ensures.rest in
     on _ _ _ (on _ _ _ counts c.tell_if.ensures.keeps) c.tell_if-2.ensures.keeps
 
+pub returns-in_err-tell_if-3-clause-keeps : goal.returns-in_err-tell_if-3-clause-keeps
+returns-in_err-tell_if-3-clause-keeps g c =
+    let on = keeps_on g.S.Source.told g.S.Source.keeps g.L.Log.told g.met.S.Source.keeps_on in
+    let counts = ends_on g.S.Source.told g.S.Source.keeps g.L.Log.told g.met.S.Source.is_kept c.args.self.now c.count.new.self _ c.count.ensures.rest in
+    on _ _ _ (on _ _ _ (on _ _ _ counts c.tell_if.ensures.keeps) c.tell_if-2.ensures.keeps) c.tell_if-3.ensures.keeps
+
 pub returns-clause-judged : goal.returns-clause-judged
 returns-clause-judged g c =
     let path = c.args.path.now in
@@ -20,7 +26,8 @@ returns-clause-judged g c =
     let a = check_state g.S.Source g.L.Log c.args.self.now in
     let n = check_state g.S.Source g.L.Log c.count.new.self in
     let m = check_state g.S.Source g.L.Log c.tell_if.new.self in
-    let b = check_state g.S.Source g.L.Log c.tell_if-2.new.self in
+    let o = check_state g.S.Source g.L.Log c.tell_if-2.new.self in
+    let b = check_state g.S.Source g.L.Log c.tell_if-3.new.self in
     let counts = recounted g.S.Source g.L.Log c.args.self.now c.count.new.self _ c.count.ensures.rest (c.count.ensures.numbers
     ∙ ap (λ (f : Finding). with_folder c.args.within f a.numbers) c.finding_of-finding.ensures) in
     let layout : c.count.new.self.wants.layout ≡ c.args.self.now.wants.layout = ap (λ s. s.wants.layout) c.count.ensures.rest in
@@ -28,15 +35,17 @@ returns-clause-judged g c =
     let second = c.in_ok-trouble-2.ensures ∙ ap (λ (f : Finding). reserved_trouble c.count.new.self.wants.layout c.args.prefix.now f path)
     c.finding_of-finding.ensures
     ∙ ap (λ (l : Tuples). reserved_trouble l c.args.prefix.now what path) layout in
-    let tells : TellsIf path (folder_trouble c.args.within what path) n m = subst (λ (o : Option Trouble). TellsIf path o n m) first
+    let tells : TellsIf path (folder_trouble c.args.within what path) n m = subst (λ (t : Option Trouble). TellsIf path t n m) first
     c.in_ok-tell_if.ensures.told in (
       m,
       subst (λ (s : CheckState). TellsIf path (folder_trouble c.args.within what path) s m) counts tells,
-      subst (λ (o : Option Trouble). TellsIf path o m b) second c.in_ok-tell_if-2.ensures.told,
+      o,
+      subst (λ (t : Option Trouble). TellsIf path t m o) second c.in_ok-tell_if-2.ensures.told,
+      subst (λ (t : Option Trouble). TellsIf path t o b) c.width_trouble.ensures c.in_ok-tell_if-3.ensures.told,
     )
 
 pub returns-clause-keeps : goal.returns-clause-keeps
 returns-clause-keeps g c =
     let on = keeps_on g.S.Source.told g.S.Source.keeps g.L.Log.told g.met.S.Source.keeps_on in
     let counts = ends_on g.S.Source.told g.S.Source.keeps g.L.Log.told g.met.S.Source.is_kept c.args.self.now c.count.new.self _ c.count.ensures.rest in
-    on _ _ _ (on _ _ _ counts c.tell_if.ensures.keeps) c.tell_if-2.ensures.keeps
+    on _ _ _ (on _ _ _ (on _ _ _ counts c.tell_if.ensures.keeps) c.tell_if-2.ensures.keeps) c.tell_if-3.ensures.keeps
