@@ -3,6 +3,7 @@ use Rattle.std.proofs.Common.{◌≡◌, ◌∙◌, ◌==◌, ℕ, Bool, arith, 
 use Rattle.std.specs.Prelude.{IfOk, Option, Result, Ok, Err, None, Some, if◌then◌else◌}
 use Rattle.std.specs.Option.{ForSome}
 use Rattle.pt_check.proofs.Readable.{no_run_fails}
+use Rattle.pt_check.specs.Counting.{stops_run}
 use Rattle.pt_check.specs.declared.numbers.Numbers.{Numbers}
 use Rattle.pt_move.specs.Counting.{Counts}
 use Rattle.pt_plan.specs.DeviceStates.{DeviceStates}
@@ -39,10 +40,11 @@ IsQuiet status = 0 ≡ status
 
 quiet : (ran : Result Numbers Fault) → IsQuiet (check_status ran) → (numbers : Numbers) × (ran ≡ Ok numbers) × (numbers.told ≡ 0)
 quiet (Err why) is = absurd (omega (arith, is))
-quiet (Ok numbers) is = (numbers, refl, nothing numbers.told is)
+quiet (Ok numbers) is = (numbers, refl, nothing (stops_run numbers) numbers.told is)
   where
-    nothing : (n : ℕ) → IsQuiet (if n == 0 then 0 else 1) → n ≡ 0
-    nothing n h = grind (arith, h)
+    nothing : (stops : Bool) (n : ℕ) → IsQuiet (if stops then 3 else if n == 0 then 0 else 1) → n ≡ 0
+    nothing true n h = absurd (omega (arith, h))
+    nothing false n h = grind (arith, h)
 
 -- what holds of its numbers
 of_ok : (ran : Result Numbers Fault) (numbers : Numbers) → ran ≡ Ok numbers → (P : Numbers → Type 0) → IfOk ran P → P numbers
