@@ -271,6 +271,7 @@ OPTIONS = [
     ([], []),
     (["--gather", "--verbose"], ["--sync"]),
     (["--share", "1/2"], []),
+    (["--share", "1/2", "--by-folders", "2"], []),
     (["--list", "ids"], []),
     (["--progress", "always", "--expect", "log", "--interval", "86400"], []),
     (["--event", "ev"], []),

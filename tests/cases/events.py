@@ -100,11 +100,11 @@ def of_every_option(program, folder):
     """What each option says is recorded."""
     build(folder, {"old.log": b"", "ids": b"abc\n"})
     words = ["--address", "mailto:a@b", "--message", "M \u00e9\n\"", "--digest", "sha256", "--tuple-size", "2", "--tuples", "1", "--gather"]
-    words += ["--share", "2/2", "--only", "ab", "--only", "\u00e9", "--ignore", ".DS_Store", "--ignore", "Thumbs.db", "--sync", "-n", "--present-ok", "--skips-ok", "-v", "-q"]
+    words += ["--share", "2/2", "--by-folders", "1", "--only", "ab", "--only", "\u00e9", "--ignore", ".DS_Store", "--ignore", "Thumbs.db", "--sync", "-n", "--present-ok", "--skips-ok", "-v", "-q"]
     words += ["--list", "ids", "--progress", "never", "--interval", "7", "--expect", "old.log", "--event", "./ev"]
     done = answer(program, folder, "migrate", *MEANT, *words, "s", "d")
     options = {**OF_RUN, "address": "mailto:a@b", "message": "M \u00e9\n\"", "digest": "sha256", "tuple-size": 2, "tuples": 1, "gather": True}
-    options |= {"share": "2/2", "only": ["ab", "\u00e9"], "ignore": [".DS_Store", "Thumbs.db"], "sync": True, "dry-run": True, "present-ok": True, "skips-ok": True, "verbose": True}
+    options |= {"share": "2/2", "by-folders": 1, "only": ["ab", "\u00e9"], "ignore": [".DS_Store", "Thumbs.db"], "sync": True, "dry-run": True, "present-ok": True, "skips-ok": True, "verbose": True}
     options |= {"list": "ids", "quiet": True, "progress": "never", "interval": 7, "expect": "old.log", "event": "./ev"}
     found, _, faults = recorded(f"{folder}/ev")
     faults += differs(options=(found["options"], options), status=(done[0], 0))

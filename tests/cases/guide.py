@@ -316,7 +316,7 @@ SUMMARY = re.compile(rb"^pairtree2ocfl: \d+ done, \d+ present, \d+ skipped.*\n",
 # The blocks that other cases run.
 ELSEWHERE = (
     "ocfl-report run-1.log", "names - ", "places.txt", "DEST/staging DEST/ocfl", "run-2.log | while", "ocfl-shares here", "ocfl-shares status", "--sshlogin",
-    "--share K/N",
+    "--share K/N", "-mindepth",
     "damaged.txt", "damaged DEST/ocfl", "audit-2.log", "@csv", "xargs", "#SBATCH", "join out", "rm -r DEST/staging", "md5sum", "ocfl-roots sums", "comm -3",
     "kill -STOP", "ocfl-roots set-aside", "rclone copy", "rclone mount",
 )

@@ -267,6 +267,7 @@ FOR_THE_PARSER = (
 
 NO_LAYOUT = "the tuples are out of range: --tuple-size and --tuples are each from 1 to 32, with a product of at most 64, or both 0"
 NO_SHARE = "--share is not K/N with N from 1 to 4096 and K from 1 to N"
+NO_DEPTH = "--by-folders is not a number from 1 to 600 beside --share"
 NO_ENTRY = "--ignore is not the name of a file or folder"
 
 
@@ -285,6 +286,11 @@ def words_refused():
         yield Case(f"the tuples of {' '.join(given)}", ONE, refused(NO_LAYOUT, MEANT, *given))
     for share in ("", "/", "1", "1/", "/1", "0/1", "1/0", "2/1", "1/4097", "4097/4097", "1/2/3", " 1/2", "1/2 ", "-1/2", "a/b", "1/4294967296"):
         yield Case(f"--share {share!r}", ONE, refused(NO_SHARE, MEANT, f"--share={share}"))
+    for depth in ("", "0", "601", "-1", "1.5", "two", " 1", "4294967296"):
+        yield Case(f"--by-folders {depth!r}", ONE, refused(NO_DEPTH, MEANT, "--share=1/2", f"--by-folders={depth}"))
+    yield Case("--by-folders without --share", ONE, refused(NO_DEPTH, MEANT, "--by-folders", "2"))
+    yield Case("the share before the folders", ONE, refused(NO_SHARE, MEANT, "--by-folders", "0", "--share", "2/1"))
+    yield Case("the folders before the names", ONE, refused(NO_DEPTH, MEANT, "--ignore", "a/b", "--by-folders", "2"))
     yield Case("an empty --only", ONE, refused_by_parser(MEANT, "--only", "x", "--only="), refused_by_parser(MEANT, "--only", ""))
     for name in ("", ".", "..", "a/b", "/", "n" * 256):
         yield Case(f"--ignore {name[:9]!r}", ONE, refused(NO_ENTRY, MEANT, "--ignore", "x", f"--ignore={name}"))

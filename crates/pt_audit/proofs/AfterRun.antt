@@ -60,7 +60,7 @@ use Rattle.pt_plan.specs.Items.{
   verdict_by_visit,
   verdict_on_candidate,
 }
-use Rattle.pt_plan.specs.Job.{Job, form_of}
+use Rattle.pt_plan.specs.Job.{Job, form_of, reach_of}
 use Rattle.pt_plan.specs.Lines.{Line}
 use Rattle.pt_plan.specs.Roots.{root_in, storage_root}
 use Rattle.pt_plan.specs.Store.{prefix_file, prefix_in, prefix_of, sites_of}
@@ -71,7 +71,7 @@ use Rattle.pt_tree.specs.Name.{is_name}
 use Rattle.pt_tree.specs.Path.{Path, joined}
 use Rattle.pt_walk.specs.Left.{entries_from}
 use Rattle.pt_walk.specs.Site.{found as found_at}
-use Rattle.pt_walk.specs.Sites.{Site, Visit, Listed, Past, Deep, at_of}
+use Rattle.pt_walk.specs.Sites.{Site, Visit, Listed, Past, Deep, Elsewhere, at_of}
 use Rattle.pt_walk.specs.declared.site.Finding as walk
 use Rattle.pt_walk.specs.declared.site.Finding.TheVariants as finding
 use Rattle.pt_tree.specs.Tree.{IsTree, Tree, tree_of}
@@ -191,18 +191,20 @@ module _ (job : Job) (first : List ℕ) (text : IsUtf8 first) where
   by_visit path (Listed inside) = by_finding path inside (found_at (listing_of inside) (at_of path) (form_of job))
   by_visit path Past = tt
   by_visit path Deep = tt
+  by_visit path Elsewhere = tt
 
   of_ours : (share : Bool) (v : Verdict) → HasText v → HasText (cond share v Interior)
   of_ours true v has = has
   of_ours false v has = tt
 
   of_site : (site : Site) → HasText (item_of job first site).verdict
-  of_site site = of_ours (is_ours job.share (verdict_by_visit job first site.0 site.1)) (verdict_by_visit job first site.0 site.1) (by_visit site.0 site.1)
+  of_site site = of_ours (is_ours job.share site.0 (verdict_by_visit job first site.0 site.1)) (verdict_by_visit job first site.0 site.1)
+      (by_visit site.0 site.1)
 
 id_is_text : (job : Job) (source : Forest) (k : ℕ) (item : Item) (id : List ℕ) (object : PairtreeObject) → slice_get (items job source) k ≡ Some item
     → item.verdict ≡ Named id object → IsUtf8 id
 id_is_text job source k item id object is named =
-    let site = get_map_back (item_of job (prefix_of source)) (sites_of job.limits.depth source) k item is in
+    let site = get_map_back (item_of job (prefix_of source)) (sites_of (reach_of job) source) k item is in
     subst HasText (ap (λ (i : Item). i.verdict) site.2 ∙ named) (of_site job (prefix_of source) (prefix_is_text (find source prefix_file)) site.0)
 
 name_is_text : (name : List ℕ) → is_name name ≡ true → IsUtf8 name

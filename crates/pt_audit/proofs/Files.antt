@@ -29,7 +29,21 @@ use Rattle.pt_plan.specs.TurnScan.{
   StartsInSite,
 }
 use Rattle.pt_plan.specs.TurnStart as start
-use Rattle.pt_plan.specs.TurnWalk.{EndsWalk, EntersSite, IsDeep, IsNew, IsPast, IsPresent, IsSkipped, LeadsOn, LeavesSite, OpensRoot, PassesEntry, WalkStep}
+use Rattle.pt_plan.specs.TurnWalk.{
+  EndsWalk,
+  EntersSite,
+  IsDeep,
+  IsNew,
+  IsPast,
+  IsPresent,
+  IsSkipped,
+  LeadsOn,
+  LeavesSite,
+  OpensRoot,
+  PassesElsewhere,
+  PassesEntry,
+  WalkStep,
+}
 use Rattle.pt_plan.specs.DeviceStates.{Calls, DeviceStates}
 use Rattle.pt_plan.specs.declared.phase.Phase.{Phase}
 use Rattle.pt_plan.specs.declared.phase.Phase.TheVariants as phase
@@ -77,7 +91,8 @@ walks_elsewhere (IsPresent _ _ _ _ _) = (refl, refl)
 walks_elsewhere (IsNew _ _ _ _) = (refl, refl)
 walks_elsewhere (IsPast _ _ _ _ _) = (refl, refl)
 walks_elsewhere (IsDeep _ _ _ _ _ _) = (refl, refl)
-walks_elsewhere (EntersSite _ _ _ _ _ _ _) = (refl, refl)
+walks_elsewhere (PassesElsewhere _ _ _ _ _ _ _) = (refl, refl)
+walks_elsewhere (EntersSite _ _ _ _ _ _ _ _) = (refl, refl)
 walks_elsewhere (PassesEntry _ _ _ _) = (refl, refl)
 walks_elsewhere (LeavesSite _ _ _) = (refl, refl)
 walks_elsewhere (EndsWalk _ _ _) = (refl, refl)

@@ -3,7 +3,7 @@ use Rattle.std.proofs.Common.{◌≡◌, ℕ, suc, Bool, true, false, List, [], 
 use Rattle.std.specs.Prelude.{Option, None, Some, Ok, slice_get, nat_lt, unwrap_or}
 use Rattle.std.proofs.lemmas.Bool.{or_left, or_right, true≢false}
 use Rattle.pt_name.specs.Place.{place_of}
-use Rattle.pt_name.specs.Share.{is_first}
+use Rattle.pt_name.specs.Share.{tells_at}
 use Rattle.pt_tree.specs.Dest.{IsKindAt, Writing}
 use Rattle.pt_tree.specs.Forest.{Forest, is_proper}
 use Rattle.pt_tree.specs.Path.{Path}
@@ -18,7 +18,7 @@ use Rattle.pt_walk.specs.declared.cause.Cause.TheVariants as cause
 use Rattle.pt_walk.specs.declared.frame.Frame.{Frame}
 use Rattle.pt_plan.specs.Answer.{Answer}
 use Rattle.pt_plan.specs.Items.{Fails, Interior, Item, Named, Outcome, PairtreeObject, Skip, item_of, items, outcome}
-use Rattle.pt_plan.specs.Job.{Job}
+use Rattle.pt_plan.specs.Job.{Job, reach_of}
 use Rattle.pt_plan.specs.Lines.{Line, Skipped, line_by_outcome, line_by_verdict}
 use Rattle.pt_plan.specs.Run.{Counts, Held}
 use Rattle.pt_plan.specs.Store.{is_store, pairtree_of, prefix_of, sites_of}
@@ -58,6 +58,7 @@ use Rattle.pt_plan.specs.TurnWalk.{
   EndsWalk,
   EntersSite,
   IsDeep,
+  PassesElsewhere,
   IsNew,
   IsPast,
   IsPresent,
@@ -85,7 +86,7 @@ use Rattle.pt_invariant.proofs.items.WalksTell.{judged_next, judged_verdict, wit
 use Rattle.pt_invariant.proofs.source.InObject.{site_itself}
 use Rattle.pt_invariant.proofs.source.InPairtree.{file_in_pairtree, pairtree_proper}
 use Rattle.pt_invariant.proofs.source.ReadsOn.{reads_block}
-use Rattle.pt_invariant.proofs.source.WalksKeep.{deep_next, done_at_shorty, none_at_end, none_at_entry, past_next}
+use Rattle.pt_invariant.proofs.source.WalksKeep.{deep_next, done_at_shorty, elsewhere_next, none_at_end, none_at_entry, past_next}
 use Rattle.pt_audit.specs.EmptyDest.{bare}
 use Rattle.pt_audit.specs.Surveying.{HasAtHand, Leads, Nothing, Sees, Skips, SeesItem, is_looking, is_of_survey, passed}
 
@@ -139,21 +140,26 @@ walk_sees {job} {s} {prefix} _ (IsSkipped was _ is) _ part _ =
 walk_sees _ (IsPresent _ _ _ _ _) _ _ change = absurd (let found = change.0 bare refl in cc)
 walk_sees {job} {past} {s} _ (IsPast was name e short last) _ part _ =
     at_shorty was e short
-    (pass (is_first job.share) cause.Past refl
-    (get_map (item_of job (prefix_of s.tree)) (sites_of job.limits.depth s.tree) past.count _
+    (pass (tells_at job.share (names_to was.trail)) cause.Past refl
+    (get_map (item_of job (prefix_of s.tree)) (sites_of (reach_of job) s.tree) past.count _
     (past_next job s.tree was.trail name past.count (pairtree_proper s.tree part.at.1.store part.proper) e short last part.at.2)) refl)
 walk_sees {job} {past} {s} _ (IsDeep was name e short last deep) is_one part _ =
     at_shorty was e short
-    (pass (is_first job.share) cause.Limit refl
-    (get_map (item_of job (prefix_of s.tree)) (sites_of job.limits.depth s.tree) past.count _
+    (pass (tells_at job.share (names_to was.trail)) cause.Limit refl
+    (get_map (item_of job (prefix_of s.tree)) (sites_of (reach_of job) s.tree) past.count _
     (deep_next job s.tree was.trail name past.count (pairtree_proper s.tree part.at.1.store part.proper) is_one e short last deep part.at.2)) refl)
+walk_sees {job} {past} {s} _ (PassesElsewhere was name e short last deep apart) is_one part _ =
+    at_shorty was e short
+    (interior refl
+    (get_map (item_of job (prefix_of s.tree)) (sites_of (reach_of job) s.tree) past.count _
+    (elsewhere_next job s.tree was.trail name past.count (pairtree_proper s.tree part.at.1.store part.proper) is_one e short last deep apart part.at.2)) refl)
 walk_sees {job} {past} {s} _ (PassesEntry was item e apart) _ _ _ =
     subst (Sees job s.tree past.count phase.Walk was None) (sym (none_at_entry was.trail item past.count e apart)) (Nothing refl)
 walk_sees {job} {past} {s} _ (LeavesSite was e _) _ _ _ =
     subst (Sees job s.tree past.count phase.Walk was None) (sym (none_at_end was.trail past.count e)) (Nothing refl)
 walk_sees _ (OpensRoot _ _) _ _ _ = Nothing refl
 walk_sees _ (IsNew _ _ _ _) _ _ _ = Nothing refl
-walk_sees _ (EntersSite _ _ _ _ _ _ _) _ _ _ = Nothing refl
+walk_sees _ (EntersSite _ _ _ _ _ _ _ _) _ _ _ = Nothing refl
 walk_sees _ (EndsWalk _ _ _) _ _ _ = Nothing refl
 
 -- ---- the scan
@@ -161,7 +167,7 @@ walk_sees _ (EndsWalk _ _ _) _ _ _ = Nothing refl
 -- the next item is the object's
 of_site : {job : Job} {source : Forest} {prefix : List ℕ} {object : Object} {site : List Frame} {count : ℕ} → IsSiteOf job source prefix object site count
     → slice_get (items job source) count ≡ Some (item_of_site job source site)
-of_site {job} {source} {count} it = get_map (item_of job (prefix_of source)) (sites_of job.limits.depth source) count _ it.here.site
+of_site {job} {source} {count} it = get_map (item_of job (prefix_of source)) (sites_of (reach_of job) source) count _ it.here.site
 
 gives_up : {job : Job} {source : Forest} {prefix : List ℕ} {here : Phase} {object : Object} (held : Held) {count : ℕ} {why : Cause} → is_looking here ≡ true
     → HasStarted source prefix → IsInObject job source prefix object held.trail count
@@ -316,7 +322,8 @@ looks_on _ (Walk turn) = walk_on turn
     walk_on (IsNew _ _ _ _) = refl
     walk_on (IsPast _ _ _ _ _) = refl
     walk_on (IsDeep _ _ _ _ _ _) = refl
-    walk_on (EntersSite _ _ _ _ _ _ _) = refl
+    walk_on (PassesElsewhere _ _ _ _ _ _ _) = refl
+    walk_on (EntersSite _ _ _ _ _ _ _ _) = refl
     walk_on (PassesEntry _ _ _ _) = refl
     walk_on (LeavesSite _ _ _) = refl
     walk_on (EndsWalk _ _ _) = refl

@@ -32,7 +32,7 @@ use Rattle.pt_invariant.specs.SourceInvariant.{SourceAt, SourcePart}
 use Rattle.pt_move.specs.Running.{IsNew, Running}
 use Rattle.pt_move.proofs.Outcomes.{reading_of}
 use Rattle.pt_plan.specs.Items.{item_of, items}
-use Rattle.pt_plan.specs.Job.{Job}
+use Rattle.pt_plan.specs.Job.{Job, reach_of}
 use Rattle.pt_plan.specs.Store.{prefix_of, sites_of}
 use Rattle.pt_plan.specs.declared.phase.Phase.{Phase}
 use Rattle.pt_plan.specs.declared.phase.Phase.TheVariants as phase
@@ -63,7 +63,7 @@ seen_all told source root first now counts r is tree it = record {
           told = had.2;
           all = subst (λ (t : Forest). drop it.count (items (job_of r.state.job) t) ≡ []) told_is.2
               (subst (λ (n : ℕ). drop n (items (job_of r.state.job) told_is.0.tree) ≡ []) it.is.seen
-              (drop-map (item_of (job_of r.state.job) (prefix_of told_is.0.tree)) it.is.past.count (sites_of r.state.job.limits.depth told_is.0.tree)
+              (drop-map (item_of (job_of r.state.job) (prefix_of told_is.0.tree)) it.is.past.count (sites_of (reach_of (job_of r.state.job)) told_is.0.tree)
               ∙ ap (map (item_of (job_of r.state.job) (prefix_of told_is.0.tree))) (at_end told_is.0 told_is.1).2));
         },
       );

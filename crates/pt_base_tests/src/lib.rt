@@ -8,6 +8,8 @@
 #![tactic(auto)]
 
 #[cfg(test)]
+mod divisions;
+#[cfg(test)]
 mod identification;
 #[cfg(test)]
 mod identifier_lists;

@@ -61,7 +61,7 @@ use Rattle.pt_plan.specs.Items.{
   verdict_on_candidate,
   verdict_on_object,
 }
-use Rattle.pt_plan.specs.Job.{Job, form_of}
+use Rattle.pt_plan.specs.Job.{Job, form_of, reach_of}
 use Rattle.pt_plan.specs.Store.{pairtree_root, prefix_of, sites_in_root}
 use Rattle.pt_tree.specs.Forest.{Forest, none, file, other, dir, dir_at, listing_of}
 use Rattle.pt_tree.specs.Path.{Path, joined, same_path}
@@ -69,7 +69,7 @@ use Rattle.pt_tree.specs.declared.kind.Kind.{Kind}
 use Rattle.pt_walk.proofs.Findings.{last_name_says}
 use Rattle.pt_walk.specs.Left.{entries_from}
 use Rattle.pt_walk.specs.Site.{found, found_at_top, is_short, non_shorties}
-use Rattle.pt_walk.specs.Sites.{Site, Visit, Listed, Past, Deep, at_of, is_last, sites_in, visit_of, walked}
+use Rattle.pt_walk.specs.Sites.{Reach, Site, Visit, Listed, Past, Deep, Elsewhere, at_of, is_last, sites_in, visit_of, walked}
 use Rattle.pt_walk.specs.declared.cause.Cause.TheVariants as cause
 use Rattle.pt_walk.specs.declared.site.At.{At}
 use Rattle.pt_walk.specs.declared.site.At.TheVariants as at
@@ -90,6 +90,7 @@ module _ (wants : Wants) (prefix top : List ℕ) where
   FreeVisit path (Listed inside) = IsFree path inside
   FreeVisit path Past = ⊤
   FreeVisit path Deep = ⊤
+  FreeVisit path Elsewhere = ⊤
 
   abbrev FreeSite : Site → Type 0
   FreeSite site = FreeVisit site.0 site.1
@@ -99,17 +100,20 @@ module _ (wants : Wants) (prefix top : List ℕ) where
   Met path left inside here = let it : Folder = record { path = top ∷ path; prefix = prefix; here = here; left = left } in
       IsCleanFolder wants it (listing_of inside) × IsClean wants it (finding_of wants.form here (listing_of inside)) inside
 
-  free_shorty : (depth : ℕ) (path : Path) (left : ℕ) (name : List ℕ) (inside : Forest) → Met (path ++ name ∷ []) left inside (below_site (at_of path) name)
-      → (Met (path ++ name ∷ []) left inside (within.Site (at_of (path ++ name ∷ []))) → Each FreeSite (sites_in depth (path ++ name ∷ []) inside))
-      → Each FreeSite ((path ++ name ∷ [], visit_of depth path inside) ∷ walked (visit_of depth path inside) (sites_in depth (path ++ name ∷ []) inside))
-  free_shorty depth path left name inside met on = by (is_last (at_of path)) (nat_lt depth (length path + 1)) refl
+  free_shorty : (reach : Reach) (path : Path) (left : ℕ) (name : List ℕ) (inside : Forest) → Met (path ++ name ∷ []) left inside (below_site (at_of path) name)
+      → (Met (path ++ name ∷ []) left inside (within.Site (at_of (path ++ name ∷ []))) → Each FreeSite (sites_in reach (path ++ name ∷ []) inside))
+      → Each FreeSite ((path ++ name ∷ [], visit_of reach path name inside)
+      ∷ walked (visit_of reach path name inside) (sites_in reach (path ++ name ∷ []) inside))
+  free_shorty reach path left name inside met on = by (is_last (at_of path)) (nat_lt reach.depth (length path + 1)) (reach.walks (path ++ name ∷ []))
+      refl
     where
-      by : (a b : Bool) → is_last (at_of path) ≡ a
-          → Each FreeSite ((path ++ name ∷ [], cond a Past (cond b Deep (Listed inside))) ∷ walked (cond a Past (cond b Deep (Listed inside)))
-          (sites_in depth (path ++ name ∷ []) inside))
-      by true b last = (tt, tt)
-      by false true last = (tt, tt)
-      by false false last =
+      by : (a b w : Bool) → is_last (at_of path) ≡ a
+          → Each FreeSite ((path ++ name ∷ [], cond a Past (cond b Deep (cond w (Listed inside) Elsewhere)))
+          ∷ walked (cond a Past (cond b Deep (cond w (Listed inside) Elsewhere))) (sites_in reach (path ++ name ∷ []) inside))
+      by true b w last = (tt, tt)
+      by false true w last = (tt, tt)
+      by false false false last = (tt, tt)
+      by false false true last =
           let here : below_site (at_of path) name ≡ within.Site (at_of (path ++ name ∷ [])) =
           leads_to (at_of path) name last ∙ ap (λ (w : At). within.Site w) (sym (last_name_says path name)) in
           let there : Met (path ++ name ∷ []) left inside (within.Site (at_of (path ++ name ∷ []))) = subst (Met (path ++ name ∷ []) left inside) here met in
@@ -119,36 +123,37 @@ module _ (wants : Wants) (prefix top : List ℕ) where
   abbrev in_site : At → Finding → ℕ × ℕ → List ℕ → Bool → Within
   in_site w seen lengths name short = cond short (below_site w name) (beside_shorties seen lengths.0 lengths.1)
 
-  free_sites : (depth : ℕ) (path : Path) (left : ℕ) (seen : Finding) (tree : Forest) → IsClean wants (site_folder path left) seen tree
-      → Each FreeSite (sites_in depth path tree)
-  free_sites depth path left seen none clean = tt
-  free_sites depth path left seen (file name bytes after) clean = free_sites depth path left seen after clean.2
-  free_sites depth path left seen (other name after) clean = free_sites depth path left seen after clean.1
-  free_sites depth path left seen (dir name inside after) clean =
-      each_both FreeSite (here (is_short name)) (sites_in depth path after)
+  free_sites : (reach : Reach) (path : Path) (left : ℕ) (seen : Finding) (tree : Forest) → IsClean wants (site_folder path left) seen tree
+      → Each FreeSite (sites_in reach path tree)
+  free_sites reach path left seen none clean = tt
+  free_sites reach path left seen (file name bytes after) clean = free_sites reach path left seen after clean.2
+  free_sites reach path left seen (other name after) clean = free_sites reach path left seen after clean.1
+  free_sites reach path left seen (dir name inside after) clean =
+      each_both FreeSite (here (is_short name)) (sites_in reach path after)
       (by (is_short name) refl (clean.1, clean.3)
-      (λ met. free_sites depth (path ++ name ∷ []) (left - 1) (finding_of wants.form (within.Site (at_of (path ++ name ∷ []))) (listing_of inside)) inside
+      (λ met. free_sites reach (path ++ name ∷ []) (left - 1) (finding_of wants.form (within.Site (at_of (path ++ name ∷ []))) (listing_of inside)) inside
       met.1))
-      (free_sites depth path left seen after clean.4)
+      (free_sites reach path left seen after clean.4)
     where
       here : Bool → List Site
-      here b = cond b ((path ++ name ∷ [], visit_of depth path inside) ∷ walked (visit_of depth path inside) (sites_in depth (path ++ name ∷ []) inside)) []
+      here b = cond b ((path ++ name ∷ [], visit_of reach path name inside)
+          ∷ walked (visit_of reach path name inside) (sites_in reach (path ++ name ∷ []) inside)) []
 
       bytes : ℕ × ℕ
       bytes = (length (joined (top ∷ path)), length (joined (top ∷ (path ++ name ∷ []))))
 
       by : (b : Bool) → is_short name ≡ b → Met (path ++ name ∷ []) (left - 1) inside (in_site (at_of path) seen bytes name (is_short name))
-          → (Met (path ++ name ∷ []) (left - 1) inside (within.Site (at_of (path ++ name ∷ []))) → Each FreeSite (sites_in depth (path ++ name ∷ []) inside))
+          → (Met (path ++ name ∷ []) (left - 1) inside (within.Site (at_of (path ++ name ∷ []))) → Each FreeSite (sites_in reach (path ++ name ∷ []) inside))
           → Each FreeSite (here b)
       by false is met on = tt
       by true is met on =
-          free_shorty depth path (left - 1) name inside (subst (λ (s : Bool). Met (path ++ name ∷ []) (left - 1) inside
+          free_shorty reach path (left - 1) name inside (subst (λ (s : Bool). Met (path ++ name ∷ []) (left - 1) inside
           (in_site (at_of path) seen bytes name s)) is met) on
 
-  free_root : (depth left : ℕ) (tree : Option Forest) → Met [] left (unwrap_or tree none) (within.Site at.Root) → Each FreeSite (sites_in_root depth tree)
-  free_root depth left None met = tt
-  free_root depth left (Some inside) met =
-      ((met.0.1, met.0.2), free_sites depth [] left (finding_of wants.form (within.Site at.Root) (listing_of inside)) inside met.1)
+  free_root : (reach : Reach) (left : ℕ) (tree : Option Forest) → Met [] left (unwrap_or tree none) (within.Site at.Root) → Each FreeSite (sites_in_root reach tree)
+  free_root reach left None met = tt
+  free_root reach left (Some inside) met =
+      ((met.0.1, met.0.2), free_sites reach [] left (finding_of wants.form (within.Site at.Root) (listing_of inside)) inside met.1)
 
   -- ---- the verdict on a site
 
@@ -166,12 +171,12 @@ module _ (wants : Wants) (prefix top : List ℕ) where
   none_gathered_at_top (x ∷ l) e = absurd (cc)
 
   module _ (job : Job) (covers : CoversForm wants job) (told : wants.layout ≡ job.tuples) where
-    free_named : (object : PairtreeObject) (named : Result (List ℕ) Refusal) → reserved_by (identification_by job.tuples whole named) ≡ None
+    free_named : (path : Path) (object : PairtreeObject) (named : Result (List ℕ) Refusal) → reserved_by (identification_by job.tuples whole path named) ≡ None
         → FreeVerdict (verdict_by_identifier object named)
-    free_named object (Ok id) silent = tt
-    free_named object (Err refusal.Malformed) silent = λ e. absurd (cc)
-    free_named object (Err refusal.NotUtf8) silent = λ e. absurd (cc)
-    free_named object (Err refusal.Reserved) silent = absurd (cc)
+    free_named path object (Ok id) silent = tt
+    free_named path object (Err refusal.Malformed) silent = λ e. absurd (cc)
+    free_named path object (Err refusal.NotUtf8) silent = λ e. absurd (cc)
+    free_named path object (Err refusal.Reserved) silent = absurd (cc)
 
     free_with_tuples : (object : PairtreeObject) (read : Option (List ℕ)) → (job.tuples.count == 0) ≡ false
         → FreeVerdict (verdict_by_identifier object (identifier_by job.tuples prefix read))
@@ -192,13 +197,13 @@ module _ (wants : Wants) (prefix top : List ℕ) where
         by false = λ e. absurd (cc)
 
     free_on : (path : Path) (object : PairtreeObject) (flat : Bool) → (job.tuples.count == 0) ≡ flat
-        → cond flat (reserved_by (identification_by job.tuples whole (identifier_at job.tuples prefix path))) None ≡ None
+        → cond flat (reserved_by (identification_by job.tuples whole path (identifier_at job.tuples prefix path))) None ≡ None
         → FreeVerdict (verdict_by_identifier object (identifier_at job.tuples prefix path))
-    free_on path object true is silent = free_named object (identifier_at job.tuples prefix path) silent
+    free_on path object true is silent = free_named path object (identifier_at job.tuples prefix path) silent
     free_on path object false is silent = free_with_tuples object (reading_of (concat path)) is
 
     free_encapsulated : (path : Path) (object : Option PairtreeObject)
-        → cond (job.tuples.count == 0) (reserved_by (identification_by job.tuples whole (identifier_at job.tuples prefix path))) None ≡ None
+        → cond (job.tuples.count == 0) (reserved_by (identification_by job.tuples whole path (identifier_at job.tuples prefix path))) None ≡ None
         → FreeVerdict (verdict_on_candidate job prefix path object)
     free_encapsulated path None silent = tt
     free_encapsulated path (Some object) silent = free_on path object (job.tuples.count == 0) refl silent
@@ -237,9 +242,10 @@ module _ (wants : Wants) (prefix top : List ℕ) where
         subst (λ (f : Finding). FreeVerdict (verdict_by_finding job prefix path inside f)) (sym same) (free_finding path inside seen refl free.0 free.1)
     free_by_visit path Past free = λ e. absurd (cc)
     free_by_visit path Deep free = λ e. absurd (cc)
+    free_by_visit path Elsewhere free = tt
 
     free_verdict : (path : Path) (visit : Visit) → FreeVisit path visit → FreeVerdict (verdict_of job prefix path visit)
-    free_verdict path visit free = by (is_ours job.share (verdict_by_visit job prefix path visit))
+    free_verdict path visit free = by (is_ours job.share path (verdict_by_visit job prefix path visit))
       where
         by : (b : Bool) → FreeVerdict (cond b (verdict_by_visit job prefix path visit) Interior)
         by true = free_by_visit path visit free
@@ -254,5 +260,5 @@ pub none_for_reserved : NoRunSkipsForReserved
 none_for_reserved wants job tree covers told clean =
     let prefix = prefix_of tree in
     let root = dir_at tree (pairtree_root ∷ []) in
-    free_items wants prefix pairtree_root job covers told (sites_in_root job.limits.depth root)
-    (free_root wants prefix pairtree_root job.limits.depth 601 root (clean.top, clean.inside))
+    free_items wants prefix pairtree_root job covers told (sites_in_root (reach_of job) root)
+    (free_root wants prefix pairtree_root (reach_of job) 601 root (clean.top, clean.inside))

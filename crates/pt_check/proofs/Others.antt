@@ -51,7 +51,7 @@ use Rattle.pt_plan.specs.Items.{
   verdict_of,
   verdict_on_candidate,
 }
-use Rattle.pt_plan.specs.Job.{Job, form_of}
+use Rattle.pt_plan.specs.Job.{Job, form_of, reach_of}
 use Rattle.pt_plan.specs.Store.{pairtree_root, prefix_of, sites_in_root}
 use Rattle.pt_tree.specs.Forest.{Forest, none, file, other, dir, Node, File, Dir, Other, dir_at, listing_of}
 use Rattle.pt_tree.specs.Path.{Path}
@@ -59,7 +59,7 @@ use Rattle.pt_walk.specs.Left.{entries_from}
 use Rattle.pt_walk.specs.Limits.{Bounds}
 use Rattle.pt_walk.specs.Object.{Entry, bad_or, entries_in, entry_cause, files_with, first_bad, without_shorties}
 use Rattle.pt_walk.specs.Site.{found, is_short}
-use Rattle.pt_walk.specs.Sites.{Site, Visit, Listed, Past, Deep, at_of, is_last, sites_in, visit_of, walked}
+use Rattle.pt_walk.specs.Sites.{Reach, Site, Visit, Listed, Past, Deep, Elsewhere, at_of, is_last, sites_in, visit_of, walked}
 use Rattle.pt_walk.specs.declared.cause.Cause.{Cause}
 use Rattle.pt_walk.specs.declared.cause.Cause.TheVariants as cause
 use Rattle.pt_walk.specs.declared.site.Finding.{Finding}
@@ -116,42 +116,50 @@ abbrev IsPlainVisit : Visit → Type 0
 IsPlainVisit (Listed inside) = has_other inside ≡ false
 IsPlainVisit Past = ⊤
 IsPlainVisit Deep = ⊤
+IsPlainVisit Elsewhere = ⊤
 
 abbrev IsPlainSite : Site → Type 0
 IsPlainSite site = IsPlainVisit site.1
 
-plain_visit : (depth : ℕ) (path : Path) (inside : Forest) → has_other inside ≡ false → IsPlainVisit (visit_of depth path inside)
-plain_visit depth path inside plain = by (is_last (at_of path)) (nat_lt depth (length path + 1))
+plain_visit : (reach : Reach) (path : Path) (name : List ℕ) (inside : Forest) → has_other inside ≡ false → IsPlainVisit (visit_of reach path name inside)
+plain_visit reach path name inside plain = by (is_last (at_of path)) (nat_lt reach.depth (length path + 1)) (reach.walks (path ++ name ∷ []))
   where
-    by : (a b : Bool) → IsPlainVisit (cond a Past (cond b Deep (Listed inside)))
-    by true b = tt
-    by false true = tt
-    by false false = plain
+    by : (a b w : Bool) → IsPlainVisit (cond a Past (cond b Deep (cond w (Listed inside) Elsewhere)))
+    by true b w = tt
+    by false true w = tt
+    by false false true = plain
+    by false false false = tt
 
 plain_walked : (visit : Visit) (below : List Site) → Each IsPlainSite below → Each IsPlainSite (walked visit below)
 plain_walked (Listed inside) below all = all
 plain_walked Past below all = tt
 plain_walked Deep below all = tt
+plain_walked Elsewhere below all = tt
 
-plain_sites : (depth : ℕ) (path : Path) (tree : Forest) → has_other tree ≡ false → Each IsPlainSite (sites_in depth path tree)
-plain_sites depth path none plain = tt
-plain_sites depth path (file name bytes after) plain = plain_sites depth path after plain
-plain_sites depth path (other name after) plain = absurd (cc)
-plain_sites depth path (dir name inside after) plain =
+plain_sites : (reach : Reach) (path : Path) (tree : Forest) → has_other tree ≡ false → Each IsPlainSite (sites_in reach path tree)
+plain_sites reach path none plain = tt
+plain_sites reach path (file name bytes after) plain = plain_sites reach path after plain
+plain_sites reach path (other name after) plain = absurd (cc)
+plain_sites reach path (dir name inside after) plain =
     let parts = neither (has_other inside) (has_other after) plain in
-    each_both IsPlainSite (here (is_short name)) (sites_in depth path after) (by (is_short name) parts.0 (plain_sites depth (path ++ name ∷ []) inside parts.0))
-    (plain_sites depth path after parts.1)
+    each_both IsPlainSite (here (is_short name)) (sites_in reach path after) (by (is_short name) parts.0 (plain_sites reach (path ++ name ∷ []) inside parts.0))
+    (plain_sites reach path after parts.1)
   where
     here : Bool → List Site
-    here b = cond b ((path ++ name ∷ [], visit_of depth path inside) ∷ walked (visit_of depth path inside) (sites_in depth (path ++ name ∷ []) inside)) []
+    here b = cond b ((path ++ name ∷ [], visit_of reach path name inside)
+        ∷ walked (visit_of reach path name inside) (sites_in reach (path ++ name ∷ []) inside)) []
 
-    by : (b : Bool) → has_other inside ≡ false → Each IsPlainSite (sites_in depth (path ++ name ∷ []) inside) → Each IsPlainSite (here b)
+    by : (b : Bool) → has_other inside ≡ false → Each IsPlainSite (sites_in reach (path ++ name ∷ []) inside) → Each IsPlainSite (here b)
     by false within below = tt
-    by true within below = (plain_visit depth path inside within, plain_walked (visit_of depth path inside) (sites_in depth (path ++ name ∷ []) inside) below)
+    by true within below = (
+      plain_visit reach path name inside within,
+      plain_walked (visit_of reach path name inside) (sites_in reach (path ++ name
+          ∷ []) inside) below,
+    )
 
-plain_in_root : (depth : ℕ) (top : Option Forest) → has_other (unwrap_or top none) ≡ false → Each IsPlainSite (sites_in_root depth top)
-plain_in_root depth None plain = tt
-plain_in_root depth (Some tree) plain = (plain, plain_sites depth [] tree plain)
+plain_in_root : (reach : Reach) (top : Option Forest) → has_other (unwrap_or top none) ≡ false → Each IsPlainSite (sites_in_root reach top)
+plain_in_root reach None plain = tt
+plain_in_root reach (Some tree) plain = (plain, plain_sites reach [] tree plain)
 
 -- ---- the objects
 
@@ -184,9 +192,10 @@ module _ (job : Job) (prefix : List ℕ) (path : Path) where
   plain_by_visit (Listed inside) plain = plain_finding inside (found (listing_of inside) (at_of path) (form_of job)) plain
   plain_by_visit Past plain = tt
   plain_by_visit Deep plain = tt
+  plain_by_visit Elsewhere plain = tt
 
   plain_verdict : (visit : Visit) → IsPlainVisit visit → IsPlainVerdict (verdict_of job prefix path visit)
-  plain_verdict visit plain = by (is_ours job.share (verdict_by_visit job prefix path visit))
+  plain_verdict visit plain = by (is_ours job.share path (verdict_by_visit job prefix path visit))
     where
       by : (b : Bool) → IsPlainVerdict (cond b (verdict_by_visit job prefix path visit) Interior)
       by true = plain_by_visit visit plain
@@ -263,5 +272,5 @@ items_plain job prefix (site ∷ rest) plain = (item_plain job prefix site plain
 
 pub none_for_other : NoRunSkipsForOther
 none_for_other wants job tree clean =
-    items_plain job (prefix_of tree) (sites_in_root job.limits.depth (dir_at tree (pairtree_root ∷ [])))
-    (plain_in_root job.limits.depth (dir_at tree (pairtree_root ∷ [])) (no_other wants _ _ _ clean.inside))
+    items_plain job (prefix_of tree) (sites_in_root (reach_of job) (dir_at tree (pairtree_root ∷ [])))
+    (plain_in_root (reach_of job) (dir_at tree (pairtree_root ∷ [])) (no_other wants _ _ _ clean.inside))

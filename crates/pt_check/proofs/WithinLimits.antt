@@ -52,6 +52,7 @@ use Rattle.pt_check.specs.declared.within.Within.{Within}
 use Rattle.pt_check.specs.declared.within.Within.TheVariants as within
 use Rattle.pt_check.proofs.Others.{each_both}
 use Rattle.pt_name.specs.Identifying.{identifier_at}
+use Rattle.pt_name.specs.Share.{walks}
 use Rattle.pt_name.specs.declared.identifying.Refusal.{Refusal}
 use Rattle.pt_name.specs.declared.identifying.Refusal.TheVariants as refusal
 use Rattle.pt_name.specs.Tuples.{Tuples}
@@ -72,7 +73,7 @@ use Rattle.pt_plan.specs.Items.{
   verdict_of,
   verdict_on_candidate,
 }
-use Rattle.pt_plan.specs.Job.{Job, form_of}
+use Rattle.pt_plan.specs.Job.{Job, form_of, reach_of}
 use Rattle.pt_plan.specs.Store.{pairtree_root, prefix_of, sites_in_root}
 use Rattle.pt_tree.specs.Forest.{Forest, none, file, other, dir, File, Dir, Other, dir_at, listing_of}
 use Rattle.pt_tree.specs.Listing.{Item}
@@ -85,7 +86,7 @@ use Rattle.pt_walk.specs.Left.{entries_from}
 use Rattle.pt_walk.specs.Limits.{Bounds, greatest_limits}
 use Rattle.pt_walk.specs.Object.{Entry, bad_or, entries_in, entry_cause, files, first_bad, without_shorties}
 use Rattle.pt_walk.specs.Site.{found, found_at_top, found_below, is_short, non_shorties}
-use Rattle.pt_walk.specs.Sites.{Site, Visit, Listed, Past, Deep, at_of, is_last, sites_in, visit_of, walked}
+use Rattle.pt_walk.specs.Sites.{Reach, Site, Visit, Listed, Past, Deep, Elsewhere, at_of, is_last, sites_in, visit_of, walked}
 use Rattle.pt_walk.specs.declared.cause.Cause.{Cause}
 use Rattle.pt_walk.specs.declared.cause.Cause.TheVariants as cause
 use Rattle.pt_walk.specs.declared.site.At.{At}
@@ -179,6 +180,10 @@ Rest = Form × Option ℕ × Tuples
 -- a check that reads files whole
 abbrev read_whole : Rest → Wants
 read_whole rest = record { reads = true; form = rest.0; room = rest.1; layout = rest.2 }
+
+-- a walk as deep as any goes
+abbrev deepest : (Path → Bool) → Reach
+deepest walks = record { depth = 600; walks = walks }
 
 module _ (rest : Rest) (start : List ℕ) where
   -- of a file at this path, whose object's own path is that
@@ -300,6 +305,7 @@ module _ (rest : Rest) (start : List ℕ) where
   FineVisit top path (Listed inside) = CleanSite top path inside
   FineVisit top path Past = ⊤
   FineVisit top path Deep = ⊥
+  FineVisit top path Elsewhere = ⊤
 
   abbrev FineSite : List ℕ → Site → Type 0
   FineSite top site = FineVisit top site.0 site.1
@@ -309,21 +315,23 @@ module _ (rest : Rest) (start : List ℕ) where
   Met top path left inside here = let it : Folder = record { path = top ∷ path; prefix = start; here = here; left = left } in
       IsCleanFolder (read_whole rest) it (listing_of inside) × IsClean (read_whole rest) it (seen_of here inside) inside × HasRoomFor (seen_of here inside) inside
 
-  fine_shorty : (top : List ℕ) (path : Path) (left : ℕ) (name : List ℕ) (inside : Forest) → left + length path ≡ 601
+  fine_shorty : (walks : Path → Bool) (top : List ℕ) (path : Path) (left : ℕ) (name : List ℕ) (inside : Forest) → left + length path ≡ 601
       → Met top (path ++ name ∷ []) (left - 1) inside (below_site (at_of path) name)
-      → (CleanSite top (path ++ name ∷ []) inside → Each (FineSite top) (sites_in 600 (path ++ name ∷ []) inside))
-      → Each (FineSite top) ((path ++ name ∷ [], visit_of 600 path inside) ∷ walked (visit_of 600 path inside) (sites_in 600 (path ++ name ∷ []) inside))
-  fine_shorty top path left name inside deep met on = by (is_last (at_of path)) (nat_lt 600 (length path + 1)) refl refl
+      → (CleanSite top (path ++ name ∷ []) inside → Each (FineSite top) (sites_in (deepest walks) (path ++ name ∷ []) inside))
+      → Each (FineSite top) ((path ++ name ∷ [], visit_of (deepest walks) path name inside)
+      ∷ walked (visit_of (deepest walks) path name inside) (sites_in (deepest walks) (path ++ name ∷ []) inside))
+  fine_shorty walks top path left name inside deep met on = by (is_last (at_of path)) (nat_lt 600 (length path + 1)) (walks (path ++ name ∷ [])) refl refl
     where
-      by : (a b : Bool) → is_last (at_of path) ≡ a → nat_lt 600 (length path + 1) ≡ b
-          → Each (FineSite top) ((path ++ name ∷ [], cond a Past (cond b Deep (Listed inside))) ∷ walked (cond a Past (cond b Deep (Listed inside)))
-          (sites_in 600 (path ++ name ∷ []) inside))
-      by true b last too_deep = (tt, tt)
-      by false true last too_deep =
+      by : (a b w : Bool) → is_last (at_of path) ≡ a → nat_lt 600 (length path + 1) ≡ b
+          → Each (FineSite top) ((path ++ name ∷ [], cond a Past (cond b Deep (cond w (Listed inside) Elsewhere)))
+          ∷ walked (cond a Past (cond b Deep (cond w (Listed inside) Elsewhere))) (sites_in (deepest walks) (path ++ name ∷ []) inside))
+      by true b w last too_deep = (tt, tt)
+      by false false false last too_deep = (tt, tt)
+      by false true w last too_deep =
           let some = eqb-false (left - 1) 0 met.0.0 in
           let over = ltb-true 600 (length path + 1) too_deep in
           absurd (omega (arith, deep, some, over))
-      by false false last too_deep =
+      by false false true last too_deep =
           let some = eqb-false (left - 1) 0 met.0.0 in
           let longer = one_longer path name in
           let here : below_site (at_of path) name ≡ within.Site (at_of (path ++ name ∷ [])) =
@@ -337,20 +345,21 @@ module _ (rest : Rest) (start : List ℕ) where
   abbrev in_site : At → Finding → List ℕ → ℕ → ℕ → Bool → Within
   in_site w seen name site bytes short = cond short (below_site w name) (beside_shorties seen site bytes)
 
-  fine_sites : (top : List ℕ) (path : Path) (left : ℕ) (seen : Finding) (tree : Forest) → left + length path ≡ 601
+  fine_sites : (walks : Path → Bool) (top : List ℕ) (path : Path) (left : ℕ) (seen : Finding) (tree : Forest) → left + length path ≡ 601
       → IsClean (read_whole rest) (site_folder top path left) seen tree
-      → Each (FineSite top) (sites_in 600 path tree)
-  fine_sites top path left seen none deep clean = tt
-  fine_sites top path left seen (file name bytes after) deep clean = fine_sites top path left seen after deep clean.2
-  fine_sites top path left seen (other name after) deep clean = fine_sites top path left seen after deep clean.1
-  fine_sites top path left seen (dir name inside after) deep clean =
-      each_both (FineSite top) (here (is_short name)) (sites_in 600 path after)
+      → Each (FineSite top) (sites_in (deepest walks) path tree)
+  fine_sites walks top path left seen none deep clean = tt
+  fine_sites walks top path left seen (file name bytes after) deep clean = fine_sites walks top path left seen after deep clean.2
+  fine_sites walks top path left seen (other name after) deep clean = fine_sites walks top path left seen after deep clean.1
+  fine_sites walks top path left seen (dir name inside after) deep clean =
+      each_both (FineSite top) (here (is_short name)) (sites_in (deepest walks) path after)
       (by (is_short name) refl (clean.1, clean.3, clean.2.1)
-      (λ site. fine_sites top (path ++ name ∷ []) site.0 (seen_of (within.Site (at_of (path ++ name ∷ []))) inside) inside site.1 site.3))
-      (fine_sites top path left seen after deep clean.4)
+      (λ site. fine_sites walks top (path ++ name ∷ []) site.0 (seen_of (within.Site (at_of (path ++ name ∷ []))) inside) inside site.1 site.3))
+      (fine_sites walks top path left seen after deep clean.4)
     where
       here : Bool → List Site
-      here b = cond b ((path ++ name ∷ [], visit_of 600 path inside) ∷ walked (visit_of 600 path inside) (sites_in 600 (path ++ name ∷ []) inside)) []
+      here b = cond b ((path ++ name ∷ [], visit_of (deepest walks) path name inside)
+          ∷ walked (visit_of (deepest walks) path name inside) (sites_in (deepest walks) (path ++ name ∷ []) inside)) []
 
       site : ℕ
       site = length (joined (top ∷ path))
@@ -359,10 +368,10 @@ module _ (rest : Rest) (start : List ℕ) where
       bytes = length (joined (top ∷ (path ++ name ∷ [])))
 
       by : (b : Bool) → is_short name ≡ b → Met top (path ++ name ∷ []) (left - 1) inside (in_site (at_of path) seen name site bytes (is_short name))
-          → (CleanSite top (path ++ name ∷ []) inside → Each (FineSite top) (sites_in 600 (path ++ name ∷ []) inside)) → Each (FineSite top) (here b)
+          → (CleanSite top (path ++ name ∷ []) inside → Each (FineSite top) (sites_in (deepest walks) (path ++ name ∷ []) inside)) → Each (FineSite top) (here b)
       by false is met on = tt
       by true is met on =
-          fine_shorty top path left name inside deep (subst (λ (s : Bool). Met top (path ++ name ∷ []) (left - 1) inside
+          fine_shorty walks top path left name inside deep (subst (λ (s : Bool). Met top (path ++ name ∷ []) (left - 1) inside
           (in_site (at_of path) seen name site bytes s)) is met) on
 
   -- a site that is gathered
@@ -496,9 +505,10 @@ module _ (rest : Rest) (start : List ℕ) where
         (fine_finding path left inside seen deep refl folder.1 clean room)
     fine_by_visit covers path Past fine = λ e. absurd (cc)
     fine_by_visit covers path Deep fine = absurd fine
+    fine_by_visit covers path Elsewhere fine = tt
 
     fine_verdict : Covers → (path : Path) (visit : Visit) → FineVisit top path visit → FineVerdict (verdict_of job prefix path visit)
-    fine_verdict covers path visit fine = by (is_ours job.share (verdict_by_visit job prefix path visit))
+    fine_verdict covers path visit fine = by (is_ours job.share path (verdict_by_visit job prefix path visit))
       where
         by : (b : Bool) → FineVerdict (cond b (verdict_by_visit job prefix path visit) Interior)
         by true = fine_by_visit covers path visit fine
@@ -521,15 +531,15 @@ module _ (rest : Rest) (start : List ℕ) where
   root_room [] inside = tt
   root_room (x ∷ l) inside = tt
 
-  fine_root : (top : List ℕ) (tree : Option Forest)
+  fine_root : (walks : Path → Bool) (top : List ℕ) (tree : Option Forest)
       → (let inside = unwrap_or tree none in
       IsCleanFolder (read_whole rest) (site_folder top [] 601) (listing_of inside)
       × IsClean (read_whole rest) (site_folder top [] 601) (seen_of (within.Site at.Root) inside) inside)
-      → Each (FineSite top) (sites_in_root 600 tree)
-  fine_root top None met = tt
-  fine_root top (Some inside) met = (
+      → Each (FineSite top) (sites_in_root (deepest walks) tree)
+  fine_root walks top None met = tt
+  fine_root walks top (Some inside) met = (
     (601, refl, met.0, met.1, root_room (non_shorties (listing_of inside)) inside),
-    fine_sites top [] 601 (seen_of (within.Site at.Root) inside) inside refl met.1,
+    fine_sites walks top [] 601 (seen_of (within.Site at.Root) inside) inside refl met.1,
   )
 
 pub none_for_limit : NoRunSkipsForLimit
@@ -539,8 +549,8 @@ none_for_limit wants job tree covers reads limits clean =
     let root = dir_at tree (pairtree_root ∷ []) in
     let whole : wants ≡ read_whole rest = ap (λ (b : Bool). record { reads = b; form = wants.form; room = wants.room; layout = wants.layout }) reads in
     let read : IsCleanStore (read_whole rest) tree = subst (λ (w : Wants). IsCleanStore w tree) whole clean in
-    let fine : Each (FineSite rest start pairtree_root) (sites_in_root 600 root) = fine_root rest start pairtree_root root (read.top, read.inside)
-    in
+    let fine : Each (FineSite rest start pairtree_root) (sites_in_root (deepest (walks job.share)) root) =
+    fine_root rest start (walks job.share) pairtree_root root (read.top, read.inside) in
     let depth : 600 ≡ job.limits.depth = sym (ap (λ (l : Bounds). l.depth) limits) in
-    fine_items rest start job start pairtree_root covers limits (sites_in_root job.limits.depth root)
-    (subst (λ (d : ℕ). Each (FineSite rest start pairtree_root) (sites_in_root d root)) depth fine)
+    fine_items rest start job start pairtree_root covers limits (sites_in_root (reach_of job) root)
+    (subst (λ (d : ℕ). Each (FineSite rest start pairtree_root) (sites_in_root (record { depth = d; walks = walks job.share }) root)) depth fine)

@@ -161,7 +161,7 @@ module _ (spelled others : Spelled) where
                                           (refl, refl, refl),
                                           (
                                             (refl, refl, refl),
-                                            ((refl, refl, refl), ((refl, refl, refl), ((refl, refl, refl), ((refl, refl, refl), tt)))),
+                                            ((refl, refl, refl), ((refl, refl, refl), ((refl, refl, refl), ((refl, refl, refl), ((refl, refl, refl), tt))))),
                                           ),
                                         ),
                                       ),
@@ -215,7 +215,7 @@ module _ (spelled others : Spelled) where
                               (refl, refl, refl),
                               (
                                 (refl, refl, refl),
-                                ((refl, refl, refl), ((refl, refl, refl), ((refl, refl, refl), ((refl, refl, refl), tt)))),
+                                ((refl, refl, refl), ((refl, refl, refl), ((refl, refl, refl), ((refl, refl, refl), ((refl, refl, refl), tt))))),
                               ),
                             ),
                           ),

@@ -79,6 +79,7 @@ answers_error kinds found e fault.EmptyId k h = absurd h
 answers_error kinds found e fault.Memory k h = tt
 answers_error kinds found e fault.Tuples k h = absurd h
 answers_error kinds found e fault.Share k h = absurd h
+answers_error kinds found e fault.Folders k h = absurd h
 answers_error kinds found e fault.Ignored k h = absurd h
 answers_error kinds found e fault.EmptyEvent k h = absurd h
 answers_error kinds found e fault.EmptyList k h = absurd h

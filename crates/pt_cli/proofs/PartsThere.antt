@@ -44,7 +44,7 @@ use Rattle.pt_cli.specs.Options.{
   names_in,
   run_options_in,
 }
-use Rattle.pt_cli.specs.Share.{share_asked}
+use Rattle.pt_cli.specs.Share.{divided, share_asked}
 use Rattle.pt_cli.specs.declared.faults.Unread.{Unread}
 use Rattle.pt_cli.specs.declared.faults.Unread.TheVariants as unread
 use Rattle.pt_cli.proofs.Reading.{number_read_back}
@@ -107,6 +107,7 @@ then_there (Err unread.EmptyId) f here on = tt
 then_there (Err unread.Memory) f here on = tt
 then_there (Err unread.Tuples) f here on = tt
 then_there (Err unread.Share) f here on = tt
+then_there (Err unread.Folders) f here on = tt
 then_there (Err unread.Ignored) f here on = tt
 then_there (Err unread.EmptyEvent) f here on = tt
 then_there (Err unread.EmptyList) f here on = tt
@@ -132,6 +133,10 @@ cut_there (Err refusal) = tt
 share_there : (share : Option Portion) → IsThere (judged unread.Share share)
 share_there (Some share) = tt
 share_there None = tt
+
+folders_judged : (share : Option Portion) → IsThere (judged unread.Folders share)
+folders_judged (Some share) = tt
+folders_judged None = tt
 
 ignored_there : (names : Option (List Text)) → IsThere (names_of names)
 ignored_there None = tt
@@ -177,7 +182,8 @@ module _ (rows : List Row) where
       → IsThere (layout_in rows) → IsThere (job_in meta rows)
   job_there meta digest algorithm e1 e2 cuts =
       rw (e1, e2) (then_there (layout_in rows) _ cuts (λ tuples. then_there (judged unread.Share (share_asked (first_of (codes "share") rows))) _
-      (share_there _) (λ share. tt)))
+      (share_there _) (λ numbered. then_there (judged unread.Folders (divided (first_of (codes "share") rows) (first_of (codes "by-folders") rows) numbered)) _
+      (folders_judged _) (λ share. tt))))
 
   pub feedback_there : (when interval_text : Text) (progress : Progress) (interval : ℕ) → first_of (codes "progress") rows ≡ Some when
       → progress_of when ≡ Some progress

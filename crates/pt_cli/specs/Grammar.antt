@@ -79,6 +79,10 @@ count_rule = number_rule (codes "tuples") (codes "3")
 abbrev pub share_rule : Rule
 share_rule = option_rule (codes "share")
 
+-- `--by-folders D`
+abbrev pub by_folders_rule : Rule
+by_folders_rule = option_rule (codes "by-folders")
+
 -- `--only TEXT`, which isn't empty, and may be given more than once
 abbrev pub only_rule : Rule
 only_rule = record (option_rule (codes "only")) { action = Some Append; parser = Some vp.NonEmptyString }
@@ -169,8 +173,8 @@ abbrev pub migrate_rules : Spelled → List Rule
 migrate_rules words =
     created_rule ∷ name_rule ∷ address_rule ∷ message_rule ∷ digest_rule words.algorithms
     ∷ size_rule ∷ count_rule ∷ gather_rule
-    ∷ share_rule ∷ only_rule ∷ list_rule ∷ ignore_rule ∷ sync_rule ∷ rehearse_rule ∷ present_rule
-    ∷ skips_rule ∷ verbose_rule ∷ quiet_rule
+    ∷ share_rule ∷ by_folders_rule ∷ only_rule ∷ list_rule ∷ ignore_rule ∷ sync_rule ∷ rehearse_rule
+    ∷ present_rule ∷ skips_rule ∷ verbose_rule ∷ quiet_rule
     ∷ progress_rule words.times ∷ interval_rule ∷ expect_rule ∷ event_rule
     ∷ source_rule ∷ dest_rule ∷ []
 
@@ -185,8 +189,8 @@ IsMigrateApp app = (words : Spelled) × (app ≡ migrate_app words)
 -- the options of `audit` and its two paths
 abbrev pub audit_rules : Spelled → List Rule
 audit_rules words =
-    digest_rule words.algorithms ∷ size_rule ∷ count_rule ∷ gather_rule ∷ share_rule ∷ only_rule
-    ∷ list_rule ∷ ignore_rule ∷ skips_rule ∷ extra_rule ∷ verbose_rule ∷ quiet_rule
+    digest_rule words.algorithms ∷ size_rule ∷ count_rule ∷ gather_rule ∷ share_rule
+    ∷ by_folders_rule ∷ only_rule ∷ list_rule ∷ ignore_rule ∷ skips_rule ∷ extra_rule ∷ verbose_rule ∷ quiet_rule
     ∷ progress_rule words.times ∷ interval_rule ∷ expect_rule ∷ event_rule ∷ source_rule ∷ dest_rule ∷ []
 
 -- `audit [OPTIONS] SOURCE DEST`

@@ -18,7 +18,7 @@ use Rattle.pt_state.specs.declared.job.Job.{Job}
 use Rattle.pt_walk.specs.Limits.{greatest_limits}
 use Rattle.pt_cli.specs.Arguments.{◌>>=◌, algorithm_in, is_set_in, judged, needed, number_in, path_only, progress_in, unread_of_meta}
 use Rattle.pt_cli.specs.Ignore.{ignored_in}
-use Rattle.pt_cli.specs.Share.{share_asked, with_only}
+use Rattle.pt_cli.specs.Share.{divided, share_asked, with_only}
 use Rattle.pt_cli.specs.declared.command.Command.{Command}
 use Rattle.pt_cli.specs.declared.command.Command.TheVariants.{Audit, Check, Migrate, Names}
 use Rattle.pt_cli.specs.declared.faults.Unread.{Unread}
@@ -59,7 +59,9 @@ abbrev pub job_in : MetaParts → List Row → Result Job Unread
 job_in meta rows = do
   algorithm ← algorithm_in rows
   layout ← layout_in rows
-  share ← judged unread.Share (share_asked (first_of (codes "share") rows))
+  numbered ← judged unread.Share (share_asked (first_of (codes "share") rows))
+  share ← judged unread.Folders
+      (divided (first_of (codes "share") rows) (first_of (codes "by-folders") rows) numbered)
   Ok (record {
     meta = meta;
     layout = layout;

@@ -3,9 +3,9 @@
 
 use crate::grammar::{ArgSpec, Form};
 use crate::ids::{
-    ADDRESS, CREATED, DEST, DIGEST, EVENT, EXPECT, EXTRA, GATHER, ID, IGNORE, INTERVAL, INTO, LIST,
-    MESSAGE, NAME, ONLY, PREFIX, PRESENT_OK, PROGRESS, QUIET, READ, REHEARSE, SHARE, SKIPS_OK,
-    SOURCE, SYNC, TUPLE_SIZE, TUPLES, VERBOSE,
+    ADDRESS, BY_FOLDERS, CREATED, DEST, DIGEST, EVENT, EXPECT, EXTRA, GATHER, ID, IGNORE, INTERVAL,
+    INTO, LIST, MESSAGE, NAME, ONLY, PREFIX, PRESENT_OK, PROGRESS, QUIET, READ, REHEARSE, SHARE,
+    SKIPS_OK, SOURCE, SYNC, TUPLE_SIZE, TUPLES, VERBOSE,
 };
 
 const TUPLE_SIZE_SPEC: ArgSpec = ArgSpec {
@@ -27,6 +27,15 @@ const DIGEST_SPEC: ArgSpec = ArgSpec {
     form: Form::Word("ALGORITHM", &["sha512", "sha256"], "sha512"),
     help: "Digest algorithm",
     more: Some("The digest algorithm of the inventories"),
+};
+
+const BY_FOLDERS_SPEC: ArgSpec = ArgSpec {
+    id: BY_FOLDERS,
+    form: Form::Value("D"),
+    help: "Share by the store's folders D deep, and list only the share's own",
+    more: Some(
+        "Share by the store's folders that lie D deep, and list of these only the share's own\n[default: share by the objects' identifiers, and list all]",
+    ),
 };
 
 const ONLY_SPEC: ArgSpec = ArgSpec {
@@ -152,6 +161,7 @@ pub(crate) const MIGRATE_SPECS: &[ArgSpec] = &[
         help: "Carry only the objects of share K of N, as 2/8 [default: all objects]",
         more: Some("Carry only the objects of share K of N shares, as 2/8 [default: all objects]"),
     },
+    BY_FOLDERS_SPEC,
     ONLY_SPEC,
     LIST_SPEC,
     IGNORE_SPEC,
@@ -225,6 +235,7 @@ pub(crate) const AUDIT_SPECS: &[ArgSpec] = &[
         help: "Audit only the objects of share K of N, as 2/8 [default: all objects]",
         more: Some("Audit only the objects of share K of N shares, as 2/8 [default: all objects]"),
     },
+    BY_FOLDERS_SPEC,
     ONLY_SPEC,
     LIST_SPEC,
     IGNORE_SPEC,

@@ -35,7 +35,8 @@ pub(crate) fn audit_command(alloc: Global, matches: &ArgMatches<'_>) -> Result<C
     }))
 }
 
-// The options of an audit: refused as `Tuples`, `Share`, `Ignored` and `EmptyEvent`, in this order.
+// The options of an audit: refused as `Tuples`, `Share`, `Folders`, `Ignored` and `EmptyEvent`, in
+// this order.
 fn audit_options(alloc: Global, matches: &ArgMatches<'_>) -> Result<AuditOptions, Unread>
     ensures { ReadsAs (audit_options_in (rows_of (found_of matches.now))) result }
 {

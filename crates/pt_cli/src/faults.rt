@@ -43,6 +43,9 @@ pub enum WordsFault {
     /// `--share` is no share.
     #[error("--share is not K/N with N from 1 to 4096 and K from 1 to N")]
     Share,
+    /// `--by-folders` is no depth, or stands without a share.
+    #[error("--by-folders is not a number from 1 to 600 beside --share")]
+    Folders,
     /// A text of `--ignore` is no name that an entry may have.
     #[error("--ignore is not the name of a file or folder")]
     Ignored,
@@ -60,7 +63,7 @@ pub enum WordsFault {
 impl WordsFault {
     /// The fault's number: 1 `Help`, 2 `Words`, 3 `Created`, 4 `EmptyName`, 5 `EmptyId`, 6
     /// `Memory`, 7 `Tuples`, 8 `Version`, 9 `Share`, 10 `Ignored`, 11 `EmptyEvent`, 12 `EmptyList`,
-    /// 13 `EmptyDest`.
+    /// 13 `EmptyDest`, 14 `Folders`.
     pub fn number(&self) -> u8
         ensures { result ≡ words_number self.now }
     {
@@ -78,6 +81,7 @@ impl WordsFault {
             WordsFault::EmptyEvent => 11,
             WordsFault::EmptyList => 12,
             WordsFault::EmptyDest => 13,
+            WordsFault::Folders => 14,
         }
     }
 }
@@ -119,6 +123,7 @@ pub(crate) enum Unread {
     Memory,
     Tuples,
     Share,
+    Folders,
     Ignored,
     EmptyEvent,
     EmptyList,

@@ -29,6 +29,8 @@ pub(crate) const GATHER: &str = "gather";
 
 pub(crate) const SHARE: &str = "share";
 
+pub(crate) const BY_FOLDERS: &str = "by-folders";
+
 pub(crate) const ONLY: &str = "only";
 
 pub(crate) const LIST: &str = "list";

@@ -33,8 +33,8 @@ pub(crate) fn migrate_command(alloc: Global, matches: &ArgMatches<'_>) -> Result
     }))
 }
 
-// The options of a run: refused as `Created`, `EmptyName`, `Tuples`, `Share`, `Ignored` and
-// `EmptyEvent`, in this order.
+// The options of a run: refused as `Created`, `EmptyName`, `Tuples`, `Share`, `Folders`,
+// `Ignored` and `EmptyEvent`, in this order.
 fn run_options(alloc: Global, matches: &ArgMatches<'_>) -> Result<RunOptions, Unread>
     ensures { ReadsAs (run_options_in (rows_of (found_of matches.now))) result }
 {

@@ -1,11 +1,12 @@
-//! The words of a share, as `2/8`, and of what is taken of it.
+//! The words of a share, as `2/8`, of how the store is divided, and of what is taken of the share.
 ghost use Rattle.std.specs.Prelude.{◌≡◌, IfOk, map, option_map};
 ghost use Rattle.std.specs.String.{string_bytes};
 ghost use Rattle.pt_cli.specs.Arguments.{number_of};
-ghost use Rattle.pt_cli.specs.Share.{share_asked, share_in, with_only};
+ghost use Rattle.pt_cli.specs.Share.{at_depth, divided, share_asked, share_in, with_only};
 
 use pt_name::Share;
 use pt_tree::MemoryFault;
+use pt_walk::Limits;
 use std::alloc::Global;
 
 // The share that is asked for, if it is one: the whole store where none is.
@@ -16,6 +17,29 @@ pub(crate) fn share(text: Option<&str>) -> Option<Share>
         Some(text) => share_in_text(text),
         None => Some(Share::whole()),
     }
+}
+
+// The share of this number with the store divided by its folders, where a text names their depth:
+// none, where that is no depth from 1 to the greatest, or no share is asked for.
+pub(crate) fn divided(asked: Option<&str>, depth: Option<&str>, share: Share) -> Option<Share>
+    ensures { result ≡ divided
+        (option_map (λ s. s.now) asked.entry) (option_map (λ s. s.now) depth.entry) share }
+{
+    match (asked, depth) {
+        (_, None) => Some(share),
+        (None, Some(_)) => None,
+        (Some(_), Some(depth)) => at_depth(share, number_in_text(depth)?),
+    }
+}
+
+// The share with the store divided by its folders so deep, if these can be listed.
+fn at_depth(share: Share, depth: u32) -> Option<Share>
+    ensures { result ≡ at_depth share depth }
+{
+    if depth == 0 || u64::from(depth) > Limits::greatest().depth() {
+        return None;
+    }
+    Some(share.by_folders(depth))
 }
 
 // Of a share only what begins with these texts, where some are given. It holds copies of them.

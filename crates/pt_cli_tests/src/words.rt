@@ -362,6 +362,15 @@ const PARTS: Readings = &[
     (&[GOOD, "--name=Ada", "--share=1"], 9),
     (&[GOOD, "--name=Ada", "--share="], 9),
     (&[GOOD, "--tuples=33", "--share=4/3", "--name=Ada"], 7),
+    (&[GOOD, "--name=Ada", "--share=2/3", "--by-folders=1"], 0),
+    (&[GOOD, "--name=Ada", "--share=2/3", "--by-folders=600"], 0),
+    (&[GOOD, "--name=Ada", "--share=2/3", "--by-folders=0"], 14),
+    (&[GOOD, "--name=Ada", "--share=2/3", "--by-folders=601"], 14),
+    (&[GOOD, "--name=Ada", "--share=2/3", "--by-folders=two"], 14),
+    (&[GOOD, "--name=Ada", "--share=2/3", "--by-folders="], 14),
+    (&[GOOD, "--name=Ada", "--by-folders=2"], 14),
+    (&[GOOD, "--name=Ada", "--share=4/3", "--by-folders=0"], 9),
+    (&[GOOD, "--name=Ada", "--by-folders=2", "--ignore="], 14),
     (&[GOOD, "--name=Ada", "--only=ark:/13030/x"], 0),
     (&[GOOD, "--name=Ada", "--only="], 2),
     (&["--only=a", "--only=b", GOOD, "--name=Ada"], 0),
@@ -444,6 +453,10 @@ const TEXTS: &[(u8, &str)] = &[
     (11, "--event is empty"),
     (12, "--list is empty"),
     (13, "--dest is empty"),
+    (
+        14,
+        "--by-folders is not a number from 1 to 600 beside --share",
+    ),
 ];
 
 fn fault_of(number: u8) -> WordsFault {
@@ -457,6 +470,7 @@ fn fault_of(number: u8) -> WordsFault {
         10 => WordsFault::Ignored,
         11 => WordsFault::EmptyEvent,
         12 => WordsFault::EmptyList,
+        14 => WordsFault::Folders,
         _ => WordsFault::EmptyDest,
     }
 }

@@ -2,6 +2,7 @@
 use crate::{AuditOptions, Feedback, RunOptions};
 use pt_messages::{Members, Progress};
 use pt_move::Job;
+use pt_name::Division;
 use std::alloc::{AllocError, Global};
 
 /// Those of `migrate`. An error where a growth was refused.
@@ -45,6 +46,9 @@ fn put_job(alloc: Global, members: &mut Members, job: &Job) -> Result<(), AllocE
     let (index, count) = (job.share.index(), job.share.count());
     let share = format!(in alloc; "{index}/{count}")?;
     members.put_text("share", share.as_str())?;
+    if let Division::Folders(depth) = job.share.division() {
+        members.put_number("by-folders", u64::from(depth))?;
+    }
     members.put_texts("only", job.share.texts())?;
     members.put_given("list", job.share.list().map(|list| list.name()))
 }

@@ -15,7 +15,7 @@ use Rattle.pt_walk.specs.Trail.{current_entry, entries_held, is_dir_entry, names
 use Rattle.pt_walk.specs.declared.frame.Frame.{Frame}
 use Rattle.pt_plan.specs.Bound.{bound, records_of, scanned}
 use Rattle.pt_plan.specs.Items.{Named, PairtreeObject, is_too_deep, verdict_of}
-use Rattle.pt_plan.specs.Job.{Job}
+use Rattle.pt_plan.specs.Job.{Job, reach_of}
 use Rattle.pt_plan.specs.Run.{Held}
 use Rattle.pt_plan.specs.Store.{has_prefix, is_store, pairtree_of, prefix_file, prefix_of, sites_of}
 use Rattle.pt_plan.specs.TurnMake.{path_of_source}
@@ -49,12 +49,12 @@ pub record HasStarted (source : Forest) (prefix : List ℕ) : Type 0 where
 pub record IsOnWay (job : Job) (source : Forest) (trail : List Frame) (count : ℕ) : Type 0 where
   pub entered : 0 < length trail
   pub fits : Fits (pairtree_of source) trail
-  pub left : sites_left job.limits.depth (pairtree_of source) trail
-      ≡ drop count (sites_of job.limits.depth source)
+  pub left : sites_left (reach_of job) (pairtree_of source) trail
+      ≡ drop count (sites_of (reach_of job) source)
 
 -- the next site is that of the innermost listing
 pub record IsAtSite (job : Job) (source : Forest) (trail : List Frame) (count : ℕ) : Type 0 where
-  pub site : slice_get (sites_of job.limits.depth source) count
+  pub site : slice_get (sites_of (reach_of job) source) count
       ≡ Some (trail_path trail, Listed (inside_at (pairtree_of source) (trail_path trail)))
 
 -- a site that was entered, to be judged
@@ -188,7 +188,7 @@ SourceAt job s prefix count phase.Walk held =
     HoldsNoObject held × HasStarted s.tree prefix × IsOnWay job s.tree held.trail count
 SourceAt job s prefix count phase.End held =
     HoldsNoObject held × HasStarted s.tree prefix
-    × (drop count (sites_of job.limits.depth s.tree) ≡ [])
+    × (drop count (sites_of (reach_of job) s.tree) ≡ [])
 SourceAt job s prefix count phase.Ended held = ⊤
 
 -- ---- the bytes of the files

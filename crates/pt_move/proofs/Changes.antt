@@ -4,7 +4,7 @@ use Rattle.std.specs.Prelude.{Option, None, Some, Ok, Err, nat_lt, ⊤}
 use Rattle.pt_object.specs.Contents.{content_of, is_noted, noted}
 use Rattle.pt_state.proofs.Words.{
   Content,
-  is_first,
+  tells_at,
   Item,
   Path,
   advanced,
@@ -144,7 +144,8 @@ follows_change {held} (Walk (walk.OpensRoot _ items)) = changes_trail (moves_ent
 follows_change {held} (Walk (walk.IsNew _ index _ _)) = changes_trail (moves_object index held.trail) refl refl
 follows_change {held} (Walk (walk.IsPast _ _ _ _ _)) = changes_trail (moves_advanced held.trail) refl refl
 follows_change {held} (Walk (walk.IsDeep _ _ _ _ _ _)) = changes_trail (moves_advanced held.trail) refl refl
-follows_change {held} (Walk (walk.EntersSite _ _ items _ _ _ _)) = changes_trail (moves_entered items held.trail) refl refl
+follows_change {held} (Walk (walk.PassesElsewhere _ _ _ _ _ _ _)) = changes_trail (moves_advanced held.trail) refl refl
+follows_change {held} (Walk (walk.EntersSite _ _ items _ _ _ _ _)) = changes_trail (moves_entered items held.trail) refl refl
 follows_change {held} (Walk (walk.PassesEntry _ _ _ _)) = changes_trail (moves_advanced held.trail) refl refl
 follows_change {held} (Walk (walk.LeavesSite _ _ _)) = changes_trail (moves_past held.trail) refl refl
 follows_change {held} (Scan (scan.StartsInSite _ _ _)) = changes_trail (moves_sought 0 held.trail) refl refl
@@ -202,8 +203,9 @@ skip_line counts false at why = tt
 pub follows_line : {job : Job} {counts : Counts} {here : Phase} {prefix read : List ℕ} {held new : Held} {calls : Calls} {answer : Answer}
     → Next job counts here prefix held read new calls answer → LineOf counts calls.line
 follows_line (Start (start.IsStore _ _)) = tt
-follows_line {job} {counts} {held} (Walk (walk.IsPast _ _ _ _ _)) = skip_line counts (is_first job.share) (names_to held.trail) cause.Past
-follows_line {job} {counts} {held} (Walk (walk.IsDeep _ _ _ _ _ _)) = skip_line counts (is_first job.share) (names_to held.trail) cause.Limit
+follows_line {job} {counts} {held} (Walk (walk.IsPast _ _ _ _ _)) = skip_line counts (tells_at job.share (names_to held.trail)) (names_to held.trail) cause.Past
+follows_line {job} {counts} {held} (Walk (walk.IsDeep _ _ _ _ _ _)) = skip_line counts (tells_at job.share (names_to held.trail))
+    (names_to held.trail) cause.Limit
 follows_line (Scan (scan.StartsInSite _ _ _)) = tt
 follows_line (Make (make.MakesStaging _ _)) = tt
 follows_line (Place (place.TellsEnd _)) = (refl, refl, refl)

@@ -5,7 +5,7 @@ use Rattle.std.specs.Str.{is_utf8}
 use Rattle.pt_tree.specs.Path.{Path, same_path}
 use Rattle.pt_name.specs.Place.{place_of}
 use Rattle.pt_name.specs.Reading.{reading_of}
-use Rattle.pt_name.specs.Share.{Portion, holds}
+use Rattle.pt_name.specs.Share.{Portion, takes}
 use Rattle.pt_name.specs.Tuples.{Tuples}
 use Rattle.pt_name.specs.declared.identifying.Identification.{Identification}
 use Rattle.pt_name.specs.declared.identifying.Identification.TheVariants as answer
@@ -31,12 +31,14 @@ identifier_by tuples prefix (Some read) =
 abbrev pub identifier_at : Tuples → List ℕ → Path → Result (List ℕ) Refusal
 identifier_at tuples prefix site = identifier_by tuples prefix (reading_of (concat site))
 
--- the object by its identifier: with its place, if it is of the share
-abbrev pub identification_by : Tuples → Portion → Result (List ℕ) Refusal → Identification
-identification_by tuples share (Err why) = answer.Refused why
-identification_by tuples share (Ok id) =
-    cond (holds share id) (answer.Candidate (record { id = id; place = place_of tuples id })) answer.OtherShare
+-- the object of a site by its identifier: with its place, if it is of the share
+abbrev pub identification_by : Tuples → Portion → Path → Result (List ℕ) Refusal → Identification
+identification_by tuples share site (Err why) = answer.Refused why
+identification_by tuples share site (Ok id) =
+    cond (takes share site id) (answer.Candidate (record { id = id; place = place_of tuples id }))
+    answer.OtherShare
 
 -- the object of the site at this path, in a store of this prefix
 abbrev pub identification_of : Tuples → Portion → List ℕ → Path → Identification
-identification_of tuples share prefix site = identification_by tuples share (identifier_at tuples prefix site)
+identification_of tuples share prefix site =
+    identification_by tuples share site (identifier_at tuples prefix site)

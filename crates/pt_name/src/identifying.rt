@@ -67,7 +67,7 @@ pub fn identify(
     match unclean(alloc, &text) {
         Ok(read) => {
             let id = with_prefix(alloc, prefix, &read)?;
-            with_place(alloc, id, layout, share)
+            with_place(site, id, layout, share)
         }
         Err(UncleanFault::Malformed) => Ok(Identification::Refused(Refusal::Malformed)),
         Err(UncleanFault::NotUtf8) => Ok(Identification::Refused(Refusal::NotUtf8)),
@@ -97,29 +97,29 @@ fn with_prefix(alloc: Global, prefix: &str, text: &str) -> Result<Identifier, Me
     Ok(Identifier::of(id))
 }
 
-// The object of this identifier with its place, unless that is the storage root's own, or the
-// object of another share. An identifier of this share is noted in its list, whatever becomes of
-// the object.
+// The object of a site, of this identifier, with its place, unless that is the storage root's own,
+// or the object of another share. An identifier of this share is noted in its list, whatever
+// becomes of the object.
 fn with_place(
-    alloc: Global,
+    site: &NamePath,
     id: Identifier,
     layout: Layout,
     share: &Share,
 ) -> Result<Identification, MemoryFault>
     requires { 0 < length id }
     ensures { IfOk result (λ answer. answer
-        ≡ identification_by layout share.now (unless_reserved layout id)) }
+        ≡ identification_by layout share.now site.now (unless_reserved layout id)) }
 {
     let text = id.as_str().as_bytes();
-    let place = layout.place(alloc, text)?;
-    let held = share.holds(text);
-    if held {
+    let place = layout.place(site.allocator(), text)?;
+    let taken = share.takes(site, text);
+    if taken {
         share.note_met(text);
     }
     if is_reserved(layout, &place) {
         return Ok(Identification::Refused(Refusal::Reserved));
     }
-    if !held {
+    if !taken {
         return Ok(Identification::OtherShare);
     }
     Ok(Identification::Candidate(PlacedObject { id, place }))

@@ -19,9 +19,11 @@
 //! - `identify`: exactly what the names of a site say of its object (`Identification`): why it has
 //!   no identifier that can be carried (`Refusal`), that it is of another share, or its identifier,
 //!   behind the store's prefix (`read_prefix`), and its place. Asked in that order.
-//! - `Share::of`: accepts exactly the shares 1 to N of up to 4,096. `holds`: exactly whether the
-//!   share's number is the one that the identifier's SHA-256 gives (`share_number`), and the
-//!   identifier is `chosen`, by the texts that it may begin with or by a list (`IdentifierList`).
+//! - `Share::of`: accepts exactly the shares 1 to N of up to 4,096. `takes`: exactly whether the
+//!   share's number is the one that the identifier's SHA-256 gives (`share_number`), or, by folders,
+//!   that of the way to its site (`way_text`), and the identifier is `chosen`, by the texts that it
+//!   may begin with or by a list (`IdentifierList`). `walks`, `tells_at`: exactly which folders a
+//!   share lists, and where it tells what is passed over.
 //! - Laws: a text reads at most one list of bytes (`one_reading`); what was cleaned reads back
 //!   (`cleaned_reads_back`); reading as a relation and as a function say the same
 //!   (`reading_is_computed`); two different identifiers share a place only where both encodings are
@@ -33,6 +35,7 @@
 #![tactic(auto)]
 
 mod cleaning;
+mod division;
 mod encoding;
 mod hex_pair;
 mod identifier;
@@ -47,6 +50,7 @@ mod share;
 mod sought;
 
 pub use cleaning::{clean, pairpath};
+pub use division::Division;
 pub use encoding::{encoded, last_name};
 pub use identifier::Identifier;
 pub use identifier_list::IdentifierList;

@@ -2,11 +2,11 @@ ghost use Rattle.std.specs.Prelude.{◌≡◌, ◌≤◌, ◌<◌, ◌^◌, ◌=
 ghost use Rattle.std.specs.List.{list_any};
 ghost use Rattle.std.specs.String.{string_bytes};
 ghost use Rattle.std.specs.Option.{IsSome, option_map};
-ghost use Rattle.pt_name.specs.Share.{begins_so, begins_with, chosen, digest_number, share_number};
+ghost use Rattle.pt_name.specs.Share.{begins_so, begins_with, chosen, is_on_own_way, share_number};
 
-use crate::{IdentifierList, SoughtIdentifiers};
-use pt_tree::MemoryFault;
-use sha2::{Digest, Sha256};
+use crate::division::{number_of_text, number_of_way};
+use crate::{Division, IdentifierList, SoughtIdentifiers};
+use pt_tree::{MemoryFault, NamePath};
 use std::alloc::{AllocError, Global};
 use std::marker::Model;
 use std::rc::Rc;
@@ -46,11 +46,13 @@ impl ShareFault {
 /// What a run takes of a store: one of the shares in which it is carried, each by a run of its own,
 /// by the share's number, from 1 on, and how many there are; and of that the objects that are
 /// chosen, whose identifiers begin with one of some texts or stand in a list, where there are texts
-/// or a list. An object is of the share that its identifier's SHA-256 gives.
+/// or a list. An object is of the share that its identifier's SHA-256 gives, or, where the store is
+/// divided by folders, that of the first names of its site's path.
 #[derive(Debug, Drop)]
 pub struct Share {
     index: u32,
     count: u32,
+    division: Division,
     only: Option<Vec<String>>,
     list: Option<Rc<IdentifierList>>,
 }
@@ -64,6 +66,7 @@ impl Model for Share {
     ghost view = { λ s. record {
       index = s.index;
       count = s.count;
+      division = s.division;
       only = texts_of s.only;
       list = option_map (λ list. list.value) s.list;
     } };
@@ -72,7 +75,9 @@ impl Model for Share {
 }
 
 impl Share {
-    ghost use Rattle.pt_name.specs.Share.{IsPortion, holds, is_first, share_of, whole};
+    ghost use Rattle.pt_name.specs.Share.{IsPortion, divides_at, holds, is_first, share_of};
+    ghost use Rattle.pt_name.specs.Share.{takes, tells_at, walks, whole};
+    ghost use Rattle.pt_name.specs.declared.division.Division.TheVariants as division;
 
     /// The whole store: the one share of one.
     pub fn whole() -> Share
@@ -81,6 +86,7 @@ impl Share {
         Share {
             index: 1,
             count: 1,
+            division: Division::Identifiers,
             only: None,
             list: None,
         }
@@ -105,9 +111,21 @@ impl Share {
         Ok(Share {
             index,
             count,
+            division: Division::Identifiers,
             only: None,
             list: None,
         })
+    }
+
+    /// The share of the same number, of as many into which the store is divided by its folders, by
+    /// the names of the first so many shorties on the way to each site.
+    pub fn by_folders(self, depth: u32) -> Share
+        ensures { result ≡ record self { division = division.Folders depth } }
+    {
+        Share {
+            division: Division::Folders(depth),
+            ..self
+        }
     }
 
     /// Of the share, only the objects whose identifiers begin with one of these texts, byte for
@@ -149,6 +167,13 @@ impl Share {
         self.count
     }
 
+    /// How the store is divided into the shares.
+    pub fn division(&self) -> Division
+        ensures { result ≡ self.now.division }
+    {
+        self.division
+    }
+
     /// The texts with one of which an identifier has to begin; none where any identifier will do.
     pub fn texts(&self) -> &[String]
         ensures { map string_bytes result.now ≡ self.now.only }
@@ -166,48 +191,120 @@ impl Share {
         self.list.as_ref()
     }
 
-    /// The identifiers of its list that it is to meet, if it has a list. `AllocError` where the
-    /// list can't have one more owner.
+    /// The identifiers of its list that it may meet, if it has a list: those of the share; all of
+    /// them, where the store is divided by folders. `AllocError` where the list can't have one more
+    /// owner.
     pub fn sought_identifiers(&self) -> Result<Option<SoughtIdentifiers>, AllocError>
         ensures { IsSome self.now.list ⊎ (result ≡ Ok None) }
     {
         let Some(list) = &self.list else {
             return Ok(None);
         };
-        let numbered = Share {
-            index: self.index,
-            count: self.count,
-            only: None,
-            list: None,
+        let sought = match self.division {
+            Division::Identifiers => Share {
+                index: self.index,
+                count: self.count,
+                division: Division::Identifiers,
+                only: None,
+                list: None,
+            },
+            Division::Folders(_) => Share::whole(),
         };
-        Ok(Some(SoughtIdentifiers::of(list.clone()?, numbered)))
+        Ok(Some(SoughtIdentifiers::of(list.clone()?, sought)))
     }
 
     /// Whether it is the first: what is passed over before an identifier is read is told by the
-    /// first share alone.
+    /// first share alone, unless the store is divided by folders.
     pub fn is_first(&self) -> bool
         ensures { result ≡ is_first self.now }
     {
         self.index == 1
     }
 
-    /// Whether the object with this identifier is of this share, and chosen. The first four bytes
-    /// of the identifier's SHA-256, as a number whose first byte is the highest, times the count
-    /// and divided by 2^32, are the share's number less one. It is chosen where it begins with one
-    /// of the texts, or stands in the list, or there is neither.
+    /// Whether folders so deep below the top directory are divided among the shares.
+    pub fn divides_at(&self, depth: usize) -> bool
+        ensures { result ≡ divides_at self.now depth }
+    {
+        match self.division {
+            Division::Identifiers => false,
+            Division::Folders(folders) => depth == folders as usize,
+        }
+    }
+
+    /// Whether the folder of a site is walked: of those so deep that they are divided among the
+    /// shares, only its own are, and so no other share comes to what is below.
     ///
-    /// Takes any bytes. Of the whole store each object is, and no digest is made.
+    /// Takes the path of a site from below the top directory.
+    pub fn walks(&self, site: &NamePath) -> bool
+        ensures { result ≡ walks self.now site.now }
+    {
+        match self.division {
+            Division::Folders(depth) if site.len() == depth as usize => {
+                self.is_on_own_way(site, depth)
+            }
+            _ => true,
+        }
+    }
+
+    /// Whether it tells what is passed over at a site before an identifier is carried: the first
+    /// share does, or, where the store is divided by folders, the one that the way to the site
+    /// gives.
+    ///
+    /// Takes the path of a site, or of a shorty that isn't listed, from below the top directory.
+    pub fn tells_at(&self, site: &NamePath) -> bool
+        ensures { result ≡ tells_at self.now site.now }
+    {
+        match self.division {
+            Division::Identifiers => self.is_first(),
+            Division::Folders(depth) => self.is_on_own_way(site, depth),
+        }
+    }
+
+    /// Whether the object of a site, with this identifier, is of this share, and chosen. It is of
+    /// the share where the first four bytes of a SHA-256, as a number whose first byte is the
+    /// highest, times the count and divided by 2^32, are the share's number less one: that of the
+    /// identifier or, where the store is divided by folders, of the first names of the site's path
+    /// with `/` between them. It is chosen where the identifier begins with one of the texts, or
+    /// stands in the list, or there is neither.
+    ///
+    /// Takes the path of a site from below the top directory, and any bytes. Of the whole store
+    /// each object is, and no digest is made.
+    pub fn takes(&self, site: &NamePath, id: &[u8]) -> bool
+        ensures { result ≡ takes self.now site.now id.now }
+    {
+        self.chooses(id)
+            && match self.division {
+                Division::Identifiers => self.numbers(id),
+                Division::Folders(depth) => self.is_on_own_way(site, depth),
+            }
+    }
+
+    /// Whether an identifier whose site isn't known is of this share, and chosen, as in `takes`.
+    /// Where the store is divided by folders it is of the first share.
+    ///
+    /// Takes any bytes.
     pub fn holds(&self, id: &[u8]) -> bool
         ensures { result ≡ holds self.now id.now }
     {
-        self.chooses(id) && self.numbers(id)
+        self.chooses(id)
+            && match self.division {
+                Division::Identifiers => self.numbers(id),
+                Division::Folders(_) => self.is_first(),
+            }
     }
 
     // Whether the number of the share that an identifier is of is this one's.
     pub(crate) fn numbers(&self, id: &[u8]) -> bool
         ensures { result ≡ share_number self.now.count id.now == self.now.index }
     {
-        self.count == 1 || number_of(self.count, id) == self.index
+        self.count == 1 || number_of_text(self.count, id) == self.index
+    }
+
+    // Whether the number of the share that the way to a site gives is this one's.
+    fn is_on_own_way(&self, site: &NamePath, depth: u32) -> bool
+        ensures { result ≡ is_on_own_way self.now site.now depth }
+    {
+        self.count == 1 || number_of_way(self.count, site, depth) == self.index
     }
 
     // Notes in the list that an identifier was met, if there is a list and it stands there.
@@ -242,22 +339,4 @@ fn begins_with_one(texts: &[String], id: &[u8]) -> bool
     ensures { result ≡ list_any (λ t. begins_with (string_bytes t) id.now) texts.now }
 {
     texts.iter().any(|text| id.starts_with(text.as_bytes()))
-}
-
-// The number of the share that an identifier is of.
-fn number_of(count: u32, id: &[u8]) -> u32
-    requires { count ≤ 4096 }
-    ensures { result ≡ share_number count id.now }
-{
-    let head = u64::from(digest_head(id)) * u64::from(count);
-    (head >> 32) as u32 + 1
-}
-
-// The first four bytes of an identifier's SHA-256, as a number whose first byte is the highest.
-fn digest_head(id: &[u8]) -> u32
-    ensures value { result ≡ digest_number id.now }
-    ensures small { result < 2 ^ 32 }
-{
-    let digest = Sha256::digest(id);
-    u32::from_be_bytes([digest[0], digest[1], digest[2], digest[3]])
 }

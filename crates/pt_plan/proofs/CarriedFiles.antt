@@ -15,7 +15,7 @@ use Rattle.pt_walk.proofs.Paths.{reads_below}
 use Rattle.pt_walk.specs.Left.{entries_from}
 use Rattle.pt_walk.specs.Object.{entries, files}
 use Rattle.pt_walk.specs.Site.{found, is_short}
-use Rattle.pt_walk.specs.Sites.{Site, Visit, Listed, Past, Deep, at_of, is_last, sites_in, visit_of, walked}
+use Rattle.pt_walk.specs.Sites.{Site, Visit, Listed, Past, Deep, Elsewhere, Reach, at_of, is_last, sites_in, visit_of, walked}
 use Rattle.pt_walk.specs.declared.cause.Cause.{Cause}
 use Rattle.pt_walk.specs.declared.site.Finding.{Finding}
 use Rattle.pt_walk.specs.declared.site.Finding.TheVariants as finding
@@ -40,7 +40,7 @@ use Rattle.pt_plan.specs.Items.{
   verdict_of,
   verdict_on_candidate,
 }
-use Rattle.pt_plan.specs.Job.{Job, form_of}
+use Rattle.pt_plan.specs.Job.{Job, form_of, reach_of}
 use Rattle.pt_plan.specs.Store.{pairtree_root, prefix_of, sites_in_root, sites_of}
 use Rattle.pt_plan.proofs.FilesInOrder.{files_come_in_order}
 
@@ -84,6 +84,7 @@ abbrev good_visit : Visit → Bool
 good_visit (Listed inside) = is_proper inside
 good_visit Past = true
 good_visit Deep = true
+good_visit Elsewhere = true
 
 abbrev good_site : Site → Bool
 good_site site = good_visit site.1
@@ -98,7 +99,7 @@ good_if true _ h = h
 good_if false _ _ = refl
 
 good_verdict : (job : Job) (prefix : List ℕ) (path : Path) (visit : Visit) → good_visit visit ≡ true → good (verdict_of job prefix path visit) ≡ true
-good_verdict job prefix path visit h = good_if (is_ours job.share (verdict_by_visit job prefix path visit)) _ (good_by_visit job prefix path visit h)
+good_verdict job prefix path visit h = good_if (is_ours job.share path (verdict_by_visit job prefix path visit)) _ (good_by_visit job prefix path visit h)
 
 visit_either : (b : Bool) (v w : Visit) → good_visit v ≡ true → good_visit w ≡ true → good_visit (cond b v w) ≡ true
 visit_either true _ _ x _ = x
@@ -118,22 +119,26 @@ all_either : (b : Bool) (xs : List Site) → list_all good_site xs ≡ true → 
 all_either true _ h = h
 all_either false _ _ = refl
 
-good_sites : (depth : ℕ) (path : Path) (f : Forest) → is_proper f ≡ true → list_all good_site (sites_in depth path f) ≡ true
-good_sites depth path none proper = refl
-good_sites depth path (file name bytes after) proper = good_sites depth path after (proper_file name bytes after proper).2
-good_sites depth path (other name after) proper = good_sites depth path after (proper_other name after proper).2
-good_sites depth path (dir name inside after) proper =
+good_sites : (reach : Reach) (path : Path) (f : Forest) → is_proper f ≡ true → list_all good_site (sites_in reach path f) ≡ true
+good_sites reach path none proper = refl
+good_sites reach path (file name bytes after) proper = good_sites reach path after (proper_file name bytes after proper).2
+good_sites reach path (other name after) proper = good_sites reach path after (proper_other name after proper).2
+good_sites reach path (dir name inside after) proper =
     let parts = proper_dir name inside after proper in
-    let here = visit_either (is_last (at_of path)) Past (cond (nat_lt depth (length path + 1)) Deep (Listed inside)) refl
-    (visit_either (nat_lt depth (length path + 1)) Deep (Listed inside) refl parts.3) in
-    let below = all_walked (visit_of depth path inside) (sites_in depth (path ++ name ∷ []) inside) (good_sites depth (path ++ name ∷ []) inside parts.3) in
-    all_append good_site (cond (is_short name) ((path ++ name ∷ [], visit_of depth path inside)
-    ∷ walked (visit_of depth path inside) (sites_in depth (path ++ name ∷ []) inside)) []) (sites_in depth path after)
-    (all_either (is_short name) ((path ++ name ∷ [], visit_of depth path inside)
-    ∷ walked (visit_of depth path inside) (sites_in depth (path ++ name ∷ []) inside))
-    (and_from (good_visit (visit_of depth path inside)) (list_all good_site (walked (visit_of depth path inside) (sites_in depth (path ++ name ∷ []) inside)))
+    let here = visit_either (is_last (at_of path)) Past
+    (cond (nat_lt reach.depth (length path + 1)) Deep (cond (reach.walks (path ++ name ∷ [])) (Listed inside) Elsewhere)) refl
+    (visit_either (nat_lt reach.depth (length path + 1)) Deep (cond (reach.walks (path ++ name ∷ [])) (Listed inside) Elsewhere) refl
+    (visit_either (reach.walks (path ++ name ∷ [])) (Listed inside) Elsewhere parts.3 refl)) in
+    let below = all_walked (visit_of reach path name inside) (sites_in reach (path ++ name ∷ []) inside) (good_sites reach (path ++ name
+    ∷ []) inside parts.3) in
+    all_append good_site (cond (is_short name) ((path ++ name ∷ [], visit_of reach path name inside)
+    ∷ walked (visit_of reach path name inside) (sites_in reach (path ++ name ∷ []) inside)) []) (sites_in reach path after)
+    (all_either (is_short name) ((path ++ name ∷ [], visit_of reach path name inside)
+    ∷ walked (visit_of reach path name inside) (sites_in reach (path ++ name ∷ []) inside))
+    (and_from (good_visit (visit_of reach path name inside)) (list_all good_site (walked (visit_of reach path name inside) (sites_in reach (path ++ name
+    ∷ []) inside)))
     here below))
-    (good_sites depth path after parts.2)
+    (good_sites reach path after parts.2)
 
 -- ---- so are the items, marked, and the first of them
 
@@ -194,15 +199,15 @@ all_in_order job (m ∷ marks) h =
     let parts = and_parts (good_marked m) (list_all good_marked marks) h in
     all_append in_order (carried_by job m.1 m.0.verdict) (carried job marks) (all_carried_by job m.1 m.0.verdict parts.0) (all_in_order job marks parts.1)
 
-good_in_root : (depth : ℕ) (top : Option Forest) → ((inside : Forest) → top ≡ Some inside → is_proper inside ≡ true)
-    → list_all good_site (sites_in_root depth top) ≡ true
+good_in_root : (reach : Reach) (top : Option Forest) → ((inside : Forest) → top ≡ Some inside → is_proper inside ≡ true)
+    → list_all good_site (sites_in_root reach top) ≡ true
 good_in_root _ None _ = refl
-good_in_root depth (Some top) h = and_from _ _ (h top refl) (good_sites depth [] top (h top refl))
+good_in_root reach (Some top) h = and_from _ _ (h top refl) (good_sites reach [] top (h top refl))
 
 pub carried_files_come_in_order : CarriedFilesComeInOrder
 carried_files_come_in_order job source root k proper =
     all_in_order job (take k (marked job source root))
     (all_take good_marked k (marked job source root)
     (all_marked job root [] (items job source)
-    (good_items job (prefix_of source) (sites_of job.limits.depth source)
-    (good_in_root job.limits.depth (dir_at source (pairtree_root ∷ [])) (λ inside e. (reads_below source inside (pairtree_root ∷ []) [] e).1 proper)))))
+    (good_items job (prefix_of source) (sites_of (reach_of job) source)
+    (good_in_root (reach_of job) (dir_at source (pairtree_root ∷ [])) (λ inside e. (reads_below source inside (pairtree_root ∷ []) [] e).1 proper)))))

@@ -19,6 +19,7 @@ pub mod Rerun
 pub mod Reserved
 pub mod StagingKeeps
 pub mod ShareNumbers
+pub mod ShareSums
 pub mod SharedItems
 pub mod SharedObjects
 pub mod SharedRoots

@@ -54,7 +54,7 @@ use Rattle.pt_plan.specs.Items.{
   verdict_of,
   verdict_on_candidate,
 }
-use Rattle.pt_plan.specs.Job.{Job, form_of}
+use Rattle.pt_plan.specs.Job.{Job, form_of, reach_of}
 use Rattle.pt_plan.specs.Lines.{line_by_outcome, line_by_verdict, line_of}
 use Rattle.pt_plan.specs.RerunLaws.{IsTarget, TurnsHaveNoPart, with_turns}
 use Rattle.pt_plan.specs.Store.{prefix_of, sites_of}
@@ -98,7 +98,7 @@ visit_same _ _ _ _ _ = refl
 
 verdict_same : (job : Job) (turns : ℕ) (prefix : List ℕ) (path : Path) (visit : Visit)
     → verdict_of (with_turns job turns) prefix path visit ≡ verdict_of job prefix path visit
-verdict_same job turns prefix path visit = ap (λ (v : Verdict). ours job.share v) (visit_same job turns prefix path visit)
+verdict_same job turns prefix path visit = ap (λ (v : Verdict). ours job.share path v) (visit_same job turns prefix path visit)
 
 items_same_on : (job : Job) (turns : ℕ) (prefix : List ℕ) (ways : List Site) → map (item_of (with_turns job turns) prefix) ways ≡ map (item_of job prefix) ways
 items_same_on _ _ _ [] = refl
@@ -106,7 +106,7 @@ items_same_on job turns prefix (site ∷ ways) = λ i. record { path = site.0; v
     ∷ items_same_on job turns prefix ways i
 
 items_same : (job : Job) (turns : ℕ) (source : Forest) → items (with_turns job turns) source ≡ items job source
-items_same job turns source = items_same_on job turns (prefix_of source) (sites_of job.limits.depth source)
+items_same job turns source = items_same_on job turns (prefix_of source) (sites_of (reach_of job) source)
 
 -- ---- marks
 

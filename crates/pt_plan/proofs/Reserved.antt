@@ -33,7 +33,7 @@ use Rattle.pt_plan.specs.Items.{
   verdict_of,
   verdict_on_candidate,
 }
-use Rattle.pt_plan.specs.Job.{Job, form_of}
+use Rattle.pt_plan.specs.Job.{Job, form_of, reach_of}
 use Rattle.pt_plan.specs.PlaceLaws.{NamedIsNotReserved}
 use Rattle.pt_plan.specs.Store.{prefix_of, sites_of}
 
@@ -80,7 +80,7 @@ free_if _ true _ h = h
 free_if _ false _ _ = refl
 
 free_verdict : (job : Job) (prefix : List ℕ) (path : Path) (visit : Visit) → free job (verdict_of job prefix path visit) ≡ true
-free_verdict job prefix path visit = free_if job (is_ours job.share (verdict_by_visit job prefix path visit)) _ (free_by_visit job prefix path visit)
+free_verdict job prefix path visit = free_if job (is_ours job.share path (verdict_by_visit job prefix path visit)) _ (free_by_visit job prefix path visit)
 
 free_at : (job : Job) (prefix : List ℕ) (ways : List Site) (k : ℕ) {item : Item} → slice_get (map (item_of job prefix) ways) k ≡ Some item
     → free job item.verdict ≡ true
@@ -98,7 +98,7 @@ free_items _ _ [] = refl
 free_items job prefix (site ∷ ways) = and_from _ _ (free_verdict job prefix site.0 site.1) (free_items job prefix ways)
 
 pub all_free : (job : Job) (source : Forest) → list_all (free_item job) (items job source) ≡ true
-all_free job source = free_items job (prefix_of source) (sites_of job.limits.depth source)
+all_free job source = free_items job (prefix_of source) (sites_of (reach_of job) source)
 
 pub named_is_not_reserved : NamedIsNotReserved
 named_is_not_reserved job source k _ id _ is what =

@@ -7,8 +7,6 @@ use Rattle.std.proofs.Common.{
   ◌==◌,
   ◌&&◌,
   ℕ,
-  zero,
-  suc,
   Bool,
   true,
   false,
@@ -27,7 +25,7 @@ use Rattle.std.proofs.Common.{
   nat_lt,
   length,
 }
-use Rattle.std.specs.Prelude.{◌||◌, Option, None, Some, Ok, Err, count_by, flat_map, is_none, is_some}
+use Rattle.std.specs.Prelude.{◌||◌, not, Option, None, Some, Ok, Err, count_by, flat_map, is_none, is_some}
 use Rattle.std.specs.List.{concat, list_all, list_any}
 use Rattle.std.specs.Str.{is_utf8}
 use Rattle.std.proofs.lemmas.Bool.{and_from, and_parts, eqb-true, true≢false}
@@ -42,7 +40,18 @@ use Rattle.pt_name.specs.Prefix.{without_line_ends}
 use Rattle.pt_name.specs.Reading.{reading_of}
 use Rattle.pt_name.specs.declared.identifying.Refusal.TheVariants as refusal
 use Rattle.pt_name.specs.declared.prefix.PrefixFault.TheVariants as fault
-use Rattle.pt_name.specs.Share.{Portion, holds, is_first, numbered, share_number, whole}
+use Rattle.pt_name.specs.Share.{
+  Portion,
+  by_division,
+  chosen,
+  holds,
+  is_first,
+  is_on_own_way,
+  numbered,
+  share_number,
+  whole,
+}
+use Rattle.pt_name.specs.declared.division.Division.TheVariants as division
 use Rattle.pt_name.specs.Tuples.{Tuples}
 use Rattle.pt_tree.proofs.AtPaths.{same_from}
 use Rattle.pt_tree.specs.Forest.{Forest, Node, File, find, listing_of}
@@ -50,7 +59,7 @@ use Rattle.pt_tree.specs.Path.{Path, same_path}
 use Rattle.pt_tree.specs.Tree.{Tree}
 use Rattle.pt_walk.specs.Left.{entries_from}
 use Rattle.pt_walk.specs.Site.{found}
-use Rattle.pt_walk.specs.Sites.{Site, Visit, Listed, at_of}
+use Rattle.pt_walk.specs.Sites.{Reach, Site, Visit, Listed, at_of}
 use Rattle.pt_walk.specs.declared.cause.Cause.{Cause}
 use Rattle.pt_walk.specs.declared.site.Finding.{Finding}
 use Rattle.pt_walk.specs.declared.site.Finding.TheVariants as finding
@@ -75,11 +84,12 @@ use Rattle.pt_plan.specs.Items.{
   verdict_by_visit,
   verdict_on_candidate,
 }
-use Rattle.pt_plan.specs.Job.{Job, form_of}
+use Rattle.pt_plan.specs.Job.{Job, form_of, reach_of}
 use Rattle.pt_plan.specs.Lines.{Line, Skipped, line_by_verdict, line_of}
 use Rattle.pt_plan.specs.ShareLaws.{ChoicesTellTheWhole, Divide, IsOneOf, KnowsAll, SharesTellTheWhole, is_known, of_whole, sum_of_shares, with_share}
 use Rattle.pt_plan.specs.Store.{prefix_file, prefix_in, prefix_of, sites_of}
 use Rattle.pt_plan.proofs.ShareNumbers.{number_within, one_share}
+use Rattle.pt_plan.proofs.ShareSums.{same_sums, sum_at_one, sum_of_both, sum_of_none, sums_within}
 
 -- ---- the share has no part in what an item is
 
@@ -95,30 +105,61 @@ finding_same _ _ _ _ _ (finding.Skip _) = refl
 finding_same job share prefix site inside (finding.Candidate i) = candidate_same job share prefix site (encapsulated site (entries_from i inside))
 finding_same _ _ _ _ _ finding.Gathered = refl
 
-visit_same : (job : Job) (share : Portion) (prefix : List ℕ) (path : Path) (visit : Visit)
+pub visit_same : (job : Job) (share : Portion) (prefix : List ℕ) (path : Path) (visit : Visit)
     → verdict_by_visit (with_share job share) prefix path visit ≡ verdict_by_visit job prefix path visit
 visit_same job share prefix path (Listed inside) = finding_same job share prefix path inside (found (listing_of inside) (at_of path) (form_of job))
 visit_same _ _ _ _ _ = refl
+
+-- how far a store is walked by identifiers, and in the whole
+abbrev pub full_reach : Job → Reach
+full_reach job = record { depth = job.limits.depth; walks = λ path. true }
 
 -- an item, whatever share it is of
 abbrev pub bare : Job → List ℕ → Site → Item
 bare job prefix site = record { path = site.0; visit = site.1; verdict = verdict_by_visit job prefix site.0 site.1 }
 
 abbrev pub bare_items : Job → Forest → List Item
-bare_items job source = map (bare job (prefix_of source)) (sites_of job.limits.depth source)
+bare_items job source = map (bare job (prefix_of source)) (sites_of (full_reach job) source)
+
+-- by identifiers, what has one is of the share that holds it, and what is passed over before one is carried of the first
+abbrev pub is_own : Portion → Verdict → Bool
+is_own share Interior = true
+is_own share (Skip why) = is_first share
+is_own share (Named id object) = holds share id
+
+abbrev pub own : Portion → Verdict → Verdict
+own share verdict = cond (is_own share verdict) verdict Interior
 
 -- the item in a share
 abbrev in_share : Portion → Item → Item
-in_share share item = record { path = item.path; visit = item.visit; verdict = ours share item.verdict }
+in_share share item = record { path = item.path; visit = item.visit; verdict = own share item.verdict }
 
-items_on : (job : Job) (share : Portion) (prefix : List ℕ) (ways : List Site)
+own_same : (share : Portion) → share.division ≡ division.Identifiers → (path : Path) (v : Verdict) → is_ours share path v ≡ is_own share v
+own_same share e path Interior = refl
+own_same share e path (Skip why) = λ i. by_division (e i) (is_first share) (is_on_own_way share path)
+own_same share e path (Named id object) = (λ i. chosen share.only share.list id
+    && by_division (e i) (share_number share.count id == share.index) (is_on_own_way share path))
+    ∙ sym (λ i. chosen share.only share.list id && by_division (e i) (share_number share.count id == share.index) (λ depth. is_first share))
+
+items_on : (job : Job) (share : Portion) (prefix : List ℕ) (ways : List Site) → share.division ≡ division.Identifiers
     → map (item_of (with_share job share) prefix) ways ≡ map (in_share share) (map (bare job prefix) ways)
-items_on _ _ _ [] = refl
-items_on job share prefix (site ∷ ways) = λ i. record { path = site.0; visit = site.1; verdict = ours share (visit_same job share prefix site.0 site.1 i) }
-    ∷ items_on job share prefix ways i
+items_on _ _ _ [] _ = refl
+items_on job share prefix (site ∷ ways) e = ap (λ (v : Verdict). record { path = site.0; visit = site.1; verdict = v }
+    ∷ map (item_of (with_share job share) prefix) ways) (ap (ours share site.0) (visit_same job share prefix site.0 site.1)
+    ∙ ap (λ b. cond b (verdict_by_visit job prefix site.0 site.1) Interior) (own_same share e site.0 (verdict_by_visit job prefix site.0 site.1)))
+    ∙ ap (λ (l : List Item). in_share share (bare job prefix site) ∷ l) (items_on job share prefix ways e)
 
-items_in : (job : Job) (share : Portion) (source : Forest) → items (with_share job share) source ≡ map (in_share share) (bare_items job source)
-items_in job share source = items_on job share (prefix_of source) (sites_of job.limits.depth source)
+-- by identifiers all is walked
+walks_all : (job : Job) (share : Portion) → share.division ≡ division.Identifiers → reach_of (with_share job share) ≡ full_reach job
+walks_all job share e = λ i. record {
+  depth = job.limits.depth;
+  walks = λ site. not (by_division (e i) false (λ folders. length site == folders)) || by_division (e i) true (is_on_own_way share site);
+}
+
+items_in : (job : Job) (share : Portion) (source : Forest) → share.division ≡ division.Identifiers
+    → items (with_share job share) source ≡ map (in_share share) (bare_items job source)
+items_in job share source e = ap (λ (r : Reach). map (item_of (with_share job share) (prefix_of source)) (sites_of r source)) (walks_all job share e)
+    ∙ items_on job share (prefix_of source) (sites_of (full_reach job) source) e
 
 -- ---- identifiers are texts
 
@@ -174,23 +215,26 @@ texts_on _ _ [] _ = refl
 texts_on job prefix (site ∷ ways) u = and_from _ _ (text_by_visit job prefix site.0 site.1 u) (texts_on job prefix ways u)
 
 pub texts_in : (job : Job) (source : Forest) → list_all text_item (bare_items job source) ≡ true
-texts_in job source = texts_on job _ (sites_of job.limits.depth source) (prefix_text (find source prefix_file))
+texts_in job source = texts_on job _ (sites_of (full_reach job) source) (prefix_text (find source prefix_file))
 
 -- ---- what is taken
 
 -- what takes an identifier takes the others that pass the test and have its place
 pub record TakesPlaces (tuples : Tuples) (known : List ℕ → Bool) (share : Portion) : Type 0 where
+  pub identifiers : share.division ≡ division.Identifiers
   pub too : (a b : List ℕ) → known a ≡ true → known b ≡ true → place_of tuples a ≡ place_of tuples b → holds share b ≡ true → holds share a ≡ true
 
 -- so a share does
 pub numbered_places : (tuples : Tuples) (index count : ℕ) → TakesPlaces tuples is_utf8 (numbered index count)
 numbered_places tuples index count = record {
+  identifiers = refl;
   too = λ a b t u same held. ap (λ n. n == index) (one_share tuples count a b t u same) ∙ held;
 }
 
 -- and the whole
 pub whole_places : (tuples : Tuples) (known : List ℕ → Bool) → TakesPlaces tuples known whole
 whole_places tuples known = record {
+  identifiers = refl;
   too = λ a b _ _ _ _. eq-eqb (share_number 1 a) 1 (whole_number a);
 }
 
@@ -198,19 +242,20 @@ whole_places tuples known = record {
 pub divided_places : {tuples : Tuples} {known : List ℕ → Bool} {count : ℕ} {choices : ℕ → Portion} → Divide tuples known count choices → (index : ℕ)
     → IsOneOf count index → TakesPlaces tuples known (choices index)
 divided_places {choices = choices} divide index one = record {
+  identifiers = divide.identifiers index one;
   too = λ a b t u same held.
       let (other, its, there) = divide.one a t in
       let here = divide.apart other index a b its one t u there held same in
       sym (ap (λ n. holds (choices n) a) here) ∙ there;
 }
 
-never : (b : Bool) → (b && false) ≡ false
+pub never : (b : Bool) → (b && false) ≡ false
 never true = refl
 never false = refl
 
 place_in : (job : Job) {known : List ℕ → Bool} {share : Portion} (places : TakesPlaces job.tuples known share) (id : List ℕ) (v : Verdict)
     → is_known known v ≡ true → known id ≡ true → holds share id ≡ true
-    → has_place (with_share job share) (place_of job.tuples id) (ours share v) ≡ has_place job (place_of job.tuples id) v
+    → has_place (with_share job share) (place_of job.tuples id) (own share v) ≡ has_place job (place_of job.tuples id) v
 place_in _ _ _ Interior _ _ _ = refl
 place_in job {share = share} _ id (Skip why) _ _ _ = by (is_first share)
   where
@@ -250,8 +295,8 @@ pub record MadeOfItems (X : Type 0) (job : Job) (share : Portion) : Type 0 where
 -- in the share as in the whole, or nothing
 one_in : {X : Type 0} → {job : Job} {known : List ℕ → Bool} {share : Portion} (places : TakesPlaces job.tuples known share) (it : MadeOfItems X job share)
     (root : Tree) (earlier : List Item) (path : Path) (v : Verdict) → list_all (known_item known) earlier ≡ true → is_known known v ≡ true
-    → it.mine path (is_taken (with_share job share) root (map (in_share share) earlier) (ours share v)) (ours share v)
-    ≡ cond (is_ours share v) (it.all path (is_taken job root earlier v) v) []
+    → it.mine path (is_taken (with_share job share) root (map (in_share share) earlier) (own share v)) (own share v)
+    ≡ cond (is_own share v) (it.all path (is_taken job root earlier v) v) []
 one_in _ it _ _ path Interior _ _ = it.same path false Interior
 one_in {job = job} {share = share} _ it root earlier path (Skip why) _ _ = by (is_first share)
   where
@@ -271,7 +316,7 @@ all_in : {X : Type 0} → {job : Job} {known : List ℕ → Bool} {share : Porti
     (root : Tree) (earlier others : List Item) → list_all (known_item known) earlier ≡ true → list_all (known_item known) others ≡ true
     → flat_map (λ (m : Marked). it.mine m.0.path m.1 m.0.verdict) (marked_after (with_share job share) root (map (in_share share) earlier)
     (map (in_share share) others))
-    ≡ flat_map (λ (m : Marked). cond (is_ours share m.0.verdict) (it.all m.0.path m.1 m.0.verdict) []) (marked_after job root earlier others)
+    ≡ flat_map (λ (m : Marked). cond (is_own share m.0.verdict) (it.all m.0.path m.1 m.0.verdict) []) (marked_after job root earlier others)
 all_in _ _ _ _ [] _ _ = refl
 all_in {job = job} {known = known} {share = share} places it root earlier (item ∷ others) t u =
     let parts = and_parts _ _ u in
@@ -287,20 +332,20 @@ all_in {job = job} {known = known} {share = share} places it root earlier (item 
 pub made_in : {X : Type 0} → {job : Job} {known : List ℕ → Bool} {share : Portion} (places : TakesPlaces job.tuples known share) (it : MadeOfItems X job share)
     (source : Forest) (root : Tree) → list_all (known_item known) (bare_items job source) ≡ true
     → flat_map (λ (m : Marked). it.mine m.0.path m.1 m.0.verdict) (marked (with_share job share) source root)
-    ≡ flat_map (λ (m : Marked). cond (is_ours share m.0.verdict) (it.all m.0.path m.1 m.0.verdict) []) (marked_after job root [] (bare_items job source))
+    ≡ flat_map (λ (m : Marked). cond (is_own share m.0.verdict) (it.all m.0.path m.1 m.0.verdict) []) (marked_after job root [] (bare_items job source))
 made_in {job = job} {share = share} places it source root t =
     ap (λ (l : List Item). flat_map (λ (m : Marked). it.mine m.0.path m.1 m.0.verdict) (marked_after (with_share job share) root [] l))
-    (items_in job share source)
+    (items_in job share source places.identifiers)
     ∙ all_in places it root [] (bare_items job source) refl t
 
 -- the whole is the share of each item
-whole_ours : (v : Verdict) → is_ours whole v ≡ true
+whole_ours : (v : Verdict) → is_own whole v ≡ true
 whole_ours (Named id _) = eq-eqb (share_number 1 id) 1 (whole_number id)
 whole_ours _ = refl
 
 -- the whole's items are bare
 pub whole_items : (job : Job) (source : Forest) → items (of_whole job) source ≡ bare_items job source
-whole_items job source = items_in job whole source ∙ all_ours (bare_items job source)
+whole_items job source = items_in job whole source refl ∙ all_ours (bare_items job source)
   where
     all_ours : (its : List Item) → map (in_share whole) its ≡ its
     all_ours [] = refl
@@ -310,14 +355,14 @@ whole_items job source = items_in job whole source ∙ all_ours (bare_items job 
 pub known_in : (known : List ℕ → Bool) (job : Job) (source : Forest) → KnowsAll known job source → list_all (known_item known) (bare_items job source) ≡ true
 known_in known job source all = sym (ap (list_all (known_item known)) (whole_items job source)) ∙ all
 
-pub made_whole : {X : Type 0} → (f : Marked → List X) (ms : List Marked) → flat_map (λ (m : Marked). cond (is_ours whole m.0.verdict) (f m) []) ms
+pub made_whole : {X : Type 0} → (f : Marked → List X) (ms : List Marked) → flat_map (λ (m : Marked). cond (is_own whole m.0.verdict) (f m) []) ms
     ≡ flat_map f ms
 made_whole _ [] = refl
 made_whole f (m ∷ ms) = λ k. cond (whole_ours m.0.verdict k) (f m) [] ++ made_whole f ms k
 
 -- ---- lines
 
-lines_made : (job : Job) (share : Portion) → MadeOfItems Line job share
+unfoldable pub lines_made : (job : Job) (share : Portion) → MadeOfItems Line job share
 lines_made job share = record {
   mine = line_by_verdict (with_share job share);
   all = line_by_verdict job;
@@ -331,52 +376,11 @@ lines_made job share = record {
     same path true (Named id object) = refl
     same path false (Named id object) = refl
 
--- ---- sums over shares
-
-sum_of_none : {f : ℕ → ℕ} (count : ℕ) → ((index : ℕ) → 1 ≤ index → index ≤ count → f index ≡ 0) → sum_of_shares f count ≡ 0
-sum_of_none zero _ = refl
-sum_of_none (suc count) none =
-    let front = sum_of_none count (λ index some h. none index some (omega (arith, h))) in
-    let last = none (suc count) (omega arith) (omega arith) in
-    omega (arith, front, last)
-
-sum_at_one : {f : ℕ → ℕ} {n x : ℕ} (count : ℕ) → 1 ≤ n → n ≤ count → f n ≡ x → ((index : ℕ) → 1 ≤ index → index ≤ count → index ≢ n → f index ≡ 0)
-    → sum_of_shares f count ≡ x
-sum_at_one zero first last at off = absurd (omega (arith, first, last))
-sum_at_one {f} {n} {x} (suc count) first last at off = by (n == suc count) refl
-    (λ less. sum_at_one count first less at (λ index some h. off index some (omega (arith, h))))
-  where
-    by : (t : Bool) → (n == suc count) ≡ t → (n ≤ count → sum_of_shares f count ≡ x) → sum_of_shares f (suc count) ≡ x
-    by true h front_is =
-        let here : n ≡ suc count = eqb-true n (suc count) h in
-        let front = sum_of_none count (λ index some less. off index some (omega (arith, less)) (λ e. omega (arith, e, here, less))) in
-        let mine = ap f (sym here) ∙ at in
-        omega (arith, front, mine)
-    by false h front_is =
-        let apart : suc count ≢ n = λ e. absurd (true≢false (sym (eq-eqb n (suc count) (sym e)) ∙ h)) in
-        let front = front_is (omega (arith, last, apart)) in
-        let mine = off (suc count) (omega arith) (omega arith) apart in
-        omega (arith, front, mine)
-
-sum_of_both : (f g : ℕ → ℕ) (count : ℕ) → sum_of_shares (λ index. f index + g index) count ≡ sum_of_shares f count + sum_of_shares g count
-sum_of_both _ _ zero = refl
-sum_of_both f g (suc count) = let front = sum_of_both f g count in omega (arith, front)
-
-same_sums : {f g : ℕ → ℕ} (count : ℕ) → ((index : ℕ) → f index ≡ g index) → sum_of_shares f count ≡ sum_of_shares g count
-same_sums zero _ = refl
-same_sums (suc count) same = λ k. same_sums count same k + same (suc count) k
-
--- the sums of what is the same of each share
-sums_within : {f g : ℕ → ℕ} (count : ℕ) → ((index : ℕ) → IsOneOf count index → f index ≡ g index) → sum_of_shares f count ≡ sum_of_shares g count
-sums_within zero _ = refl
-sums_within (suc count) same =
-    let front = sums_within count (λ index one. same index (record { first = one.first; last = let last = one.last in omega (arith, last) })) in
-    let last = same (suc count) (record { first = omega arith; last = omega arith }) in
-    λ k. front k + last k
+-- ---- of all shares
 
 -- an item's lines are those of one share
 shared_line : (test : Line → Bool) {count : ℕ} (v : Verdict) {told : List Line} → 1 ≤ count → (v ≡ Interior → told ≡ [])
-    → sum_of_shares (λ index. count_by test (cond (is_ours (numbered index count) v) told [])) count ≡ count_by test told
+    → sum_of_shares (λ index. count_by test (cond (is_own (numbered index count) v) told [])) count ≡ count_by test told
 shared_line test {count} Interior _ none =
     let nothing = ap (count_by test) (none refl) in
     sum_of_none count (λ index first h. nothing) ∙ sym nothing
@@ -396,19 +400,19 @@ shared_line test {count} (Named id object) {told} some none =
     by index apart true h = absurd (apart (sym (eqb-true (share_number count id) index h)))
     by index apart false h = refl
 
-more_lines : (test : Line → Bool) (first later : List Line) → count_by test (first ++ later) ≡ count_by test first + count_by test later
+pub more_lines : (test : Line → Bool) (first later : List Line) → count_by test (first ++ later) ≡ count_by test first + count_by test later
 more_lines test first later = sum_by-append (λ line. cond (test line) 1 0) first later
 
 shared_lines : (job : Job) (test : Line → Bool) {count : ℕ} (ms : List Marked) → 1 ≤ count
-    → sum_of_shares (λ index. count_by test (flat_map (λ (m : Marked). cond (is_ours (numbered index count) m.0.verdict) (line_of job m) []) ms)) count
+    → sum_of_shares (λ index. count_by test (flat_map (λ (m : Marked). cond (is_own (numbered index count) m.0.verdict) (line_of job m) []) ms)) count
     ≡ count_by test (flat_map (line_of job) ms)
 shared_lines _ _ {count} [] _ = sum_of_none count (λ index first h. refl)
 shared_lines job test {count} (m ∷ ms) some =
-    same_sums count (λ index. more_lines test (cond (is_ours (numbered index count) m.0.verdict) (line_of job m) [])
-    (flat_map (λ (x : Marked). cond (is_ours (numbered index count) x.0.verdict) (line_of job x) []) ms))
-    ∙ sum_of_both (λ index. count_by test (cond (is_ours (numbered index count) m.0.verdict) (line_of job m) []))
-    (λ index. count_by test (flat_map (λ (x : Marked). cond (is_ours (numbered index count) x.0.verdict) (line_of job x) []) ms)) count
-    ∙ ap (λ n. n + sum_of_shares (λ index. count_by test (flat_map (λ (x : Marked). cond (is_ours (numbered index count) x.0.verdict) (line_of job x) []) ms))
+    same_sums count (λ index. more_lines test (cond (is_own (numbered index count) m.0.verdict) (line_of job m) [])
+    (flat_map (λ (x : Marked). cond (is_own (numbered index count) x.0.verdict) (line_of job x) []) ms))
+    ∙ sum_of_both (λ index. count_by test (cond (is_own (numbered index count) m.0.verdict) (line_of job m) []))
+    (λ index. count_by test (flat_map (λ (x : Marked). cond (is_own (numbered index count) x.0.verdict) (line_of job x) []) ms)) count
+    ∙ ap (λ n. n + sum_of_shares (λ index. count_by test (flat_map (λ (x : Marked). cond (is_own (numbered index count) x.0.verdict) (line_of job x) []) ms))
     count) (shared_line test m.0.verdict some (λ is. ap (line_by_verdict job m.0.path m.1) is))
     ∙ ap (λ n. count_by test (line_of job m) + n) (shared_lines job test ms some)
     ∙ sym (more_lines test (line_of job m) (flat_map (line_of job) ms))
@@ -428,7 +432,7 @@ module _ {tuples : Tuples} {known : List ℕ → Bool} {count : ℕ} {choices : 
   -- an object's lines are those of one choice, and of what is passed over none is counted
   divided_line : (v : Verdict) {told : List Line} → is_known known v ≡ true → (v ≡ Interior → told ≡ [])
       → ((why : Cause) → v ≡ Skip why → count_by test told ≡ 0)
-      → sum_of_shares (λ index. count_by test (cond (is_ours (choices index) v) told [])) count ≡ count_by test told
+      → sum_of_shares (λ index. count_by test (cond (is_own (choices index) v) told [])) count ≡ count_by test told
   divided_line Interior t none skip =
       let nothing = ap (count_by test) (none refl) in
       sum_of_none count (λ index first h. nothing) ∙ sym nothing
@@ -451,7 +455,7 @@ module _ {tuples : Tuples} {known : List ℕ → Bool} {count : ℕ} {choices : 
 
   divided_lines : (job : Job) (root : Tree) (earlier others : List Item) → list_all (known_item known) others ≡ true
       → ((path : Path) (why : Cause) → test (Skipped path why) ≡ false)
-      → sum_of_shares (λ index. count_by test (flat_map (λ (m : Marked). cond (is_ours (choices index) m.0.verdict) (line_of job m) [])
+      → sum_of_shares (λ index. count_by test (flat_map (λ (m : Marked). cond (is_own (choices index) m.0.verdict) (line_of job m) [])
       (marked_after job root earlier others))) count
       ≡ count_by test (flat_map (line_of job) (marked_after job root earlier others))
   divided_lines job root earlier [] _ _ = sum_of_none count (λ index first h. refl)
@@ -459,11 +463,11 @@ module _ {tuples : Tuples} {known : List ℕ → Bool} {count : ℕ} {choices : 
       let parts = and_parts _ _ t in
       let ms = marked_after job root (earlier ++ item ∷ []) others in
       let told = line_of job (item, is_taken job root earlier item.verdict) in
-      same_sums count (λ index. more_lines test (cond (is_ours (choices index) item.verdict) told [])
-      (flat_map (λ (x : Marked). cond (is_ours (choices index) x.0.verdict) (line_of job x) []) ms))
-      ∙ sum_of_both (λ index. count_by test (cond (is_ours (choices index) item.verdict) told []))
-      (λ index. count_by test (flat_map (λ (x : Marked). cond (is_ours (choices index) x.0.verdict) (line_of job x) []) ms)) count
-      ∙ ap (λ n. n + sum_of_shares (λ index. count_by test (flat_map (λ (x : Marked). cond (is_ours (choices index) x.0.verdict) (line_of job x) []) ms)) count)
+      same_sums count (λ index. more_lines test (cond (is_own (choices index) item.verdict) told [])
+      (flat_map (λ (x : Marked). cond (is_own (choices index) x.0.verdict) (line_of job x) []) ms))
+      ∙ sum_of_both (λ index. count_by test (cond (is_own (choices index) item.verdict) told []))
+      (λ index. count_by test (flat_map (λ (x : Marked). cond (is_own (choices index) x.0.verdict) (line_of job x) []) ms)) count
+      ∙ ap (λ n. n + sum_of_shares (λ index. count_by test (flat_map (λ (x : Marked). cond (is_own (choices index) x.0.verdict) (line_of job x) []) ms)) count)
       (divided_line item.verdict parts.0 (λ is. ap (line_by_verdict job item.path (is_taken job root earlier item.verdict)) is)
       (λ why is. ap (λ (v : Verdict). count_by test (line_by_verdict job item.path (is_taken job root earlier item.verdict) v)) is
       ∙ ap (λ b. 0 + cond b 1 0) (skips item.path why)))

@@ -28,17 +28,17 @@ use Rattle.pt_plan.specs.Carried.{
   marked_after,
   place_of_carried,
 }
-use Rattle.pt_plan.specs.Items.{Fails, Holds, Interior, Item, Named, Outcome, Skip, Verdict, is_ours, outcome}
+use Rattle.pt_plan.specs.Items.{Fails, Holds, Interior, Item, Named, Outcome, Skip, Verdict, outcome}
 use Rattle.pt_plan.specs.Job.{Job}
 use Rattle.pt_plan.specs.ShareLaws.{Divide, IsOneOf, is_known, of_whole, with_share}
 use Rattle.pt_plan.proofs.Growing.{append_nil}
 use Rattle.pt_plan.proofs.PlaceShapes.{as_long}
-use Rattle.pt_plan.proofs.SharedItems.{MadeOfItems, TakesPlaces, bare_items, known_item, made_in, made_whole, texts_in, whole_places}
+use Rattle.pt_plan.proofs.SharedItems.{MadeOfItems, TakesPlaces, bare_items, is_own, known_item, made_in, made_whole, texts_in, whole_places}
 use Rattle.pt_plan.proofs.WithObjects.{none_of_object}
 
 -- ---- the objects of a share are those of the whole that it has
 
-carried_made : (job : Job) (share : Portion) → MadeOfItems Carried job share
+unfoldable pub carried_made : (job : Job) (share : Portion) → MadeOfItems Carried job share
 carried_made job share = record {
   mine = λ path taken v. carried_by (with_share job share) taken v;
   all = λ path taken v. carried_by job taken v;
@@ -56,7 +56,7 @@ abbrev pub mine : Portion → List Carried → List Carried
 mine share objects = filter (λ (o : Carried). holds share o.id) objects
 
 one_of_share : (job : Job) (share : Portion) (taken : Bool) (v : Verdict)
-    → cond (is_ours share v) (carried_by job taken v) [] ≡ mine share (carried_by job taken v)
+    → cond (is_own share v) (carried_by job taken v) [] ≡ mine share (carried_by job taken v)
 one_of_share _ _ _ Interior = refl
 one_of_share _ share _ (Skip _) = by (is_first share)
   where
@@ -76,7 +76,7 @@ one_of_share job share taken (Named id object) = by taken (outcome job.limits ob
     by false (Holds files) = refl
 
 all_of_share : (job : Job) (share : Portion) (ms : List Marked) → flat_map
-    (λ (m : Marked). cond (is_ours share m.0.verdict) (carried_by job m.1 m.0.verdict) []) ms
+    (λ (m : Marked). cond (is_own share m.0.verdict) (carried_by job m.1 m.0.verdict) []) ms
     ≡ mine share (flat_map (λ (m : Marked). carried_by job m.1 m.0.verdict) ms)
 all_of_share _ _ [] = refl
 all_of_share job share (m ∷ ms) =

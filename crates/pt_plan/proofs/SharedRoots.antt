@@ -49,7 +49,7 @@ use Rattle.pt_plan.proofs.SharedObjects.{
 
 -- ---- at a path
 
-entries_same : (job : Job) (share : Portion) (objects : List Carried) (path : Path)
+pub entries_same : (job : Job) (share : Portion) (objects : List Carried) (path : Path)
     → entry_of_objects (with_share job share) objects path ≡ entry_of_objects job objects path
 entries_same _ _ [] _ = refl
 entries_same job share (object ∷ objects) path = ap (option_or (entry_of_object job path object)) (entries_same job share objects path)
@@ -182,6 +182,7 @@ choices_meet_in_folders job source root known count choices all divide index oth
 -- the shares are choices that divide all texts
 shares_divide : (tuples : Tuples) (count : ℕ) → 1 ≤ count → Divide tuples is_utf8 count (λ index. numbered index count)
 shares_divide tuples count some = record {
+  identifiers = λ index one. refl;
   one = λ id t. (share_number count id, record { first = omega arith; last = number_within id some }, eq-eqb _ _ refl);
   apart = λ index other a b _ _ t u held its same.
       sym (eqb-true (share_number count a) index held) ∙ one_share tuples count a b t u same ∙ eqb-true (share_number count b) other its;

@@ -8,7 +8,7 @@ use Rattle.pt_tree.specs.Path.{Path}
 use Rattle.pt_walk.specs.Left.{listed}
 use Rattle.pt_walk.specs.Limits.{Bounds}
 use Rattle.pt_walk.specs.Object.{Entry, before_bad, entries, files}
-use Rattle.pt_walk.specs.Sites.{Visit, Listed, Past, Deep}
+use Rattle.pt_walk.specs.Sites.{Visit, Listed, Past, Deep, Elsewhere}
 use Rattle.pt_plan.specs.Items.{Interior, Item, Named, PairtreeObject, Skip, Verdict, is_too_deep, items}
 use Rattle.pt_plan.specs.Job.{Job}
 use Rattle.pt_plan.specs.Store.{pairtree_of}
@@ -49,6 +49,7 @@ abbrev pub held_by_visit : Forest → Path → Visit → List ℕ
 held_by_visit top path (Listed inside) = listed top path ∷ []
 held_by_visit top path Past = []
 held_by_visit top path Deep = []
+held_by_visit top path Elsewhere = []
 
 -- at an item: at its site, and in its object
 abbrev pub held_at_item : Job → Forest → Item → List ℕ

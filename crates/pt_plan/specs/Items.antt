@@ -3,7 +3,7 @@ use Rattle.std.specs.Prelude.{ℕ, Bool, true, false, ◌&&◌, cond, not, nat_l
 use Rattle.std.specs.Option.{option_map}
 use Rattle.pt_name.specs.Identifying.{identifier_at, is_own_place}
 use Rattle.pt_name.specs.Place.{place_of}
-use Rattle.pt_name.specs.Share.{Portion, holds, is_first}
+use Rattle.pt_name.specs.Share.{Portion, takes, tells_at}
 use Rattle.pt_name.specs.declared.identifying.Refusal.{Refusal}
 use Rattle.pt_name.specs.declared.identifying.Refusal.TheVariants as refusal
 use Rattle.pt_object.specs.FilePaths.{File}
@@ -13,12 +13,12 @@ use Rattle.pt_walk.specs.Left.{entries_from}
 use Rattle.pt_walk.specs.Limits.{Bounds}
 use Rattle.pt_walk.specs.Object.{Entry, entries, files, first_bad, without_shorties}
 use Rattle.pt_walk.specs.Site.{found}
-use Rattle.pt_walk.specs.Sites.{Site, Visit, Listed, Past, Deep, at_of}
+use Rattle.pt_walk.specs.Sites.{Site, Visit, Listed, Past, Deep, Elsewhere, at_of}
 use Rattle.pt_walk.specs.declared.cause.Cause.{Cause}
 use Rattle.pt_walk.specs.declared.cause.Cause.TheVariants as cause
 use Rattle.pt_walk.specs.declared.site.Finding.{Finding}
 use Rattle.pt_walk.specs.declared.site.Finding.TheVariants as finding
-use Rattle.pt_plan.specs.Job.{Job, form_of}
+use Rattle.pt_plan.specs.Job.{Job, form_of, reach_of}
 use Rattle.pt_plan.specs.Store.{prefix_of, sites_of}
 
 -- an object of a site: the directory that encapsulates it, or, if it is gathered, the site without its shorties
@@ -50,15 +50,16 @@ pub record Item : Type 0 where
 
 -- ---- shares
 
--- what has an identifier is of the share that has that; what is passed over before one is carried is of the first
-abbrev pub is_ours : {A : Type 0} → Portion → VerdictOn A → Bool
-is_ours share Interior = true
-is_ours share (Skip why) = is_first share
-is_ours share (Named id object) = holds share id
+-- of what stands at this path, what has an identifier is of the share that takes that, and what is passed over before one is carried of the share
+-- that tells it
+abbrev pub is_ours : {A : Type 0} → Portion → Path → VerdictOn A → Bool
+is_ours share path Interior = true
+is_ours share path (Skip why) = tells_at share path
+is_ours share path (Named id object) = takes share path id
 
 -- what isn't of the share only leads on in it, and has no line
-abbrev pub ours : {A : Type 0} → Portion → VerdictOn A → VerdictOn A
-ours share verdict = cond (is_ours share verdict) verdict Interior
+abbrev pub ours : {A : Type 0} → Portion → Path → VerdictOn A → VerdictOn A
+ours share path verdict = cond (is_ours share path verdict) verdict Interior
 
 -- ---- the outcome of an object
 
@@ -133,16 +134,18 @@ verdict_by_finding job prefix site inside (finding.Candidate i) =
 verdict_by_finding job prefix site inside finding.Gathered =
     verdict_on_object job prefix site (gathered_from site inside)
 
--- a site that is listed comes to what it is found to be; a shorty below a name of one byte, or too deep, is passed over
+-- a site that is listed comes to what it is found to be; a shorty below a name of one byte, or too deep, is passed over; one that another share lists
+-- only leads on
 abbrev pub verdict_by_visit : Job → List ℕ → Path → Visit → Verdict
 verdict_by_visit job prefix path (Listed inside) =
     verdict_by_finding job prefix path inside (found (listing_of inside) (at_of path) (form_of job))
 verdict_by_visit job prefix path Past = Skip cause.Past
 verdict_by_visit job prefix path Deep = Skip cause.Limit
+verdict_by_visit job prefix path Elsewhere = Interior
 
 -- the verdict, as far as it is of the job's share
 abbrev pub verdict_of : Job → List ℕ → Path → Visit → Verdict
-verdict_of job prefix path visit = ours job.share (verdict_by_visit job prefix path visit)
+verdict_of job prefix path visit = ours job.share path (verdict_by_visit job prefix path visit)
 
 -- the directory on the way, with its verdict
 abbrev pub item_of : Job → List ℕ → Site → Item
@@ -151,4 +154,4 @@ item_of job prefix site =
 
 -- the directories that shorties lead to, in the order of the walk, each with how it is met and its verdict
 abbrev pub items : Job → Forest → List Item
-items job source = map (item_of job (prefix_of source)) (sites_of job.limits.depth source)
+items job source = map (item_of job (prefix_of source)) (sites_of (reach_of job) source)

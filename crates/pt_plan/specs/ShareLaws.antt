@@ -5,6 +5,7 @@ use Rattle.std.specs.List.{list_all}
 use Rattle.pt_name.specs.Place.{place_of}
 use Rattle.pt_name.specs.Share.{Portion, holds, numbered, whole}
 use Rattle.pt_name.specs.Tuples.{Tuples}
+use Rattle.pt_name.specs.declared.division.Division.TheVariants as division
 use Rattle.pt_object.specs.Root.{base}
 use Rattle.pt_tree.specs.Forest.{Forest}
 use Rattle.pt_tree.specs.Path.{Path}
@@ -76,8 +77,11 @@ abbrev pub KnowsAll : (List ℕ → Bool) → Job → Forest → Type 0
 KnowsAll known job source =
     list_all (λ (item : Item). is_known known item.verdict) (items (of_whole job) source) ≡ true
 
--- the choices 1 to `count` divide the identifiers that pass the test: each is of one of them, and those of one place are of the same
+-- the choices 1 to `count` divide the identifiers that pass the test: each chooses by identifiers, each identifier is of one of them, and those of one
+-- place are of the same
 pub record Divide (tuples : Tuples) (known : List ℕ → Bool) (count : ℕ) (choices : ℕ → Portion) : Type 0 where
+  pub identifiers : (index : ℕ) → IsOneOf count index
+      → (choices index).division ≡ division.Identifiers
   pub one : (id : List ℕ) → known id ≡ true
       → (index : ℕ) × IsOneOf count index × (holds (choices index) id ≡ true)
   pub apart : (index other : ℕ) (a b : List ℕ) → IsOneOf count index → IsOneOf count other

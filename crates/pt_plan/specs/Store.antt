@@ -2,7 +2,7 @@
 use Rattle.std.specs.Prelude.{ℕ, Bool, true, false, ◌&&◌, cond, List, [], ◌∷◌, codes, Option, None, Some, is_some, is_none, unwrap_or}
 use Rattle.pt_name.specs.Prefix.{prefix_refusal, without_line_ends}
 use Rattle.pt_tree.specs.Forest.{Forest, Node, File, Dir, Other, none, dir_at, file_at, find}
-use Rattle.pt_walk.specs.Sites.{Site, sites}
+use Rattle.pt_walk.specs.Sites.{Reach, Site, sites}
 
 -- the file that declares the version (Pairtree 0.1)
 abbrev pub version_file : List ℕ
@@ -46,11 +46,11 @@ prefix_of source = prefix_in (find source prefix_file)
 abbrev pub pairtree_of : Forest → Forest
 pairtree_of source = unwrap_or (dir_at source (pairtree_root ∷ [])) none
 
--- the sites of a pairtree, if there is one; directories of at most this depth are listed
-abbrev pub sites_in_root : ℕ → Option Forest → List Site
-sites_in_root depth None = []
-sites_in_root depth (Some top) = sites depth top
+-- the sites of a pairtree, if there is one, as far as a walk goes
+abbrev pub sites_in_root : Reach → Option Forest → List Site
+sites_in_root reach None = []
+sites_in_root reach (Some top) = sites reach top
 
 -- the directories on the way in a store, in the order of the walk
-abbrev pub sites_of : ℕ → Forest → List Site
-sites_of depth source = sites_in_root depth (dir_at source (pairtree_root ∷ []))
+abbrev pub sites_of : Reach → Forest → List Site
+sites_of reach source = sites_in_root reach (dir_at source (pairtree_root ∷ []))

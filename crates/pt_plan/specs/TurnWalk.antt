@@ -2,7 +2,7 @@
 use Rattle.std.specs.Prelude.{◌≡◌, ℕ, true, false, nat_lt, List, [], ◌∷◌, ◌++◌, length, Option, None, Some, Ok, is_none}
 use Rattle.pt_name.specs.Identifying.{identifier_at}
 use Rattle.pt_name.specs.Place.{place_of}
-use Rattle.pt_name.specs.Share.{is_first}
+use Rattle.pt_name.specs.Share.{tells_at, walks}
 use Rattle.pt_tree.specs.Listing.{Item}
 use Rattle.pt_tree.specs.Path.{Path}
 use Rattle.pt_tree.specs.declared.kind.Kind.{Kind}
@@ -54,7 +54,7 @@ judged_by_finding job prefix site finding.Gathered =
 -- the site that the innermost listing is of, as far as it is of the job's share
 abbrev pub judged_at : Job → List ℕ → List Frame → VerdictOn (Option ℕ)
 judged_at job prefix trail =
-    ours job.share (judged_by_finding job prefix (trail_path trail) (found_at (form_of job) trail))
+    ours job.share (trail_path trail) (judged_by_finding job prefix (trail_path trail) (found_at (form_of job) trail))
 
 -- the trail at the site's object: its place at the entry of this index, if there is one
 abbrev pub at_object : Option ℕ → List Frame → List Frame
@@ -113,22 +113,29 @@ pub data WalkStep (job : Job) (prefix : List ℕ) : Phase → Held → Held → 
       → WalkStep job prefix phase.Judge held (with_trail held (at_object index held.trail))
       (does (Finds (in_root (place_of job.tuples id)) None))
       (Ok (phase.Carrying (new_object job id index held.trail) stage.Open))
-  -- a shorty below a name of one byte, which the first share tells
+  -- a shorty below a name of one byte, which the share tells whose it is
   IsPast : (held : Held) (name : List ℕ) → current_entry held.trail ≡ Some (name, kind.Dir)
       → is_short name ≡ true → is_last (at_of (trail_path held.trail)) ≡ true
       → WalkStep job prefix phase.Walk held (with_trail held (advanced held.trail))
-      (tells_if (is_first job.share) (Skipped (names_to held.trail) cause.Past)) (Ok phase.Walk)
-  -- a shorty that is too deep, which the first share tells
+      (tells_if (tells_at job.share (names_to held.trail)) (Skipped (names_to held.trail) cause.Past)) (Ok phase.Walk)
+  -- a shorty that is too deep, which the share tells whose it is
   IsDeep : (held : Held) (name : List ℕ) → current_entry held.trail ≡ Some (name, kind.Dir)
       → is_short name ≡ true → is_last (at_of (trail_path held.trail)) ≡ false
       → nat_lt job.limits.depth (length held.trail) ≡ true
       → WalkStep job prefix phase.Walk held (with_trail held (advanced held.trail))
-      (tells_if (is_first job.share) (Skipped (names_to held.trail) cause.Limit)) (Ok phase.Walk)
+      (tells_if (tells_at job.share (names_to held.trail)) (Skipped (names_to held.trail) cause.Limit)) (Ok phase.Walk)
+  -- a shorty that another share lists
+  PassesElsewhere : (held : Held) (name : List ℕ) → current_entry held.trail ≡ Some (name, kind.Dir)
+      → is_short name ≡ true → is_last (at_of (trail_path held.trail)) ≡ false
+      → nat_lt job.limits.depth (length held.trail) ≡ false
+      → walks job.share (names_to held.trail) ≡ false
+      → WalkStep job prefix phase.Walk held (with_trail held (advanced held.trail)) no_calls (Ok phase.Walk)
   -- any other shorty is listed and entered
   EntersSite : (held : Held) (name : List ℕ) (items : List Item)
       → current_entry held.trail ≡ Some (name, kind.Dir) → is_short name ≡ true
       → is_last (at_of (trail_path held.trail)) ≡ false
       → nat_lt job.limits.depth (length held.trail) ≡ false
+      → walks job.share (names_to held.trail) ≡ true
       → WalkStep job prefix phase.Walk held (with_trail held (entered items held.trail))
       (asks (Lists (in_pairtree (names_to held.trail)) items)) (Ok phase.Judge)
   -- any other entry is passed

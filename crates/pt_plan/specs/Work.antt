@@ -10,7 +10,7 @@ use Rattle.pt_tree.specs.Forest.{Forest, Node, File as a_file, Dir, Other, listi
 use Rattle.pt_tree.specs.Tree.{Tree}
 use Rattle.pt_walk.specs.Limits.{Bounds}
 use Rattle.pt_walk.specs.Object.{Entry}
-use Rattle.pt_walk.specs.Sites.{Visit, Listed, Past, Deep}
+use Rattle.pt_walk.specs.Sites.{Visit, Listed, Past, Deep, Elsewhere}
 use Rattle.pt_plan.specs.Bound.{scanned}
 use Rattle.pt_plan.specs.Carried.{Marked, marked}
 use Rattle.pt_plan.specs.Items.{Interior, Named, Outcome, Fails, Holds, PairtreeObject, Skip, Verdict, bad_entry, is_too_deep, outcome}
@@ -39,6 +39,7 @@ abbrev pub site_entries : PairtreeObject → Visit → ℕ
 site_entries object (Listed inside) = cond object.gathered (length (listing_of inside)) 0
 site_entries object Past = 0
 site_entries object Deep = 0
+site_entries object Elsewhere = 0
 
 -- to judge the object's place, enter its directory, and meet its entries
 abbrev pub work_to_scan : Job → Visit → PairtreeObject → ℕ
@@ -77,6 +78,7 @@ abbrev pub work_on_site : Visit → ℕ
 work_on_site (Listed inside) = 2 + length (listing_of inside)
 work_on_site Past = 0
 work_on_site Deep = 0
+work_on_site Elsewhere = 0
 
 -- on an item: on its site, and on its object
 abbrev pub work_on_item : Job → Marked → ℕ

@@ -28,6 +28,8 @@ pub enum Settings {
     Limits([u64; 4]),
     /// The share of this number, of so many, with the limit of depth 3.
     Share(u32, u32),
+    /// The same, divided by folders so deep.
+    Folders(u32, u32, u32),
 }
 
 pub fn make_job(alloc: Global, settings: Settings) -> Option<Job> {
@@ -73,7 +75,7 @@ fn limits(settings: Settings) -> Result<Limits, LimitsFault> {
     let (most, turns) = match settings {
         Settings::Limits(most) => (most, 1 << 40),
         Settings::Turns(turns) => ([1_000_000, 4_000, 600, 1 << 43], turns),
-        Settings::Share(..) => ([1_000_000, 4_000, 3, 1 << 43], 1 << 40),
+        Settings::Share(..) | Settings::Folders(..) => ([1_000_000, 4_000, 3, 1 << 43], 1 << 40),
         _ => ([1_000_000, 4_000, 600, 1 << 43], 1 << 40),
     };
     let [files, path_bytes, depth, file_bytes] = most;
@@ -83,6 +85,7 @@ fn limits(settings: Settings) -> Result<Limits, LimitsFault> {
 fn share(settings: Settings) -> Result<Share, ShareFault> {
     match settings {
         Settings::Share(index, count) => Share::of(index, count),
+        Settings::Folders(index, count, depth) => Ok(Share::of(index, count)?.by_folders(depth)),
         _ => Ok(Share::whole()),
     }
 }

@@ -25,6 +25,8 @@ mod limits;
 #[cfg(test)]
 mod lines;
 #[cfg(test)]
+mod shares;
+#[cfg(test)]
 mod spoiled_stores;
 #[cfg(test)]
 mod standing_roots;

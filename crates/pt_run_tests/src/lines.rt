@@ -1,5 +1,5 @@
 //! The lines, the turns and the most records of runs over worked stores: objects, what is passed
-//! over or gathered, shares.
+//! over or gathered.
 #![tactic(auto)]
 
 use crate::expected_roots::{LINES, STORE};
@@ -377,67 +377,4 @@ const GATHERED: &[Run<'static>] = &[
 #[test]
 fn divided_sites_are_gathered(rt: HostRuntime) {
     all_go(&rt, rt.alloc(), "gathered", GATHERED);
-}
-
-// With the limit of depth 3: objects of the shares 2 and 3 of 3, one of which is too deep, and what
-// is passed over before an identifier is carried: a name that reads nothing, a shorty below a name
-// of one byte, one that is too deep, a divided site.
-const SHARED: &str = "ab/c/obj/a.txt=abc ab/cd/obj/b=z ab/cd/ef/obj/f= ab/cd/ef/gh/obj/f= \
-    a/obj/f= a/bc/obj/f= de/x/note= de/x/obj/f= ^z/obj/f=";
-
-// The lines of each share, and of the whole.
-const SHARES: &[Run<'static>] = &[
-    Run(
-        SHARED,
-        Settings::Share(1, 3),
-        Outcome::Lines(
-            r#"{"as":"skip","at":"^z","cause":"name"}
-{"as":"skip","at":"a/bc","cause":"past"}
-{"as":"skip","at":"ab/cd/ef/gh","cause":"limit"}
-{"as":"skip","at":"de/x","cause":"split"}
-{"as":"end","done":0,"present":0,"skip":4}
-"#,
-        ),
-    ),
-    Run(
-        SHARED,
-        Settings::Share(2, 3),
-        Outcome::Lines(
-            r#"{"as":"done","at":"ab/cd/obj","bytes":1,"empty":0,"files":1,"id":"abcd","to":"88d/426/6fd/abcd"}
-{"as":"end","done":1,"present":0,"skip":0}
-"#,
-        ),
-    ),
-    Run(
-        SHARED,
-        Settings::Share(3, 3),
-        Outcome::Lines(
-            r#"{"as":"done","at":"a/obj","bytes":0,"empty":0,"files":1,"id":"a","to":"ca9/781/12c/a"}
-{"as":"done","at":"ab/c/obj","bytes":3,"empty":0,"files":1,"id":"abc","to":"ba7/816/bf8/abc"}
-{"as":"skip","at":"ab/cd/ef","cause":"limit"}
-{"as":"end","done":2,"present":0,"skip":1}
-"#,
-        ),
-    ),
-    Run(
-        SHARED,
-        Settings::Share(1, 1),
-        Outcome::Lines(
-            r#"{"as":"skip","at":"^z","cause":"name"}
-{"as":"done","at":"a/obj","bytes":0,"empty":0,"files":1,"id":"a","to":"ca9/781/12c/a"}
-{"as":"skip","at":"a/bc","cause":"past"}
-{"as":"done","at":"ab/c/obj","bytes":3,"empty":0,"files":1,"id":"abc","to":"ba7/816/bf8/abc"}
-{"as":"done","at":"ab/cd/obj","bytes":1,"empty":0,"files":1,"id":"abcd","to":"88d/426/6fd/abcd"}
-{"as":"skip","at":"ab/cd/ef","cause":"limit"}
-{"as":"skip","at":"ab/cd/ef/gh","cause":"limit"}
-{"as":"skip","at":"de/x","cause":"split"}
-{"as":"end","done":3,"present":0,"skip":5}
-"#,
-        ),
-    ),
-];
-
-#[test]
-fn each_line_is_of_one_share(rt: HostRuntime) {
-    all_go(&rt, rt.alloc(), "shares", SHARES);
 }

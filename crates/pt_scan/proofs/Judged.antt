@@ -11,7 +11,7 @@ use Rattle.pt_name.specs.declared.identifying.Identification.{Identification}
 use Rattle.pt_name.specs.declared.identifying.Identification.TheVariants as answer
 use Rattle.pt_name.specs.declared.identifying.Refusal.{Refusal}
 use Rattle.pt_state.proofs.Words.{
-  is_first,
+  tells_at,
   Item,
   Path,
   Kind,
@@ -87,33 +87,37 @@ skips_site s why is = ap (judged_by_finding (job_of s.job) (string_bytes s.prefi
 pub led_on : (s s' : State) (w : DeviceStates) → finding.Interior ≡ found_at (form_of (job_of s.job)) s.trail → Moved s.trail s.counts s s'
     → Turned phase.Judge s s' w w (Ok phase.Walk)
 led_on s s' w is to =
-    moves w w (λ fed. Walk (LeadsOn _ (ap (λ (f : Finding). ours s.job.share (judged_by_finding (job_of s.job) (string_bytes s.prefix) (trail_path s.trail) f))
+    moves w w (λ fed. Walk (LeadsOn _ (ap (λ (f : Finding). ours s.job.share (trail_path s.trail)
+    (judged_by_finding (job_of s.job) (string_bytes s.prefix) (trail_path s.trail) f))
     (sym is)))) (did_nothing w) to refl
 
 -- ---- a site that is passed over
 
--- it is of the first share
-skipped_first : (s : State) (why : Cause) → PassesSite s why → true ≡ is_first s.job.share → judged_at (job_of s.job) (string_bytes s.prefix) s.trail ≡ Skip why
+-- it is of the share
+skipped_own : (s : State) (why : Cause) → PassesSite s why → true ≡ tells_at s.job.share (trail_path s.trail)
+    → judged_at (job_of s.job) (string_bytes s.prefix) s.trail ≡ Skip why
 unfolding PassesSite
-skipped_first s why is first = ap (ours s.job.share) is ∙ ap (λ b. cond b (Skip why) Interior) (sym first)
+skipped_own s why is first = ap (ours s.job.share (trail_path s.trail)) is ∙ ap (λ b. cond b (Skip why) Interior) (sym first)
 
-skipped_other : (s : State) (why : Cause) → PassesSite s why → false ≡ is_first s.job.share
+skipped_other : (s : State) (why : Cause) → PassesSite s why → false ≡ tells_at s.job.share (trail_path s.trail)
     → judged_at (job_of s.job) (string_bytes s.prefix) s.trail ≡ Interior
 unfolding PassesSite
-skipped_other s why is other = ap (ours s.job.share) is ∙ ap (λ b. cond b (Skip why) Interior) (sym other)
+skipped_other s why is other = ap (ours s.job.share (trail_path s.trail)) is ∙ ap (λ b. cond b (Skip why) Interior) (sym other)
 
-pub passed_site : (s s' : State) (a b : DeviceStates) (path : Path) (why : Cause) → PassesSite s why → true ≡ is_first s.job.share
+pub passed_site : (s s' : State) (a b : DeviceStates) (path : Path) (why : Cause) → PassesSite s why → true ≡ tells_at s.job.share (trail_path s.trail)
     → Did (tells (Skipped path why)) a b → path ≡ trail_path s.trail → Moved s.trail (with_skipped s.counts) s s' → Turned phase.Judge s s' a b (Ok phase.Walk)
 passed_site s s' a b path why line first told is to =
-    moves a b (λ fed. Walk (IsSkipped _ why (skipped_first s why line first))) (rw is at told) to refl
+    moves a b (λ fed. Walk (IsSkipped _ why (skipped_own s why line first))) (rw is at told) to refl
 
 pub passed_site_front : (s s' : State) (a b : DeviceStates) (path : Path) (why : Cause) (f : Fault) (result : Answer) → IsErrAnd result (λ h. h ≡ f)
-    → PassesSite s why → true ≡ is_first s.job.share → FailsPartway (tells (Skipped path why)) f a b → path ≡ trail_path s.trail → KeepsAll s s'
+    → PassesSite s why → true ≡ tells_at s.job.share (trail_path s.trail) → FailsPartway (tells (Skipped path why)) f a b → path ≡ trail_path s.trail
+    → KeepsAll s s'
     → Turned phase.Judge s s' a b result
 passed_site_front s s' a b path why f result is line first front there keeps =
-    left_some a b f result is (λ fed. Walk (IsSkipped _ why (skipped_first s why line first))) (rw there at front) keeps
+    left_some a b f result is (λ fed. Walk (IsSkipped _ why (skipped_own s why line first))) (rw there at front) keeps
 
-pub passed_site_quietly : (s s' : State) (w : DeviceStates) (why : Cause) → PassesSite s why → false ≡ is_first s.job.share → Moved s.trail s.counts s s'
+pub passed_site_quietly : (s s' : State) (w : DeviceStates) (why : Cause) → PassesSite s why → false ≡ tells_at s.job.share (trail_path s.trail)
+    → Moved s.trail s.counts s s'
     → Turned phase.Judge s s' w w (Ok phase.Walk)
 passed_site_quietly s s' w why line other to =
     moves w w (λ fed. Walk (LeadsOn _ (skipped_other s why line other))) (did_nothing w) to refl
@@ -170,16 +174,17 @@ pub skips_refused : (s : State) (index : Option ℕ) (why : Refusal) (c : Cause)
     → c ≡ cause_of_refusal why → PassesSite s c
 unfolding IsIdentified PassesSite
 skips_refused s index why c found is told =
-    by_object s index (Err why) found (refused_as s.job.layout s.job.share why (read_at s) is) ∙ ap (λ (d : Cause). Skip d) (sym told)
+    by_object s index (Err why) found (refused_as s.job.layout s.job.share (trail_path s.trail) why (read_at s) is) ∙ ap (λ (d : Cause). Skip d) (sym told)
 
 -- another share passes it
 pub passed_object : (s s' : State) (w : DeviceStates) (index : Option ℕ) → FindsObject s index → IsIdentified s answer.OtherShare → Moved s.trail s.counts s s'
     → Turned phase.Judge s s' w w (Ok phase.Walk)
 unfolding IsIdentified
 passed_object s s' w index found is to =
-    let other = other_as s.job.layout s.job.share (read_at s) is in
+    let other = other_as s.job.layout s.job.share (trail_path s.trail) (read_at s) is in
     let id = other.0 in
-    let judged = ap (ours s.job.share) (by_object s index (Ok id) found other.1.0) ∙ ap (λ b. cond b (Named id index) Interior) other.1.1 in
+    let judged = ap (ours s.job.share (trail_path s.trail)) (by_object s index (Ok id) found other.1.0)
+    ∙ ap (λ b. cond b (Named id index) Interior) other.1.1 in
     moves w w (λ fed. Walk (LeadsOn _ judged)) (did_nothing w) to refl
 
 -- ---- an object whose place was asked for
@@ -196,12 +201,13 @@ length-object (Some index) (frame ∷ frames) = refl
 
 -- it is of the share that has the identifier
 module _ (s : State) (index : Option ℕ) (candidate : PlacedObject) (found : FindsObject s index) (named : IsIdentified s (answer.Candidate candidate)) where
-  read_as : IsRead s.job.layout s.job.share (read_at s) candidate
+  read_as : IsRead s.job.layout s.job.share (trail_path s.trail) (read_at s) candidate
   unfolding IsIdentified
-  read_as = candidate_as s.job.layout s.job.share (read_at s) candidate named
+  read_as = candidate_as s.job.layout s.job.share (trail_path s.trail) (read_at s) candidate named
 
   named_at : judged_at (job_of s.job) (string_bytes s.prefix) s.trail ≡ Named candidate.id index
-  named_at = ap (ours s.job.share) (by_object s index (Ok candidate.id) found read_as.id) ∙ ap (λ b. cond b (Named candidate.id index) Interior) read_as.mine
+  named_at = ap (ours s.job.share (trail_path s.trail)) (by_object s index (Ok candidate.id) found read_as.id)
+      ∙ ap (λ b. cond b (Named candidate.id index) Interior) read_as.mine
 
   present_follows : (here : Kind) (fed : List ℕ) → Leads phase.Judge s fed (held_of s fed)
       (finds_and_tells (in_root candidate.place) (Some here) (Present (path_of_object index s.trail) candidate.id candidate.place)) (Ok phase.Walk)

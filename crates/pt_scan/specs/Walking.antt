@@ -1,7 +1,7 @@
 -- What the turns of the walk ask of where it stands.
 use Rattle.std.specs.Prelude.{◌≡◌, ◌<◌, ◌^◌, ℕ, List, true, Ok, Some}
 use Rattle.std.specs.String.{string_bytes}
-use Rattle.pt_name.specs.Share.{is_first}
+use Rattle.pt_name.specs.Share.{tells_at}
 use Rattle.pt_tree.specs.Listing.{Item}
 use Rattle.pt_tree.specs.declared.kind.Kind.TheVariants as kind
 use Rattle.pt_walk.specs.Site.{is_short}
@@ -11,7 +11,7 @@ use Rattle.pt_walk.specs.declared.frame.Frame.{Frame}
 use Rattle.pt_plan.specs.Lines.{Skipped}
 use Rattle.pt_plan.specs.Run.{with_trail}
 use Rattle.pt_plan.specs.TurnWalk.{WalkStep, in_pairtree}
-use Rattle.pt_plan.specs.DeviceStates.{Lists, asks, tells_if}
+use Rattle.pt_plan.specs.DeviceStates.{Lists, asks, no_calls, tells_if}
 use Rattle.pt_plan.specs.declared.phase.Phase.TheVariants as phase
 use Rattle.pt_state.specs.States.{held_of, job_of}
 use Rattle.pt_state.specs.declared.state.State.{State}
@@ -25,12 +25,18 @@ pub record CanPassShorty (s : State) : Type 0 where
   pub shorty : IsAtShorty s.trail
   pub few : s.counts.skipped < 2 ^ 40
 
--- it is to be passed over for this cause, which the first share tells
+-- it is to be passed over for this cause, which the share tells whose it is
 unfoldable pub PassesShorty : State → Cause → Type 0
 PassesShorty s why = (fed : List ℕ)
     → WalkStep (job_of s.job) (string_bytes s.prefix) phase.Walk (held_of s fed)
     (with_trail (held_of s fed) (advanced s.trail))
-    (tells_if (is_first s.job.share) (Skipped (names_to s.trail) why)) (Ok phase.Walk)
+    (tells_if (tells_at s.job.share (names_to s.trail)) (Skipped (names_to s.trail) why)) (Ok phase.Walk)
+
+-- it is to be passed, since another share lists it
+unfoldable pub PassesElsewhere : State → Type 0
+PassesElsewhere s = (fed : List ℕ)
+    → WalkStep (job_of s.job) (string_bytes s.prefix) phase.Walk (held_of s fed)
+    (with_trail (held_of s fed) (advanced s.trail)) no_calls (Ok phase.Walk)
 
 -- it is to be entered
 unfoldable pub EntersSite : State → Type 0

@@ -25,8 +25,7 @@ use std::alloc::Global;
 /// Judges the site that was entered: it only leads on, is told in the log and passed over, or has
 /// an object, whose place is asked for. An object whose place is free is to be entered next; one
 /// whose place is taken is told in the log as present. An object of another share is passed without
-/// a line, and so is, in another share than the first, a site without an object that can be
-/// carried.
+/// a line, and so is a site without an object that can be carried where another share tells it.
 ///
 /// Halts for `Dest` where the place can't be asked for, for `Log` where a line can't be put, and
 /// for `Memory` where a growth is refused; what is held stays then.
@@ -73,7 +72,7 @@ pub fn form_of(gather: bool) -> Form
     if gather { Form::Gathering } else { Form::Plain }
 }
 
-// Passes over a site, and tells so in the first share.
+// Passes over a site, and tells so in the share whose it is.
 fn pass_over<O: Io>(
     state: &mut State,
     site: &NamePath,
@@ -85,7 +84,7 @@ fn pass_over<O: Io>(
     ensures turn { TakesTurn O.Io (0, 0) phase.Judge
         (state.old, out.old) (state.new, out.new) result }
 {
-    if !state.job.share.is_first() {
+    if !state.job.share.tells_at(site) {
         return Ok(Phase::Walk);
     }
     put_skip(state.alloc, out, site, cause, &mut state.counts)?;

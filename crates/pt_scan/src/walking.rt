@@ -1,5 +1,6 @@
 //! The turns of the walk through the sites of a pairtree.
 ghost use Rattle.std.specs.Prelude.{◌≡◌, ◌<◌, ◌^◌, [], IfOk};
+ghost use Rattle.pt_name.specs.Share.{walks};
 ghost use Rattle.pt_plan.specs.Enabled.{MayEnter};
 ghost use Rattle.pt_plan.specs.TurnWalk.{in_pairtree as in_pairtree_of};
 ghost use Rattle.pt_plan.specs.declared.phase.Opening.TheVariants as opening;
@@ -36,8 +37,9 @@ pub fn open_root<O: Io>(state: &mut State, out: &mut O) -> Result<Phase, Fault>
 
 /// Looks at the next entry of a site. A shorty is listed and entered, to be judged next (Pairtree
 /// 0.1, "Mapping identifiers to paths"); one that is too deep, or stands below a name of one byte,
-/// is passed over, and told in the log of the first share. Any other entry is passed. At its end
-/// the listing is left, and after the outermost the walk is done.
+/// is passed over, and told in the log of the share whose it is; one that another share lists, and
+/// any other entry, is passed. At its end the listing is left, and after the outermost the walk is
+/// done.
 ///
 /// Halts for `Source` where a shorty can't be listed, for `Log` where its line can't be put, and
 /// for `Memory` where a growth is refused; what is held stays then.
@@ -66,7 +68,7 @@ pub fn walk<O: Io>(state: &mut State, out: &mut O) -> Result<Phase, Fault>
     }
 }
 
-// Enters the shorty at the trail's place, or tells why not.
+// Enters the shorty at the trail's place, tells why not, or leaves it to another share.
 fn meet_shorty<O: Io>(state: &mut State, out: &mut O) -> Result<Phase, Fault>
     requires may { MayEnter (O.states out.old).source state.old.trail }
     requires passes { CanPassShorty state.old }
@@ -79,21 +81,37 @@ fn meet_shorty<O: Io>(state: &mut State, out: &mut O) -> Result<Phase, Fault>
     if state.trail.len() as u64 > state.job.limits.depth() {
         return pass_shorty(state, Cause::Limit, out);
     }
+    if !is_walked(state)? {
+        state.trail.advance();
+        return Ok(Phase::Walk);
+    }
     enter_site(state, out)
 }
 
-// Passes over the shorty at the trail's place, and tells so in the first share.
+// Whether the shorty at the trail's place is walked, which another share may do in place of this.
+fn is_walked(state: &State) -> Result<bool, MemoryFault>
+    requires shorty { IsAtShorty state.now.trail }
+    ensures { IfOk result (λ own. own ≡ walks state.now.job.share (names_to state.now.trail)) }
+{
+    if !state.job.share.divides_at(state.trail.len()) {
+        return Ok(true);
+    }
+    let path = entry_path(&state.trail)?;
+    Ok(state.job.share.walks(&path))
+}
+
+// Passes over the shorty at the trail's place, and tells so in the share whose it is.
 fn pass_shorty<O: Io>(state: &mut State, cause: Cause, out: &mut O) -> Result<Phase, Fault>
     requires line { PassesShorty state.old cause }
     requires passes { CanPassShorty state.old }
     ensures turn { TakesTurn O.Io (0, 0) phase.Walk
         (state.old, out.old) (state.new, out.new) result }
 {
-    if !state.job.share.is_first() {
+    let path = entry_path(&state.trail)?;
+    if !state.job.share.tells_at(&path) {
         state.trail.advance();
         return Ok(Phase::Walk);
     }
-    let path = entry_path(&state.trail)?;
     put_skip(state.alloc, out, &path, cause, &mut state.counts)?;
     state.trail.advance();
     Ok(Phase::Walk)

@@ -1,5 +1,5 @@
 -- The words in which the proofs of the turns speak, from the definitions of the crates below.
-pub use Rattle.pt_name.specs.Share.{is_first}
+pub use Rattle.pt_name.specs.Share.{tells_at, walks}
 pub use Rattle.pt_name.specs.Tuples.{IsLayout}
 pub use Rattle.pt_object.specs.Algorithm.{digest_of}
 unfoldable pub use Rattle.pt_object.specs.Hasher.{HasBeenFed}

@@ -36,8 +36,8 @@ use Rattle.pt_tree.proofs.Finding.{comes_before-trans, proper_dir, proper_file, 
 use Rattle.pt_tree.proofs.Names.{before_differs, name_itself}
 use Rattle.pt_walk.specs.declared.site.At.TheVariants as at
 use Rattle.pt_walk.specs.Site.{is_short}
-use Rattle.pt_walk.specs.Sites.{Visit, Listed, Past, Deep, Site, at_of, is_last, is_listed, sites_in, visit_of, walked}
-use Rattle.pt_walk.specs.SitesReached.{IsAmongSites, ListedSitesAreReached, ReachedSitesAreListed, is_way}
+use Rattle.pt_walk.specs.Sites.{Visit, Listed, Past, Deep, Elsewhere, Reach, Site, at_of, is_last, is_listed, sites_in, visit_of, walked}
+use Rattle.pt_walk.specs.SitesReached.{IsAmongSites, ListedSitesAreReached, ReachedSitesAreListed, is_walked, is_way}
 use Rattle.pt_walk.proofs.Findings.{last_name_says}
 use Rattle.pt_walk.proofs.Paths.{file_leads_nowhere, other_leads_nowhere}
 
@@ -107,22 +107,26 @@ among_walked : (visit : Visit) (x : Site) (xs : List Site) → IsAmongSites x (w
 among_walked (Listed inside) x xs h = (refl, h)
 among_walked Past x xs h = absurd h
 among_walked Deep x xs h = absurd h
+among_walked Elsewhere x xs h = absurd h
 
--- a shorty that is listed stands neither below a name of one byte (a) nor too deep (b)
-listed_tests : (a b : Bool) (d : Forest) → is_listed (cond a Past (cond b Deep (Listed d))) ≡ true → (a ≡ false) × (b ≡ false)
-listed_tests true b d h = absurd (cc)
-listed_tests false true d h = absurd (cc)
-listed_tests false false d h = (refl, refl)
+-- a shorty that is listed stands neither below a name of one byte (a) nor too deep (b), and is walked into (w)
+listed_tests : (a b w : Bool) (d : Forest) → is_listed (cond a Past (cond b Deep (cond w (Listed d) Elsewhere))) ≡ true
+    → (a ≡ false) × (b ≡ false) × (w ≡ true)
+listed_tests true b w d h = absurd (cc)
+listed_tests false true w d h = absurd (cc)
+listed_tests false false true d h = (refl, refl, refl)
+listed_tests false false false d h = absurd (cc)
 
 -- a shorty that is met as listed is one that is listed
 listed_inside : (visit : Visit) (inside : Forest) → visit ≡ Listed inside → is_listed visit ≡ true
 listed_inside visit inside e = ap is_listed e
 
 -- what is listed of a shorty is what its directory holds
-listed_same : (a b : Bool) (d inside : Forest) → cond a Past (cond b Deep (Listed d)) ≡ Listed inside → d ≡ inside
-listed_same true b d inside h = absurd (cc)
-listed_same false true d inside h = absurd (cc)
-listed_same false false d inside h = cc
+listed_same : (a b w : Bool) (d inside : Forest) → cond a Past (cond b Deep (cond w (Listed d) Elsewhere)) ≡ Listed inside → d ≡ inside
+listed_same true b w d inside h = absurd (cc)
+listed_same false true w d inside h = absurd (cc)
+listed_same false false true d inside h = cc
+listed_same false false false d inside h = absurd (cc)
 
 -- a name of one or two bytes below which a site may stand has two
 two_bytes : (one two : Bool) → is_last (cond one at.Last at.Pair) ≡ false → (one || two) ≡ true → two ≡ true
@@ -130,22 +134,23 @@ two_bytes true two last short = absurd (cc)
 two_bytes false two last short = short
 
 -- what it takes, below the directory at a path
-record Reached (depth : ℕ) (path : Path) (f : Forest) (to : Path) (inside : Forest) : Type 0 where
+record Reached (reach : Reach) (path : Path) (f : Forest) (to : Path) (inside : Forest) : Type 0 where
   first : List ℕ
   rest : Path
   path_is : to ≡ path ++ first ∷ rest
   there : node_at (Dir f) (first ∷ rest) ≡ Some (Dir inside)
   may_lead : is_last (at_of path) ≡ false
   way : is_way (first ∷ rest) ≡ true
-  deep : length path + suc (length rest) ≤ depth
+  deep : length path + suc (length rest) ≤ reach.depth
+  walked : is_walked reach.walks path (first ∷ rest) ≡ true
 
 -- what shorties lead to behind the first entry of a directory they lead to in the whole directory
-reached_after : (depth : ℕ) (path : Path) (n : List ℕ) (f whole : Forest) (node : Node) (to : Path) (inside : Forest) → is_proper f ≡ true
+reached_after : (reach : Reach) (path : Path) (n : List ℕ) (f whole : Forest) (node : Node) (to : Path) (inside : Forest) → is_proper f ≡ true
     → comes_before n f ≡ true
     → ((first : List ℕ) (rest : Path) → node_at (Dir whole) (first ∷ rest)
     ≡ option_and_then (λ m. node_at m rest) (cond (bytes_eq n first) (Some node) (find f first)))
-    → Reached depth path f to inside → Reached depth path whole to inside
-reached_after depth path n f whole node to inside proper before opens it = record {
+    → Reached reach path f to inside → Reached reach path whole to inside
+reached_after reach path n f whole node to inside proper before opens it = record {
   first = it.first;
   rest = it.rest;
   path_is = it.path_is;
@@ -153,15 +158,17 @@ reached_after depth path n f whole node to inside proper before opens it = recor
   may_lead = it.may_lead;
   way = it.way;
   deep = it.deep;
+  walked = it.walked;
 }
 
 -- a shorty that is listed is itself a directory that shorties lead to
-reached_here : (depth : ℕ) (path : Path) (n : List ℕ) (d f : Forest) (to : Path) (inside : Forest) → is_short n ≡ true → path ++ n ∷ [] ≡ to
-    → visit_of depth path d ≡ Listed inside → Reached depth path (dir n d f) to inside
-reached_here depth path n d f to inside short to_is visit =
-    let tests = listed_tests (is_last (at_of path)) (nat_lt depth (length path + 1)) d (listed_inside (visit_of depth path d) inside visit) in
-    let same = listed_same (is_last (at_of path)) (nat_lt depth (length path + 1)) d inside visit in
-    let within = ltb-false depth (length path + 1) tests.1 in
+reached_here : (reach : Reach) (path : Path) (n : List ℕ) (d f : Forest) (to : Path) (inside : Forest) → is_short n ≡ true → path ++ n ∷ [] ≡ to
+    → visit_of reach path n d ≡ Listed inside → Reached reach path (dir n d f) to inside
+reached_here reach path n d f to inside short to_is visit =
+    let tests = listed_tests (is_last (at_of path)) (nat_lt reach.depth (length path + 1)) (reach.walks (path ++ n
+    ∷ [])) d (listed_inside (visit_of reach path n d) inside visit) in
+    let same = listed_same (is_last (at_of path)) (nat_lt reach.depth (length path + 1)) (reach.walks (path ++ n ∷ [])) d inside visit in
+    let within = ltb-false reach.depth (length path + 1) tests.1 in
     record {
       first = n;
       rest = [];
@@ -170,13 +177,14 @@ reached_here depth path n d f to inside short to_is visit =
       may_lead = tests.0;
       way = short;
       deep = omega (arith, within);
+      walked = and_from (reach.walks (path ++ n ∷ [])) true tests.2 refl;
     }
 
 -- what shorties lead to from a shorty that is listed they lead to from the directory above it, by a way that is one name longer
-reached_below : (depth : ℕ) (path : Path) (n : List ℕ) (d f : Forest) (to : Path) (inside : Forest) → is_short n ≡ true
-    → is_listed (visit_of depth path d) ≡ true → Reached depth (path ++ n ∷ []) d to inside → Reached depth path (dir n d f) to inside
-reached_below depth path n d f to inside short listed it =
-    let tests = listed_tests (is_last (at_of path)) (nat_lt depth (length path + 1)) d listed in
+reached_below : (reach : Reach) (path : Path) (n : List ℕ) (d f : Forest) (to : Path) (inside : Forest) → is_short n ≡ true
+    → is_listed (visit_of reach path n d) ≡ true → Reached reach (path ++ n ∷ []) d to inside → Reached reach path (dir n d f) to inside
+reached_below reach path n d f to inside short listed it =
+    let tests = listed_tests (is_last (at_of path)) (nat_lt reach.depth (length path + 1)) (reach.walks (path ++ n ∷ [])) d listed in
     let two = two_bytes (length n == 1) (length n == 2) (ap is_last (sym (last_name_says path n)) ∙ it.may_lead) short in
     let long = length-append path (n ∷ []) in
     let within = it.deep in
@@ -188,53 +196,59 @@ reached_below depth path n d f to inside short listed it =
       may_lead = tests.0;
       way = and_from (length n == 2) (is_way (it.first ∷ it.rest)) two it.way;
       deep = omega (arith, within, long);
+      walked = and_from (reach.walks (path ++ n ∷ [])) (is_walked reach.walks (path ++ n ∷ []) (it.first ∷ it.rest)) tests.2 it.walked;
     }
 
 -- each site that is listed among what the shorties of a directory lead to is reached from that directory
-reached : (depth : ℕ) (path : Path) (f : Forest) (to : Path) (inside : Forest) → is_proper f ≡ true → IsAmongSites (to, Listed inside) (sites_in depth path f)
-    → Reached depth path f to inside
-reached depth path none to inside proper h = absurd h
-reached depth path (file n b f) to inside proper h =
+reached : (reach : Reach) (path : Path) (f : Forest) (to : Path) (inside : Forest) → is_proper f ≡ true
+    → IsAmongSites (to, Listed inside) (sites_in reach path f)
+    → Reached reach path f to inside
+reached reach path none to inside proper h = absurd h
+reached reach path (file n b f) to inside proper h =
     let parts = proper_file n b f proper in
-    reached_after depth path n f (file n b f) (File b) to inside parts.2 parts.1 (λ first rest. refl) (reached depth path f to inside parts.2 h)
-reached depth path (other n f) to inside proper h =
+    reached_after reach path n f (file n b f) (File b) to inside parts.2 parts.1 (λ first rest. refl) (reached reach path f to inside parts.2 h)
+reached reach path (other n f) to inside proper h =
     let parts = proper_other n f proper in
-    reached_after depth path n f (other n f) Other to inside parts.2 parts.1 (λ first rest. refl) (reached depth path f to inside parts.2 h)
-reached depth path (dir n d f) to inside proper h =
+    reached_after reach path n f (other n f) Other to inside parts.2 parts.1 (λ first rest. refl) (reached reach path f to inside parts.2 h)
+reached reach path (dir n d f) to inside proper h =
     let parts = proper_dir n d f proper in
-    let visit = visit_of depth path d in
-    let inner = sites_in depth (path ++ n ∷ []) d in
-    elim (among_parts (to, Listed inside) (cond (is_short n) ((path ++ n ∷ [], visit) ∷ walked visit inner) []) (sites_in depth path f) h) [
+    let visit = visit_of reach path n d in
+    let inner = sites_in reach (path ++ n ∷ []) d in
+    elim (among_parts (to, Listed inside) (cond (is_short n) ((path ++ n ∷ [], visit) ∷ walked visit inner) []) (sites_in reach path f) h) [
       | inl front ↦
           let chosen = among_chosen (is_short n) (to, Listed inside) (path ++ n ∷ [], visit) (walked visit inner) front in
           elim (chosen.1) [
-            | inl e ↦ reached_here depth path n d f to inside chosen.0 (ap (λ (x : Site). x.0) e) (ap (λ (x : Site). x.1) e)
+            | inl e ↦ reached_here reach path n d f to inside chosen.0 (ap (λ (x : Site). x.0) e) (ap (λ (x : Site). x.1) e)
             | inr below ↦
                 let under = among_walked visit (to, Listed inside) inner below in
-                reached_below depth path n d f to inside chosen.0 under.0 (reached depth (path ++ n ∷ []) d to inside parts.3 under.1)
+                reached_below reach path n d f to inside chosen.0 under.0 (reached reach (path ++ n ∷ []) d to inside parts.3 under.1)
           ]
-      | inr after ↦ reached_after depth path n f (dir n d f) (Dir d) to inside parts.2 parts.1 (λ first rest. refl)
-          (reached depth path f to inside parts.2 after)
+      | inr after ↦ reached_after reach path n f (dir n d f) (Dir d) to inside parts.2 parts.1 (λ first rest. refl)
+          (reached reach path f to inside parts.2 after)
     ]
 
 -- each site that is listed is reached from the top directory
 pub listed_reached : ListedSitesAreReached
-listed_reached depth top path inside proper (inl e) =
+listed_reached reach top path inside proper (inl e) =
     let at_top : [] ≡ path = ap (λ (x : Site). x.0) e in
     let visit : Listed top ≡ Listed inside = ap (λ (x : Site). x.1) e in
-    let same : top ≡ inside = cc in (
-      ap (node_at (Dir top)) (sym at_top) ∙ ap (λ (x : Forest). Some (Dir x)) same,
-      ap is_way (sym at_top),
-      inl (sym at_top),
-    )
-listed_reached depth top path inside proper (inr h) =
-    let it = reached depth [] top path inside proper h in
+    let same : top ≡ inside = cc in
+    record {
+      there = ap (node_at (Dir top)) (sym at_top) ∙ ap (λ (x : Forest). Some (Dir x)) same;
+      way = ap is_way (sym at_top);
+      depth = inl (sym at_top);
+      walked = ap (is_walked reach.walks []) (sym at_top);
+    }
+listed_reached reach top path inside proper (inr h) =
+    let it = reached reach [] top path inside proper h in
     let within = it.deep in
-    let long = ap length it.path_is in (
-      ap (node_at (Dir top)) it.path_is ∙ it.there,
-      ap is_way it.path_is ∙ it.way,
-      inr (omega (arith, within, long)),
-    )
+    let long = ap length it.path_is in
+    record {
+      there = ap (node_at (Dir top)) it.path_is ∙ it.there;
+      way = ap is_way it.path_is ∙ it.way;
+      depth = inr (omega (arith, within, long));
+      walked = ap (is_walked reach.walks []) it.path_is ∙ it.walked;
+    }
 
 -- one or two holds where two does
 or_right : (one two : Bool) → two ≡ true → (one || two) ≡ true
@@ -250,87 +264,95 @@ among_choice : (b : Bool) (x y : Site) (ys : List Site) → b ≡ true → (y �
 among_choice true x y ys is h = h
 among_choice false x y ys is h = absurd (cc)
 
--- a shorty is listed that stands below no name of one byte, and not too deep
-visit_listed : (depth : ℕ) (path : Path) (d : Forest) → is_last (at_of path) ≡ false → length path + 1 ≤ depth → visit_of depth path d ≡ Listed d
-visit_listed depth path d may_lead deep =
-    ap (λ b. cond b Past (cond (nat_lt depth (length path + 1)) Deep (Listed d))) may_lead
-    ∙ ap (λ b. cond b Deep (Listed d)) (le-ltb depth (length path + 1) deep)
+-- a shorty is listed that stands below no name of one byte, and not too deep, where it is walked into
+visit_listed : (reach : Reach) (path : Path) (n : List ℕ) (d : Forest) → is_last (at_of path) ≡ false → length path + 1 ≤ reach.depth
+    → reach.walks (path ++ n ∷ []) ≡ true → visit_of reach path n d ≡ Listed d
+visit_listed reach path n d may_lead deep walked =
+    ap (λ b. cond b Past (cond (nat_lt reach.depth (length path + 1)) Deep (cond (reach.walks (path ++ n ∷ [])) (Listed d) Elsewhere))) may_lead
+    ∙ ap (λ b. cond b Deep (cond (reach.walks (path ++ n ∷ [])) (Listed d) Elsewhere)) (le-ltb reach.depth (length path + 1) deep)
+    ∙ ap (λ b. cond b (Listed d) Elsewhere) walked
 
 -- what is listed inside a directory is listed at the end of a longer path
-Inside : ℕ → Path → Forest → Forest → Path → Type 0
-Inside depth path d inside rest =
+Inside : Reach → Path → Forest → Forest → Path → Type 0
+Inside reach path d inside rest =
     (first : List ℕ) (after : Path) → rest ≡ first ∷ after → is_last (at_of path) ≡ false → is_way (first ∷ after) ≡ true
-    → length path + suc (length after) ≤ depth → IsAmongSites (path ++ first ∷ after, Listed inside) (sites_in depth path d)
+    → length path + suc (length after) ≤ reach.depth → is_walked reach.walks path (first ∷ after) ≡ true
+    → IsAmongSites (path ++ first ∷ after, Listed inside) (sites_in reach path d)
 
 -- the directory at the end of a way whose first name is that of the first entry is among the sites that this entry leads to
-front_listed : (depth : ℕ) (path : Path) (n : List ℕ) (d inside : Forest) (rest : Path) → Inside depth (path ++ n ∷ []) d inside rest
+front_listed : (reach : Reach) (path : Path) (n : List ℕ) (d inside : Forest) (rest : Path) → Inside reach (path ++ n ∷ []) d inside rest
     → node_at (Dir d) rest ≡ Some (Dir inside) → is_last (at_of path) ≡ false → is_way (n ∷ rest) ≡ true
-    → length path + suc (length rest) ≤ depth
-    → IsAmongSites (path ++ n ∷ rest, Listed inside) (cond (is_short n) ((path ++ n ∷ [], visit_of depth path d)
-    ∷ walked (visit_of depth path d) (sites_in depth (path ++ n ∷ []) d)) [])
+    → length path + suc (length rest) ≤ reach.depth → is_walked reach.walks path (n ∷ rest) ≡ true
+    → IsAmongSites (path ++ n ∷ rest, Listed inside) (cond (is_short n) ((path ++ n ∷ [], visit_of reach path n d)
+    ∷ walked (visit_of reach path n d) (sites_in reach (path ++ n ∷ []) d)) [])
 unfolding Inside
-front_listed depth path n d inside [] each there may_lead way deep =
+front_listed reach path n d inside [] each there may_lead way deep walks =
     let same : d ≡ inside = cc in
-    let visit = visit_listed depth path d may_lead deep ∙ ap (λ (x : Forest). Listed x) same in
-    among_choice (is_short n) (path ++ n ∷ [], Listed inside) (path ++ n ∷ [], visit_of depth path d)
-    (walked (visit_of depth path d) (sites_in depth (path ++ n ∷ []) d)) way (inl (ap (λ (v : Visit). (path ++ n ∷ [], v)) visit))
-front_listed depth path n d inside (m ∷ rest) each there may_lead way deep =
+    let here = (and_parts (reach.walks (path ++ n ∷ [])) true walks).0 in
+    let visit = visit_listed reach path n d may_lead deep here ∙ ap (λ (x : Forest). Listed x) same in
+    among_choice (is_short n) (path ++ n ∷ [], Listed inside) (path ++ n ∷ [], visit_of reach path n d)
+    (walked (visit_of reach path n d) (sites_in reach (path ++ n ∷ []) d)) way (inl (ap (λ (v : Visit). (path ++ n ∷ [], v)) visit))
+front_listed reach path n d inside (m ∷ rest) each there may_lead way deep walks =
+    let walked_parts = and_parts (reach.walks (path ++ n ∷ [])) (is_walked reach.walks (path ++ n ∷ []) (m ∷ rest)) walks in
     let parts = and_parts (length n == 2) (is_way (m ∷ rest)) way in
     let long = length-append path (n ∷ []) in
-    let near : length path + 1 ≤ depth = omega (arith, deep) in
-    let far : length (path ++ n ∷ []) + suc (length rest) ≤ depth = omega (arith, deep, long) in
+    let near : length path + 1 ≤ reach.depth = omega (arith, deep) in
+    let far : length (path ++ n ∷ []) + suc (length rest) ≤ reach.depth = omega (arith, deep, long) in
     let leads : is_last (at_of (path ++ n ∷ [])) ≡ false = ap is_last (last_name_says path n ∙ ap (λ b. cond b at.Last at.Pair) (not_one (length n) parts.0)) in
-    let inner = sites_in depth (path ++ n ∷ []) d in
-    let below = each m rest refl leads parts.1 far in
+    let inner = sites_in reach (path ++ n ∷ []) d in
+    let below = each m rest refl leads parts.1 far walked_parts.1 in
     let moved = subst (λ (p : Path). IsAmongSites (p, Listed inside) inner) (append_assoc path (n ∷ []) (m ∷ rest)) below in
-    among_choice (is_short n) (path ++ n ∷ m ∷ rest, Listed inside) (path ++ n ∷ [], visit_of depth path d) (walked (visit_of depth path d) inner)
+    among_choice (is_short n) (path ++ n ∷ m ∷ rest, Listed inside) (path ++ n ∷ [], visit_of reach path n d) (walked (visit_of reach path n d) inner)
     (or_right (length n == 1) (length n == 2) parts.0)
-    (inr (subst (λ (v : Visit). IsAmongSites (path ++ n ∷ m ∷ rest, Listed inside) (walked v inner)) (sym (visit_listed depth path d may_lead near)) moved))
+    (inr (subst (λ (v : Visit). IsAmongSites (path ++ n ∷ m ∷ rest, Listed inside) (walked v inner))
+    (sym (visit_listed reach path n d may_lead near walked_parts.0)) moved))
 
 -- the directory at the end of a way of shorties is listed among what the shorties of the directory at its start lead to
-listed_in : (depth : ℕ) (path : Path) (f : Forest) (first : List ℕ) (rest : Path) (inside : Forest) → node_at (Dir f) (first ∷ rest) ≡ Some (Dir inside)
+listed_in : (reach : Reach) (path : Path) (f : Forest) (first : List ℕ) (rest : Path) (inside : Forest) → node_at (Dir f) (first ∷ rest) ≡ Some (Dir inside)
     → is_last (at_of path) ≡ false → is_way (first ∷ rest) ≡ true
-    → length path + suc (length rest) ≤ depth → IsAmongSites (path ++ first ∷ rest, Listed inside) (sites_in depth path f)
+    → length path + suc (length rest) ≤ reach.depth → is_walked reach.walks path (first ∷ rest) ≡ true
+    → IsAmongSites (path ++ first ∷ rest, Listed inside) (sites_in reach path f)
 unfolding Inside
-listed_in depth path none first rest inside there may_lead way deep = absurd (cc)
-listed_in depth path (file n b f) first rest inside there may_lead way deep = elim (cases_Bool (bytes_eq n first)) [
+listed_in reach path none first rest inside there may_lead way deep walks = absurd (cc)
+listed_in reach path (file n b f) first rest inside there may_lead way deep walks = elim (cases_Bool (bytes_eq n first)) [
   | inl same ↦ absurd (file_leads_nowhere b rest inside (sym (ap (λ t. option_and_then (λ m. node_at m rest) (cond t (Some (File b)) (find f first))) same)
       ∙ there))
-  | inr apart ↦ listed_in depth path f first rest inside (sym (ap (λ t. option_and_then (λ m. node_at m rest) (cond t (Some (File b)) (find f first))) apart)
-      ∙ there) may_lead way deep
+  | inr apart ↦ listed_in reach path f first rest inside (sym (ap (λ t. option_and_then (λ m. node_at m rest) (cond t (Some (File b)) (find f first))) apart)
+      ∙ there) may_lead way deep walks
 ]
-listed_in depth path (other n f) first rest inside there may_lead way deep = elim (cases_Bool (bytes_eq n first)) [
+listed_in reach path (other n f) first rest inside there may_lead way deep walks = elim (cases_Bool (bytes_eq n first)) [
   | inl same ↦ absurd (other_leads_nowhere rest inside (sym (ap (λ t. option_and_then (λ m. node_at m rest) (cond t (Some Other) (find f first))) same)
       ∙ there))
-  | inr apart ↦ listed_in depth path f first rest inside (sym (ap (λ t. option_and_then (λ m. node_at m rest) (cond t (Some Other) (find f first))) apart)
-      ∙ there) may_lead way deep
+  | inr apart ↦ listed_in reach path f first rest inside (sym (ap (λ t. option_and_then (λ m. node_at m rest) (cond t (Some Other) (find f first))) apart)
+      ∙ there) may_lead way deep walks
 ]
-listed_in depth path (dir n d f) first rest inside there may_lead way deep =
-    let front = cond (is_short n) ((path ++ n ∷ [], visit_of depth path d) ∷ walked (visit_of depth path d) (sites_in depth (path ++ n ∷ []) d)) [] in
+listed_in reach path (dir n d f) first rest inside there may_lead way deep walks =
+    let front = cond (is_short n) ((path ++ n ∷ [], visit_of reach path n d) ∷ walked (visit_of reach path n d) (sites_in reach (path ++ n ∷ []) d)) [] in
     elim (cases_Bool (bytes_eq n first)) [
       | inl same ↦
           let is : n ≡ first = (bytes_eq-Decides n first).0 same in
           let within : node_at (Dir d) rest ≡ Some (Dir inside) = sym (ap (λ t. option_and_then (λ m. node_at m rest) (cond t (Some (Dir d)) (find f first)))
           same) ∙ there in
-          let each : Inside depth (path ++ n ∷ []) d inside rest = λ m after rest_is. listed_in depth (path ++ n ∷ []) d m after inside
+          let each : Inside reach (path ++ n ∷ []) d inside rest = λ m after rest_is. listed_in reach (path ++ n ∷ []) d m after inside
           (ap (node_at (Dir d)) (sym rest_is) ∙ within) in
-          let found = front_listed depth path n d inside rest each within may_lead (ap (λ (x : List ℕ). is_way (x ∷ rest)) is ∙ way) deep in
-          among_left (path ++ first ∷ rest, Listed inside) front (sites_in depth path f)
+          let found = front_listed reach path n d inside rest each within may_lead (ap (λ (x : List ℕ). is_way (x ∷ rest)) is ∙ way) deep
+          (ap (λ (x : List ℕ). is_walked reach.walks path (x ∷ rest)) is ∙ walks) in
+          among_left (path ++ first ∷ rest, Listed inside) front (sites_in reach path f)
           (subst (λ (x : List ℕ). IsAmongSites (path ++ x ∷ rest, Listed inside) front) is found)
       | inr apart ↦
-          among_right (path ++ first ∷ rest, Listed inside) front (sites_in depth path f)
-          (listed_in depth path f first rest inside (sym (ap (λ t. option_and_then (λ m. node_at m rest) (cond t (Some (Dir d)) (find f first))) apart) ∙ there)
-          may_lead way deep)
+          among_right (path ++ first ∷ rest, Listed inside) front (sites_in reach path f)
+          (listed_in reach path f first rest inside (sym (ap (λ t. option_and_then (λ m. node_at m rest) (cond t (Some (Dir d)) (find f first))) apart) ∙ there)
+          may_lead way deep walks)
     ]
 
 -- each directory that shorties lead to is a site that is listed
 pub reached_listed : ReachedSitesAreListed
-reached_listed depth top [] inside h =
-    let there = h.0 in
+reached_listed reach top [] inside h =
+    let there = h.there in
     let same : top ≡ inside = cc in
     inl (ap (λ (x : Forest). ([], Listed x)) same)
-reached_listed depth top (first ∷ rest) inside h = inr (listed_in depth [] top first rest inside h.0 refl h.1 (within h.2))
+reached_listed reach top (first ∷ rest) inside h = inr (listed_in reach [] top first rest inside h.there refl h.way (within h.depth) h.walked)
   where
-    within : (first ∷ rest ≡ []) ⊎ (suc (length rest) ≤ depth) → 0 + suc (length rest) ≤ depth
+    within : (first ∷ rest ≡ []) ⊎ (suc (length rest) ≤ reach.depth) → 0 + suc (length rest) ≤ reach.depth
     within (inl e) = absurd (cc)
     within (inr le) = omega (arith, le)

@@ -7,76 +7,79 @@ use Rattle.pt_tree.specs.Path.{Path}
 use Rattle.pt_walk.specs.declared.frame.Frame.{Frame}
 use Rattle.pt_walk.specs.Left.{Fits, entries_from, inside_at, sites_after, sites_left}
 use Rattle.pt_walk.specs.Site.{is_short, is_shorty}
-use Rattle.pt_walk.specs.Sites.{Listed, Past, Deep, Site, Visit, is_listed, sites_in, visit_of, walked}
+use Rattle.pt_walk.specs.Sites.{Listed, Past, Deep, Elsewhere, Reach, Site, Visit, is_listed, sites_in, visit_of, walked}
 use Rattle.pt_walk.specs.SiteWalk.{StartsWithTheTop, EntersTheNextSite, PassesTheNextSite, PassesNonShorties, LeavesTheSite, EndsWithTheTop}
 use Rattle.pt_walk.specs.Trail.{advanced, entry_at, names_to}
 use Rattle.pt_walk.proofs.Ahead.{ahead, dir_ahead, names_to-entry, nothing_ahead}
 use Rattle.pt_walk.proofs.Standing.{with_entry}
 
 -- the next site, what is walked below it, and the others
-shorty_next : (depth : ℕ) (top : Forest) (frame : Frame) (frames : List Frame) (name : List ℕ) (path : Path) (inside : Forest) → is_proper top ≡ true
+shorty_next : (reach : Reach) (top : Forest) (frame : Frame) (frames : List Frame) (name : List ℕ) (path : Path) (inside : Forest) → is_proper top ≡ true
     → Fits top (frame ∷ frames)
     → entry_at frame ≡ Some (name, kind.Dir) → is_short name ≡ true → path ≡ names_to frames ++ name ∷ [] → inside ≡ inside_at top path
-    → sites_left depth top (frame ∷ frames) ≡ (path, visit_of depth (names_to frames) inside)
-    ∷ (walked (visit_of depth (names_to frames) inside) (sites_in depth path inside) ++ sites_left depth top (advanced (frame ∷ frames)))
-shorty_next depth top frame frames name path inside proper fits e short path_is inside_is =
+    → sites_left reach top (frame ∷ frames) ≡ (path, visit_of reach (names_to frames) name inside)
+    ∷ (walked (visit_of reach (names_to frames) name inside) (sites_in reach path inside) ++ sites_left reach top (advanced (frame ∷ frames)))
+shorty_next reach top frame frames name path inside proper fits e short path_is inside_is =
     let it = dir_ahead top (names_to frames) frame.listing frame.place name proper fits.0 e in
     let own = names_to frames ++ name ∷ [] in
     let after = entries_from (frame.place + 1) (inside_at top (names_to frames)) in
     let inner = inside_at top own in
     let here : inner ≡ inside = ap (inside_at top) (sym path_is) ∙ sym inside_is in
-    let head = λ (d : Forest) (q : Path). (q, visit_of depth (names_to frames) d) ∷ walked (visit_of depth (names_to frames) d) (sites_in depth q d) in
-    ap (λ (f : Forest). sites_in depth (names_to frames) f ++ sites_after depth top frames) it.rest_is
-    ∙ ap (λ b. (cond b (head inner own) [] ++ sites_in depth (names_to frames) after) ++ sites_after depth top frames) short
-    ∙ append_assoc (head inner own) (sites_in depth (names_to frames) after) (sites_after depth top frames)
-    ∙ ap (λ d. head d own ++ (sites_in depth (names_to frames) after ++ sites_after depth top frames)) here
-    ∙ ap (λ q. head inside q ++ (sites_in depth (names_to frames) after ++ sites_after depth top frames)) (sym path_is)
+    let head = λ (d : Forest) (q : Path). (q, visit_of reach (names_to frames) name d)
+    ∷ walked (visit_of reach (names_to frames) name d) (sites_in reach q d) in
+    ap (λ (f : Forest). sites_in reach (names_to frames) f ++ sites_after reach top frames) it.rest_is
+    ∙ ap (λ b. (cond b (head inner own) [] ++ sites_in reach (names_to frames) after) ++ sites_after reach top frames) short
+    ∙ append_assoc (head inner own) (sites_in reach (names_to frames) after) (sites_after reach top frames)
+    ∙ ap (λ d. head d own ++ (sites_in reach (names_to frames) after ++ sites_after reach top frames)) here
+    ∙ ap (λ q. head inside q ++ (sites_in reach (names_to frames) after ++ sites_after reach top frames)) (sym path_is)
 
 pub starts : StartsWithTheTop
-starts depth top = ap (λ l. ([], Listed top) ∷ l) (sym (append-nil (sites_in depth [] top)))
+starts reach top = ap (λ l. ([], Listed top) ∷ l) (sym (append-nil (sites_in reach [] top)))
 
 pub enters : EntersTheNextSite
-enters depth top frame frames name path inside proper fits e short path_is inside_is listed =
+enters reach top frame frames name path inside proper fits e short path_is inside_is listed =
     let names : names_to (frame ∷ frames) ≡ path = names_to-entry frame frames (name, kind.Dir) e ∙ sym path_is in
-    shorty_next depth top frame frames name path inside proper fits e short path_is inside_is
-    ∙ ap (λ v. (path, v) ∷ (walked v (sites_in depth path inside) ++ sites_left depth top (advanced (frame ∷ frames)))) listed
-    ∙ ap (λ d. (path, Listed inside) ∷ (sites_in depth path d ++ sites_after depth top (frame ∷ frames))) inside_is
-    ∙ ap (λ q. (path, Listed inside) ∷ (sites_in depth q (inside_at top q) ++ sites_after depth top (frame ∷ frames))) (sym names)
+    shorty_next reach top frame frames name path inside proper fits e short path_is inside_is
+    ∙ ap (λ v. (path, v) ∷ (walked v (sites_in reach path inside) ++ sites_left reach top (advanced (frame ∷ frames)))) listed
+    ∙ ap (λ d. (path, Listed inside) ∷ (sites_in reach path d ++ sites_after reach top (frame ∷ frames))) inside_is
+    ∙ ap (λ q. (path, Listed inside) ∷ (sites_in reach q (inside_at top q) ++ sites_after reach top (frame ∷ frames))) (sym names)
 
 not_walked : (visit : Visit) (below : List Site) → is_listed visit ≡ false → walked visit below ≡ []
 not_walked (Listed inside) below unlisted = absurd (cc)
 not_walked Past below unlisted = refl
 not_walked Deep below unlisted = refl
+not_walked Elsewhere below unlisted = refl
 
 pub passes : PassesTheNextSite
-passes depth top frame frames name path inside proper fits e short path_is inside_is unlisted =
-    let visit = visit_of depth (names_to frames) inside in
-    shorty_next depth top frame frames name path inside proper fits e short path_is inside_is
-    ∙ ap (λ (l : List Site). (path, visit) ∷ (l ++ sites_left depth top (advanced (frame ∷ frames)))) (not_walked visit (sites_in depth path inside) unlisted)
+passes reach top frame frames name path inside proper fits e short path_is inside_is unlisted =
+    let visit = visit_of reach (names_to frames) name inside in
+    shorty_next reach top frame frames name path inside proper fits e short path_is inside_is
+    ∙ ap (λ (l : List Site). (path, visit) ∷ (l ++ sites_left reach top (advanced (frame ∷ frames)))) (not_walked visit (sites_in reach path inside) unlisted)
 
-no_site : (depth : ℕ) (path : Path) (name : List ℕ) (node : Node) (after : Forest) → is_shorty (name, kind_of node) ≡ false
-    → sites_in depth path (with_entry name node after) ≡ sites_in depth path after
-no_site depth path name (File bytes) after apart = refl
-no_site depth path name Other after apart = refl
-no_site depth path name (Dir inside) after apart =
+no_site : (reach : Reach) (path : Path) (name : List ℕ) (node : Node) (after : Forest) → is_shorty (name, kind_of node) ≡ false
+    → sites_in reach path (with_entry name node after) ≡ sites_in reach path after
+no_site reach path name (File bytes) after apart = refl
+no_site reach path name Other after apart = refl
+no_site reach path name (Dir inside) after apart =
     ap
-    (λ b. cond b ((path ++ name ∷ [], visit_of depth path inside) ∷ walked (visit_of depth path inside) (sites_in depth (path ++ name ∷ []) inside)) []
-    ++ sites_in depth path after)
+    (λ b. cond b ((path ++ name ∷ [], visit_of reach path name inside)
+    ∷ walked (visit_of reach path name inside) (sites_in reach (path ++ name ∷ []) inside)) []
+    ++ sites_in reach path after)
     apart
 
 pub passes_others : PassesNonShorties
-passes_others depth top frame frames item proper fits e apart =
+passes_others reach top frame frames item proper fits e apart =
     let it = ahead top (names_to frames) frame.listing frame.place item proper fits.0 e in
     let after = entries_from (frame.place + 1) (inside_at top (names_to frames)) in
-    ap (λ (f : Forest). sites_in depth (names_to frames) f ++ sites_after depth top frames) it.rest_is
-    ∙ ap (λ (l : List Site). l ++ sites_after depth top frames) (no_site depth (names_to frames) item.0 it.node after
+    ap (λ (f : Forest). sites_in reach (names_to frames) f ++ sites_after reach top frames) it.rest_is
+    ∙ ap (λ (l : List Site). l ++ sites_after reach top frames) (no_site reach (names_to frames) item.0 it.node after
     (ap (λ k. is_shorty (item.0, k)) it.kind_is ∙ apart))
 
 pub leaves : LeavesTheSite
-leaves depth top frame outer frames fits e =
-    ap (λ (f : Forest). sites_in depth (names_to (outer ∷ frames)) f ++ sites_after depth top (outer ∷ frames))
+leaves reach top frame outer frames fits e =
+    ap (λ (f : Forest). sites_in reach (names_to (outer ∷ frames)) f ++ sites_after reach top (outer ∷ frames))
     (nothing_ahead top (names_to (outer ∷ frames)) frame.listing frame.place fits.0 e)
 
 pub ends : EndsWithTheTop
-ends depth top frame fits e =
-    ap (λ (f : Forest). sites_in depth [] f ++ []) (nothing_ahead top [] frame.listing frame.place fits.0 e)
+ends reach top frame fits e =
+    ap (λ (f : Forest). sites_in reach [] f ++ []) (nothing_ahead top [] frame.listing frame.place fits.0 e)

@@ -7,7 +7,7 @@ use Rattle.pt_tree.specs.Path.{Path}
 use Rattle.pt_walk.specs.declared.frame.Frame.{Frame}
 use Rattle.pt_walk.specs.Object.{Entry, entries_in, without_shorties}
 use Rattle.pt_walk.specs.Site.{is_shorty}
-use Rattle.pt_walk.specs.Sites.{Site, sites_in}
+use Rattle.pt_walk.specs.Sites.{Reach, Site, sites_in}
 use Rattle.pt_walk.specs.Trail.{names_to}
 
 -- what the directory at this path holds
@@ -32,19 +32,19 @@ Fits top [] = Unit {0}
 Fits top (frame ∷ frames) = (listing_at top (names_to frames) ≡ Some frame.listing) × Fits top frames
 
 -- the sites after those entries at which the frames stand
-abbrev pub sites_after : ℕ → Forest → List Frame → List Site
-sites_after depth top [] = []
-sites_after depth top (frame ∷ frames) =
-    sites_in depth (names_to frames)
+abbrev pub sites_after : Reach → Forest → List Frame → List Site
+sites_after reach top [] = []
+sites_after reach top (frame ∷ frames) =
+    sites_in reach (names_to frames)
     (entries_from (frame.place + 1) (inside_at top (names_to frames)))
-    ++ sites_after depth top frames
+    ++ sites_after reach top frames
 
 -- the sites that are still to come: the entry at the innermost place is the next
-abbrev pub sites_left : ℕ → Forest → List Frame → List Site
-sites_left depth top [] = []
-sites_left depth top (frame ∷ frames) =
-    sites_in depth (names_to frames) (entries_from frame.place (inside_at top (names_to frames)))
-    ++ sites_after depth top frames
+abbrev pub sites_left : Reach → Forest → List Frame → List Site
+sites_left reach top [] = []
+sites_left reach top (frame ∷ frames) =
+    sites_in reach (names_to frames) (entries_from frame.place (inside_at top (names_to frames)))
+    ++ sites_after reach top frames
 
 -- what belongs to the object, of a directory this many names inside it
 abbrev pub of_object : Bool → ℕ → Forest → Forest

@@ -13,7 +13,7 @@ use Rattle.pt_walk.specs.Object.{Entry, before_bad, entries, files, first_bad}
 use Rattle.pt_walk.specs.Sites.{Listed}
 use Rattle.pt_plan.specs.Bound.{bound, dirs, greatest, held_at_item, path_of_dir, records_of, scanned}
 use Rattle.pt_plan.specs.Items.{Item, Named, PairtreeObject, is_too_deep, item_of, items, verdict_of}
-use Rattle.pt_plan.specs.Job.{Job}
+use Rattle.pt_plan.specs.Job.{Job, reach_of}
 use Rattle.pt_plan.specs.Store.{pairtree_of, prefix_of, sites_of}
 use Rattle.pt_invariant.proofs.held.DistinctRows.{distinct_in_turn, get_map}
 
@@ -62,22 +62,22 @@ abbrev item_here : Job → Forest → Path → Item
 item_here job source path = item_of job (prefix_of source) (path, Listed (inside_at (pairtree_of source) path))
 
 within_item : (job : Job) (source : Forest) {path : Path} (count : ℕ) {n : ℕ}
-    → slice_get (sites_of job.limits.depth source) count ≡ Some (path, Listed (inside_at (pairtree_of source) path))
+    → slice_get (sites_of (reach_of job) source) count ≡ Some (path, Listed (inside_at (pairtree_of source) path))
     → IsOne n (held_at_item job (pairtree_of source) (item_here job source path)) → n ≤ bound job source
 within_item job source {path} count site it =
     below_greatest
     (one_in_all (held_at_item job (pairtree_of source)) (items job source) count
-    (get_map (item_of job (prefix_of source)) (sites_of job.limits.depth source) count _ site) it)
+    (get_map (item_of job (prefix_of source)) (sites_of (reach_of job) source) count _ site) it)
 
 -- what is listed on the way to a site that is listed
 pub site_within : (job : Job) (source : Forest) {path : Path} (count : ℕ)
-    → slice_get (sites_of job.limits.depth source) count ≡ Some (path, Listed (inside_at (pairtree_of source) path))
+    → slice_get (sites_of (reach_of job) source) count ≡ Some (path, Listed (inside_at (pairtree_of source) path))
     → listed (pairtree_of source) path ≤ bound job source
 site_within job source {path} count site = within_item job source count site (record { index = 0; is = refl })
 
 -- and, with all records of the object, at a directory of it
 pub object_within : (job : Job) (source : Forest) {path : Path} (count : ℕ) {id : List ℕ} {object : PairtreeObject} {directory : Path}
-    → slice_get (sites_of job.limits.depth source) count ≡ Some (path, Listed (inside_at (pairtree_of source) path))
+    → slice_get (sites_of (reach_of job) source) count ≡ Some (path, Listed (inside_at (pairtree_of source) path))
     → verdict_of job (prefix_of source) path (Listed (inside_at (pairtree_of source) path)) ≡ Named id object → is_too_deep job.limits object ≡ false
     → IsOne directory ([] ∷ dirs (scanned job.limits object))
     → listed (pairtree_of source) (object.at ++ directory) + records_of job (files (scanned job.limits object)) ≤ bound job source

@@ -43,7 +43,7 @@ use Rattle.pt_plan.proofs.MovedIn.{roots_have_no_gaps}
 use Rattle.pt_plan.specs.PlaceLaws.{IsRooted}
 use Rattle.pt_plan.specs.Carried.{Carried, IsStart, IsUsable, after, after_all, all_carried, carried_among, is_way_free}
 use Rattle.pt_plan.specs.Items.{item_of, items}
-use Rattle.pt_plan.specs.Job.{Job}
+use Rattle.pt_plan.specs.Job.{Job, reach_of}
 use Rattle.pt_plan.specs.Lines.{End, Line, all_lines, end_line, line_text, lines, log_of, text}
 use Rattle.pt_plan.specs.Roots.{root_in, storage_root, with_root}
 use Rattle.pt_plan.specs.Run.{Counts, Held, Kept, Run, turning}
@@ -104,10 +104,10 @@ none_left zero xs none = let nothing = ap length none in omega (arith, nothing)
 none_left (suc k) [] none = omega arith
 none_left (suc k) (x ∷ xs) none = let later = none_left k xs none in omega (arith, later)
 
-pub all_done : (job : Job) (source : Forest) {count : ℕ} → drop count (sites_of job.limits.depth source) ≡ [] → length (items job source) ≤ count
+pub all_done : (job : Job) (source : Forest) {count : ℕ} → drop count (sites_of (reach_of job) source) ≡ [] → length (items job source) ≤ count
 all_done job source {count} none =
-    let few = none_left count (sites_of job.limits.depth source) none in
-    let many = length-map (sites_of job.limits.depth source) (item_of job (prefix_of source)) in
+    let few = none_left count (sites_of (reach_of job) source) none in
+    let many = length-map (sites_of (reach_of job) source) (item_of job (prefix_of source)) in
     omega (arith, few, many)
 
 -- ---- what the parts say then

@@ -1,7 +1,7 @@
 -- What a turn of the walk or of the scan leaves that breaks off may be left by a fault.
 use Rattle.std.proofs.Common.{◌≡◌, ℕ, Bool, true, false, List, [], cond, refl}
 use Rattle.std.specs.Prelude.{None, Some, Ok}
-use Rattle.pt_name.specs.Share.{is_first}
+use Rattle.pt_name.specs.Share.{tells_at}
 use Rattle.pt_object.specs.Holding.{IsFree}
 use Rattle.pt_object.specs.Scripts.{staging}
 use Rattle.pt_tree.specs.Dest.{Writing}
@@ -15,6 +15,7 @@ use Rattle.pt_plan.specs.Lines.{Line}
 use Rattle.pt_plan.specs.Roots.{root_in, with_root}
 use Rattle.pt_plan.specs.Run.{Counts, Held}
 use Rattle.pt_plan.specs.TurnScan.{ScanStep, IsTooDeep, MeetsDeep, MeetsLimit, MeetsOther, IsTooLong}
+use Rattle.pt_walk.specs.Trail.{names_to}
 use Rattle.pt_plan.specs.TurnWalk.{WalkStep, IsSkipped, IsPresent, IsPast, IsDeep}
 use Rattle.pt_plan.specs.DeviceStates.{Answers, Calls, Changes, LeavesFront, LeavesPart}
 use Rattle.pt_plan.specs.declared.object.Object.{Object}
@@ -69,11 +70,13 @@ module _ (job : Job) (past : History) (s : Reading) (start : Tree) (prefix : Lis
       walk_told (IsPresent was index id kind is) before refl before.known.items.places.placed (answered.found, refl) before.known.dest.at.root.free
       (tree_between s.tree past.count before.known.items.places.placed before.known.dest.at) (plain_same refl left) put
   walks_broken {here} {held} (IsPast was name e short outermost) before _ left put =
-      walk_passed (is_first job.share) _ (IsPast was name e short outermost) before refl before.known.items.places.placed refl before.known.dest.at.root.free
+      walk_passed (tells_at job.share (names_to held.trail)) _
+      (IsPast was name e short outermost) before refl before.known.items.places.placed refl before.known.dest.at.root.free
       (tree_between s.tree past.count before.known.items.places.placed before.known.dest.at) (plain_same refl left) put
       (left_quiet new before (plain_same refl left))
   walks_broken {here} {held} (IsDeep was name e short inner deep) before _ left put =
-      walk_passed (is_first job.share) _ (IsDeep was name e short inner deep) before refl before.known.items.places.placed refl before.known.dest.at.root.free
+      walk_passed (tells_at job.share (names_to held.trail)) _
+      (IsDeep was name e short inner deep) before refl before.known.items.places.placed refl before.known.dest.at.root.free
       (tree_between s.tree past.count before.known.items.places.placed before.known.dest.at) (plain_same refl left) put
       (left_quiet new before (plain_same refl left))
   walks_broken {here} {held} _ before _ left put = left_quiet new before (plain_same refl left) put

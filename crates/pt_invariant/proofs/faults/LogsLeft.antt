@@ -31,12 +31,12 @@ use Rattle.std.proofs.lemmas.Bool.{and_parts, cases_lt, eq-eqb, eqb-true}
 use Rattle.std.proofs.lemmas.List.{length-map}
 use Rattle.pt_tree.specs.Forest.{Forest, dir_at, file_at}
 use Rattle.pt_tree.specs.Tree.{Tree}
-use Rattle.pt_walk.specs.Sites.{sites_in}
+use Rattle.pt_walk.specs.Sites.{Reach, sites_in}
 use Rattle.pt_plan.proofs.Growing.{all_items_are_all, taken_against_earlier, text_grows}
 use Rattle.pt_plan.specs.Carried.{Marked, after, is_taken, marked}
 use Rattle.pt_plan.specs.Faults.{BeginsWith, IsLogAfter, most_told}
 use Rattle.pt_plan.specs.Items.{Item, item_of, items}
-use Rattle.pt_plan.specs.Job.{Job}
+use Rattle.pt_plan.specs.Job.{Job, reach_of}
 use Rattle.pt_plan.specs.Lines.{end_line, line_of, line_text, lines, log_of, text}
 use Rattle.pt_plan.specs.Store.{is_store, pairtree_root, prefix_of, sites_in_root, sites_of, version_file}
 use Rattle.pt_invariant.proofs.items.ItemLines.{mark_of}
@@ -141,15 +141,15 @@ as_after job source root count = elim (cases_lt (length (items job source)) coun
 
 -- ---- a store has an item at least: its pairtree's directory
 
-some_sites : (depth : ℕ) (top : Option Forest) → is_some top ≡ true → (n : ℕ) × (length (sites_in_root depth top) ≡ suc n)
-some_sites depth None is = absurd (cc)
-some_sites depth (Some top) _ = (length (sites_in depth [] top), refl)
+some_sites : (reach : Reach) (top : Option Forest) → is_some top ≡ true → (n : ℕ) × (length (sites_in_root reach top) ≡ suc n)
+some_sites reach None is = absurd (cc)
+some_sites reach (Some top) _ = (length (sites_in reach [] top), refl)
 
 pub some_items : (job : Job) (source : Forest) → is_store source ≡ true → (n : ℕ) × (length (items job source) ≡ suc n)
 some_items job source is =
     let top = dir_at source (pairtree_root ∷ []) in
-    let it = some_sites job.limits.depth top (and_parts (is_some (file_at source (version_file ∷ []))) (is_some top) is).1 in
-    (it.0, length-map (sites_of job.limits.depth source) (item_of job (prefix_of source)) ∙ it.1)
+    let it = some_sites (reach_of job) top (and_parts (is_some (file_at source (version_file ∷ []))) (is_some top) is).1 in
+    (it.0, length-map (sites_of (reach_of job) source) (item_of job (prefix_of source)) ∙ it.1)
 
 -- ---- at the end
 

@@ -37,7 +37,20 @@ use Rattle.pt_plan.specs.TurnScan.{
   to_site,
 }
 use Rattle.pt_plan.specs.TurnStart.{StartStep, MakesRoot, IsSame}
-use Rattle.pt_plan.specs.TurnWalk.{WalkStep, OpensRoot, IsNew, IsPast, IsDeep, EntersSite, PassesEntry, LeavesSite, at_object, found_at, has_object}
+use Rattle.pt_plan.specs.TurnWalk.{
+  WalkStep,
+  OpensRoot,
+  IsNew,
+  IsPast,
+  IsDeep,
+  PassesElsewhere,
+  EntersSite,
+  PassesEntry,
+  LeavesSite,
+  at_object,
+  found_at,
+  has_object,
+}
 use Rattle.pt_plan.specs.DeviceStates.{Answers, Calls}
 use Rattle.pt_plan.specs.declared.object.Object.{Object}
 use Rattle.pt_plan.specs.declared.phase.Phase.{Phase}
@@ -178,7 +191,9 @@ walks_keep old new (OpensRoot was items) answers at =
 walks_keep {job} old new {prefix} (IsNew was index id is) answers at = new_object job was _ index refl at.is_one (named_found job prefix was.trail index id is)
 walks_keep old new (IsPast was name e short last) answers at = record { is_one = trail_advanced was.trail _ at.is_one e; none = tt; entry = tt }
 walks_keep old new (IsDeep was name e short last deep) answers at = record { is_one = trail_advanced was.trail _ at.is_one e; none = tt; entry = tt }
-walks_keep old new (EntersSite was name items e short last deep) answers at =
+walks_keep old new (PassesElsewhere was name e short last deep apart) answers at =
+    record { is_one = trail_advanced was.trail _ at.is_one e; none = tt; entry = tt }
+walks_keep old new (EntersSite was name items e short last deep own) answers at =
     record { is_one = trail_entered items was.trail answers.1 (outer_at was.trail at.is_one (ap is_dir_entry e)); none = tt; entry = tt }
 walks_keep old new (PassesEntry was item e apart) answers at = record { is_one = trail_advanced was.trail item at.is_one e; none = tt; entry = tt }
 walks_keep old new (LeavesSite was e long) answers at = record { is_one = trail_behind was.trail at.is_one; none = tt; entry = tt }

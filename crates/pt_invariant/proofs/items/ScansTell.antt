@@ -23,7 +23,7 @@ use Rattle.pt_walk.specs.declared.frame.Frame.{Frame}
 use Rattle.pt_plan.proofs.TakenPlaces.{marked_item}
 use Rattle.pt_plan.specs.Carried.{marked}
 use Rattle.pt_plan.specs.Items.{Fails, Item, Named, PairtreeObject, bad_entry, is_too_deep, item_of, items, outcome, outcome_by, verdict_of}
-use Rattle.pt_plan.specs.Job.{Job}
+use Rattle.pt_plan.specs.Job.{Job, reach_of}
 use Rattle.pt_plan.specs.Run.{Held}
 use Rattle.pt_plan.specs.Store.{pairtree_of, prefix_of, sites_of}
 use Rattle.pt_plan.specs.TurnMake.{path_of_source}
@@ -77,7 +77,7 @@ pub free_mark : {job : Job} {source : Forest} (root : Tree) {prefix : List ℕ} 
     → slice_get (marked job source root) count ≡ Some (item_of_site job source site, false)
 free_mark {job} {source} root {site} {count} it (item, is) =
     let mine : slice_get (items job source) count ≡ Some (item_of_site job source site) = get_map (item_of job (prefix_of source))
-    (sites_of job.limits.depth source) count _ it.here.site in
+    (sites_of (reach_of job) source) count _ it.here.site in
     let same : item ≡ item_of_site job source site = some_same item _ (sym (marked_item job source root count (item, false) is).0 ∙ mine) in
     is ∙ ap (λ (i : Item). Some (i, false)) same
 

@@ -3,7 +3,7 @@ use Rattle.std.proofs.Common.{◌≡◌, ℕ, suc, true, List, [], ◌∷◌, re
 use Rattle.std.specs.Prelude.{Option, None, Some, Ok, is_some, slice_get}
 use Rattle.std.specs.Option.{option_map}
 use Rattle.pt_name.specs.Place.{place_of}
-use Rattle.pt_name.specs.Share.{is_first}
+use Rattle.pt_name.specs.Share.{tells_at}
 use Rattle.pt_tree.specs.Dest.{Writing, IsKindAt}
 use Rattle.pt_tree.specs.Forest.{Forest, is_proper}
 use Rattle.pt_tree.specs.Source.{Reading}
@@ -13,12 +13,12 @@ use Rattle.pt_tree.specs.declared.kind.Kind.TheVariants as kind
 use Rattle.pt_walk.specs.Left.{Fits, inside_at}
 use Rattle.pt_walk.specs.Sites.{Listed}
 use Rattle.pt_walk.specs.Site.{is_short}
-use Rattle.pt_walk.specs.Trail.{current_entry, is_trail, trail_path}
+use Rattle.pt_walk.specs.Trail.{names_to, current_entry, is_trail, trail_path}
 use Rattle.pt_walk.specs.declared.cause.Cause.TheVariants as cause
 use Rattle.pt_walk.specs.declared.frame.Frame.{Frame}
 use Rattle.pt_plan.specs.Carried.{Carried, carried_among, is_taken}
 use Rattle.pt_plan.specs.Items.{Item, Named, PairtreeObject, Verdict, VerdictOn, item_of, items, verdict_of}
-use Rattle.pt_plan.specs.Job.{Job}
+use Rattle.pt_plan.specs.Job.{Job, reach_of}
 use Rattle.pt_plan.specs.Lines.{Line}
 use Rattle.pt_plan.specs.PlaceLaws.{IsRooted}
 use Rattle.pt_plan.specs.Roots.{root_in}
@@ -32,6 +32,7 @@ use Rattle.pt_plan.specs.TurnWalk.{
   IsPresent,
   IsPast,
   IsDeep,
+  PassesElsewhere,
   PassesEntry,
   LeavesSite,
   at_object,
@@ -51,7 +52,7 @@ use Rattle.pt_invariant.proofs.held.DistinctRows.{get_map}
 use Rattle.pt_invariant.proofs.source.InPairtree.{pairtree_proper}
 use Rattle.pt_invariant.proofs.items.ItemLines.{Nothing, OneItem, Tells, interior_item, mark_of, mark_where_stands, passed_item, present_item, skipped_item}
 use Rattle.pt_invariant.proofs.source.NewObject.{judged_there, verdict_there}
-use Rattle.pt_invariant.proofs.source.WalksKeep.{deep_next, done_at_shorty, none_at_end, none_at_entry, past_next}
+use Rattle.pt_invariant.proofs.source.WalksKeep.{deep_next, done_at_shorty, elsewhere_next, none_at_end, none_at_entry, past_next}
 
 -- ---- the item of a site
 
@@ -61,7 +62,7 @@ item_judged job source t = item_of job (prefix_of source) (trail_path t, Listed 
 
 pub judged_next : {job : Job} {source : Forest} {t : List Frame} {count : ℕ} → IsToJudge job source t count
     → slice_get (items job source) count ≡ Some (item_judged job source t)
-judged_next {job} {source} {t} {count} it = get_map (item_of job (prefix_of source)) (sites_of job.limits.depth source) count _ it.here.site
+judged_next {job} {source} {t} {count} it = get_map (item_of job (prefix_of source)) (sites_of (reach_of job) source) count _ it.here.site
 
 -- by what the site is judged to be
 pub judged_verdict : (job : Job) (source : Forest) (prefix : List ℕ) (t : List Frame) {what : VerdictOn (Option ℕ)} → is_proper (pairtree_of source) ≡ true
@@ -132,14 +133,19 @@ walks_tell {job} {past} {s} {prefix} start w _ (IsPresent was index id _ is) _ p
     (OneItem (present_item item named taken))
 walks_tell {job} {past} {s} start _ _ (IsPast was name e short last) _ part _ _ _ _ =
     at_shorty was.trail e short
-    (OneItem (passed_item (is_first job.share) (root_in start) cause.Past
-    (get_map (item_of job (prefix_of s.tree)) (sites_of job.limits.depth s.tree) past.count _
+    (OneItem (passed_item (tells_at job.share (names_to was.trail)) (root_in start) cause.Past
+    (get_map (item_of job (prefix_of s.tree)) (sites_of (reach_of job) s.tree) past.count _
     (past_next job s.tree was.trail name past.count (pairtree_proper s.tree part.at.1.store part.proper) e short last part.at.2)) refl))
 walks_tell {job} {past} {s} start _ _ (IsDeep was name e short last deep) is_one part _ _ _ _ =
     at_shorty was.trail e short
-    (OneItem (passed_item (is_first job.share) (root_in start) cause.Limit
-    (get_map (item_of job (prefix_of s.tree)) (sites_of job.limits.depth s.tree) past.count _
+    (OneItem (passed_item (tells_at job.share (names_to was.trail)) (root_in start) cause.Limit
+    (get_map (item_of job (prefix_of s.tree)) (sites_of (reach_of job) s.tree) past.count _
     (deep_next job s.tree was.trail name past.count (pairtree_proper s.tree part.at.1.store part.proper) is_one e short last deep part.at.2)) refl))
+walks_tell {job} {past} {s} start _ _ (PassesElsewhere was name e short last deep apart) is_one part _ _ _ _ =
+    at_shorty was.trail e short
+    (OneItem (interior_item (root_in start)
+    (get_map (item_of job (prefix_of s.tree)) (sites_of (reach_of job) s.tree) past.count _
+    (elsewhere_next job s.tree was.trail name past.count (pairtree_proper s.tree part.at.1.store part.proper) is_one e short last deep apart part.at.2)) refl))
 walks_tell {job} {past} {s} start _ _ (PassesEntry was item e apart) _ _ _ _ _ _ =
     rw (none_at_entry was.trail item past.count e apart) Nothing
 walks_tell {job} {past} {s} start _ _ (LeavesSite was e _) _ _ _ _ _ _ =

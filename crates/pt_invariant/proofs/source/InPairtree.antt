@@ -7,7 +7,7 @@ use Rattle.pt_tree.specs.Forest.{Forest, Node, none, as_dir, as_file, dir_at, fi
 use Rattle.pt_tree.specs.Path.{Path}
 use Rattle.pt_tree.specs.Source.{Reading}
 use Rattle.pt_walk.proofs.Paths.{reads_below}
-use Rattle.pt_walk.specs.Sites.{sites}
+use Rattle.pt_walk.specs.Sites.{Reach, sites}
 use Rattle.pt_plan.specs.Store.{is_store, pairtree_of, pairtree_root, sites_in_root, sites_of}
 
 some_of : (o : Option Forest) → is_some o ≡ true → o ≡ Some (unwrap_or o none)
@@ -22,8 +22,8 @@ pub pairtree_there : (source : Forest) → is_store source ≡ true → dir_at s
 pairtree_there source store =
     some_of _ (and_parts _ _ store).1
 
-pub sites_there : (depth : ℕ) (source : Forest) → is_store source ≡ true → sites_of depth source ≡ sites depth (pairtree_of source)
-sites_there depth source store = ap (sites_in_root depth) (pairtree_there source store)
+pub sites_there : (reach : Reach) (source : Forest) → is_store source ≡ true → sites_of reach source ≡ sites reach (pairtree_of source)
+sites_there reach source store = ap (sites_in_root reach) (pairtree_there source store)
 
 pub pairtree_proper : (source : Forest) → is_store source ≡ true → is_proper source ≡ true → is_proper (pairtree_of source) ≡ true
 pairtree_proper source store proper = (reads_below source (pairtree_of source) (pairtree_root ∷ []) [] (pairtree_there source store)).1 proper

@@ -2,7 +2,7 @@
 use Rattle.std.proofs.Common.{◌≡◌, ◌-◌, ℕ, Bool, true, false, List, [], ◌∷◌, ◌++◌, refl, ap, sym, ◌∙◌, cond, length, arith, drop}
 use Rattle.std.specs.Prelude.{Option, None, Some, Result, Ok, Err, is_none, ◌+◌}
 use Rattle.pt_name.specs.Identifying.{identifier_at}
-use Rattle.pt_name.specs.Share.{Portion, holds, is_first}
+use Rattle.pt_name.specs.Share.{Portion, takes, tells_at}
 use Rattle.pt_name.specs.declared.identifying.Refusal.{Refusal}
 use Rattle.pt_tree.specs.Forest.{Forest, Dir, none, file, other, dir, is_proper, listing_of}
 use Rattle.pt_tree.specs.Listing.{Item}
@@ -122,15 +122,15 @@ module _ (job : Job) (source : Forest) where
     by_found finding.Gathered proper fits is = by_identifier None _ proper fits is refl
 
   -- as far as it is of the share
-  ours_there : (t : List Frame) (what : VerdictOn (Option ℕ)) → ours job.share (verdict_there job source t what)
-      ≡ verdict_there job source t (ours job.share what)
-  ours_there t Interior = refl
-  ours_there t (Skip why) = either (is_first job.share)
+  ours_there : (path : Path) (t : List Frame) (what : VerdictOn (Option ℕ)) → ours job.share path (verdict_there job source t what)
+      ≡ verdict_there job source t (ours job.share path what)
+  ours_there path t Interior = refl
+  ours_there path t (Skip why) = either (tells_at job.share path)
     where
       either : (b : Bool) → cond b (Skip why) Interior ≡ verdict_there job source t (cond b (Skip why) Interior)
       either true = refl
       either false = refl
-  ours_there t (Named id index) = either (holds job.share id)
+  ours_there path t (Named id index) = either (takes job.share path id)
     where
       either : (b : Bool) → cond b (verdict_there job source t (Named id index)) Interior ≡ verdict_there job source t (cond b (Named id index) Interior)
       either true = refl
@@ -143,18 +143,19 @@ module _ (job : Job) (source : Forest) where
       ≡ verdict_there job source (frame ∷ frames) (judged_at job prefix (frame ∷ frames))
   judged_there prefix frame frames proper fits =
       let what = found_at (form_of job) (frame ∷ frames) in
-      ap (λ (v : Verdict). ours job.share v) (by_found prefix frame frames what proper fits refl)
-      ∙ ours_there (frame ∷ frames) (judged_by_finding job prefix (names_to frames) what)
+      ap (λ (v : Verdict). ours job.share (names_to frames) v) (by_found prefix frame frames what proper fits refl)
+      ∙ ours_there (names_to frames) (frame ∷ frames) (judged_by_finding job prefix (names_to frames) what)
 
 -- what is named is found to have an object
-ours_named : (share : Portion) (what : VerdictOn (Option ℕ)) (id : List ℕ) (index : Option ℕ) → ours share what ≡ Named id index → what ≡ Named id index
-ours_named share Interior id index is = absurd (cc)
-ours_named share (Skip why) id index is = absurd (either (is_first share) is)
+ours_named : (share : Portion) (path : Path) (what : VerdictOn (Option ℕ)) (id : List ℕ) (index : Option ℕ) → ours share path what ≡ Named id index
+    → what ≡ Named id index
+ours_named share path Interior id index is = absurd (cc)
+ours_named share path (Skip why) id index is = absurd (either (tells_at share path) is)
   where
     either : (b : Bool) → cond b (Skip why) Interior ≡ Named id index → ⊥
     either true h = cc
     either false h = cc
-ours_named share (Named i o) id index is = either (holds share i) is
+ours_named share path (Named i o) id index is = either (takes share path i) is
   where
     either : (b : Bool) → cond b (Named i o) Interior ≡ Named id index → Named i o ≡ Named id index
     either true h = h
@@ -166,7 +167,7 @@ named_identifier (Err why) id is = absurd (cc)
 
 pub named_found : (job : Job) (prefix : List ℕ) (t : List Frame) (index : Option ℕ) (id : List ℕ) → judged_at job prefix t ≡ Named id index
     → found_at (form_of job) t ≡ has_object index
-named_found job prefix t index id is = by (found_at (form_of job) t) (ours_named job.share _ id index is)
+named_found job prefix t index id is = by (found_at (form_of job) t) (ours_named job.share (trail_path t) _ id index is)
   where
     by : (what : Finding) → judged_by_finding job prefix (trail_path t) what ≡ Named id index → what ≡ has_object index
     by finding.Interior h = absurd (cc)

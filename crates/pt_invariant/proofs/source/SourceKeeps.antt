@@ -18,7 +18,7 @@ use Rattle.pt_plan.specs.TurnMake.{MakeStep, EndsCopy, MakesSidecar, path_of_sou
 use Rattle.pt_plan.specs.TurnPlace.{PlaceStep, after_tuple, MakesTuple, FindsTuple, RenamesObject, TellsDone, TellsEnd, restarted}
 use Rattle.pt_plan.specs.TurnScan.{to_site}
 use Rattle.pt_plan.specs.TurnStart.{StartStep, MakesRoot, IsSame}
-use Rattle.pt_plan.specs.TurnWalk.{WalkStep, OpensRoot, IsNew, IsPast, IsDeep, EntersSite, PassesEntry, LeavesSite, at_object}
+use Rattle.pt_plan.specs.TurnWalk.{WalkStep, OpensRoot, IsNew, IsPast, IsDeep, PassesElsewhere, EntersSite, PassesEntry, LeavesSite, at_object}
 use Rattle.pt_plan.specs.DeviceStates.{Answers, Asked, AsksNothing, Lists, Looks, LooksAndLists, Opens, Reads, OpensAndReads, Calls}
 use Rattle.pt_plan.specs.declared.object.Object.{Object}
 use Rattle.pt_plan.specs.declared.phase.Phase.{Phase}
@@ -118,8 +118,10 @@ module _ (job : Job) (past : History) (s new : Reading) (prefix : List ℕ) wher
       record { bytes_are = tt; few = fewer job s.tree was after refl refl (let same = entries_advanced was.trail in omega (arith, same)) part.few }
   walks_beside here next held after calls (IsDeep was name e short last deep) answers at part =
       record { bytes_are = tt; few = fewer job s.tree was after refl refl (let same = entries_advanced was.trail in omega (arith, same)) part.few }
-  walks_beside here next held after calls (EntersSite was name items e short last deep) answers at part =
-      record { bytes_are = tt; few = within_at_site job s (EntersSite was name items e short last deep) (answers.0, answers.1, refl) at part }
+  walks_beside here next held after calls (PassesElsewhere was name e short last deep apart) answers at part =
+      record { bytes_are = tt; few = fewer job s.tree was after refl refl (let same = entries_advanced was.trail in omega (arith, same)) part.few }
+  walks_beside here next held after calls (EntersSite was name items e short last deep own) answers at part =
+      record { bytes_are = tt; few = within_at_site job s (EntersSite was name items e short last deep own) (answers.0, answers.1, refl) at part }
   walks_beside here next held after calls (PassesEntry was item e apart) answers at part =
       record { bytes_are = tt; few = fewer job s.tree was after refl refl (let same = entries_advanced was.trail in omega (arith, same)) part.few }
   walks_beside here next held after calls (LeavesSite was e long) answers at part =

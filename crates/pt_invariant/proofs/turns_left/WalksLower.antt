@@ -13,11 +13,11 @@ use Rattle.pt_walk.specs.Trail.{advanced, are_outer, current_entry, entry_at, is
 use Rattle.pt_walk.specs.declared.frame.Frame.{Frame}
 use Rattle.pt_plan.specs.Carried.{Marked}
 use Rattle.pt_plan.specs.Items.{Item, item_of, items}
-use Rattle.pt_plan.specs.Job.{Job}
+use Rattle.pt_plan.specs.Job.{Job, reach_of}
 use Rattle.pt_plan.specs.Run.{Held, with_trail}
 use Rattle.pt_plan.specs.Store.{pairtree_of, prefix_of, sites_of}
 use Rattle.pt_plan.specs.TurnScan.{to_site}
-use Rattle.pt_plan.specs.TurnWalk.{IsDeep, IsNew, IsPast, IsPresent, IsSkipped, LeadsOn, LeavesSite, OpensRoot, PassesEntry, at_object}
+use Rattle.pt_plan.specs.TurnWalk.{IsDeep, IsNew, IsPast, IsPresent, IsSkipped, LeadsOn, LeavesSite, OpensRoot, PassesElsewhere, PassesEntry, at_object}
 use Rattle.pt_plan.specs.Work.{work_on_item, work_on_object}
 use Rattle.pt_plan.specs.DeviceStates.{Answers}
 use Rattle.pt_plan.specs.declared.object.Object.{Object}
@@ -104,7 +104,7 @@ site_walked {job} {source} marks are (frame ∷ frames) {count} it =
     let top = pairtree_of source in
     let path = names_to frames in
     let item = item_of job (prefix_of source) (path, Listed (inside_at top path)) in
-    let mine : slice_get (items job source) count ≡ Some item = get_map (item_of job (prefix_of source)) (sites_of job.limits.depth source) count _ it.here.site
+    let mine : slice_get (items job source) count ≡ Some item = get_map (item_of job (prefix_of source)) (sites_of (reach_of job) source) count _ it.here.site
     in
     let next = item_next job marks count (mark_there (items job source) marks count are mine).1 in
     let same = ap length (listed_there top frame frames it.way.fits) in
@@ -131,7 +131,7 @@ object_next {job} {source} marks are {object} {trail} {outer} {count} held start
     let site = to_site object trail in
     let what = object_at source object site in
     let item = item_of_site job source site in
-    let mine : slice_get (items job source) count ≡ Some item = get_map (item_of job (prefix_of source)) (sites_of job.limits.depth source) count _
+    let mine : slice_get (items job source) count ≡ Some item = get_map (item_of job (prefix_of source)) (sites_of (reach_of job) source) count _
     it.site.here.site in
     let mark = mark_there (items job source) marks count are mine in
     let not = free item mark.0 mark.1 in
@@ -166,6 +166,11 @@ walks_lower job past s new marks prefix here next held after calls (IsPast was n
     let more = ap (items_left job marks) (done_at_shorty was.trail name past.count e short) in
     omega (arith, less, few, more)
 walks_lower job past s new marks prefix here next held after calls (IsDeep was name e short last deep) answers at part are free =
+    let less = advanced_less was.trail e in
+    let few = items_fewer job marks past.count in
+    let more = ap (items_left job marks) (done_at_shorty was.trail name past.count e short) in
+    omega (arith, less, few, more)
+walks_lower job past s new marks prefix here next held after calls (PassesElsewhere was name e short last deep apart) answers at part are free =
     let less = advanced_less was.trail e in
     let few = items_fewer job marks past.count in
     let more = ap (items_left job marks) (done_at_shorty was.trail name past.count e short) in
