@@ -1,6 +1,8 @@
 pub mod CarriedFiles
 pub mod Counts
 pub mod FilesInOrder
+pub mod FolderItems
+pub mod FolderRoots
 pub mod Folders
 pub mod FoundKinds
 pub mod FreeWays
@@ -14,6 +16,7 @@ mod MemberTexts
 pub mod MovedIn
 pub mod NextObject
 pub mod OtherTurns
+pub mod OwnPlaces
 pub mod PlaceShapes
 pub mod Rerun
 pub mod Reserved

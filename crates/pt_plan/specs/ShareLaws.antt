@@ -1,6 +1,6 @@
 -- The shares of a store, each carried by a run of its own over the same root, are together what one run carries.
 -- So are any choices that divide its identifiers.
-use Rattle.std.specs.Prelude.{◌≡◌, ◌≢◌, ◌⊎◌, ◌↔◌, ◌≤◌, ℕ, zero, suc, ◌+◌, Bool, true, false, List, count_by, Some}
+use Rattle.std.specs.Prelude.{◌≡◌, ◌≢◌, ◌⊎◌, ◌↔◌, ◌≤◌, ℕ, zero, suc, ◌+◌, Bool, true, false, List, count_by, Some, slice_get}
 use Rattle.std.specs.List.{list_all}
 use Rattle.pt_name.specs.Place.{place_of}
 use Rattle.pt_name.specs.Share.{Portion, holds, numbered, whole}
@@ -12,7 +12,7 @@ use Rattle.pt_tree.specs.Path.{Path}
 use Rattle.pt_tree.specs.Tree.{Entry, Folder, Tree}
 use Rattle.pt_walk.specs.declared.cause.Cause.{Cause}
 use Rattle.pt_plan.specs.Carried.{after_all}
-use Rattle.pt_plan.specs.Items.{Interior, Item, Named, Skip, Verdict, items}
+use Rattle.pt_plan.specs.Items.{Interior, Item, Named, PairtreeObject, Skip, Verdict, items}
 use Rattle.pt_plan.specs.Job.{Job}
 use Rattle.pt_plan.specs.Lines.{Line, Skipped, all_lines}
 
@@ -27,6 +27,11 @@ of_whole job = with_share job whole
 -- the job for the share of this number, of so many
 abbrev pub of_share : Job → ℕ → ℕ → Job
 of_share job count index = with_share job (numbered index count)
+
+-- the share of this number, of so many into which a store is divided by its folders so deep
+abbrev pub by_folders : ℕ → ℕ → ℕ → Portion
+by_folders depth count index =
+    record (numbered index count) { division = division.Folders depth }
 
 -- one of the shares 1 to `count`
 pub record IsOneOf (count index : ℕ) : Type 0 where
@@ -62,6 +67,49 @@ SharesMeetInFolders =
     (entry there : Entry) → IsOneOf count index → IsOneOf count other → index ≢ other
     → after_all (of_share job count index) source root path ≡ Some entry
     → after_all (of_share job count other) source root path ≡ Some there
+    → (base job.tuples root path ≡ Some entry) ⊎ (entry ≡ Folder)
+
+-- ---- shares by folders
+
+-- the job for the share of this number, of so many by folders so deep
+abbrev pub of_folders : Job → ℕ → ℕ → ℕ → Job
+of_folders job depth count index = with_share job (by_folders depth count index)
+
+-- no two sites of the store have objects of one place
+abbrev pub NoTwoHaveOnePlace : Job → Forest → Type 0
+NoTwoHaveOnePlace job source =
+    (k l : ℕ) (item other : Item) (id another : List ℕ) (object theirs : PairtreeObject)
+    → slice_get (items (of_whole job) source) k ≡ Some item
+    → slice_get (items (of_whole job) source) l ≡ Some other
+    → item.verdict ≡ Named id object → other.verdict ≡ Named another theirs
+    → place_of job.tuples id ≡ place_of job.tuples another → k ≡ l
+
+-- of shares by folders too each line of the whole stands in exactly one share's log, skip lines among them, and there is no other
+abbrev pub FolderSharesTellTheWhole : Type 0
+FolderSharesTellTheWhole =
+    (job : Job) (source : Forest) (root : Tree) (depth count : ℕ) → 1 ≤ count
+    → NoTwoHaveOnePlace job source → (test : Line → Bool)
+    → count_by test (all_lines (of_whole job) source root)
+    ≡ sum_of_shares
+    (λ index. count_by test (all_lines (of_folders job depth count index) source root)) count
+
+-- and what stands at a path after a run of the whole stands there after the run of some share, as it is, and nothing else after any share's
+abbrev pub FolderSharesLeaveTheWhole : Type 0
+FolderSharesLeaveTheWhole =
+    (job : Job) (source : Forest) (root : Tree) (depth count : ℕ) → 1 ≤ count
+    → NoTwoHaveOnePlace job source → (path : Path) (entry : Entry)
+    → (after_all (of_whole job) source root path ≡ Some entry)
+    ↔ ((index : ℕ) × IsOneOf count index
+    × (after_all (of_folders job depth count index) source root path ≡ Some entry))
+
+-- and where two of them have something, it stood in the root that both began with, or is a folder
+abbrev pub FolderSharesMeetInFolders : Type 0
+FolderSharesMeetInFolders =
+    (job : Job) (source : Forest) (root : Tree) (depth count index other : ℕ) (path : Path)
+    (entry there : Entry) → NoTwoHaveOnePlace job source → IsOneOf count index
+    → IsOneOf count other → index ≢ other
+    → after_all (of_folders job depth count index) source root path ≡ Some entry
+    → after_all (of_folders job depth count other) source root path ≡ Some there
     → (base job.tuples root path ≡ Some entry) ⊎ (entry ≡ Folder)
 
 -- ---- choices

@@ -21,7 +21,8 @@
 //! - Of the shares of a store, 1 to N, each carried over the same root, three laws hold for every
 //!   job, source, root and N (`shares_tell_the_whole`, `shares_leave_the_whole`,
 //!   `shares_meet_in_folders`); and of any choices of shares and texts that divide a store's
-//!   identifiers (`Divide`) the same.
+//!   identifiers (`Divide`) the same. Of shares by folders they hold where no two sites have
+//!   objects of one place (`folder_shares_tell_the_whole` and its neighbours).
 ghost use Rattle.pt_plan.specs.ItemLaws.{AllItemsAreAll, BeginsWithTheBase, CarriedGrows};
 ghost use Rattle.pt_plan.specs.ItemLaws.{IsTakenAgainstEarlier, TextGrows, WhatStandsStays};
 ghost use Rattle.pt_plan.specs.FileLaws.{CarriedFilesComeInOrder, FilesComeInOrder};
@@ -37,6 +38,8 @@ ghost use Rattle.pt_plan.specs.GrowthLaws.{RootsHaveNoGaps};
 ghost use Rattle.pt_plan.specs.FixityLaws.{FaultsLeaveWhatIsKept, RowsMakeWholeObjects};
 ghost use Rattle.pt_plan.specs.ShareLaws.{ChoicesLeaveTheWhole, ChoicesMeetInFolders};
 ghost use Rattle.pt_plan.specs.ShareLaws.{ChoicesTellTheWhole};
+ghost use Rattle.pt_plan.specs.ShareLaws.{FolderSharesLeaveTheWhole, FolderSharesMeetInFolders};
+ghost use Rattle.pt_plan.specs.ShareLaws.{FolderSharesTellTheWhole};
 ghost use Rattle.pt_plan.specs.ShareLaws.{SharesLeaveTheWhole, SharesMeetInFolders};
 ghost use Rattle.pt_plan.specs.ShareLaws.{SharesTellTheWhole};
 ghost use Rattle.pt_plan.specs.WholeLaws.{CarriedHaveTheirFiles, CarriedStandWhole};
@@ -237,6 +240,22 @@ pub fn shares_leave_the_whole()
 /// root, in the new one: its own files), or else is a folder.
 pub fn shares_meet_in_folders()
     ensures { SharesMeetInFolders }
+{}
+
+/// So it is of the lines of shares by folders, `skip` lines too, where no two sites of the store
+/// have objects of one place.
+pub fn folder_shares_tell_the_whole()
+    ensures { FolderSharesTellTheWhole }
+{}
+
+/// And of what they leave.
+pub fn folder_shares_leave_the_whole()
+    ensures { FolderSharesLeaveTheWhole }
+{}
+
+/// And of where two of them have something.
+pub fn folder_shares_meet_in_folders()
+    ensures { FolderSharesMeetInFolders }
 {}
 
 /// Over one root, what stands at a path after a run of the whole stands there after the run of some

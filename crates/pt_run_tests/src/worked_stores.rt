@@ -127,6 +127,9 @@ fn each_law_can_be_called() {
     laws::shares_tell_the_whole();
     laws::shares_leave_the_whole();
     laws::shares_meet_in_folders();
+    laws::folder_shares_tell_the_whole();
+    laws::folder_shares_leave_the_whole();
+    laws::folder_shares_meet_in_folders();
 }
 
 #[test]
