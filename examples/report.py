@@ -33,14 +33,13 @@ import stat
 import sys
 import urllib.parse
 
-# What stands beside a script isn't compiled into a folder there.
+# What stands beside a script is found there, and isn't compiled into a folder. `shown` and `starting` stand there where it is installed, and in tools/
+# of a checkout.
+HERE = os.path.dirname(os.path.realpath(__file__))
+sys.path[:0] = [HERE, f"{HERE}/../tools"]
 sys.dont_write_bytecode = True
 
-# `shown` stands beside this script where it is installed, and in tools/ of a checkout.
-HERE = os.path.dirname(os.path.realpath(__file__))
-if not os.path.isfile(f"{HERE}/shown.py"):
-    sys.path.append(f"{HERE}/../tools")
-
+import starting
 from report_log import COLUMNS, KEYS, entries, event_in
 from report_page import Page
 from report_sums import Log, Report
@@ -154,4 +153,5 @@ def main():
 
 
 if __name__ == "__main__":
+    starting.begin()
     sys.exit(main())

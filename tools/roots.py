@@ -42,9 +42,11 @@ import contextlib
 import os
 import sys
 
-# What stands beside a script isn't compiled into a folder there.
+# What stands beside a script is found there, and isn't compiled into a folder.
+sys.path.insert(0, os.path.dirname(os.path.realpath(__file__)))
 sys.dont_write_bytecode = True
 
+import starting
 from roots_aside import set_aside
 from roots_joining import join
 from roots_objects import ALGORITHMS, Foreign, Root, Unlike, look_at
@@ -129,4 +131,5 @@ def main():
 
 
 if __name__ == "__main__":
+    starting.begin()
     sys.exit(main())

@@ -49,17 +49,20 @@ import stat
 import subprocess
 import sys
 
+SCRIPT = os.path.realpath(__file__)
+# What stands beside a script is found there, and isn't compiled into a folder.
+sys.path.insert(0, os.path.dirname(SCRIPT))
 sys.dont_write_bytecode = True
 
+import starting
+from shares_running import STOPS, Running
 from shares_status import JOINING, NO_LOCKS, Shares, tell
 from shown import shown
 
 CALLED = os.path.basename(sys.argv[0])
-SCRIPT = os.path.realpath(__file__)
 MOST = 4096
 FOLDER = os.O_RDONLY | os.O_DIRECTORY | os.O_CLOEXEC
 NEW = os.O_WRONLY | os.O_APPEND | os.O_CREAT | os.O_EXCL | os.O_NOFOLLOW | os.O_CLOEXEC
-STOPS = (signal.SIGINT, signal.SIGTERM, signal.SIGHUP)
 OLD = os.O_RDWR | os.O_NOFOLLOW | os.O_NONBLOCK | os.O_CLOEXEC
 MORE = os.O_WRONLY | os.O_APPEND | os.O_NOFOLLOW | os.O_NONBLOCK | os.O_CLOEXEC
 
@@ -163,42 +166,6 @@ def end_last_line(name, above, where):
             os.ftruncate(fd, begin)
     finally:
         os.close(fd)
-
-
-class Running:
-    """Processes of this script, which are stopped where it is."""
-
-    def __init__(self):
-        self.of = {}
-
-    def __enter__(self):
-        return self
-
-    def __exit__(self, *_):
-        for process, _ in self.of.values():
-            process.terminate()
-        for process, _ in self.of.values():
-            process.wait()
-
-    def begin(self, command, what, **how):
-        """Begins a process. A signal that asks this script to end comes before or after that, so none is forgotten."""
-        before = signal.pthread_sigmask(signal.SIG_BLOCK, STOPS)
-        try:
-            process = subprocess.Popen(command, preexec_fn=lambda: signal.pthread_sigmask(signal.SIG_SETMASK, before), **how)
-            self.of[process.pid] = process, what
-        finally:
-            signal.pthread_sigmask(signal.SIG_SETMASK, before)
-
-    def ended(self):
-        """The status of the next process that ends, and what it was; those of others are passed over."""
-        while True:
-            pid = os.waitid(os.P_ALL, 0, os.WEXITED | os.WNOWAIT).si_pid
-            if pid in self.of:
-                process, what = self.of[pid]
-                status = process.wait()
-                del self.of[pid]
-                return status, what
-            os.waitpid(pid, 0)
 
 
 class Store:
@@ -448,8 +415,8 @@ def status(count, options):
 
 
 def usage():
-    """How the script is called, and what it does."""
-    return __doc__.replace("{called}", CALLED)
+    """How the script is called, and what it does, where Python keeps that."""
+    return (__doc__ or "").replace("{called}", CALLED)
 
 
 def run(words):
@@ -497,4 +464,5 @@ def main():
 
 
 if __name__ == "__main__":
+    starting.begin()
     sys.exit(main())

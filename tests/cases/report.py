@@ -428,7 +428,7 @@ def helps(program, folder):
     words = ("--output", "--csv", "--guide", "--limit", "--event", "The status is 0", "12 bytes")
     faults = differs(help=((status, said, [it for it in words if it not in text.decode()]), (0, "", [])))
     parts = (f"examples/report_{part}.py" for part in ("log", "page", "sums", "verdict", "words"))
-    for name in ("examples/report.py", *parts, "tools/shown.py"):
+    for name in ("examples/report.py", *parts, "tools/shown.py", "tools/starting.py"):
         with open(f"{TOP}/{name}", encoding="utf-8") as file:
             ast.parse(file.read(), feature_version=(3, 6))
     return faults

@@ -26,6 +26,8 @@ sys.path.append(f"{TOP}/tools")
 from shown import shown
 
 SCRIPT = f"{TOP}/tools/shares.py"
+# The script, and what it needs beside it for all but the join.
+PARTS = ("shares.py", "shares_running.py", "shares_status.py", "shown.py", "starting.py")
 
 
 def many(folder, objects):
@@ -101,7 +103,7 @@ def no_number(program, folder):
         status, out, said = by_script(program, folder, "share", number, "4")
         faults += differs(**{f"share {number}": ((status, out, "K is a number from 1 to 4," in said), (2, b"", True))})
     os.mkdir(f"{folder}/alone")
-    alone = [shutil.copy(f"{TOP}/tools/{name}", f"{folder}/alone") for name in ("shares.py", "shares_status.py", "shown.py")][0]
+    alone = [shutil.copy(f"{TOP}/tools/{name}", f"{folder}/alone") for name in PARTS][0]
     build(folder, {"plain": b"#!/bin/sh\n"})
     refusals = [({"ROOTS": None}, "name it by ROOTS", alone), ({"ROOTS": f"{folder}/none"}, "name it by ROOTS", SCRIPT)]
     refusals += [({"PROGRAM": name}, "name it by PROGRAM", SCRIPT) for name in ("no program of this name", f"{folder}/none", folder, f"{folder}/plain")]
@@ -272,7 +274,7 @@ def stuck_staging(program, folder):
     nobody = lambda: (os.setgroups([]), os.setgid(65534), os.setuid(65534))
     copy = shutil.copy(program, f"{folder}/program")
     os.chmod(copy, 0o755)
-    for name in ("shares.py", "shares_status.py", "shown.py", "roots.py", *glob.glob("roots_*.py", root_dir=f"{TOP}/tools")):
+    for name in (*PARTS, "roots.py", *glob.glob("roots_*.py", root_dir=f"{TOP}/tools")):
         shutil.copy(f"{TOP}/tools/{name}", folder)
     status, out, said = by_script(copy, folder, "here", "3", script=f"{folder}/shares.py", ROOTS=None, user=nobody)
     told_it = re.findall(r"^shares.py: share 2 of 3: (.*)$", said, re.MULTILINE)

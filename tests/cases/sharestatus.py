@@ -324,7 +324,7 @@ def small(program, folder):
     for path in (folder, out):
         os.chmod(path, 0o755)
     os.makedirs(f"{folder}/tools")
-    for name in ("shares.py", "shares_status.py", "shown.py"):
+    for name in scripted.PARTS:
         subprocess.run(["cp", f"{TOP}/tools/{name}", f"{folder}/tools"], check=True)
     nobody = lambda: (os.setgroups([]), os.setgid(65534), os.setuid(65534))
     os.chmod(f"{out}/9.try2.log", 0)
