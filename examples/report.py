@@ -26,12 +26,8 @@ The status is 0 where the page or the table was written; 1 where it was, but a l
 2 where the words are wrong, a log or an event can't be read, or the output can't be written or is one of these.
 """
 
-import argparse
-import csv
 import os
-import stat
 import sys
-import urllib.parse
 
 # What stands beside a script is found there, and isn't compiled into a folder. `shown` and `starting` stand there where it is installed, and in tools/
 # of a checkout.
@@ -40,6 +36,13 @@ sys.path[:0] = [HERE, f"{HERE}/../tools"]
 sys.dont_write_bytecode = True
 
 import starting
+
+import argparse
+import contextlib
+import csv
+import stat
+import urllib.parse
+
 from report_log import COLUMNS, KEYS, entries, event_in
 from report_page import Page
 from report_sums import Log, Report
@@ -63,7 +66,8 @@ def table_of(logs, out):
 
 def say(text):
     """A line on standard error."""
-    print(f"report.py: {text}", file=sys.stderr)
+    with contextlib.suppress(OSError):
+        os.write(2, f"report.py: {text}\n".encode(errors="backslashreplace"))
 
 
 def status_of(logs):
@@ -141,6 +145,7 @@ def run(words):
 
 
 def main():
+    starting.heed()
     try:
         return run(sys.argv[1:])
     except Refused as error:
@@ -148,7 +153,10 @@ def main():
     except OSError as error:
         say(f"{shown(str(error.filename or 'the output'))}: {error.strerror}")
     except KeyboardInterrupt:
+        starting.heed_no_more()
         say("stopped")
+    finally:
+        starting.heed_no_more()
     return 2
 
 

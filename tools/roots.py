@@ -37,8 +37,6 @@ something was refused, or could not be judged or moved, or isn't the program's a
 the output can't be written. Standard error says what; what can be listed and moved is, also at status 2.
 """
 
-import argparse
-import contextlib
 import os
 import sys
 
@@ -47,6 +45,10 @@ sys.path.insert(0, os.path.dirname(os.path.realpath(__file__)))
 sys.dont_write_bytecode = True
 
 import starting
+
+import argparse
+import contextlib
+
 from roots_aside import set_aside
 from roots_joining import join
 from roots_objects import ALGORITHMS, Foreign, Root, Unlike, look_at
@@ -116,6 +118,7 @@ def run(words):
 
 
 def main():
+    starting.heed()
     try:
         return run(sys.argv[1:])
     except Refused as error:
@@ -126,7 +129,10 @@ def main():
     except OSError as error:
         say(f"{f'{os.fsdecode(error.filename)}: ' if isinstance(error.filename, (str, bytes)) else ''}{error.strerror}")
     except KeyboardInterrupt:
+        starting.heed_no_more()
         say("stopped; the same command goes on")
+    finally:
+        starting.heed_no_more()
     return 2
 
 

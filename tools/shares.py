@@ -35,18 +35,7 @@ couldn't be begun. From the join on it is that of roots.py, `join` and then `dam
 shares are done, 1 where some aren't, and 2 where it can't tell. Standard error says what.
 """
 
-import collections
-import contextlib
-import errno
-import fcntl
-import itertools
 import os
-import re
-import shlex
-import shutil
-import signal
-import stat
-import subprocess
 import sys
 
 SCRIPT = os.path.realpath(__file__)
@@ -55,7 +44,19 @@ sys.path.insert(0, os.path.dirname(SCRIPT))
 sys.dont_write_bytecode = True
 
 import starting
-from shares_running import STOPS, Running
+
+import collections
+import contextlib
+import errno
+import fcntl
+import itertools
+import re
+import shlex
+import shutil
+import stat
+import subprocess
+
+from shares_running import Running
 from shares_status import JOINING, NO_LOCKS, Shares, tell
 from shown import shown
 
@@ -442,15 +443,8 @@ def run(words):
     return here(store) if command == "here" else cluster(store)
 
 
-def stop(*_):
-    """What a signal does that asks this script to end."""
-    raise KeyboardInterrupt
-
-
 def main():
-    for number in STOPS:
-        if signal.getsignal(number) is not signal.SIG_IGN:
-            signal.signal(number, stop)
+    starting.heed(starting.STOPS)
     try:
         return run(sys.argv[1:])
     except Refused as refused:
@@ -459,7 +453,10 @@ def main():
     except (Fault, OSError) as error:
         say(reason(error))
     except KeyboardInterrupt:
+        starting.heed_no_more()
         say("stopped; the same command goes on")
+    finally:
+        starting.heed_no_more()
     return 3
 
 

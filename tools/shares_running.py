@@ -4,8 +4,7 @@ import os
 import signal
 import subprocess
 
-# Signals that ask the script to end.
-STOPS = (signal.SIGINT, signal.SIGTERM, signal.SIGHUP)
+from starting import STOPS
 
 
 class Running:

@@ -1,13 +1,17 @@
 """Tests of how the scripts are started: by whatever Python, in whatever locale, with whatever streams, and ended while they start."""
 
 import os
+import re
+import signal
 import subprocess
 import sys
 
 from alone import Alone, differs
 from joining import an_object
-from stores import DIR, build, place, read_tree, root, stored, whole_log
+from scripted import environment
+from stores import DIR, build, bytes_of, done, lines, place, root, stored, whole_log
 
+LINE = lines(done("aa/obj", "aa", {}))
 TOP = os.path.dirname(os.path.dirname(os.path.dirname(os.path.abspath(__file__))))
 SCRIPTS = {"roots": f"{TOP}/tools/roots.py", "shares": f"{TOP}/tools/shares.py", "report": f"{TOP}/examples/report.py"}
 # Where Python takes names as ASCII by the locale, and not as UTF-8.
@@ -52,7 +56,57 @@ def by_any_locale(program, folder):
     return faults + differs(report=((status, said.decode()), (2, "report.py: né.log: No such file or directory\n")))
 
 
+def closed(*numbers):
+    """Closes these streams of a script that is to be started."""
+    return {"preexec_fn": lambda: [os.close(number) for number in numbers]}
+
+
+def streams(program, folder):
+    """What a script tells goes into no other file where its standard streams are closed, and its status is what it is otherwise. So it is where they are
+    full."""
+    torn = LINE + b'{"as":"do'
+    given, faults = environment(program, folder), []
+    for numbers in ((2,), (0, 2), (1, 2), (0, 1, 2)):
+        out = f"out{len(numbers)}{numbers[0]}"
+        build(folder, {f"{out}/2.log": torn})
+        ended = ran(folder, "shares", "here", "3", given={**given, "OUT": f"{folder}/{out}"}, **closed(*numbers))[0]
+        faults += differs(**{f"shares {numbers}": ((ended, bytes_of(f"{folder}/{out}/2.log")), (0, LINE))})
+    build(folder, {**root(an_object("aa")), "bad.log": b"bad\n" + whole_log()})
+    for numbers in ((1,), (0, 1), (1, 2), (0, 1, 2)):
+        faults += differs(**{f"roots {numbers}": (ran(folder, "roots", "sums", "ocfl", **closed(*numbers))[0], 2)})
+        faults += differs(**{f"report {numbers}": (ran(folder, "report", "bad.log", **closed(*numbers))[0], 2)})
+    table = ran(folder, "report", "--csv", "bad.log")[1]
+    for numbers in ((2,), (0, 2)):
+        faults += differs(**{f"table {numbers}": (ran(folder, "report", "--csv", "bad.log", **closed(*numbers))[:2], (1, table))})
+    with open("/dev/full", "wb") as full:
+        for name, words in (("roots", ("damaged", "none")), ("shares", ("status", "0")), ("report", ("none",))):
+            faults += differs(**{f"{name} full": (ran(folder, name, *words, stderr=full)[:2], (2, b""))})
+    return faults
+
+
+def interrupted(program, folder):
+    """Ctrl-C ends a script while it starts, at once and without a word, and later with a line; once it has said that, nothing disturbs its end."""
+    early = "import os, signal, sys; import starting; os.kill(os.getpid(), signal.SIGINT)"
+    twice = """import os, signal, sys, starting
+starting.heed(starting.STOPS)
+try: os.kill(os.getpid(), signal.SIGTERM); signal.pause()
+except KeyboardInterrupt: starting.heed_no_more()
+for number in starting.STOPS: os.kill(os.getpid(), number)
+print("ended")"""
+    faults = []
+    for text, wanted in ((early, (-signal.SIGINT, b"", b"")), (twice, (0, b"ended\n", b""))):
+        done = subprocess.run([sys.executable, "-B", "-c", text], cwd=f"{TOP}/tools", capture_output=True, timeout=60)
+        faults += differs(**{text[:5]: ((done.returncode, done.stdout, done.stderr), wanted)})
+    for path in SCRIPTS.values():
+        with open(path, encoding="utf-8") as file:
+            imports = re.findall("^(?:import|from) (\\w+)", file.read(), re.MULTILINE)
+        faults += differs(**{path: (imports[:3], ["os", "sys", "starting"])})
+    return faults
+
+
 CASES = [
     Alone("scripts by any Python", by_any_python),
     Alone("scripts in any locale", by_any_locale),
+    Alone("scripts whose streams are closed or full", streams),
+    Alone("scripts that are interrupted as they start and end", interrupted),
 ]
