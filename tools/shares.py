@@ -65,7 +65,6 @@ MOST = 4096
 FOLDER = os.O_RDONLY | os.O_DIRECTORY | os.O_CLOEXEC
 NEW = os.O_WRONLY | os.O_APPEND | os.O_CREAT | os.O_EXCL | os.O_NOFOLLOW | os.O_CLOEXEC
 OLD = os.O_RDWR | os.O_NOFOLLOW | os.O_NONBLOCK | os.O_CLOEXEC
-MORE = os.O_WRONLY | os.O_APPEND | os.O_NOFOLLOW | os.O_NONBLOCK | os.O_CLOEXEC
 
 
 class Refused(Exception):
@@ -86,7 +85,7 @@ def reason(error):
     """What an error says."""
     if not isinstance(error, OSError):
         return str(error)
-    return f"{shown(error.filename)}: {error.strerror}" if error.filename else error.strerror
+    return f"{shown(error.filename)}: {error.strerror}" if isinstance(error.filename, (str, bytes)) else error.strerror
 
 
 @contextlib.contextmanager
@@ -96,6 +95,10 @@ def folder(path, above=None, where=""):
         fd = os.open(path, FOLDER if above is None else FOLDER | os.O_NOFOLLOW, dir_fd=above)
     except NotADirectoryError as error:
         raise Fault(f"{shown(where + path)} is no folder, or a link") from error
+    except OSError as error:
+        if above is None:
+            raise
+        raise Fault(f"{shown(where + path)}: {error.strerror}") from error
     try:
         yield fd
     finally:
@@ -154,6 +157,17 @@ def unfinished_from(fd):
             return begin + found + 1
         at = begin
     return 0
+
+
+def add_line(line, name, above):
+    """Adds a line to a file, on a line of its own where the last was never finished."""
+    fd = os.open(name, OLD | os.O_APPEND, dir_fd=above)
+    try:
+        left = b"\n" * (unfinished_from(fd) < os.fstat(fd).st_size) + line
+        while left:
+            left = left[os.write(fd, left) :]
+    finally:
+        os.close(fd)
 
 
 def end_last_line(name, above, where):
@@ -295,8 +309,10 @@ class Store:
         names = [f"{number}/ocfl" for number in range(1, self.count + 1)]
         if self.count > 1:
             self.see_roots(out)
-            if not self.joins(out):
+            # Another join may have made it just now: by the locks one of the two goes on.
+            with contextlib.suppress(FileExistsError):
                 os.close(os.open(JOINING, NEW, 0o666, dir_fd=out))
+            self.joins(out)
             status = self.noted(out, "join", *names)
             if status:
                 return status
@@ -307,11 +323,7 @@ class Store:
         status = self.by_roots(*words)
         try:
             if self.joins(out):
-                fd = os.open(JOINING, MORE, dir_fd=out)
-                try:
-                    os.write(fd, b"%s ended with status %d\n" % (words[0].encode(), status))
-                finally:
-                    os.close(fd)
+                add_line(b"%s ended with status %d\n" % (words[0].encode(), status), JOINING, out)
         except (Fault, OSError) as error:
             say(f"{self.at(JOINING)}: how the join ended isn't noted: {reason(error)}")
         return status

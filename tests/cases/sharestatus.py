@@ -267,6 +267,23 @@ def join_notes(program, folder):
     return faults + differs(then=(status(folder, 3)[1]["the join"], "ended with status 2"))
 
 
+def torn_notes(program, folder):
+    """A note of how the join ended that was never finished doesn't spoil the next, and a share that isn't there is told by its path."""
+    scripted.many(folder, 20)
+    out, noted = f"{folder}/out of it", b"join ended with status 0\ndamaged ended with status 0\n"
+    faults = differs(none=(by_script(program, folder, "join", "2"), (3, b"", f"shares.py: {out}: No such file or directory\n")))
+    build(folder, {"out of it": DIR})
+    lacking = f"shares.py: the shares aren't joined: {out}/1: No such file or directory\n"
+    faults += differs(lacking=(by_script(program, folder, "join", "2"), (3, b"", lacking)))
+    faults += differs(here=(by_script(program, folder, "here", "2")[0], 0))
+    for torn in (b"join ended with sta", noted + b"j"):
+        build(out, {"joining": torn})
+        faults += differs(**{f"{torn!r}": (by_script(program, folder, "join", "2"), (0, b"", ""))})
+        faults += differs(**{f"{torn!r} then": (read_tree(out)["joining"], torn + b"\n" + noted)})
+        faults += differs(**{f"{torn!r} told": (status(folder, 2)[1]["the join"], "done, and each object is whole")})
+    return faults
+
+
 def refused(program, folder):
     """Words that are wrong, an OUT that isn't set, isn't there or is no folder, and a link at OUT/joining are refused with status 2 and no line."""
     out, faults = f"{folder}/out of it", []
@@ -343,6 +360,7 @@ CASES = [
     Alone("how far shares are, events", by_events),
     Alone("how far shares are, the join", joins),
     Alone("how far shares are, the join's notes", join_notes),
+    Alone("how far shares are, torn notes of the join", torn_notes),
     Alone("how far shares are, refused", refused),
     Alone("how far shares are, as the guide shows it", of_the_guide),
     Alone("how far shares are, many shares and long logs", small),
