@@ -23,7 +23,7 @@ Of each line of the log at hand 12 bytes are held in memory, and of each line of
 is read once, and up to twice more where there are twins or several logs. So it has to be a file, and no pipe. Of events one at a time is held.
 
 The status is 0 where the page or the table was written; 1 where it was, but a line is none of a log, which standard error names by file and number;
-2 where the words are wrong, a log or an event can't be read, or the output can't be written or is one of these.
+2 where the words are wrong, a log or an event can't be read, or the output can't be written, or is a log or an event: these are never written over.
 """
 
 import os
@@ -43,7 +43,7 @@ import csv
 import stat
 import urllib.parse
 
-from report_log import COLUMNS, KEYS, entries, event_in
+from report_log import COLUMNS, KEYS, LONGEST, entries, event_in, parsed
 from report_page import Page
 from report_sums import Log, Report
 from shown import shown
@@ -54,14 +54,15 @@ class Refused(Exception):
 
 
 def table_of(logs, out):
-    """Writes the lines of the logs as a table."""
-    made = csv.writer(out)
+    """Writes the lines of the logs as a table. Names are in it as they are, unless it goes to a terminal."""
+    made, is_seen = csv.writer(out), out.isatty()
     made.writerow(("log", *COLUMNS))
     places = {kind: [keys.index(name) if name in keys else None for name in COLUMNS[1:]] for kind, keys in KEYS.items()}
     for log in logs:
         for kind, values in entries(log.path, log.refuse):
             if kind != "end":
-                made.writerow([log.path, kind] + ["" if place is None else values[place].decode() for place in places[kind]])
+                row = [log.path, kind] + ["" if place is None else values[place].decode() for place in places[kind]]
+                made.writerow(map(shown, row) if is_seen else row)
 
 
 def say(text):
@@ -81,8 +82,20 @@ def status_of(logs):
     return int(any(log.bad.count for log in logs))
 
 
+def kept_in(path):
+    """What a file is that no page and no table is written over: a log, by its first line, or an event; nothing where it is neither."""
+    if event_in(path):
+        return "an event"
+    with open(path, "rb") as file, contextlib.suppress(ValueError):
+        parsed(file.readline(LONGEST))
+        return "a log"
+    return ""
+
+
 def check(paths, output):
-    """Sees to it that each log and each event is a file, and none is the output."""
+    """Sees to it that each log and each event is a file, and the output is none, whether it is among these or not."""
+    if "" in (*paths, output):
+        raise Refused("the path of a log or of the output is empty")
     out = os.stat(output) if output and os.path.exists(output) else None if output else os.fstat(1)
     for path in paths:
         found = os.stat(path)
@@ -90,6 +103,9 @@ def check(paths, output):
             raise Refused(f"{shown(path)}: it is no file")
         if out and os.path.samestat(found, out):
             raise Refused(f"{shown(path)}: it is {'an event' if event_in(path) else 'a log'}, and the output too")
+    what = kept_in(output) if output and out and stat.S_ISREG(out.st_mode) else ""
+    if what:
+        raise Refused(f"{shown(output)}: it is {what}, and isn't written over: name another file")
 
 
 def guide_from(folder):
@@ -152,6 +168,8 @@ def main():
         say(error)
     except OSError as error:
         say(f"{shown(str(error.filename or 'the output'))}: {error.strerror}")
+    except MemoryError:
+        say("out of memory")
     except KeyboardInterrupt:
         starting.heed_no_more()
         say("stopped")

@@ -26,7 +26,7 @@ def in_units(size):
 
 def power_of_ten(digits):
     """The least number of bytes with so many digits."""
-    return f"{10 ** ((digits - 1) % 3)} {['B', 'kB', 'MB', 'GB', 'TB', 'PB', 'EB'][(digits - 1) // 3]}"
+    return f"{10 ** ((digits - 1) % 3)} {['B', 'kB', 'MB', 'GB', 'TB', 'PB', 'EB', 'ZB'][(digits - 1) // 3]}"
 
 
 def member(entry, name, kind=str):

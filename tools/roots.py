@@ -128,6 +128,8 @@ def main():
         say(error)
     except OSError as error:
         say(f"{f'{os.fsdecode(error.filename)}: ' if isinstance(error.filename, (str, bytes)) else ''}{error.strerror}")
+    except MemoryError:
+        say("out of memory")
     except KeyboardInterrupt:
         starting.heed_no_more()
         say("stopped; the same command goes on")

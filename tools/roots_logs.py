@@ -12,12 +12,17 @@ AUDIT = ("absent", "differs", "end", "extra", "same", "skip", "stray")
 ANY = (*AUDIT, "done", "present")
 # Those that tell of an object of the store: its identifier, the folder of its files in the store, and its place in the root.
 OF_OBJECTS = ("absent", "differs", "done", "present", "same")
+# What an end line counts, of an audit without and with --extra, and of a run. That of a check is no end of these.
+ENDS_OF_AUDITS = ({"absent", "differs", "same", "skip"}, {"absent", "differs", "extra", "same", "skip", "stray"})
+END_OF_RUN = {"done", "present", "skip"}
 
 
 class Log:
     """A log that the command line names; it may be a link or a pipe, and is open only while it is read."""
 
     def __init__(self, path):
+        if not path:
+            raise Refused("the path of a log is empty")
         self.path, self.is_torn, self.has_end = path, False, False
 
     def __str__(self):
@@ -39,7 +44,7 @@ class Log:
                 entry = entry_of(line)
             except BROKEN as error:
                 raise Refused(f"{self}:{number}: it is no line of a log") from error
-            if entry["as"] not in kinds:
+            if entry["as"] not in kinds or (entry["as"] == "end" and not is_end_of(entry, kinds)):
                 raise Refused(f"{self}:{number}: it is no line of the log of {'an audit' if kinds == AUDIT else 'a run or an audit'}")
             self.has_end = entry["as"] == "end"
             if entry["as"] in OF_OBJECTS:
@@ -69,6 +74,12 @@ def entry_of(line):
         if not (is_path(entry["at"]) and is_path(entry["to"])) or (entry["as"] == "differs" and not isinstance(entry["why"], str)):
             raise ValueError
     return entry
+
+
+def is_end_of(entry, kinds):
+    """Whether an end line is that of a log which has lines of these kinds."""
+    counted = entry.keys() - {"as"}
+    return counted in ENDS_OF_AUDITS or (kinds == ANY and counted == END_OF_RUN)
 
 
 def is_path(text):

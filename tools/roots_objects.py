@@ -89,6 +89,8 @@ class Opened:
     """A folder that the command line names, open; it may be no link."""
 
     def __init__(self, path, last):
+        if not path:
+            raise Refused("the path of a folder is empty")
         self.path = path.rstrip("/") or "/"
         try:
             self.fd = last.enter_context(folder(self.path))
