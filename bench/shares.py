@@ -35,7 +35,7 @@ def carried(program, source, folder, shares, *words):
         dest = f"{folder}/{share.replace('/', '-')}"
         os.mkdir(dest)
         running.append(subprocess.Popen([program, *WORDS, "--share", share, *words, source, dest], stdout=subprocess.DEVNULL))
-    if any(one.wait() for one in running):
+    if any([one.wait() for one in running]):
         sys.exit(f"a run of {', '.join(shares)} failed")
     after = resource.getrusage(resource.RUSAGE_CHILDREN)
     spent = after.ru_utime + after.ru_stime - before.ru_utime - before.ru_stime
@@ -87,7 +87,9 @@ def measure_part(program, above):
 
 
 def main():
-    (program,) = sys.argv[1:]
+    if len(sys.argv) != 2 or not os.access(sys.argv[1], os.X_OK):
+        sys.exit(f"{__doc__.split(chr(10))[2]}: PROGRAM is the path of the program")
+    program = os.path.abspath(sys.argv[1])
     memory = "/dev/shm" if os.access("/dev/shm", os.W_OK) else None
     with tempfile.TemporaryDirectory(dir=memory) as above:
         found = {name: measure(program, name, store, above) for name, store in STORES.items()}

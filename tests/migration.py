@@ -3,8 +3,8 @@ those of `audit`, extras those of `--extra`, checking those of `check`, watching
 shares, dividing of shares by folders, scripted of tools/shares.py, sharestatus of what it tells of shares, started of how scripts are started,
 choosing of lists, peers beside plain Rust, surroundings of what is around a run, calls of single calls of the system, completions of what is made of
 the grammar, packages of what is shipped, anywhere of its programs, guide, guideroots and guidestores of the guide's commands, joining,
-joiningfolders, sums and aside of tools/roots.py, report, reportevents and reportstate of examples/report.py, odd of what is odd for scripts, documents of what the documents name,
-resting of what rests on a crate, gate of the gate itself.
+joiningfolders, sums and aside of tools/roots.py, report, reportevents and reportstate of examples/report.py, odd of what is odd for scripts,
+documents of what the documents name, resting of what rests on a crate, gate of the gate itself.
 tests/harness has how they are run, and what must stand.
 
 Usage: migration.py PROGRAM [-k WORDS]. With -k only the cases are run whose file's name, with the case's name behind it, has these words, and those
@@ -59,8 +59,8 @@ from tally import Tally
 
 FILES = (
     carrying, auditing, twins, extras, checking, refusing, options, events, watching, surroundings, calls, sharing, dividing, scripted, sharestatus,
-    started, choosing, peers, guide, guideroots, guidestores, joining, joiningfolders, sums, aside, report, reportevents, reportstate, odd, completions, packages, anywhere,
-    documents, resting, gate,
+    started, choosing, peers, guide, guideroots, guidestores, joining, joiningfolders, sums, aside, report, reportevents, reportstate, odd,
+    completions, packages, anywhere, documents, resting, gate,
 )
 CASES = [case for file in FILES for case in file.CASES]
 

@@ -12,7 +12,6 @@ documents=$prefix/$below
 scripts=$prefix/share/pairtree2ocfl
 top=$(dirname "$0")/..
 made=
-trap 'rm -rf "$made"' EXIT
 
 put() {
     if [ "$program" = --remove ]; then
@@ -33,7 +32,11 @@ link() {
 }
 
 if [ "$program" != --remove ]; then
+    # No signal ends a shell without the last words of it, nor comes while the folder is made or removed.
+    trap '' HUP INT TERM
     made=$(mktemp -d)
+    trap 'trap "" HUP INT TERM; rm -rf "$made"' EXIT
+    trap 'exit 3' HUP INT TERM
     "${PYTHON:-python3}" "$top/tools/fill.py" "$made"
     echo '.so man1/pairtree2ocfl.1' > "$made/same.1"
 fi

@@ -10,8 +10,11 @@ version=$("$programs/x86-64-v2/pairtree2ocfl" --version | sed -n '1s/^pairtree2o
 day=$(sed -n "s/^## \[$version\] - //p" "$top/CHANGELOG.md")
 SOURCE_DATE_EPOCH=${SOURCE_DATE_EPOCH:-$(date -u -d "$day" +%s)}
 export SOURCE_DATE_EPOCH
+# No signal ends a shell without the last words of it, nor comes while the folder is made or removed.
+trap '' HUP INT TERM
 work=$(mktemp -d)
-trap 'rm -rf "$work"' EXIT
+trap 'trap "" HUP INT TERM; rm -rf "$work"' EXIT
+trap 'exit 3' HUP INT TERM
 chmod 755 "$work"
 mkdir -p "$folder"
 

@@ -4,8 +4,11 @@
 set -eu
 rt=$1
 top=$(cd "$(dirname "$0")/.." && pwd)
+# No signal ends a shell without the last words of it, nor comes while the folder is made or removed.
+trap '' HUP INT TERM
 work=$(mktemp -d)
-trap 'rm -rf "$work"' EXIT
+trap 'trap "" HUP INT TERM; rm -rf "$work"' EXIT
+trap 'exit 3' HUP INT TERM
 mkdir "$work/root"
 cp -RP "$top/demo/store" "$work/store"
 # The repository can't hold empty folders.

@@ -1,5 +1,6 @@
 """Tests of how the scripts are started: by whatever Python, in whatever locale, with whatever streams, and ended while they start."""
 
+import contextlib
 import os
 import re
 import signal
@@ -104,9 +105,36 @@ print("ended")"""
     return faults
 
 
+def emptied(program, folder):
+    """The demonstration and the installation remove their temporary folder where a signal ends them, whenever that comes."""
+    build(folder, {"temporary": DIR})
+    environment_there = {**os.environ, "TMPDIR": f"{folder}/temporary"}
+    for words in (("demo/run", program), ("tools/install.sh", program, f"{folder}/installed")):
+        for number in range(9):
+            how = {"stdout": subprocess.DEVNULL, "stderr": subprocess.DEVNULL, "start_new_session": True}
+            script = subprocess.Popen(["sh", *words], cwd=TOP, env=environment_there, **how)
+            with contextlib.suppress(subprocess.TimeoutExpired):
+                script.wait(0.02 * number)
+            with contextlib.suppress(ProcessLookupError):
+                os.killpg(script.pid, (signal.SIGINT, signal.SIGTERM, signal.SIGHUP)[number % 3])
+            script.wait()
+    return differs(left=(os.listdir(f"{folder}/temporary"), []))
+
+
+def measured(program, folder):
+    """What measures shares tells how it is called where it has no program."""
+    faults = []
+    for words in ((), ("none",), (program, "more")):
+        done = subprocess.run([sys.executable, "-B", f"{TOP}/bench/shares.py", *words], cwd=folder, capture_output=True, timeout=60)
+        faults += differs(**{f"{words}": ((done.returncode, done.stderr), (1, b"Usage: shares.py PROGRAM: PROGRAM is the path of the program\n"))})
+    return faults
+
+
 CASES = [
     Alone("scripts by any Python", by_any_python),
     Alone("scripts in any locale", by_any_locale),
     Alone("scripts whose streams are closed or full", streams),
     Alone("scripts that are interrupted as they start and end", interrupted),
+    Alone("temporary folders of scripts that are stopped", emptied),
+    Alone("shares that are measured with no program", measured),
 ]
