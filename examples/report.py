@@ -144,7 +144,9 @@ def parser():
 
 def run(words):
     """Does what the words ask for, and gives the status."""
-    asked = parser().parse_args(words)
+    taken = parser()
+    # Options may stand between the logs, from Python 3.7 on; that doesn't know `--`, behind which all are logs.
+    asked = (taken.parse_args if "--" in words else getattr(taken, "parse_intermixed_args", taken.parse_args))(words)
     check(asked.logs, asked.output)
     told = [(path, bool(event_in(path))) for path in asked.logs]
     paths, recorded = ([path for path, is_event in told if is_event == wanted] for wanted in (False, True))

@@ -77,6 +77,15 @@ def kept(program, folder):
     return faults
 
 
+def between(program, folder):
+    """Options of the report may stand between its logs, as they often do; what begins with `-` is a log behind `--`."""
+    logs(folder, **{"run": whole_log(*RUN), "audit": audit(differing("aa")), "-x": whole_log(*RUN)})
+    first = report(folder, "run.log", "audit.log", "--limit", "3")
+    faults = differs(between=(report(folder, "run.log", "--limit", "3", "audit.log"), first), status=(first[::2], (0, "")))
+    faults += differs(dash=(report(folder, "-o", "x.html", "--", "-x.log", "run.log"), (0, b"", "")))
+    return faults + differs(none=(report(folder, "-o", "x.html")[::2], (2, report(folder)[2])))
+
+
 def on_a_terminal(program, folder):
     """On a terminal no name of a table writes on that; elsewhere it is as it is."""
     logs(folder, **{"run": whole_log(stores.done("aa/\x1b[31m\u202e\n", "a\x1b]0;x\x07", {}))})
@@ -96,4 +105,5 @@ CASES = [
     Alone("scripts with huge numbers and files", huge),
     Alone("what the report is never written over", kept),
     Alone("the report's table on a terminal", on_a_terminal),
+    Alone("the report's options between its logs", between),
 ]
