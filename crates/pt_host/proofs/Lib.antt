@@ -1,6 +1,7 @@
 mod Audited
 mod Begun
 mod Checked
+mod FailedSteps
 mod ListedEnds
 mod Logged
 mod Recorded

@@ -1,5 +1,6 @@
 pub mod Audits
 pub mod Checking
+pub mod DestFaultLaw
 pub mod Devices
 pub mod Durable
 pub mod Ends

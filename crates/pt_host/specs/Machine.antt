@@ -25,7 +25,7 @@ host_io_words store fails folder output =
 
 -- a machine by its words: what its calls on places and its own may come to; the syncing of the output's file, alone and
 -- behind the output. And those of what it lends, as a run writes and as an audit reads it, with what serving a run leaves
--- of the destination's system
+-- of the destination's system, and how many calls failed then
 pub record MachineWords (H : Type 0) : Type 1 where
   pub Lock : Type 0
   pub Store : Type 0
@@ -39,7 +39,7 @@ pub record MachineWords (H : Type 0) : Type 1 where
   pub puts : OutputFile → Output → Result (Unit {0}) Error → OutputFile → Type 0
   pub written : HostIoWords Store Dest Output (Kept DestFile)
   pub read : HostIoWords Store Dest Output (Option Forest)
-  pub serves : RunOptions → List ℕ → Dest → Dest → Type 0
+  pub serves : RunOptions → List ℕ → Dest → Dest → ℕ → Type 0
 
 -- what a machine lends
 abbrev pub HostIoOf : {H : Type 0} → MachineWords H → Type 0

@@ -101,16 +101,18 @@ abbrev pub FailsByAsking : SourceView → ℕ → Type 0
 FailsByAsking source failed = (failed ≡ source.failed) ⊎ (FailsAtOpen source ⊎ FailsWhereAsked source)
 
 -- a run was made from this start to what its devices then tell over these systems and this output, with this status and
--- this unsynced; a rehearsal left of the folder what the system kept; and the source failed only where it fails that is asked for
-abbrev pub RunsFrom : {S D W F : Type 0} → HostIoWords S D W (Kept F) → RunOptions → Start F
+-- this unsynced; a rehearsal left of the folder what the system kept; the source failed only where it fails that is asked for; and the
+-- destination failed as often as calls of it did
+abbrev pub RunsFrom : {S D W F : Type 0} → HostIoWords S D W (Kept F) → RunOptions → Start F → (ℕ → Type 0)
     → HostIo S D W → ℕ → Type 0
-RunsFrom {S} {D} {W} {F} words options start host_io status =
+RunsFrom {S} {D} {W} {F} words options start served host_io status =
     (reading : Option (List ℕ)) × (unsynced : Option UnsyncedChange) × (writing : Option (Open F))
     × (failures : Failures) × IsMade options (dest_told start.kept None None) start.states
     (host_io_of words start.at host_io reading unsynced writing failures) status
     × LeavesKept options.rehearse start.kept (words.folder host_io.folder start.at.folder)
     × IsUnsyncedBy start.at.synced start.states.failures.dest status unsynced
     × FailsByAsking (source_of start) failures.source
+    × served failures.dest
 
 -- no device failed yet
 abbrev pub none_failed : Failures
@@ -148,8 +150,9 @@ start_of words call host_io = record {
   kept = words.folder host_io.folder call.folder;
 }
 
--- a run was made over these folders of the systems, with no file open, and left the systems and the output so
-abbrev pub RunsOver : {S D W F : Type 0} → HostIoWords S D W (Kept F) → RunCall → HostIo S D W
+-- a run was made over these folders of the systems, with no file open, by so many calls of the destination that failed, and left the
+-- systems and the output so
+abbrev pub RunsOver : {S D W F : Type 0} → HostIoWords S D W (Kept F) → RunCall → HostIo S D W → (ℕ → Type 0)
     → HostIo S D W → ℕ → Type 0
 RunsOver words call old = RunsFrom words call.options (start_of words call old)
 
@@ -210,9 +213,9 @@ module _ {H : Type 0} (words : MachineWords H) (asks : Option (List ℕ) → Typ
   GoesOver (Err error) mid new status = (status ≡ 3) × (new ≡ mid)
   GoesOver (Ok file) mid new status = asks call.options.feedback.expected
       × (host_io : HostIoOf words) × (lent : H) × words.host mid (Lend host_io) lent × (after : HostIoOf words)
-      × RunsOver words.written call host_io after status
+      × RunsOver words.written call host_io (words.serves call.options call.folder host_io.folder after.folder)
+      after status
       × IsLogged words.puts file host_io.output after.output status
-      × words.serves call.options call.folder host_io.folder after.folder
       × words.host lent (TakeBack after) new
 
   -- a run once it may begin: the log's file, if that is to be synced, and then the run

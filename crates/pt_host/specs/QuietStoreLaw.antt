@@ -24,9 +24,14 @@ pub record SeesSame {H : Type 0} (words : MachineWords H) (both : CheckAndRun wo
   pub checked_fails : words.read.store_fails both.checked.store both.check.store ≡ Some at
   pub carried_fails : words.written.store_fails both.lent.store both.run.store ≡ Some at
 
--- what a run came to that was made over this
+-- a run was made over this, as a machine that lends it makes it
+abbrev pub IsCarriedOver : {H : Type 0} (words : MachineWords H) → RunCall → (old new : HostIoOf words) → ℕ → Type 0
+IsCarriedOver words call old new =
+    RunsOver words.written call old (words.serves call.options call.folder old.folder new.folder) new
+
+-- what it came to
 abbrev pub ran_over : {H : Type 0} (words : MachineWords H) (call : RunCall) (old new : HostIoOf words) (status : ℕ)
-    → RunsOver words.written call old new status → Result Report Fault
+    → IsCarriedOver words call old new status → Result Report Fault
 ran_over words call old new status made = made.4.0
 
 -- where a check read each file whole and ended with status 0, no run over the same store is halted for it
@@ -34,5 +39,5 @@ abbrev pub NoRunIsHaltedAfterQuietCheck : {H : Type 0} → MachineWords H → Ty
 NoRunIsHaltedAfterQuietCheck words =
     (both : CheckAndRun words) (checked carried : HostIoOf words) (tree : Forest) (at : Path → Bool) (status : ℕ)
     → SeesSame words both tree at → both.check.options.reads ≡ true → ChecksOver words.read both.check both.checked checked 0
-    → (made : RunsOver words.written both.run both.lent carried status)
+    → (made : IsCarriedOver words both.run both.lent carried status)
     → IfErr (ran_over words both.run both.lent carried status made) (λ why. why ≢ fault.Source)

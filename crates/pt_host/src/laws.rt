@@ -7,13 +7,18 @@
 //! store answers `Source`, if the source tells the paths at which it fails, as the check's did, has
 //! no such file open, and can count a failure more (`NoRunIsHaltedForSource`). So it is with the
 //! program's own calls where the system of the store tells the paths at which it fails
-//! (`NoRunIsHaltedAfterQuietCheck`); the real one doesn't.
+//! (`NoRunIsHaltedAfterQuietCheck`); the real one doesn't. Where a run answers `Dest`, a call of its
+//! destination failed (`DestFaultMeansFailedStep`).
+ghost use Rattle.pt_host.specs.DestFaultLaw.{DestFaultMeansFailedStep};
+ghost use Rattle.pt_host.specs.Machine.{host_io_words};
 ghost use Rattle.pt_host.specs.QuietCheckLaw.{NoRunIsHaltedForSource};
 ghost use Rattle.pt_host.specs.QuietStoreLaw.{NoRunIsHaltedAfterQuietCheck};
 ghost use Rattle.pt_host.specs.RehearsalLaw.{RehearsalTellsTheRun};
 ghost use Rattle.pt_host.specs.Room.{RoomIsThatOfStaging};
 
 use crate::{Host, Machine};
+use pt_folder::System;
+use std::io::Write;
 
 /// A rehearsal that ends well tells in its log what the run tells that it rehearses, where both
 /// tell their devices and the run ends well too, and ends with the same status.
@@ -33,6 +38,14 @@ pub fn no_run_is_halted_for_source()
 /// below the store's folder. The real system tells neither.
 pub fn no_run_is_halted_after_quiet_check<H: Host>()
     ensures { NoRunIsHaltedAfterQuietCheck ⟦<H as Machine>⟧.words }
+{}
+
+/// Where a run over what a machine lends, which is no rehearsal, answers `Dest`, a call of its
+/// destination failed, of all those that it made: a call of the system did, or it was refused, as a
+/// path is that is too long.
+pub fn fault_of_dest_comes_of_a_failed_call<S: System, D: System, W: Write>()
+    ensures { DestFaultMeansFailedStep D.System D.File.Handle.own D.File.Input D.Dir.Input
+        (host_io_words S.forest S.failing D.kept W.contents) }
 {}
 
 /// A path in an object is longer than a check has room for just where a run couldn't make the file,

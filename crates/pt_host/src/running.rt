@@ -63,11 +63,11 @@ where
           failing = failing devices.entry.source;
           kept = kept_by devices.entry.dest;
         })
+        (ServesTo options.rehearse devices.entry.dest result.0.folder)
         result.0 result.1.status }
     ensures logged { devices.entry.log.failures ≡ 0
         → IsLogged F.puts devices.entry.log.file devices.entry.log.writer
         result.0.output result.1.status }
-    ensures served { ServesTo options.rehearse devices.entry.dest result.0.folder }
 {
     let tally = Tally::new();
     let RunDevices { source, dest, log } = devices;

@@ -1,4 +1,4 @@
-use Rattle.std.proofs.Common.{◌∙◌, ap, sym}
+use Rattle.std.proofs.Common.{◌∙◌, ap, refl, sym}
 use Rattle.pt_folder.specs.Reading.{unread_open}
 use Rattle.pt_host.proofs.Logged.{log_counts, logged}
 use Rattle.pt_host.proofs.Rehearsed.{leaves_at}
@@ -32,10 +32,8 @@ returns-clause-runs g c =
           (leaves_at g.D.System.kept c.args.options.rehearse _ dest.syscalls.system (ap (λ f. f.path.now) made.dest) made.rehearsed),
       λ s is. let unsynced = made.unsynced c.args.options.allowed s is in (unsynced.0, λ none. c.status_of-status.ensures ∙ unsynced.1 none),
       rw (← c.new-ignoring.ensures.source, ← c.new-ignoring.ensures.names, ← c.watch-source.ensures.source) made.fails.failed,
+      (dest, made.served, sym c.into_system-2.ensures, refl),
     )
-
-pub returns-clause-served : goal.returns-clause-served
-returns-clause-served g c = (c.run_or_rehearse-ran.result.dest, c.run_or_rehearse-ran.ensures.served, sym c.into_system-2.ensures)
 
 pub returns-clause-logged : goal.returns-clause-logged
 returns-clause-logged g c =

@@ -28,13 +28,20 @@ returns g c =
         c.lend-host_io.ensures,
         c.run_over-host_io.result.0,
         begun words g.H.Store.File.Input.bytes g.H.Store.File.Handle.fails call c.lend-host_io.result _ _ _ _ _ _ _ _ _ _ _ _
-            made.store made.unread made.folder made.unwritten made.synced made.log _ _ c.run_over-host_io.ensures.runs,
+            made.store made.unread made.folder made.unwritten made.synced made.log _ _
+            (λ failed served. (
+              c.open_devices-devices.result.dest,
+              record {
+                over = made.folder;
+                begun = (made.unwritten.0, made.synced.1);
+                unfailed = made.unwritten.1;
+                synced = made.synced.0;
+                longest = made.longest;
+              },
+              served,
+            ))
+            _ _ c.run_over-host_io.ensures.runs,
         rw (made.log_synced, made.log.0) at (c.run_over-host_io.ensures.logged made.log.1),
-        (
-          c.open_devices-devices.result.dest,
-          record { over = made.folder; begun = (made.unwritten.0, made.synced.1); synced = made.synced.0; longest = made.longest },
-          c.run_over-host_io.ensures.served,
-        ),
         c.take_back.ensures,
       ),
     )
