@@ -162,6 +162,7 @@ class Log:
         since = self.kinds - (self.at_end or collections.Counter())
         if what == "check":
             self.met = told
+            self.uneven = self.uneven or sum(since.values()) != told["told"]
             told = {kind: told.get(kind, 0) for kind in TROUBLES}
         self.uneven = self.uneven or since != +collections.Counter(told)
         self.ended_as.add(what)

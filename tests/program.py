@@ -249,7 +249,7 @@ EMPTY = b"pairtree2ocfl: the identifier is empty\n"
 NOT_A_NAME = b"pairtree2ocfl: --ignore is not the name of a file or folder\n"
 ABSENT = (
     b'{"as":"unreadable","path":"","reason":"No such file or directory (os error 2)"}\n'
-    b'{"as":"end","bytes":0,"files":0,"folders":0,"largest":0,"longest":0,"objects":0,"sites":0,"told":1}\n'
+    b'{"as":"end","bytes":0,"files":0,"folders":0,"largest":0,"longest":0,"objects":0,"sites":0,"told":1,"unreadable":1}\n'
 )
 CASES = [
     names("abc", "ab/c", "ba7/816/bf8/abc"),

@@ -1,5 +1,6 @@
 """Tests of examples/report.py: how a migration stands by several logs and events, and the logs of checks. What must stand is counted by hand."""
 
+import collections
 import csv
 import io
 import re
@@ -210,8 +211,12 @@ MET = {"bytes": 40613, "files": 4, "folders": 7, "largest": 20307, "longest": 37
 
 
 def whole_check(*entries, **numbers):
-    """The log of a check that ends."""
-    return lines(*entries, {"as": "end", **MET, "told": len(entries), **numbers})
+    """The log of a check that ends, whose last line counts each kind of its lines."""
+    kinds = collections.Counter(entry["as"] for entry in entries)
+    return lines(*entries, {"as": "end", **MET, "told": len(entries), **kinds, **numbers})
+
+
+TOLD = "the check told 2 lines of what would stop a run; the check told 5 lines of what a run skips, or what may surprise"
 
 
 def one_check(program, folder):
@@ -222,7 +227,7 @@ def one_check(program, folder):
     told += [["pairtree_root/ab/c/obj/.DS_Store", "desktop", ""], ["pairtree_root/sp\\u{202e}", "split", ""], ["pairtree_root/^6/1b", "spelling", ""]]
     faults = differs(said=(said, (0, "")), kinds=([row[:2] for row in found.table("troubles")], kinds), told=(found.table("told"), [*told, ["pairtree_root/ab/c/obj/x", "many", ""]]))
     faults += differs(met=(found.table("checks"), [["check.log", "end line", "7", "4", "2", "7", "4", "40,613", "20,307", "37"]]))
-    faults += differs(tables=(sorted(found.tables), ["checks", "told", "troubles"]), verdict=(verdict_of(found), "Not done yet: the check told 7 lines."))
+    faults += differs(tables=(sorted(found.tables), ["checks", "told", "troubles"]), verdict=(verdict_of(found), f"Not done yet: {TOLD}."))
     faults += differs(notes=(found.notes, ["Each log has its end line, and as many lines of each kind as that counts."]))
     made = list(csv.DictReader(io.StringIO(report(folder, "--csv", "check.log")[1].decode())))
     rows = [{key: it for key, it in row.items() if it} for row in made]
@@ -232,8 +237,11 @@ def one_check(program, folder):
     cut, said = page(folder, *logs(folder, cut=lines(*CHECKED[:2])))
     row = ["cut.log", "cut short", "2", *[""] * 7]
     faults += differs(cut=((said, cut.table("checks"), "cut short" in cut.notes[-1]), ((0, ""), [row], True)))
-    uneven, _ = page(folder, *logs(folder, uneven=whole_check(*CHECKED, told=6)))
-    faults += differs(uneven=("has other lines than its end line counts" in uneven.notes[-1], True))
+    for name, numbers in {"lines": {"told": 6}, "a kind": {"root": 2}, "a kind that has none": {"width": 1}}.items():
+        uneven, _ = page(folder, *logs(folder, uneven=whole_check(*CHECKED, **numbers)))
+        faults += differs(**{name: ("has other lines than its end line counts" in uneven.notes[-1], True)})
+    skipped, _ = page(folder, *logs(folder, skipped=whole_check(CHECKED[0])))
+    faults += differs(skipped=(verdict_of(skipped), "Not done yet: the check told 1 line of what a run skips, or what may surprise."))
     both, said = page(folder, "check.log", *logs(folder, run=whole_log(SECOND[2])))
     numbers = [["run.log", "run or rehearsal", "end line", "1", "1", "500", "0"]]
     return faults + differs(both=((said, both.table("numbers"), both.texts["verdict"][0].split(",")[0]), ((0, ""), numbers, "Nothing is missing: the one object stands in the root")))
@@ -246,7 +254,7 @@ def each_trouble(program, folder):
     beside = {"unreadable": {"reason": "x"}}
     found, said = page(folder, *logs(folder, check=whole_check(*(trouble(kind, "p", **beside.get(kind, {})) for kind in kinds))))
     rows = {row[0]: row[-1] for row in found.table("troubles")}
-    faults = differs(said=(said, (0, "")), count=(len(kinds), 19), kinds=(set(rows), set(kinds)), short=([kind for kind, text in rows.items() if len(text) < 40], []))
+    faults = differs(said=(said, (0, "")), count=(len(kinds), 20), kinds=(set(rows), set(kinds)), short=([kind for kind, text in rows.items() if len(text) < 40], []))
     headings = {link.split("#")[1] for link in found.links}
     faults += differs(headings=(headings - documents.heading_ids("docs/GUIDE.md"), set()), before=("before" in headings, True))
     bad = [trouble("none", "p"), trouble("root", "p", reason="x"), trouble("unreadable", "p"), trouble("limit", "p"), {"as": "end", **MET}]

@@ -35,7 +35,8 @@ key_added numbers keys i d old new within (added, new_is, adds) front others =
     ∙ ap (λ (l : List EndKey). end_members numbers l (members_tree others)) (sym heads))
 
 -- with all keys it is the line
-pub all_added : (numbers : Numbers) (keys all : List EndKey) (i : ℕ) (members : List Member) → length keys ≤ i → keys ≡ all → IsFront numbers (take i keys) members
+pub all_added : (numbers : Numbers) (keys all : List EndKey) (i : ℕ) (members : List Member) → length keys ≤ i → keys ≡ all
+    → IsFront numbers (take i keys) members
     → members_tree members ≡ text_member (codes "as") (codes "end") (end_members numbers all no_members)
 all_added numbers keys all i members past same front =
     sym (ap members_tree (append-nil members)) ∙ front []

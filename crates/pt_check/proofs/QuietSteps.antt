@@ -216,8 +216,8 @@ abbrev Entered : Wants → Folder → List Item → (CheckState → Type 0) → 
 Entered wants folder items P a b = IsCleanFolder wants folder items × Quiet a b
     × ((m : CheckState) × HeldAt (finding_of wants.form folder.here items) a m × P m) × GoesAt folder.path a
 
-pub entered : (says : Says) (wants : Wants) (folder : Folder) (items : List Item) (visits : Finding → CheckState → CheckState → Type 0) (P : Finding → CheckState
-    → Type 0) (a b : CheckState)
+pub entered : (says : Says) (wants : Wants) (folder : Folder) (items : List Item) (visits : Finding → CheckState → CheckState → Type 0)
+    (P : Finding → CheckState → Type 0) (a b : CheckState)
     → ((seen : Finding) (m : CheckState) → visits seen m b → Quiet m b × P seen m)
     → Enters says wants folder items visits a b → told_by b ≡ 0 → Entered wants folder items (P (finding_of wants.form folder.here items)) a b
 entered says wants folder items visits P a b on enters nothing = by (folder.left == 0) refl enters

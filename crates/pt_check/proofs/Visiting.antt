@@ -214,7 +214,8 @@ enters says wants folder items visits a b some does = by (folder.left == 0) (ne_
     by false is = does
 
 -- a folder was found, and judged where it was listed whole
-pub begins : (says : Says) (wants : Wants) (folder : Folder) (items : List Item) (whole : Bool) (seen : Finding) (a m b : CheckState) → Finds says folder.path whole a m
+pub begins : (says : Says) (wants : Wants) (folder : Folder) (items : List Item) (whole : Bool) (seen : Finding) (a m b : CheckState)
+    → Finds says folder.path whole a m
     → cond whole (Judges wants (folder.path, folder.prefix) folder.here items m b) (b ≡ m)
     → seen ≡ found_by whole wants.form folder.here items
     → Begins says wants folder items seen a b
@@ -251,9 +252,10 @@ dir_step says told proper wants again folder seen items place name what entry in
     subst (λ (f : Folder). VisitsFolder says wants f (inside_at tree entry) start after) it read in
     let below_it : VisitsFolder says wants (folder_in folder seen name) (inside_at tree path) start after =
     subst (λ (q : Path). VisitsFolder says wants (folder_in folder seen name) (inside_at tree q) start after) entry_is named in
-    let met_dir : Meets wants entry (holder_in folder seen) (name, kind.Dir) now met = subst (λ (k : Kind). Meets wants entry (holder_in folder seen) (name, k) now met) is_dir meets in
-    let met_it : Meets wants path (holder_in folder seen) (name, kind.Dir) now met = subst (λ (q : Path). Meets wants q (holder_in folder seen) (name, kind.Dir) now met) entry_is
-    met_dir in
+    let met_dir : Meets wants entry (holder_in folder seen) (name, kind.Dir) now met =
+    subst (λ (k : Kind). Meets wants entry (holder_in folder seen) (name, k) now met) is_dir meets in
+    let met_it : Meets wants path (holder_in folder seen) (name, kind.Dir) now met =
+    subst (λ (q : Path). Meets wants q (holder_in folder seen) (name, kind.Dir) now met) entry_is met_dir in
     let at_dir : slice_get items place ≡ Some (name, kind.Dir) = at ∙ ap (λ (k : Kind). Some (name, k)) is_dir in
     let begins : start ≡ counting (begun (folder_in folder seen name).here (holder_in folder seen)) met =
     start_is ∙ ap (λ (w : Within). counting (begun w (holder_in folder seen)) met) whole in
@@ -282,7 +284,8 @@ leaf_step says told proper wants again folder seen items place name here entry f
     (λ (r : Wants). OpensIf r.reads entry (holder_in folder seen, here) (bytes_at tree entry) met after) same_wants (opens tree (there_is ∙ is)) in
     let opened : OpensIf wants.reads path (holder_in folder seen, here) (bytes_at tree path) met after =
     subst (λ (q : Path). OpensIf wants.reads q (holder_in folder seen, here) (bytes_at tree q) met after) entry_is read in
-    let met_it : Meets wants path (holder_in folder seen) (name, here) now met = subst (λ (q : Path). Meets wants q (holder_in folder seen) (name, here) now met) entry_is meets in
+    let met_it : Meets wants path (holder_in folder seen) (name, here) now met =
+    subst (λ (q : Path). Meets wants q (holder_in folder seen) (name, here) now met) entry_is meets in
     visited_leaf says wants folder seen tree items place name here first now met after (proper_in told proper tree is) (listed tree is) at leaf (to tree is)
     met_it opened
 
@@ -310,7 +313,8 @@ leaf_there told proper path entry items place name what there listed at entry_is
     (listed tree here) at is_file)
 
 -- at the end of its listing a folder was visited
-pub all_step : (says : Says) (told : Option Reading) (wants : Wants) (folder : Folder) (seen : Finding) (items : List Item) (place : ℕ) (a first now : CheckState)
+pub all_step : (says : Says) (told : Option Reading) (wants : Wants) (folder : Folder) (seen : Finding) (items : List Item) (place : ℕ)
+    (a first now : CheckState)
     → ForSome (tree_in told) (λ t. listing_at t folder.path ≡ Some items) → length items ≤ place → (folder.left ≡ 0 → ⊥)
     → Begins says wants folder items seen a first
     → ForSome (tree_in told) (λ t. VisitedTo says wants folder seen t place first now)

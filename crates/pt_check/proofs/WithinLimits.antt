@@ -313,7 +313,8 @@ module _ (rest : Rest) (start : List ℕ) where
   -- what a check finds of a folder in a site, and of all that stands in it
   abbrev Met : List ℕ → Path → ℕ → Forest → Within → Type 0
   Met top path left inside here = let it : Folder = record { path = top ∷ path; prefix = start; here = here; left = left } in
-      IsCleanFolder (read_whole rest) it (listing_of inside) × IsClean (read_whole rest) it (seen_of here inside) inside × HasRoomFor (seen_of here inside) inside
+      IsCleanFolder (read_whole rest) it (listing_of inside) × IsClean (read_whole rest) it (seen_of here inside) inside
+      × HasRoomFor (seen_of here inside) inside
 
   fine_shorty : (walks : Path → Bool) (top : List ℕ) (path : Path) (left : ℕ) (name : List ℕ) (inside : Forest) → left + length path ≡ 601
       → Met top (path ++ name ∷ []) (left - 1) inside (below_site (at_of path) name)
@@ -523,7 +524,8 @@ module _ (rest : Rest) (start : List ℕ) where
               subst (λ (l : Bounds). IsNoLimit (cause_of l object)) (sym limits) named),
         )
 
-    fine_items : Covers → job.limits ≡ greatest_limits → (all : List Site) → Each (FineSite top) all → Each (IsNotSkippedForLimit job) (map (item_of job prefix) all)
+    fine_items : Covers → job.limits ≡ greatest_limits → (all : List Site) → Each (FineSite top) all
+        → Each (IsNotSkippedForLimit job) (map (item_of job prefix) all)
     fine_items covers limits [] fine = tt
     fine_items covers limits (site ∷ others) fine = (fine_item covers limits site fine.0, fine_items covers limits others fine.1)
 

@@ -276,8 +276,8 @@ Meets wants path here item a b =
 abbrev pub size_trouble : ℕ → Option Trouble
 size_trouble bytes = cond (nat_lt greatest_limits.file_bytes bytes) (Some trouble.Large) None
 
--- a file with these bytes, in a folder that is this, is opened, read whole if that is wanted, and told if it is too large; or it is told that it can't be. Where it
--- was read whole, and has fewer bytes than the greatest count, the source doesn't fail there.
+-- a file with these bytes, in a folder that is this, is opened, read whole if that is wanted, and told if it is too large; or it is told that
+-- it can't be. Where it was read whole, and has fewer bytes than the greatest count, the source doesn't fail there.
 abbrev pub Opens : Bool → Path → Within → List ℕ → CheckState → CheckState → Type 0
 Opens reads path here bytes a b =
     let count = cond reads (length bytes) 0 in

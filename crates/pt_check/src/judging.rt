@@ -1,11 +1,11 @@
 //! What is told of a folder and of an entry, by what a check sees of them.
 //!
 //! At each it is exactly what `folder_trouble`, `reserved_trouble`, `width_trouble`,
-//! `count_trouble`, `entry_trouble` and `room_trouble` say of it, each by a line of its own (`Tells`): the cause for
-//! which a run of the form that is wanted passes a site over, names that aren't those of the identifier's
-//! own pairpath, the first file over the limit of an object, names that desktops leave, links and
-//! special files, and paths in an object that are too long, for a run or for the room that a
-//! destination has. `reserved` is that of the layout that is asked for, and of the prefix as it was
+//! `count_trouble`, `entry_trouble` and `room_trouble` say of it, each by a line of its own
+//! (`Tells`): the cause for which a run of the form that is wanted passes a site over, names that
+//! aren't those of the identifier's own pairpath, a folder that looks like a longer piece, the first
+//! file over the limit of an object, names that desktops leave, links and special files, and paths
+//! in an object that are too long, for a run or for the room that a destination has. `reserved` is that of the layout that is asked for, and of the prefix as it was
 //! read, empty where none is known. Of a file that was read it is what `size_trouble` says of its
 //! length.
 #![tactic(auto, using(crate::proofs::NamesRead::names_read))]

@@ -19,7 +19,7 @@
 //!   (`NoRunSkipsForOther`). None with the greatest limits of pt_walk, which the check holds things
 //!   against, passes anything over for `limit` where the files were read whole
 //!   (`NoRunSkipsForLimit`), and none with the tuples of the check's layout anything for `reserved`
-//!   (`NoRunSkipsForReserved`).
+//!   (`NoRunSkipsForReserved`). A check for runs that gather says both of these alone.
 //! - Where it told nothing and read the files whole, a source that tells where it fails fails at
 //!   nothing that a run asks it for (`QuietCheckMeansReadableStore`). So no run over that store
 //!   that fails at nothing else raises its count of failures (`NoRunFailsForSource`).

@@ -16,8 +16,8 @@ pub(crate) enum Reading {
     // An audit of what was gathered, by SHA-256 and two tuples of three digits, with its event and
     // extras.
     Audit,
-    // A check that reads each file, of all entries but those with one name, for a run into D with
-    // four tuples of two digits.
+    // A check that reads each file, of all entries but those with one name, for a run into D that
+    // gathers, with four tuples of two digits.
     Check,
     // The fault of this number; 0 where it is a migration.
     Fault(u8),
@@ -96,6 +96,7 @@ fn is_gathering(asked: &Audit) -> bool {
 fn is_reading(asked: &CheckArgs) -> bool {
     let options = &asked.options;
     options.reads
+        && options.gather
         && options.ignored.names().len() == 1
         && is_path(&options.dest, Some("D"))
         && has_tuples(&options.layout, (2, 4))
@@ -253,6 +254,7 @@ const CHECK: Words = &[
     "check",
     "--ignore=.DS_Store",
     "--read",
+    "--gather",
     "--dest=D",
     "--tuple-size=2",
     "--tuples=4",
@@ -284,7 +286,7 @@ const REFUSED: Readings = &[
     (&["pairtree2ocfl", "audit", "S"], 2),
     (&["pairtree2ocfl", "check"], 2),
     (&["pairtree2ocfl", "check", "S", "D"], 2),
-    (&["pairtree2ocfl", "check", "--gather", "S"], 2),
+    (&["pairtree2ocfl", "check", "--sync", "S"], 2),
     (&["pairtree2ocfl", "check", "--ignore=a/b", "S"], 10),
     (
         &["pairtree2ocfl", "check", "--tuples=0", "--ignore=a/b", "S"],

@@ -14,7 +14,8 @@ returns-in-Ok-clause-opened g c =
     let same = g.met.S.Source.keeps_failing _ _ c.open_whole.ensures.keeps in
     let counted : check_state g.S.Source g.L.Log now ≡ counting (with_bytes c.args.within c.in-Ok.bytes) a = search rules in
     on_ok_weaker c.tell_if.result
-    (λ tells. opens_step (tree_by g.S.Source.told c.args.self.now) c.args.self.now.wants.reads c.args.path.now c.args.within c.in-Ok.bytes c.size_trouble.result a
+    (λ tells. opens_step (tree_by g.S.Source.told c.args.self.now) c.args.self.now.wants.reads c.args.path.now c.args.within c.in-Ok.bytes
+    c.size_trouble.result a
     (check_state g.S.Source g.L.Log now)
     b c.in-Ok.ensures.bytes c.size_trouble.ensures counted tells c.in-Ok.ensures.ended) c.tell_if.ensures.told
 
