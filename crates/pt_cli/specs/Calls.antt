@@ -17,6 +17,8 @@ use Rattle.pt_cli.specs.declared.names.NamesFault.{NamesFault}
 use Rattle.pt_cli.specs.declared.names.NamesFault.TheVariants as names
 use Rattle.pt_host.specs.HostCall.{Lend, TakeBack}
 use Rattle.pt_host.specs.Machine.{HostIoOf, MachineWords}
+use Rattle.pt_host.specs.Told.{Tells, own_line}
+use Rattle.pt_plan.specs.declared.fault.Fault.TheVariants as fault
 
 -- of writing names: 0 where they were written, 2 for the empty identifier, else 3
 abbrev pub names_status : Result (Unit {0}) NamesFault → ℕ
@@ -32,15 +34,23 @@ pub record WritesNames (layout : Tuples) (prefix id : List ℕ) (old new : Optio
   pub ok : OnOk written (Appends old new (names_text layout prefix id))
   pub err : IfErr written (λ fault. LeavesWritten fault old new (names_text layout prefix id))
 
--- the names that are asked for are written to the output that a machine lends, which is given back with all else as it was; and the status is by that
+-- why the names of an identifier weren't written is told, if they weren't
+abbrev pub TellsUnwritten : {H : Type 0} → MachineWords H → Result (Unit {0}) NamesFault → H → H → Type 0
+TellsUnwritten words (Ok done) old new = new ≡ old
+TellsUnwritten words (Err names.Empty) old new = Tells words (codes "pairtree2ocfl: the identifier is empty\n") old new
+TellsUnwritten words (Err names.Write) old new = Tells words (own_line fault.Log) old new
+TellsUnwritten words (Err names.Memory) old new = Tells words (own_line fault.Memory) old new
+
+-- the names that are asked for are written to the output that a machine lends, which is given back with all else as it was; the status is by that, and
+-- so is what is told
 abbrev pub TellsNames : {H : Type 0} → MachineWords H → NamesArgs → H → H → ℕ → Type 0
 TellsNames {H} words asked old new status =
     (host_io : HostIoOf words) × (lent : H) × words.host old (Lend host_io) lent
     × (output : words.Output) × (written : Result (Unit {0}) NamesFault)
     × WritesNames asked.layout asked.prefix asked.id (words.written.output host_io.output)
     (words.written.output output) written
-    × words.host lent (TakeBack (record host_io { output = output })) new
-    × (status ≡ names_status written)
+    × (back : H) × words.host lent (TakeBack (record host_io { output = output })) back
+    × TellsUnwritten words written back new × (status ≡ names_status written)
 
 -- of writing the names of an input's lines: 0 where they were written, 2 for a line that is no identifier, else 3
 abbrev pub list_status : Result (Unit {0}) ListFault → ℕ
@@ -50,8 +60,16 @@ list_status (Err list.Read) = 3
 list_status (Err list.Write) = 3
 list_status (Err list.Memory) = 3
 
+-- why not all names of an input's lines were written is told by the machine, if they weren't, but of a line that is no identifier
+abbrev pub TellsUnlisted : {H : Type 0} → MachineWords H → Result (Unit {0}) ListFault → H → H → Type 0
+TellsUnlisted words (Ok done) old new = new ≡ old
+TellsUnlisted words (Err (list.Line bad)) old new = new ≡ old
+TellsUnlisted words (Err list.Read) old new = Tells words (codes "pairtree2ocfl: cannot read standard input\n") old new
+TellsUnlisted words (Err list.Write) old new = Tells words (own_line fault.Log) old new
+TellsUnlisted words (Err list.Memory) old new = Tells words (own_line fault.Memory) old new
+
 -- a machine's input is asked for, and the names of the identifiers in its lines are written to the output that the machine lends, which is given back with all
--- else as it was; and the status is by that
+-- else as it was; the status is by that, and so is what is told
 abbrev pub TellsAll : {H : Type 0} → MachineWords H → InputWords H → NamesArgs → H → H → ℕ → Type 0
 TellsAll {H} words beside asked old new status =
     (input : beside.Input) × (begun : H) × beside.gives old input begun
@@ -59,8 +77,8 @@ TellsAll {H} words beside asked old new status =
     × (rest : beside.Input) × (output : words.Output) × (listed : Result (Unit {0}) ListFault)
     × ListsNames asked (beside.remaining input) (beside.remaining rest) (words.written.output host_io.output)
     (words.written.output output) listed
-    × words.host lent (TakeBack (record host_io { output = output })) new
-    × (status ≡ list_status listed)
+    × (back : H) × words.host lent (TakeBack (record host_io { output = output })) back
+    × TellsUnlisted words listed back new × (status ≡ list_status listed)
 
 -- the names of the identifiers on the input are asked for, or those of an identifier
 abbrev pub TellsBy : {H : Type 0} → Bool → MachineWords H → InputWords H → NamesArgs
@@ -72,11 +90,11 @@ TellsBy false words input asked = TellsNames words asked
 abbrev pub TellsAsked : {H : Type 0} → MachineWords H → InputWords H → NamesArgs → H → H → ℕ → Type 0
 TellsAsked words input asked = TellsBy (bytes_eq asked.id (codes "-")) words input asked
 
--- of writing a text that was asked for: 0 where it was written, or nobody may read it any more, else 3
-abbrev pub IsToldAs : Result (Unit {0}) Error → ℕ → Type 0
-IsToldAs (Ok done) status = status ≡ 0
-IsToldAs (Err error) status =
-    ((error_kind error ≡ BrokenPipe) × (status ≡ 0)) ⊎ ((error_kind error ≢ BrokenPipe) × (status ≡ 3))
+-- of writing a text that was asked for: 0 where it was written, or nobody may read it any more, else 3, and the output's fault is told
+abbrev pub IsToldAs : {H : Type 0} → MachineWords H → Result (Unit {0}) Error → H → H → ℕ → Type 0
+IsToldAs words (Ok done) old new status = (status ≡ 0) × (new ≡ old)
+IsToldAs words (Err error) old new status = ((error_kind error ≡ BrokenPipe) × (status ≡ 0) × (new ≡ old))
+    ⊎ ((error_kind error ≢ BrokenPipe) × (status ≡ 3) × Tells words (own_line fault.Log) old new)
 
 -- a text was written behind what an output held; or a front of it is there
 pub record WritesText (text : List ℕ) (old new : Option (List ℕ)) (written : Result (Unit {0}) Error) : Type 0 where
@@ -89,5 +107,5 @@ TellsText {H} words text old new status =
     (host_io : HostIoOf words) × (lent : H) × words.host old (Lend host_io) lent
     × (output : words.Output) × (written : Result (Unit {0}) Error)
     × WritesText text (words.written.output host_io.output) (words.written.output output) written
-    × words.host lent (TakeBack (record host_io { output = output })) new
-    × IsToldAs written status
+    × (back : H) × words.host lent (TakeBack (record host_io { output = output })) back
+    × IsToldAs words written back new status

@@ -1,5 +1,5 @@
 -- The list of identifiers that `--list` names, and the job that takes those.
-use Rattle.std.specs.Prelude.{ℕ, ◌≡◌, ◌≢◌, ◌⊎◌, ◌==◌, ◌&&◌, ⊤, List, [], ◌∷◌, ◌++◌, Option, None, Some, Result, Ok, Err, String, Vec, map, if◌then◌else◌}
+use Rattle.std.specs.Prelude.{ℕ, ◌≡◌, ◌≢◌, ◌⊎◌, ◌==◌, ◌&&◌, ⊤, codes, List, [], ◌∷◌, ◌++◌, Option, None, Some, Result, Ok, Err, String, Vec, map, if◌then◌else◌}
 use Rattle.std.specs.Global.{Global}
 use Rattle.std.specs.List.{FoldsTo}
 use Rattle.std.specs.String.{string_bytes}
@@ -19,6 +19,11 @@ use Rattle.pt_cli.specs.declared.list_fault.LineFault.{LineFault}
 use Rattle.pt_cli.specs.declared.list_fault.LineFault.TheVariants.{ByteOrderMark}
 use Rattle.pt_cli.specs.declared.list_fault.LinesFault.{LinesFault}
 use Rattle.pt_cli.specs.declared.list_fault.LinesFault.TheVariants as lines
+use Rattle.pt_cli.specs.declared.listing.Untaken.{Untaken}
+use Rattle.pt_cli.specs.declared.listing.Untaken.TheVariants as untaken
+use Rattle.pt_host.specs.Machine.{MachineWords}
+use Rattle.pt_host.specs.Told.{Tells, own_line}
+use Rattle.pt_plan.specs.declared.fault.Fault.TheVariants.{Memory}
 
 -- the number of a reason why a file's identifiers can't be had
 abbrev pub file_number : FileFault → ℕ
@@ -148,30 +153,41 @@ abbrev pub IsListing : List (List ℕ) → Portion → Portion → Type 0
 IsListing lines share taken = (ids : List (List ℕ)) × ListsAs ids lines
     × (taken ≡ record share { list = Some ids })
 
--- the job takes these identifiers; want of memory is the status 3
-abbrev pub TakesIdentifiers : List (List ℕ) → Job → Result Job ℕ → Type 0
+-- the job takes these identifiers, or memory was wanting
+abbrev pub TakesIdentifiers : List (List ℕ) → Job → Result Job Untaken → Type 0
 TakesIdentifiers lines job (Ok taken) = (share : Portion) × IsListing lines job.share share × (taken ≡ record job { share = share })
-TakesIdentifiers lines job (Err status) = status ≡ 3
+TakesIdentifiers lines job (Err untaken.Memory) = ⊤
+TakesIdentifiers lines job (Err (untaken.Refused line)) = ⊥
 
--- the status where a file's identifiers can't be had: a line that is none is refused, and so is a file that can't be read, and want of
--- memory is another
-abbrev pub IsUnread : FileFault → ℕ → Type 0
-IsUnread (file.Line bad) status = (status ≡ 2) ⊎ (status ≡ 3)
-IsUnread (file.Read error) status = ((error_kind error ≢ OutOfMemory) × (status ≡ 2)) ⊎ (status ≡ 3)
-IsUnread file.Memory status = status ≡ 3
+-- a line that begins with the program's name
+abbrev pub IsOwnLine : List ℕ → Type 0
+IsOwnLine line = (rest : List ℕ) × (line ≡ codes "pairtree2ocfl: " ++ rest)
 
--- the job takes what a file came to, or this is the status
-abbrev pub TakesAnswer : Answer → Job → Result Job ℕ → Type 0
+-- why there is no job where a file's identifiers can't be had: a line that is none is refused, and so is a file that can't be read, by a line
+-- that says so; and want of memory is another
+abbrev pub IsUnread : FileFault → Untaken → Type 0
+IsUnread fault untaken.Memory = ⊤
+IsUnread (file.Line bad) (untaken.Refused line) = IsOwnLine (string_bytes line)
+IsUnread (file.Read error) (untaken.Refused line) = (error_kind error ≢ OutOfMemory) × IsOwnLine (string_bytes line)
+IsUnread file.Memory (untaken.Refused line) = ⊥
+
+-- the job takes what a file came to, or this is why not
+abbrev pub TakesAnswer : Answer → Job → Result Job Untaken → Type 0
 TakesAnswer (Ok lines) job taken = TakesIdentifiers lines job taken
 TakesAnswer (Err fault) job (Ok taken) = ⊥
-TakesAnswer (Err fault) job (Err status) = IsUnread fault status
+TakesAnswer (Err fault) job (Err why) = IsUnread fault why
 
 -- the same of the file of this path, which is read; without a list the job stays
-abbrev pub TakesList : FileWords → Option Text → Job → Result Job ℕ → Type 0
+abbrev pub TakesList : FileWords → Option Text → Job → Result Job Untaken → Type 0
 TakesList files None job taken = taken ≡ Ok job
 TakesList files (Some path) job taken = (answer : Answer) × ReadsList files path answer × TakesAnswer answer job taken
 
--- that is made with the job; or the refusal is the status, and nothing is asked of the machine
-abbrev pub MakesListed : {H : Type 0} → (Job → H → H → ℕ → Type 0) → Result Job ℕ → H → H → ℕ → Type 0
-MakesListed makes (Ok job) old new status = makes job old new status
-MakesListed makes (Err refusal) old new status = (status ≡ refusal) × (new ≡ old)
+-- why there is no job is told, and nothing else is asked of the machine: a refusal, or want of memory
+abbrev pub IsUntaken : {H : Type 0} → MachineWords H → Untaken → H → H → ℕ → Type 0
+IsUntaken machine (untaken.Refused line) old new status = (status ≡ 2) × Tells machine (string_bytes line) old new
+IsUntaken machine untaken.Memory old new status = (status ≡ 3) × Tells machine (own_line Memory) old new
+
+-- that is made with the job, if there is one
+abbrev pub MakesListed : {H : Type 0} → MachineWords H → (Job → H → H → ℕ → Type 0) → Result Job Untaken → H → H → ℕ → Type 0
+MakesListed machine makes (Ok job) old new status = makes job old new status
+MakesListed machine makes (Err why) old new status = IsUntaken machine why old new status

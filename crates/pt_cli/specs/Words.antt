@@ -1,5 +1,5 @@
 -- What the words of the command line are answered.
-use Rattle.std.specs.Prelude.{ℕ, ◌≡◌, ◌≢◌, ◌⊎◌, ⊤, List, [], ◌∷◌, Option, Result, Ok, Err}
+use Rattle.std.specs.Prelude.{ℕ, ◌≡◌, ◌≢◌, ◌⊎◌, ⊤, codes, List, [], ◌∷◌, Option, Result, Ok, Err}
 use Rattle.clap.specs.Words.{Kinds, IsAmong, Row, Text, fault_of, subcommand_of}
 use Rattle.clap.specs.declared.error.kind.ErrorKind.{ErrorKind}
 use Rattle.clap.specs.declared.error.kind.ErrorKind.TheVariants as kind
@@ -73,3 +73,21 @@ words_number fault.EmptyEvent = 11
 words_number fault.EmptyList = 12
 words_number fault.EmptyDest = 13
 words_number fault.Folders = 14
+
+-- what standard error is told of a refusal
+abbrev pub words_line : WordsFault → List ℕ
+words_line (fault.Help text) = text
+words_line (fault.Version text) = text
+words_line (fault.Words text) = text
+words_line fault.Created = codes "pairtree2ocfl: --created is not a moment of RFC 3339 to the second\n"
+words_line fault.EmptyName = codes "pairtree2ocfl: --name is empty\n"
+words_line fault.EmptyId = codes "pairtree2ocfl: the identifier is empty\n"
+words_line fault.Memory = codes "pairtree2ocfl: out of memory\n"
+words_line fault.Tuples =
+    codes "pairtree2ocfl: the tuples are out of range: --tuple-size and --tuples are each from 1 to 32, with a product of at most 64, or both 0\n"
+words_line fault.Share = codes "pairtree2ocfl: --share is not K/N with N from 1 to 4096 and K from 1 to N\n"
+words_line fault.Ignored = codes "pairtree2ocfl: --ignore is not the name of a file or folder\n"
+words_line fault.EmptyEvent = codes "pairtree2ocfl: --event is empty\n"
+words_line fault.EmptyList = codes "pairtree2ocfl: --list is empty\n"
+words_line fault.EmptyDest = codes "pairtree2ocfl: --dest is empty\n"
+words_line fault.Folders = codes "pairtree2ocfl: --by-folders is not a number from 1 to 600 beside --share\n"

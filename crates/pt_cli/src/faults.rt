@@ -1,7 +1,7 @@
 //! Why the words of a command line are no command.
 ghost use Rattle.std.specs.Prelude.{◌≡◌};
 ghost use Rattle.clap.specs.Words.{kind_of};
-ghost use Rattle.pt_cli.specs.Words.{RefusedAs, words_number};
+ghost use Rattle.pt_cli.specs.Words.{RefusedAs, words_line, words_number};
 
 use crate::Text;
 use crate::hints::mend_hint;
@@ -15,50 +15,40 @@ use std::convert::AsStr;
 
 /// Why the words of a command line are no command.
 #[derive(Debug, Drop, thiserror::Error)]
+#[error("{}", self.text())]
 pub enum WordsFault {
     /// Help was asked for; this is its text, for standard output.
-    #[error("{0}")]
     Help(Text),
     /// The version was asked for; this is its text, for standard output.
-    #[error("{0}")]
     Version(Text),
     /// The parser refuses the words; this is its text, for standard error.
-    #[error("{0}")]
     Words(Text),
     /// `--created` isn't a moment of RFC 3339 to the second.
-    #[error("--created is not a moment of RFC 3339 to the second")]
     Created,
     /// `--name` is empty.
-    #[error("--name is empty")]
     EmptyName,
     /// The identifier of `names` is empty.
-    #[error("the identifier is empty")]
     EmptyId,
     /// A growth was refused.
-    #[error("out of memory")]
     Memory,
     /// `--tuple-size` and `--tuples` are no layout.
-    #[error("the tuples are out of range: --tuple-size and --tuples are each from 1 to 32, with a product of at most 64, or both 0")]
     Tuples,
     /// `--share` is no share.
-    #[error("--share is not K/N with N from 1 to 4096 and K from 1 to N")]
     Share,
     /// `--by-folders` is no depth, or stands without a share.
-    #[error("--by-folders is not a number from 1 to 600 beside --share")]
     Folders,
     /// A text of `--ignore` is no name that an entry may have.
-    #[error("--ignore is not the name of a file or folder")]
     Ignored,
     /// `--event` is empty.
-    #[error("--event is empty")]
     EmptyEvent,
     /// `--list` is empty.
-    #[error("--list is empty")]
     EmptyList,
     /// `--dest` is empty.
-    #[error("--dest is empty")]
     EmptyDest,
 }
+
+// What stands before the text of a refusal in its line.
+const FRONT: &str = "pairtree2ocfl: ";
 
 impl WordsFault {
     /// The fault's number: 1 `Help`, 2 `Words`, 3 `Created`, 4 `EmptyName`, 5 `EmptyId`, 6
@@ -82,6 +72,47 @@ impl WordsFault {
             WordsFault::EmptyList => 12,
             WordsFault::EmptyDest => 13,
             WordsFault::Folders => 14,
+        }
+    }
+
+    /// What standard error is told of it, LF and all.
+    pub fn line(&self) -> &str
+        ensures { result.now ≡ words_line self.now }
+    {
+        match self {
+            WordsFault::Help(text) | WordsFault::Version(text) | WordsFault::Words(text) => {
+                text.as_str()
+            }
+            WordsFault::Created => {
+                "pairtree2ocfl: --created is not a moment of RFC 3339 to the second\n"
+            }
+            WordsFault::EmptyName => "pairtree2ocfl: --name is empty\n",
+            WordsFault::EmptyId => "pairtree2ocfl: the identifier is empty\n",
+            WordsFault::Memory => "pairtree2ocfl: out of memory\n",
+            WordsFault::Tuples => {
+                "pairtree2ocfl: the tuples are out of range: --tuple-size and --tuples are each from 1 to 32, with a product of at most 64, or both 0\n"
+            }
+            WordsFault::Share => {
+                "pairtree2ocfl: --share is not K/N with N from 1 to 4096 and K from 1 to N\n"
+            }
+            WordsFault::Folders => {
+                "pairtree2ocfl: --by-folders is not a number from 1 to 600 beside --share\n"
+            }
+            WordsFault::Ignored => {
+                "pairtree2ocfl: --ignore is not the name of a file or folder\n"
+            }
+            WordsFault::EmptyEvent => "pairtree2ocfl: --event is empty\n",
+            WordsFault::EmptyList => "pairtree2ocfl: --list is empty\n",
+            WordsFault::EmptyDest => "pairtree2ocfl: --dest is empty\n",
+        }
+    }
+
+    /// Its text: the line without the program's name and LF, where it isn't the parser's.
+    pub fn text(&self) -> &str {
+        let line = self.line();
+        match line.strip_prefix(FRONT) {
+            Some(text) => text.trim_end(),
+            None => line,
         }
     }
 }

@@ -2,31 +2,37 @@
 //!
 //! Where `--list` names a file, that is read first, by `read_identifiers`, and what is made takes
 //! just the identifiers in its lines (`TakesList`); a file that can't be read or has another line
-//! is refused (2).
-ghost use Rattle.std.specs.Prelude.{◌≡◌, ◌⊎◌, IfOk, map};
+//! is refused (2), by a line that says so.
+ghost use Rattle.std.specs.Prelude.{◌≡◌, IfOk, map};
 ghost use Rattle.std.specs.String.{string_bytes};
-ghost use Rattle.pt_cli.specs.Listing.{IsListing, IsUnread, ReadsList, TakesIdentifiers, TakesList};
-ghost use Rattle.pt_cli.specs.Listing.{texts_of};
+ghost use Rattle.pt_cli.specs.Listing.{IsListing, IsOwnLine, IsUnread, ReadsList};
+ghost use Rattle.pt_cli.specs.Listing.{TakesIdentifiers, TakesList, texts_of};
 
 use crate::identifier_lines::read_identifiers;
 use crate::{FileFault, Text};
-use pt_host::status::REFUSED;
-use pt_host::{Reads, ReadsFiles, end_with_fault};
+use pt_host::{Reads, ReadsFiles};
 use pt_messages::escape;
-use pt_move::{Fault, Job};
+use pt_move::Job;
 use pt_name::{IdentifierList, Share};
 use pt_tree::MemoryFault;
-use std::alloc::{AllocGlobal, Global};
+use std::alloc::{AllocError, AllocGlobal, Global};
 use std::{fmt, io};
 
-// The job that takes the identifiers of the list in a file too, where one is named. Where the file
-// can't be read, or a line is no identifier, standard error is told why, and the answer is the
-// status of that: 2, or 3 for want of memory.
-pub(crate) fn take_list<R: Reads + Eprint + AllocGlobal>(
+/// Why no job takes the identifiers of a list.
+#[derive(Drop)]
+pub(crate) enum Untaken {
+    /// Its file can't be read, or a line is no identifier: this line says so.
+    Refused(String),
+    /// A growth was refused.
+    Memory,
+}
+
+// The job that takes the identifiers of the list in a file too, where one is named.
+pub(crate) fn take_list<R: Reads + AllocGlobal>(
     rt: &R,
     list: &Option<Text>,
     job: Job,
-) -> Result<Job, u8>
+) -> Result<Job, Untaken>
     ensures { TakesList (⟦<R as ReadsFiles>⟧.file_words rt.now) list.now job result }
 {
     let Some(path) = list else {
@@ -34,8 +40,8 @@ pub(crate) fn take_list<R: Reads + Eprint + AllocGlobal>(
     };
     let path = path.as_str();
     match read_list(rt, path) {
-        Ok(ids) => take_identifiers(rt, path, ids, job),
-        Err(fault) => Err(end_unread(rt, path, &fault)),
+        Ok(ids) => take_identifiers(rt.alloc(), path, ids, job),
+        Err(fault) => Err(unread(rt.alloc(), path, &fault)),
     }
 }
 
@@ -49,19 +55,13 @@ fn read_list<R: Reads + AllocGlobal>(rt: &R, path: &str) -> Result<Vec<String>, 
     }
 }
 
-// The job that takes these identifiers too; or the status of want of memory, of which standard
-// error is told.
-fn take_identifiers<R: Eprint + AllocGlobal>(
-    rt: &R,
-    path: &str,
-    ids: Vec<String>,
-    job: Job,
-) -> Result<Job, u8>
+// The job that takes these identifiers too. `Memory` where a growth was refused.
+fn take_identifiers(alloc: Global, path: &str, ids: Vec<String>, job: Job) -> Result<Job, Untaken>
     ensures { TakesIdentifiers (map string_bytes ids.items) job result }
 {
-    match with_list(rt.alloc(), path, ids, job.share) {
+    match with_list(alloc, path, ids, job.share) {
         Ok(share) => Ok(Job { share, ..job }),
-        Err(_) => Err(end_with_fault(rt, &Fault::Memory)),
+        Err(_) => Err(Untaken::Memory),
     }
 }
 
@@ -79,26 +79,30 @@ fn with_list(
     share.with_list(alloc, list)
 }
 
-// Says why the identifiers of a list can't be had, and gives the status of that.
-fn end_unread<R: Eprint + AllocGlobal>(rt: &R, path: &str, fault: &FileFault) -> u8
+// Why the identifiers of the list at a path can't be had.
+fn unread(alloc: Global, path: &str, fault: &FileFault) -> Untaken
     ensures { IsUnread fault.now result }
 {
-    match fault {
-        FileFault::Line(bad) => end_refused(rt, path, bad),
+    let line = match fault {
+        FileFault::Line(bad) => line_against(alloc, path, bad),
         FileFault::Read(error) if error.kind() != io::ErrorKind::OutOfMemory => {
-            end_refused(rt, path, error)
+            line_against(alloc, path, error)
         }
-        _ => end_with_fault(rt, &Fault::Memory),
+        _ => return Untaken::Memory,
+    };
+    match line {
+        Ok(line) => Untaken::Refused(line),
+        Err(_) => Untaken::Memory,
     }
 }
 
-// Says what is against a file, and gives the status of that.
-fn end_refused<R: Eprint + AllocGlobal>(rt: &R, path: &str, reason: &impl fmt::Display) -> u8
-    ensures { (result ≡ 2) ⊎ (result ≡ 3) }
+// The line that says what is against the file at a path. An error where a growth was refused.
+fn line_against(alloc: Global, path: &str, reason: &impl fmt::Display) -> Result<String, AllocError>
+    ensures { IfOk result (λ line. IsOwnLine (string_bytes line)) }
 {
-    let Ok(path) = escape(rt.alloc(), path) else {
-        return end_with_fault(rt, &Fault::Memory);
-    };
-    let _ = eprintln!(rt; "pairtree2ocfl: {path}: {reason}");
-    REFUSED
+    let path = escape(alloc, path)?;
+    let against = format!(in alloc; "{path}: {reason}\n")?;
+    let mut line = String::from_str(alloc, "pairtree2ocfl: ")?;
+    line.push_str(against.as_str())?;
+    Ok(line)
 }

@@ -1,7 +1,8 @@
 //! The command `names -`: the names of the identifiers on a machine's input.
 ghost use Rattle.std.specs.Prelude.{◌≡◌, codes};
 ghost use Rattle.std.specs.Str.{bytes_eq};
-ghost use Rattle.pt_cli.specs.Calls.{TellsAll, list_status};
+ghost use Rattle.pt_cli.specs.Calls.{TellsAll, TellsUnlisted, list_status};
+ghost use Rattle.pt_host.specs.Told.{Tells};
 
 use crate::input::{HasInput, InputMachine};
 use crate::{ListFault, NamesArgs, list_names};
@@ -33,12 +34,13 @@ where
     let mut host_io = host.lend();
     let listed = list_names(rt.alloc(), asked, &mut input, &mut host_io.output);
     host.take_back(host_io);
-    report_list(rt, listed)
+    report_list(rt, host, listed)
 }
 
 // Says why not all names were written, if they weren't, and gives the status.
-fn report_list(rt: &impl Eprint, listed: Result<(), ListFault>) -> u8
-    ensures { result ≡ list_status listed }
+fn report_list<R: Eprint, H: Host>(rt: &R, host: &mut H, listed: Result<(), ListFault>) -> u8
+    ensures status { result ≡ list_status listed }
+    ensures told { TellsUnlisted ⟦<H as Machine>⟧.words listed host.old host.new }
 {
     match listed {
         Ok(()) => DONE,
@@ -46,11 +48,18 @@ fn report_list(rt: &impl Eprint, listed: Result<(), ListFault>) -> u8
             let _ = eprintln!(rt; "pairtree2ocfl: {bad}");
             REFUSED
         }
-        Err(ListFault::Read) => {
-            let _ = eprintln!(rt; "pairtree2ocfl: cannot read standard input");
-            FAILED
-        }
-        Err(ListFault::Write) => end_with_fault(rt, &Fault::Log),
-        Err(ListFault::Memory) => end_with_fault(rt, &Fault::Memory),
+        Err(ListFault::Read) => end_unread(host),
+        Err(ListFault::Write) => end_with_fault(host, &Fault::Log),
+        Err(ListFault::Memory) => end_with_fault(host, &Fault::Memory),
     }
+}
+
+// Says that the input failed, and gives the status of that.
+fn end_unread<H: Host>(host: &mut H) -> u8
+    ensures status { result ≡ 3 }
+    ensures told { Tells ⟦<H as Machine>⟧.words
+        (codes "pairtree2ocfl: cannot read standard input\n") host.old host.new }
+{
+    host.tell("pairtree2ocfl: cannot read standard input\n");
+    FAILED
 }

@@ -11,17 +11,21 @@
 //! `--ignore`, `--sync`, `--dry-run`, `--present-ok`, `--skips-ok`, `--extra`, `--read` and
 //! `--dest` of a check, and `--expect`, whose log is asked for its end. `--verbose`, `--progress`,
 //! `--interval` and `--quiet` are taken from the words too; what they then show is tested.
-ghost use Rattle.std.specs.Prelude.{◌≡◌, map, string_bytes};
+ghost use Rattle.std.specs.Prelude.{◌≡◌, codes, map, string_bytes};
 ghost use Rattle.std.specs.Process.{exit_status};
 ghost use Rattle.pt_messages.specs.Expected.{AsksEnd};
-ghost use Rattle.pt_cli.specs.Calls.{IsToldAs, TellsAsked, TellsNames, TellsText, names_status};
+ghost use Rattle.pt_cli.specs.Calls.{IsToldAs, TellsAsked, TellsNames, TellsText, TellsUnwritten};
+ghost use Rattle.pt_cli.specs.Calls.{names_status};
 ghost use Rattle.pt_cli.specs.Inputs.{beside};
+ghost use Rattle.pt_cli.specs.Listing.{IsUntaken};
 ghost use Rattle.pt_cli.specs.Statuses.{Declines, Ends, EndsWith, IsWordless, MakesAudit, MakesRun};
+ghost use Rattle.pt_cli.specs.Statuses.{Refuses};
 ghost use Rattle.pt_host.specs.Checking.{ChecksStore, check_call};
+ghost use Rattle.pt_host.specs.Told.{Tells};
 
 use crate::input::{HasInput, InputMachine};
 use crate::invocation::Invocation;
-use crate::listing::take_list;
+use crate::listing::{Untaken, take_list};
 use crate::names_of_input::{is_of_input, write_names_of_input};
 use crate::{
     Audit, CheckArgs, Command, Migrate, NamesArgs, NamesFault, Text, WordsFault, names_to,
@@ -51,7 +55,7 @@ use std::rt::Clock;
 pub fn run<R, H: Host + HasInput>(rt: &R, host: &mut H) -> ExitCode
 where
     R: Invocation + Reads + Clock + Eprint + AllocGlobal + Terminals,
-    ensures { Ends (R.starts rt.now) (EndsWith ⟦<H as Machine>⟧.words
+    ensures { Ends ⟦<H as Machine>⟧.words (R.starts rt.now) (EndsWith ⟦<H as Machine>⟧.words
         (beside (AsksEnd (⟦<R as ReadsFiles>⟧.file_words rt.now))
         (⟦<R as ReadsFiles>⟧.file_words rt.now)
         ⟦<H as InputMachine>⟧.input_words))
@@ -59,17 +63,17 @@ where
 {
     match rt.words(rt.alloc()) {
         Ok(words) => ExitCode::from(answer(rt, host, words.as_slice())),
-        Err(error) => ExitCode::from(wordless(rt, &error)),
+        Err(error) => ExitCode::from(wordless(host, &error)),
     }
 }
 
 // Says why no words could be had, and gives the status of that.
-fn wordless(rt: &impl Eprint, error: &io::Error) -> u8
-    ensures { IsWordless error.now result }
+fn wordless<H: Host>(host: &mut H, error: &io::Error) -> u8
+    ensures { IsWordless ⟦<H as Machine>⟧.words error.now host.old host.new result }
 {
     match error.kind() {
-        io::ErrorKind::OutOfMemory => end_with_fault(rt, &Fault::Memory),
-        _ => refuse_words(rt, "the arguments are not text"),
+        io::ErrorKind::OutOfMemory => end_with_fault(host, &Fault::Memory),
+        _ => refuse_words(host, "pairtree2ocfl: the arguments are not text\n"),
     }
 }
 
@@ -95,47 +99,40 @@ where
         Ok(Command::Migrate(asked)) => make_run(rt, host, asked),
         Ok(Command::Audit(asked)) => make_audit(rt, host, asked),
         Ok(Command::Check(asked)) => make_check(rt, host, asked),
-        Err(fault) => refuse(rt, host, &fault),
+        Err(fault) => refuse(host, &fault),
     }
 }
 
 // Tells what was asked of the parser alone, or why the words are refused.
-fn refuse<R: Eprint, H: Host>(rt: &R, host: &mut H, fault: &WordsFault) -> u8
+fn refuse<H: Host>(host: &mut H, fault: &WordsFault) -> u8
     ensures { Declines ⟦<H as Machine>⟧.words fault.now host.old host.new result }
 {
     match fault {
-        WordsFault::Help(text) => tell(rt, host, text),
-        WordsFault::Version(text) => tell(rt, host, text),
-        WordsFault::Words(text) => {
-            let _ = eprint!(rt; "{text}");
-            REFUSED
-        }
-        WordsFault::Memory => end_with_fault(rt, &Fault::Memory),
-        _ => {
-            let _ = eprintln!(rt; "pairtree2ocfl: {fault}");
-            REFUSED
-        }
+        WordsFault::Help(text) => tell(host, text),
+        WordsFault::Version(text) => tell(host, text),
+        WordsFault::Memory => end_with_fault(host, &Fault::Memory),
+        _ => refuse_words(host, fault.line()),
     }
 }
 
 // Writes a text that was asked for to the machine's output.
-fn tell<R: Eprint, H: Host>(rt: &R, host: &mut H, text: &Text) -> u8
+fn tell<H: Host>(host: &mut H, text: &Text) -> u8
     ensures { TellsText ⟦<H as Machine>⟧.words text.now host.old host.new result }
 {
     let mut host_io = host.lend();
     let written = write_out(&mut host_io.output, text.as_str().as_bytes());
     host.take_back(host_io);
-    report_text(rt, written)
+    report_text(host, written)
 }
 
 // The status of writing a text that was asked for. Nobody may read it any more: that is no failure.
-fn report_text(rt: &impl Eprint, written: io::Result<()>) -> u8
-    ensures { IsToldAs written result }
+fn report_text<H: Host>(host: &mut H, written: io::Result<()>) -> u8
+    ensures { IsToldAs ⟦<H as Machine>⟧.words written host.old host.new result }
 {
     match written {
         Ok(()) => DONE,
         Err(error) if error.kind() == io::ErrorKind::BrokenPipe => DONE,
-        Err(_) => end_with_fault(rt, &Fault::Log),
+        Err(_) => end_with_fault(host, &Fault::Log),
     }
 }
 
@@ -157,7 +154,7 @@ where
             let options = RunOptions { job, ..options };
             run_guarded(rt, host, options, source.as_str(), dest.as_str())
         }
-        Err(status) => status,
+        Err(why) => refuse_list(host, why),
     }
 }
 
@@ -179,12 +176,22 @@ where
             let options = AuditOptions { job, ..options };
             audit_guarded(rt, host, options, source.as_str(), dest.as_str())
         }
-        Err(status) => status,
+        Err(why) => refuse_list(host, why),
+    }
+}
+
+// Says why no job takes a list, and gives the status of that.
+fn refuse_list<H: Host>(host: &mut H, why: Untaken) -> u8
+    ensures { IsUntaken ⟦<H as Machine>⟧.words why host.old host.new result }
+{
+    match why {
+        Untaken::Refused(line) => refuse_words(host, line.as_str()),
+        Untaken::Memory => end_with_fault(host, &Fault::Memory),
     }
 }
 
 // Makes the check that the words ask for, and gives its status.
-fn make_check<R: Eprint + AllocGlobal, H: Host>(rt: &R, host: &mut H, asked: CheckArgs) -> u8
+fn make_check<R: AllocGlobal, H: Host>(rt: &R, host: &mut H, asked: CheckArgs) -> u8
     ensures { ChecksStore ⟦<H as Machine>⟧.words (check_call asked.options asked.source)
         host.old host.new result }
 {
@@ -207,32 +214,42 @@ where
 }
 
 // Writes the names of an identifier to the machine's output, and gives the status of that.
-fn write_names<R: Eprint + AllocGlobal, H: Host>(rt: &R, host: &mut H, asked: &NamesArgs) -> u8
+fn write_names<R: AllocGlobal, H: Host>(rt: &R, host: &mut H, asked: &NamesArgs) -> u8
     ensures { TellsNames ⟦<H as Machine>⟧.words asked.now host.old host.new result }
 {
     let (prefix, id) = (asked.prefix.as_str(), asked.id.as_str());
     let mut host_io = host.lend();
     let written = names_to(rt.alloc(), &asked.layout, prefix, id, &mut host_io.output);
     host.take_back(host_io);
-    report_names(rt, written)
+    report_names(host, written)
 }
 
 // Says why the names weren't written, if they weren't, and gives the status.
-fn report_names(rt: &impl Eprint, written: Result<(), NamesFault>) -> u8
-    ensures { result ≡ names_status written }
+fn report_names<H: Host>(host: &mut H, written: Result<(), NamesFault>) -> u8
+    ensures status { result ≡ names_status written }
+    ensures told { TellsUnwritten ⟦<H as Machine>⟧.words written host.old host.new }
 {
     match written {
         Ok(()) => DONE,
-        Err(NamesFault::Empty) => refuse_words(rt, "the identifier is empty"),
-        Err(NamesFault::Write) => end_with_fault(rt, &Fault::Log),
-        Err(NamesFault::Memory) => end_with_fault(rt, &Fault::Memory),
+        Err(NamesFault::Empty) => refuse_empty(host),
+        Err(NamesFault::Write) => end_with_fault(host, &Fault::Log),
+        Err(NamesFault::Memory) => end_with_fault(host, &Fault::Memory),
     }
 }
 
-// Says why the words were refused.
-fn refuse_words(rt: &impl Eprint, reason: &str) -> u8
-    ensures { result ≡ 2 }
+// Says that an identifier is empty, and gives the status of that.
+fn refuse_empty<H: Host>(host: &mut H) -> u8
+    ensures status { result ≡ 2 }
+    ensures told { Tells ⟦<H as Machine>⟧.words (codes "pairtree2ocfl: the identifier is empty\n")
+        host.old host.new }
 {
-    let _ = eprintln!(rt; "pairtree2ocfl: {reason}");
+    refuse_words(host, "pairtree2ocfl: the identifier is empty\n")
+}
+
+// Says by this text why the words were refused.
+fn refuse_words<H: Host>(host: &mut H, text: &str) -> u8
+    ensures { Refuses ⟦<H as Machine>⟧.words 2 text.now host.old host.new result }
+{
+    host.tell(text);
     REFUSED
 }

@@ -51,8 +51,8 @@ of_ok : (ran : Result Numbers Fault) (numbers : Numbers) → ran ≡ Ok numbers 
 of_ok ran numbers is P holds = subst (λ (r : Result Numbers Fault). IfOk r P) is holds
 
 pub unhalted_store : {H : Type 0} (words : MachineWords H) → NoRunIsHaltedAfterQuietCheck words
-unhalted_store words both checked carried tree at status same reads checks made =
-    let told = quiet checks.ran checks.status_is in
+unhalted_store words both checked carried tree at check-end end same reads checks zero made =
+    let told = quiet checks.ran (sym zero ∙ checks.status_is) in
     let failing = words.read.store_fails both.checked.store both.check.store in
     let went = of_ok checks.ran told.0 told.1 (λ numbers. ForSome (store_checked words.read both.check both.checked)
     (ChecksTree both.check failing (words.read.output both.checked.output) (words.read.output checked.output) numbers)) checks.checks in

@@ -1,6 +1,7 @@
 -- What an audit on a machine comes to.
 use Rattle.std.specs.Prelude.{◌≡◌, ◌+◌, ◌==◌, ℕ, Bool, true, false, if◌then◌else◌, IfErr, List, None, OnOk, Option, Result, Ok, Err}
 use Rattle.std.specs.Option.{ForSome}
+use Rattle.std.specs.Result.{result_err}
 use Rattle.pt_audit.specs.Auditing.{start_over}
 use Rattle.pt_audit.specs.Bounds.{IsMade}
 use Rattle.pt_audit.specs.Failing.{AuditSays}
@@ -11,12 +12,15 @@ use Rattle.pt_extra.specs.declared.auditing.AuditCounts.{AuditCounts}
 use Rattle.pt_folder.specs.SourceHeld.{told_of as source_told}
 use Rattle.pt_guard.specs.declared.places.Claim.TheVariants.{Shared}
 use Rattle.pt_tree.specs.Ignoring.{told_without}
+use Rattle.pt_messages.specs.declared.watch.Words.{Words}
+use Rattle.pt_messages.specs.declared.watch.Words.TheVariants as log
 use Rattle.pt_plan.specs.declared.fault.Fault.{Fault}
-use Rattle.pt_host.specs.Ends.{OfList}
 use Rattle.pt_host.specs.HostCall.{Lend, TakeBack}
 use Rattle.pt_host.specs.Machine.{HostIoOf, HostIoWords, MachineWords}
-use Rattle.pt_host.specs.Made.{GuardsRecord}
+use Rattle.pt_host.specs.Made.{GuardsRecord, OfList}
+use Rattle.pt_host.specs.Told.{CameTo}
 use Rattle.pt_host.specs.declared.host.HostIo.{HostIo}
+use Rattle.pt_host.specs.declared.operation.Conclusion.{Conclusion}
 use Rattle.pt_host.specs.declared.options.AuditOptions.{AuditOptions}
 use Rattle.pt_state.specs.States.{job_of}
 use Rattle.pt_tree.specs.Failures.{HasRisen}
@@ -33,6 +37,11 @@ others true told = told.counts.absent + told.counts.differs + told.numbers.extra
 abbrev pub audit_status : Bool → Result AuditCounts Fault → ℕ
 audit_status skips_ok (Ok told) = if others skips_ok told == 0 then 0 else 1
 audit_status skips_ok (Err fault) = 3
+
+-- the words of an audit's log, with extras or without them
+abbrev pub words_with : Bool → Words
+words_with true = log.BothWays
+words_with false = log.Audit
 
 -- the tree that an audit sees of a store: the one that its system keeps, without the entries that are left out
 abbrev pub store_tree : List (List ℕ) → Option Forest → Option Forest
@@ -68,7 +77,7 @@ root_seen words call host_io = root_tree (words.folder host_io.folder call.folde
 -- that they couldn't be listed in place of what is found of them: how often the root failed isn't known here, so any number may be meant,
 -- but where no folder has such a line nothing is missing
 pub record AuditsOver {S D W : Type 0} (words : HostIoWords S D W (Option Forest)) (call : AuditCall)
-    (old new : HostIo S D W) (status : ℕ) : Type 0 where
+    (old new : HostIo S D W) (end : Conclusion) : Type 0 where
   pub ran : Result AuditCounts Fault
   pub failed : ℕ
   pub ends : AuditLogs call.options.extra (HasRisen 0 failed) (job_of call.options.job)
@@ -81,17 +90,18 @@ pub record AuditsOver {S D W : Type 0} (words : HostIoWords S D W (Option Forest
   pub store_stays : store_seen words call new ≡ store_seen words call old
   pub root_stays : root_seen words call new ≡ root_seen words call old
   pub grows : Grows (words.output old.output) (words.output new.output)
-  pub status_is : status ≡ audit_status call.options.skips_ok ran
+  pub status_is : end.status ≡ audit_status call.options.skips_ok ran
+  pub fault_is : CameTo (words_with call.options.extra) (result_err ran) end.outcome
 
 module _ {H : Type 0} (words : MachineWords H) (asks : Option (List ℕ) → Type 0) (call : AuditCall) where
   -- an audit once it may begin: it is asked what is expected of it, and made over what the machine lends, which is given back
-  abbrev pub Compares : H → H → ℕ → Type 0
-  Compares old new status = asks call.options.feedback.expected
+  abbrev pub Compares : H → H → Conclusion → Type 0
+  Compares old new end = asks call.options.feedback.expected
       × (host_io : HostIoOf words) × (lent : H) × words.host old (Lend host_io) lent × (after : HostIoOf words)
-      × AuditsOver words.read call host_io after status × words.host lent (TakeBack after) new
+      × AuditsOver words.read call host_io after end × words.host lent (TakeBack after) new
 
   -- what `audit_guarded` does on a machine, by the words of that: the guard, with a lock that others may share, the audit that
   -- is asked for, with a list or without one, with its event, and the lock
   abbrev pub Audits : H → H → ℕ → Type 0
   Audits = GuardsRecord words Shared (call.store, call.folder) call.options.feedback.event
-      (OfList call.options.job.share.list Compares)
+      (OfList words call.options.job.share.list Compares)

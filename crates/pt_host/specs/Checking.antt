@@ -1,11 +1,13 @@
 -- What a check of a store on a machine comes to.
 use Rattle.std.specs.Prelude.{◌≡◌, ◌==◌, ⊤, ℕ, Bool, cond, true, if◌then◌else◌, IfErr, IfOk, List, Option, Result, Ok, Err}
 use Rattle.std.specs.Option.{ForSome, option_map}
+use Rattle.std.specs.Result.{result_err}
 use Rattle.pt_check.specs.Counting.{no_numbers, stops_run}
 use Rattle.pt_check.specs.Visits.{Checks, Says, CheckState}
 use Rattle.pt_tree.specs.Log.{Grows}
 use Rattle.pt_check.specs.declared.numbers.Numbers.{Numbers}
 use Rattle.pt_check.specs.declared.wants.Wants.{Wants}
+use Rattle.pt_messages.specs.declared.watch.Words.TheVariants.{Run}
 use Rattle.pt_plan.specs.declared.fault.Fault.{Fault}
 use Rattle.pt_plan.specs.declared.fault.Fault.TheVariants as fault
 use Rattle.pt_tree.specs.Forest.{Forest}
@@ -14,7 +16,9 @@ use Rattle.pt_host.specs.Audits.{store_tree}
 use Rattle.pt_host.specs.HostCall.{Lend, TakeBack}
 use Rattle.pt_host.specs.Room.{room_in}
 use Rattle.pt_host.specs.Machine.{HostIoOf, HostIoWords, MachineWords}
+use Rattle.pt_host.specs.Told.{CameTo, TellsEnd}
 use Rattle.pt_host.specs.declared.host.HostIo.{HostIo}
+use Rattle.pt_host.specs.declared.operation.Conclusion.{Conclusion}
 use Rattle.pt_host.specs.declared.options.CheckOptions.{CheckOptions}
 use Rattle.pt_walk.specs.declared.site.Form.TheVariants as form
 
@@ -77,7 +81,7 @@ ChecksTree call failing was held numbers tree =
 -- tree that the system keeps, and else its fault is the output's or want of memory; whatever it came to, that tree stands, what
 -- stood in the output stands, and the other system is as it was
 pub record ChecksOver {S D W : Type 0} (words : HostIoWords S D W (Option Forest)) (call : CheckCall)
-    (old new : HostIo S D W) (status : ℕ) : Type 0 where
+    (old new : HostIo S D W) (end : Conclusion) : Type 0 where
   pub ran : Result Numbers Fault
   pub checks : IfOk ran (λ numbers. ForSome (store_checked words call old)
       (ChecksTree call (words.store_fails old.store call.store) (words.output old.output)
@@ -86,11 +90,13 @@ pub record ChecksOver {S D W : Type 0} (words : HostIoWords S D W (Option Forest
   pub store_stays : store_checked words call new ≡ store_checked words call old
   pub grows : Grows (words.output old.output) (words.output new.output)
   pub folder_stays : new.folder ≡ old.folder
-  pub status_is : status ≡ check_status ran
+  pub status_is : end.status ≡ check_status ran
+  pub fault_is : CameTo Run (result_err ran) end.outcome
 
--- what `check_store` does on a machine, by the words of that: it is asked for what a run is made over, and for nothing else; the
--- check is made over that, and it is given back
+-- what `check_store` does on a machine, by the words of that: it is asked for what a run is made over; the check is made over that, and
+-- it is given back; a fault that ended the check is told; and nothing else is asked
 abbrev pub ChecksStore : {H : Type 0} → MachineWords H → CheckCall → H → H → ℕ → Type 0
 ChecksStore {H} words call old new status =
     (host_io : HostIoOf words) × (lent : H) × words.host old (Lend host_io) lent × (after : HostIoOf words)
-    × ChecksOver words.read call host_io after status × words.host lent (TakeBack after) new
+    × (end : Conclusion) × ChecksOver words.read call host_io after end × (back : H) × words.host lent (TakeBack after) back
+    × TellsEnd words end.outcome back new × (status ≡ end.status)

@@ -1,5 +1,5 @@
 -- What a run that is halted for its destination asked of it.
-use Rattle.std.specs.Prelude.{◌≡◌, ℕ, false, Err}
+use Rattle.std.specs.Prelude.{◌≡◌, false, Err}
 use Rattle.pt_folder.specs.DestLaws.{Kept}
 use Rattle.pt_folder.specs.HostDest.{system_of}
 use Rattle.pt_folder.specs.Steps.{Step, Steps}
@@ -14,6 +14,7 @@ use Rattle.pt_host.specs.Machine.{HostIoWords}
 use Rattle.pt_host.specs.Made.{RunCall, RunsOver}
 use Rattle.pt_host.specs.Served.{IsSetUp, Serves}
 use Rattle.pt_host.specs.declared.host.HostIo.{HostIo}
+use Rattle.pt_host.specs.declared.operation.Conclusion.{Conclusion}
 
 module _ {S F D : Type 0} {sys : OfSystem S F D} {handle : OfHandle F} {file : OfInput F}
     {dir : OfInput D} where
@@ -42,8 +43,8 @@ module _ {S D F R W : Type 0} (sys : OfSystem D F R) (handle : OfHandle F) (file
   -- all those from the one that was set up as the options say to the one that left its system so
   abbrev pub DestFaultMeansFailedStep : Type 0
   DestFaultMeansFailedStep =
-      (call : RunCall) (lent left : HostIo S D W) (status : ℕ) → call.options.rehearse ≡ false
-      → (made : RunsOver words call lent (Serves sys handle file dir call.options call.folder lent.folder left.folder) left status)
+      (call : RunCall) (lent left : HostIo S D W) (end : Conclusion) → call.options.rehearse ≡ false
+      → (made : RunsOver words call lent (Serves sys handle file dir call.options call.folder lent.folder left.folder) left end)
       → made.4.0 ≡ Err fault.Dest
       → (first last : HostDest D F R sys handle file dir) × IsSetUp call.options call.folder lent.folder first
       × HasFailedStep first last × (system_of last ≡ left.folder)

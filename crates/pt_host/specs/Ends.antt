@@ -30,20 +30,8 @@ abbrev pub run_status : AllowedLines → Result Report Fault → ℕ
 run_status allowed (Ok report) = if uncarried allowed report == 0 then 0 else 1
 run_status allowed (Err fault) = 3
 
--- what a run came to, and its status
-abbrev pub RunEnds : AllowedLines → ℕ → Type 0
-RunEnds allowed status = (result : Result Report Fault) × (status ≡ run_status allowed result)
-
 -- with a list of identifiers a run or an audit that would end with 0 may end with 1, where no object was met of one of them; without a list
 -- it ends as it does
 abbrev pub EndsWithList : Option (List (List ℕ)) → ℕ → ℕ → Type 0
 EndsWithList None plain status = status ≡ plain
 EndsWithList (Some ids) plain status = (status ≡ plain) ⊎ ((plain ≡ 0) × (status ≡ 1))
-
--- it is made, with a list or without one
-abbrev pub OfList : {H : Type 0} → Option (List (List ℕ)) → (H → H → ℕ → Type 0) → H → H → ℕ → Type 0
-OfList list makes old new status = (plain : ℕ) × makes old new plain × EndsWithList list plain status
-
--- it may not begin, or it came to this, and ends with this status, where its log may have these lines
-abbrev pub Ends : AllowedLines → ℕ → Type 0
-Ends allowed status = ((fault : GuardFault) × (status ≡ guard_status fault)) ⊎ RunEnds allowed status

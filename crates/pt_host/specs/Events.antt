@@ -10,11 +10,13 @@ use Rattle.pt_guard.specs.declared.file.FileFault.{FileFault}
 use Rattle.pt_guard.specs.declared.file.FileFault.TheVariants as place
 use Rattle.pt_host.specs.HostCall.{MakeFile, MoveFile}
 use Rattle.pt_host.specs.Machine.{MachineWords}
+use Rattle.pt_host.specs.Told.{TellsEvent}
 use Rattle.pt_host.specs.declared.event.EventFault.{EventFault}
 use Rattle.pt_host.specs.declared.event.EventFault.TheVariants as fault
 use Rattle.pt_host.specs.declared.event.EventFile.{EventFile}
 use Rattle.pt_host.specs.declared.event.EventPath.{EventPath}
 use Rattle.pt_host.specs.declared.event.EventPath.TheVariants as which
+use Rattle.pt_host.specs.declared.operation.Conclusion.{Conclusion}
 
 -- the paths of a file and of what is to replace it
 abbrev pub paths_of : List ℕ → List ℕ × List ℕ
@@ -123,24 +125,30 @@ module _ {H : Type 0} (words : MachineWords H) where
   EndsFile paths old new result =
       Stops fault.Memory old new result ⊎ Replaces paths old new result
 
+  -- why the end of an event can't be recorded is told, if it can't be
+  abbrev pub TellsUnended : Result (Unit {0}) EventFault → H → H → Type 0
+  TellsUnended (Ok done) mid new = new ≡ mid
+  TellsUnended (Err why) mid new = TellsEvent words (codes "pairtree2ocfl: the event has no end: ") why mid new
+
   -- the same with the status that it leaves of what is recorded
   abbrev pub EndsRecord : List ℕ × List ℕ → ℕ → H → H → ℕ → Type 0
-  EndsRecord paths ran old new status = (result : Result (Unit {0}) EventFault)
-      × EndsFile paths old new result × (status ≡ recorded_status ran result)
+  EndsRecord paths ran old new status = (result : Result (Unit {0}) EventFault) × (mid : H)
+      × EndsFile paths old mid result × TellsUnended result mid new × (status ≡ recorded_status ran result)
 
   -- the same of an event that was begun, if one was
   abbrev pub EndsEvent : Option EventFile → ℕ → H → H → ℕ → Type 0
   EndsEvent None ran old new status = (status ≡ ran) × (new ≡ old)
   EndsEvent (Some file) ran old new status = EndsRecord (file.path, file.part) ran old new status
 
-  -- where an event was begun what it records is made, and then it ends; else nothing is made
-  abbrev pub GoesOnRecorded : List ℕ → (H → H → ℕ → Type 0) → Result (Unit {0}) EventFault → H → H → ℕ → Type 0
-  GoesOnRecorded path makes (Err why) mid new status = (status ≡ event_status why) × (new ≡ mid)
-  GoesOnRecorded path makes (Ok done) mid new status = (ran : ℕ) × (after : H) × makes mid after ran
-      × EndsRecord (paths_of path) ran after new status
+  -- where an event was begun what it records is made, and then it ends; else nothing is made, and why is told
+  abbrev pub GoesOnRecorded : List ℕ → (H → H → Conclusion → Type 0) → Result (Unit {0}) EventFault → H → H → ℕ → Type 0
+  GoesOnRecorded path makes (Err why) mid new status =
+      (status ≡ event_status why) × TellsEvent words (codes "pairtree2ocfl: ") why mid new
+  GoesOnRecorded path makes (Ok done) mid new status = (ran : Conclusion) × (after : H) × makes mid after ran
+      × EndsRecord (paths_of path) ran.status after new status
 
   -- what is made between a store and a destination is recorded, where a file is named for it; else it is made alone, and no further call
-  abbrev pub IsRecorded : List ℕ × List ℕ → Option (List ℕ) → (H → H → ℕ → Type 0) → H → H → ℕ → Type 0
-  IsRecorded at None makes old new status = makes old new status
+  abbrev pub IsRecorded : List ℕ × List ℕ → Option (List ℕ) → (H → H → Conclusion → Type 0) → H → H → ℕ → Type 0
+  IsRecorded at None makes old new status = (ran : Conclusion) × makes old new ran × (status ≡ ran.status)
   IsRecorded at (Some path) makes old new status = (begun : Result (Unit {0}) EventFault) × (mid : H)
       × BeginsFile at path old mid begun × GoesOnRecorded path makes begun mid new status

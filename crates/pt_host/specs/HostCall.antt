@@ -14,3 +14,5 @@ pub data HostCall (F G : Type 0) : Type 0 where
   MakeFile : (path text : List ℕ) → (made : Result (Unit {0}) Error) → HostCall F G
   -- the file at a path is renamed to another, and replaces what stands there
   MoveFile : (from to : List ℕ) → (moved : Result (Unit {0}) Error) → HostCall F G
+  -- standard error is told a text, as it is
+  Tell : (text : List ℕ) → HostCall F G

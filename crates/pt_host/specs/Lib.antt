@@ -15,3 +15,4 @@ pub mod QuietStoreLaw
 pub mod RehearsalLaw
 pub mod Room
 pub mod Served
+pub mod Told

@@ -2,6 +2,7 @@
 use Rattle.std.specs.Prelude.{◌≡◌, ◌≢◌, ◌⊎◌, ⊤, ℕ, Bool, true, false, List, Option, Some, None, is_some, Result, Ok, Err}
 use Rattle.std.specs.IoError.{error_kind}
 use Rattle.std.specs.Option.{ForSome, option_map}
+use Rattle.std.specs.Result.{result_err}
 use Rattle.std.specs.declared.io.Error.{Error}
 use Rattle.std.specs.declared.io.ErrorKind.TheVariants.{InvalidInput}
 use Rattle.pt_folder.specs.DestHeld.{told_with as dest_told}
@@ -11,14 +12,16 @@ use Rattle.pt_folder.specs.declared.unsynced_change.UnsyncedChange.{UnsyncedChan
 use Rattle.pt_folder.specs.declared.writing.FileInWriting.{FileInWriting as Open}
 use Rattle.pt_tree.specs.Ignoring.{told_without}
 use Rattle.pt_guard.specs.Guard.{Begins}
-use Rattle.pt_guard.specs.PlaceCall.{PlaceCall, Release}
+use Rattle.pt_guard.specs.PlaceCall.{Release}
 use Rattle.pt_guard.specs.declared.guard.FolderLock.{FolderLock}
 use Rattle.pt_guard.specs.declared.guard.FolderLock.TheVariants as lock
 use Rattle.pt_guard.specs.declared.guard.GuardFault.{GuardFault}
 use Rattle.pt_guard.specs.declared.places.Claim.{Claim}
 use Rattle.pt_guard.specs.declared.places.Claim.TheVariants.{Alone}
+use Rattle.pt_messages.specs.declared.watch.Words.TheVariants.{Run}
 use Rattle.pt_move.specs.Migrates.{Migrates}
 use Rattle.pt_plan.specs.declared.fault.Fault.{Fault}
+use Rattle.pt_plan.specs.declared.fault.Fault.TheVariants.{Log}
 use Rattle.pt_plan.specs.DeviceStates.{Failures, DeviceStates}
 use Rattle.pt_plan.specs.SourceFailures.{FailsAtOpen, FailsWhereAsked, SourceView}
 use Rattle.pt_state.specs.declared.job.Job.{Job}
@@ -27,11 +30,13 @@ use Rattle.pt_tree.specs.Dest.{Writing}
 use Rattle.pt_tree.specs.Failing.{Failing}
 use Rattle.pt_tree.specs.Path.{Path}
 use Rattle.pt_host.specs.Durable.{IsLogged}
-use Rattle.pt_host.specs.Ends.{OfList, guard_status, run_status}
+use Rattle.pt_host.specs.Ends.{EndsWithList, guard_status, run_status}
 use Rattle.pt_host.specs.Events.{IsRecorded}
 use Rattle.pt_host.specs.HostCall.{Lend, OpenOutput, TakeBack}
 use Rattle.pt_host.specs.Machine.{HostIoOf, HostIoWords, MachineWords}
+use Rattle.pt_host.specs.Told.{CameTo, TellsEnd, Tells, refusal_line}
 use Rattle.pt_host.specs.declared.host.HostIo.{HostIo}
+use Rattle.pt_host.specs.declared.operation.Conclusion.{Conclusion}
 use Rattle.pt_host.specs.declared.options.RunOptions.{RunOptions}
 
 -- the states of a rehearsal, whose destination tells this; those of a run are its own
@@ -48,11 +53,11 @@ pub record IsRun (job : Job) (rehearse : Bool) (was : Option Writing) (old new :
   pub tells : is_some plays ≡ is_some was
   pub promises : Migrates job (seen rehearse was old) (seen rehearse plays new) ran
 
--- and this is its status
-abbrev pub IsMade : RunOptions → Option Writing → DeviceStates → DeviceStates → ℕ → Type 0
-IsMade options was old new status =
+-- and this is its status, and its fault
+abbrev pub IsMade : RunOptions → Option Writing → DeviceStates → DeviceStates → Conclusion → Type 0
+IsMade options was old new end =
     (ran : Result Report Fault) × IsRun options.job options.rehearse was old new ran
-    × (status ≡ run_status options.allowed ran)
+    × (end.status ≡ run_status options.allowed ran) × CameTo Run (result_err ran) end.outcome
 
 -- the paths of a run's two folders, the names of the entries that are left out of the store, and whether files are
 -- put onto the disk
@@ -100,17 +105,17 @@ source_of start =
 abbrev pub FailsByAsking : SourceView → ℕ → Type 0
 FailsByAsking source failed = (failed ≡ source.failed) ⊎ (FailsAtOpen source ⊎ FailsWhereAsked source)
 
--- a run was made from this start to what its devices then tell over these systems and this output, with this status and
+-- a run was made from this start to what its devices then tell over these systems and this output, with this end and
 -- this unsynced; a rehearsal left of the folder what the system kept; the source failed only where it fails that is asked for; and the
 -- destination failed as often as calls of it did
 abbrev pub RunsFrom : {S D W F : Type 0} → HostIoWords S D W (Kept F) → RunOptions → Start F → (ℕ → Type 0)
-    → HostIo S D W → ℕ → Type 0
-RunsFrom {S} {D} {W} {F} words options start served host_io status =
+    → HostIo S D W → Conclusion → Type 0
+RunsFrom {S} {D} {W} {F} words options start served host_io end =
     (reading : Option (List ℕ)) × (unsynced : Option UnsyncedChange) × (writing : Option (Open F))
     × (failures : Failures) × IsMade options (dest_told start.kept None None) start.states
-    (host_io_of words start.at host_io reading unsynced writing failures) status
+    (host_io_of words start.at host_io reading unsynced writing failures) end
     × LeavesKept options.rehearse start.kept (words.folder host_io.folder start.at.folder)
-    × IsUnsyncedBy start.at.synced start.states.failures.dest status unsynced
+    × IsUnsyncedBy start.at.synced start.states.failures.dest end.status unsynced
     × FailsByAsking (source_of start) failures.source
     × served failures.dest
 
@@ -153,7 +158,7 @@ start_of words call host_io = record {
 -- a run was made over these folders of the systems, with no file open, by so many calls of the destination that failed, and left the
 -- systems and the output so
 abbrev pub RunsOver : {S D W F : Type 0} → HostIoWords S D W (Kept F) → RunCall → HostIo S D W → (ℕ → Type 0)
-    → HostIo S D W → ℕ → Type 0
+    → HostIo S D W → Conclusion → Type 0
 RunsOver words call old = RunsFrom words call.options (start_of words call old)
 
 -- ---- the log's file
@@ -176,25 +181,29 @@ IsTried {F} syncs (Ok (Some file)) answer = (reply : Result (Unit {0}) Error) ×
 
 -- ---- the guard and the lock
 
-module _ {H L : Type 0} (places : H → PlaceCall L → H → Type 0) where
-  -- where a run may not begin, that is its status, and nothing is done; else it is made, and then the lock is given
-  -- back, if there is one
-  abbrev pub GoesOn : (H → H → ℕ → Type 0) → Result (FolderLock L) GuardFault → H → H → ℕ → Type 0
-  GoesOn carries (Err fault) mid new status = (status ≡ guard_status fault) × (new ≡ mid)
+module _ {H : Type 0} (words : MachineWords H) where
+  -- where a run may not begin, that is its status, and why is told; else it is made, and then the lock is given back, if
+  -- there is one
+  abbrev pub GoesOn : (H → H → ℕ → Type 0) → Result (FolderLock words.Lock) GuardFault → H → H → ℕ → Type 0
+  GoesOn carries (Err fault) mid new status = (status ≡ guard_status fault) × Tells words (refusal_line fault) mid new
   GoesOn carries (Ok (lock.Unheld error)) mid new status = carries mid new status
   GoesOn carries (Ok (lock.Held held)) mid new status = (after : H) × carries mid after status
-      × places after (Release held) new
+      × words.places after (Release held) new
 
   -- the guard is asked of two folders, with a lock for this run alone or to be shared, and then it goes on by its answer
   abbrev pub Guarded : Claim → List ℕ × List ℕ → (H → H → ℕ → Type 0) → H → H → ℕ → Type 0
-  Guarded claim folders carries old new status = (answer : Result (FolderLock L) GuardFault) × (mid : H)
-      × Begins places claim folders old mid answer × GoesOn carries answer mid new status
+  Guarded claim folders carries old new status = (answer : Result (FolderLock words.Lock) GuardFault) × (mid : H)
+      × Begins words.places claim folders old mid answer × GoesOn carries answer mid new status
 
-module _ {H : Type 0} (words : MachineWords H) where
   -- the guard, with this lock; then what is made between the two folders, recorded where a file is named for its event; and the lock
-  abbrev pub GuardsRecord : Claim → List ℕ × List ℕ → Option (List ℕ) → (H → H → ℕ → Type 0) → H → H → ℕ
+  abbrev pub GuardsRecord : Claim → List ℕ × List ℕ → Option (List ℕ) → (H → H → Conclusion → Type 0) → H → H → ℕ
       → Type 0
-  GuardsRecord claim folders event makes = Guarded words.places claim folders (IsRecorded words folders event makes)
+  GuardsRecord claim folders event makes = Guarded claim folders (IsRecorded words folders event makes)
+
+  -- it is made, the fault that ended it is told, if one did, and it ends with a list or without one
+  abbrev pub OfList : Option (List (List ℕ)) → (H → H → Conclusion → Type 0) → H → H → Conclusion → Type 0
+  OfList list makes old new end = (plain : Conclusion) × (mid : H) × makes old mid plain
+      × TellsEnd words plain.outcome mid new × EndsWithList list plain.status end.status × (end.outcome ≡ plain.outcome)
 
 -- ---- the run, on a machine
 
@@ -209,22 +218,22 @@ module _ {H : Type 0} (words : MachineWords H) (asks : Option (List ℕ) → Typ
   -- a run over what the machine lends, before which it is asked what is expected of it; that is given back as the run left it,
   -- its log put onto the disk by this file, and of the destination's system what serving it left; none is made where the
   -- log can't be put onto its disk, which is a fault
-  abbrev pub GoesOver : Result (Option words.OutputFile) Error → H → H → ℕ → Type 0
-  GoesOver (Err error) mid new status = (status ≡ 3) × (new ≡ mid)
-  GoesOver (Ok file) mid new status = asks call.options.feedback.expected
+  abbrev pub GoesOver : Result (Option words.OutputFile) Error → H → H → Conclusion → Type 0
+  GoesOver (Err error) mid new end = (end.status ≡ 3) × CameTo Run (Some Log) end.outcome × (new ≡ mid)
+  GoesOver (Ok file) mid new end = asks call.options.feedback.expected
       × (host_io : HostIoOf words) × (lent : H) × words.host mid (Lend host_io) lent × (after : HostIoOf words)
       × RunsOver words.written call host_io (words.serves call.options call.folder host_io.folder after.folder)
-      after status
-      × IsLogged words.puts file host_io.output after.output status
+      after end
+      × IsLogged words.puts file host_io.output after.output end.status
       × words.host lent (TakeBack after) new
 
   -- a run once it may begin: the log's file, if that is to be synced, and then the run
-  abbrev pub Carries : H → H → ℕ → Type 0
-  Carries old new status = (file : Result (Option words.OutputFile) Error) × (mid : H)
-      × FindsLog words call.options.sync old mid file × GoesOver file mid new status
+  abbrev pub Carries : H → H → Conclusion → Type 0
+  Carries old new end = (file : Result (Option words.OutputFile) Error) × (mid : H)
+      × FindsLog words call.options.sync old mid file × GoesOver file mid new end
 
   -- what `run_guarded` does on a machine, by the words of that: the guard, with the lock for it alone, the run that is asked
   -- for, with a list or without one, with its event, and the lock
   abbrev pub Runs : H → H → ℕ → Type 0
   Runs = GuardsRecord words Alone (call.store, call.folder) call.options.feedback.event
-      (OfList call.options.job.share.list Carries)
+      (OfList words call.options.job.share.list Carries)

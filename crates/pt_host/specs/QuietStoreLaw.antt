@@ -1,5 +1,5 @@
 -- What a check on a machine that told nothing says of a run's faults.
-use Rattle.std.specs.Prelude.{◌≡◌, ◌≢◌, ℕ, Bool, true, IfErr, Result, Some}
+use Rattle.std.specs.Prelude.{◌≡◌, ◌≢◌, Bool, true, IfErr, Result, Some}
 use Rattle.pt_plan.specs.declared.fault.Fault.{Fault}
 use Rattle.pt_plan.specs.declared.fault.Fault.TheVariants as fault
 use Rattle.pt_state.specs.declared.job.Report.{Report}
@@ -9,6 +9,7 @@ use Rattle.pt_tree.specs.Source.{tree_in}
 use Rattle.pt_host.specs.Checking.{CheckCall, ChecksOver, store_checked}
 use Rattle.pt_host.specs.Machine.{HostIoOf, MachineWords}
 use Rattle.pt_host.specs.Made.{RunCall, RunsOver, start_of}
+use Rattle.pt_host.specs.declared.operation.Conclusion.{Conclusion}
 
 -- a check and a run, each of its options and over what a machine lends it
 pub record CheckAndRun {H : Type 0} (words : MachineWords H) : Type 0 where
@@ -25,19 +26,20 @@ pub record SeesSame {H : Type 0} (words : MachineWords H) (both : CheckAndRun wo
   pub carried_fails : words.written.store_fails both.lent.store both.run.store ≡ Some at
 
 -- a run was made over this, as a machine that lends it makes it
-abbrev pub IsCarriedOver : {H : Type 0} (words : MachineWords H) → RunCall → (old new : HostIoOf words) → ℕ → Type 0
+abbrev pub IsCarriedOver : {H : Type 0} (words : MachineWords H) → RunCall → (old new : HostIoOf words) → Conclusion → Type 0
 IsCarriedOver words call old new =
     RunsOver words.written call old (words.serves call.options call.folder old.folder new.folder) new
 
 -- what it came to
-abbrev pub ran_over : {H : Type 0} (words : MachineWords H) (call : RunCall) (old new : HostIoOf words) (status : ℕ)
-    → IsCarriedOver words call old new status → Result Report Fault
-ran_over words call old new status made = made.4.0
+abbrev pub ran_over : {H : Type 0} (words : MachineWords H) (call : RunCall) (old new : HostIoOf words) (end : Conclusion)
+    → IsCarriedOver words call old new end → Result Report Fault
+ran_over words call old new end made = made.4.0
 
 -- where a check read each file whole and ended with status 0, no run over the same store is halted for it
 abbrev pub NoRunIsHaltedAfterQuietCheck : {H : Type 0} → MachineWords H → Type 0
 NoRunIsHaltedAfterQuietCheck words =
-    (both : CheckAndRun words) (checked carried : HostIoOf words) (tree : Forest) (at : Path → Bool) (status : ℕ)
-    → SeesSame words both tree at → both.check.options.reads ≡ true → ChecksOver words.read both.check both.checked checked 0
-    → (made : IsCarriedOver words both.run both.lent carried status)
-    → IfErr (ran_over words both.run both.lent carried status made) (λ why. why ≢ fault.Source)
+    (both : CheckAndRun words) (checked carried : HostIoOf words) (tree : Forest) (at : Path → Bool) (quiet end : Conclusion)
+    → SeesSame words both tree at → both.check.options.reads ≡ true
+    → ChecksOver words.read both.check both.checked checked quiet → quiet.status ≡ 0
+    → (made : IsCarriedOver words both.run both.lent carried end)
+    → IfErr (ran_over words both.run both.lent carried end made) (λ why. why ≢ fault.Source)

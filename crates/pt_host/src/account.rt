@@ -1,10 +1,10 @@
 //! What is told of a run or an audit beside its log, from its beginning to its end: how far it is,
-//! how much was left out, its summary, which fault ended it and why, and what its event records.
+//! how much was left out, its summary, why a fault ended it, and what its event records.
 ghost use Rattle.std.specs.Prelude.{◌≡◌};
+ghost use Rattle.pt_host.specs.Told.{CameTo};
 
 use crate::Feedback;
 use crate::folders::Folders;
-use crate::saying::tell_fault_of;
 use pt_folder::{HostSource, System};
 use pt_messages::{
     CountedLog, Explanation, LastCalls, Outcome, Reads, Tally, Terminals, Watch, Watching, reason,
@@ -38,7 +38,9 @@ impl<'a> Account<'a> {
         feedback: &Feedback,
         ignored: &Ignored,
         folders: Folders<'a>,
-    ) -> Account<'a> {
+    ) -> Account<'a>
+        ensures { result.watching ≡ watching }
+    {
         Account {
             watching,
             records: feedback.event.is_some(),
@@ -65,19 +67,20 @@ impl<'a> Account<'a> {
         (Watched::new(source, watch), log)
     }
 
-    /// Tells how it ended, with this fault if there is one, and gives the source with all its entries, the
-    /// log, and what is recorded of the end.
+    /// Ends what is shown of it, which ended with this fault if there is one, and gives the source
+    /// with all its entries, the log, and what it came to.
     pub fn close<R, S: System, L: Log>(
         self,
         rt: &R,
         io: WatchedIo<'_, 'a, R, S, L>,
-        fault: Option<&Fault>,
+        fault: Option<Fault>,
         dest: LastCalls<'_>,
     ) -> (HostSource<'a, S>, L, Outcome)
     where
         R: Reads + Clock + Eprint + AllocGlobal + Terminals,
         ensures source { result.0 ≡ io.entry.0.source.source }
         ensures log { result.1 ≡ io.entry.1.log }
+        ensures outcome { CameTo self.entry.watching.words fault result.2 }
     {
         let (source, log) = io;
         source.watcher().end(log.counts_if(fault.is_none()));
@@ -85,30 +88,16 @@ impl<'a> Account<'a> {
         let tells = self.watching.verbose & self.ignores;
         reason::tell_left_out(rt, tells, ignoring.left_out());
         let source = ignoring.into_source();
-        let why = self.tell_end(rt, fault, &source, dest);
-        let outcome = Outcome::new(self.watching.words, log.counts(), fault, why);
-        (source, log.into_log(), outcome)
-    }
-
-    // Says which fault ended it, if one did, and why, if that is asked for or is at the top of a
-    // folder; and gives why. `NoMemory` where a growth was refused: then only the fault is said.
-    fn tell_end<R: Reads + Eprint + AllocGlobal, S: System>(
-        self,
-        rt: &R,
-        fault: Option<&Fault>,
-        source: &HostSource<'_, S>,
-        dest: LastCalls<'_>,
-    ) -> Explanation {
-        let Some(fault) = fault else {
-            return Explanation::Nothing;
+        let why = match &fault {
+            Some(fault) => reason::of_fault(rt, fault, &source, self.folders.store, dest),
+            None => Explanation::Nothing,
         };
-        tell_fault_of(rt, self.watching.words, fault);
-        let why = reason::of_fault(rt, fault, source, self.folders.store, dest);
-        if let Explanation::Known(reason) = &why
-            && (self.watching.verbose || self.folders.have_at_top(fault, reason))
-        {
-            reason::tell(rt, reason);
-        }
-        why
+        let outcome = Outcome {
+            words: self.watching.words,
+            counts: log.counts(),
+            fault,
+            why,
+        };
+        (source, log.into_log(), outcome)
     }
 }

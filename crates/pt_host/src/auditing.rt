@@ -5,7 +5,7 @@
 //! stands, a refusal is true of the store and of the root, and the status follows from the answer
 //! (`AuditsOver`). Where that was asked for, what was passed over counts as well (`others`).
 ghost use Rattle.std.specs.Prelude.{◌≡◌};
-ghost use Rattle.pt_host.specs.Audits.{AuditsOver, audit_call, audit_status};
+ghost use Rattle.pt_host.specs.Audits.{AuditsOver, audit_call, audit_status, words_with};
 ghost use Rattle.pt_host.specs.Machine.{host_io_words};
 
 use crate::account::Account;
@@ -13,7 +13,7 @@ use crate::devices::{AuditSides, DeviceParts, open_sides};
 use crate::durable_log::SyncsOutput;
 use crate::explaining::LastFailure;
 use crate::folders::Folders;
-use crate::operation::Conclusion;
+use crate::operation::{Conclusion, fault_in};
 use crate::status::{DONE, FAILED, INCOMPLETE};
 use crate::{AuditOptions, HostIo};
 use pt_extra::{AuditCounts, AuditEnd, ExtraDevices, audit};
@@ -25,7 +25,7 @@ use std::io::Write;
 use std::rt::Clock;
 
 /// Holds the root in a folder against a store over what a machine lends, watched as its options
-/// say, and tells standard error of a fault. Gives back what was lent, and how the audit ended.
+/// say. Gives back what was lent, and how the audit ended.
 /// `expected` is how many lines its log may come to, where that is known, and `folders` has the
 /// paths.
 pub(crate) fn audit_over<R, S: System, D: System, W: Write, F: SyncsOutput<W> + Drop>(
@@ -39,7 +39,7 @@ where
     R: Reads + Clock + Eprint + AllocGlobal + Terminals,
     ensures { AuditsOver (host_io_words S.forest S.failing D.forest W.contents)
         (audit_call options folders.entry.store.now folders.entry.folder.now)
-        parts.host_io result.0 result.1.status }
+        parts.host_io result.0 result.1 }
 {
     let alloc = rt.alloc();
     let tally = Tally::new();
@@ -61,7 +61,7 @@ where
         ..
     } = devices;
     let calls = LastCalls::of_root(&root);
-    let (source, log, outcome) = account.close(rt, (store, log), ran.as_ref().err(), calls);
+    let (source, log, outcome) = account.close(rt, (store, log), fault_in(&ran), calls);
     let status = status_of(&ran, options.skips_ok);
     let host_io = HostIo {
         store: source.into_system(),
@@ -72,7 +72,9 @@ where
 }
 
 // Which lines its log has.
-fn words_of(with_extras: bool) -> Words {
+fn words_of(with_extras: bool) -> Words
+    ensures { result ≡ words_with with_extras }
+{
     if with_extras {
         Words::BothWays
     } else {

@@ -12,12 +12,14 @@ ghost use Rattle.pt_host.specs.Machine.{host_io_words};
 use crate::devices::DeviceParts;
 use crate::durable_log::{DurableLog, SyncsOutput};
 use crate::explaining::LastFailure;
+use crate::operation::{Conclusion, fault_in};
 use crate::room::room_in;
-use crate::saying::tell_fault;
+use crate::saying::tell_end;
 use crate::status::{DONE, FAILED, INCOMPLETE};
 use crate::{CheckOptions, Host, HostIo, Machine};
 use pt_check::{Check, CheckDevices, Numbers, Wants};
 use pt_folder::{HostSource, System};
+use pt_messages::{Outcome, Words};
 use pt_move::Fault;
 use pt_tree::Ignoring;
 use pt_walk::Form;
@@ -33,28 +35,28 @@ use std::io::Write;
 /// output's, or want of memory.
 pub fn check_store<R, H: Host>(rt: &R, host: &mut H, options: CheckOptions, store: &str) -> u8
 where
-    R: Eprint + AllocGlobal,
+    R: AllocGlobal,
     ensures { ChecksStore ⟦<H as Machine>⟧.words (check_call options store.now)
         host.old host.new result }
 {
     let host_io = host.lend();
     let file: Option<H::File> = None;
     let parts = DeviceParts { host_io, file };
-    let (host_io, status) = check_over(rt, parts, options, store);
+    let (host_io, Conclusion { status, outcome }) = check_over(rt, parts, options, store);
     host.take_back(host_io);
+    tell_end(host, &outcome);
     status
 }
 
-// Checks a store over what is lent, and tells standard error of a fault. Gives what was lent, and
-// the exit status.
+// Checks a store over what is lent. Gives what was lent, and how the check ended.
 fn check_over<R, S: System, D: System, W: Write, F: SyncsOutput<W> + Drop>(
     rt: &R,
     parts: DeviceParts<S, D, W, F>,
     options: CheckOptions,
     store: &str,
-) -> (HostIo<S, D, W>, u8)
+) -> (HostIo<S, D, W>, Conclusion)
 where
-    R: Eprint + AllocGlobal,
+    R: AllocGlobal,
     ensures { ChecksOver (host_io_words S.forest S.failing D.forest W.contents)
         (check_call options store.now) parts.host_io result.0 result.1 }
 {
@@ -76,16 +78,15 @@ where
     let mut check = Check::new(alloc, devices, wants);
     let ran = check.run();
     let (source, log) = check.into_devices();
-    if let Err(fault) = &ran {
-        tell_fault(rt, fault);
-    }
     let status = status_of(&ran);
+    let fault = fault_in(&ran);
+    let outcome = Outcome::without_lines(Words::Run, fault);
     let host_io = HostIo {
         store: source.into_source().into_system(),
         folder,
         output: log.into_writer(),
     };
-    (host_io, status)
+    (host_io, Conclusion { status, outcome })
 }
 
 // What these options want of a check.

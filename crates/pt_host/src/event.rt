@@ -8,18 +8,18 @@
 //! another is made at the path with `.part` behind it and renamed to the file (`EndsFile`); where
 //! that fails the status is 3. No other path is named in these calls. Where no file is named none
 //! of them is made. What the texts say isn't promised.
-ghost use Rattle.std.specs.Prelude.{◌≡◌, ◌++◌, Err, IfOk, codes};
+ghost use Rattle.std.specs.Prelude.{◌≡◌, ◌++◌, Err, IfOk, List, codes, string_bytes, ℕ};
 ghost use Rattle.pt_host.specs.Events.{BeginsEvent, EndsEvent, EndsFile, MakesEvent, MakesNew};
 ghost use Rattle.pt_host.specs.Events.{MakesBy, MakesUnlessLeft, MovesOver, Replaces, event_status};
 ghost use Rattle.pt_host.specs.Events.{fault_of};
+ghost use Rattle.pt_host.specs.Told.{TellsEvent, TellsLong, event_text};
 
 use crate::folders::Folders;
-use crate::operation::Operation;
-use crate::saying::end_with_fault;
+use crate::operation::{Conclusion, Operation};
 use crate::status::{FAILED, REFUSED};
 use crate::{Host, Machine, Text};
 use pt_guard::{FileFault, judge_file};
-use pt_messages::{Event, Outcome, Reads, escape};
+use pt_messages::{Event, Reads, Words, escape};
 use pt_move::Fault;
 use pt_tree::MemoryFault;
 use std::alloc::{AllocError, AllocGlobal, Global};
@@ -30,6 +30,11 @@ use thiserror::Error;
 
 // What stands behind a file's path in the path of what is to replace it.
 const PART: &str = ".part";
+
+// What is told before why an event can't be begun, and before why it can't be ended.
+const UNBEGUN: &str = "pairtree2ocfl: ";
+
+const UNENDED: &str = "pairtree2ocfl: the event has no end: ";
 
 /// Which of the two paths of an event.
 #[derive(Clone, Copy, Debug, PartialEq, Eq)]
@@ -52,22 +57,18 @@ impl EventPath {
 
 /// Why an event can't be recorded in its file.
 #[derive(Debug, Drop, Error)]
+#[error("{}", self.text())]
 pub enum EventFault {
     /// The file may not lie there.
-    #[error("{0}")]
     Place(FileFault),
     /// Something stands at this path of it.
-    #[error("FILE of --event stands already, or FILE.part does")]
     Stands(EventPath),
     /// The system can't tell what stands at its path with `.part` behind it, as where that has too
     /// long a name.
-    #[error("FILE.part of --event cannot be looked at")]
     Unseen(io::Error),
     /// It can't be written at this path, or moved there.
-    #[error("cannot write FILE of --event")]
     Unwritten(EventPath, io::Error),
     /// A growth was refused.
-    #[error("out of memory")]
     Memory,
 }
 
@@ -83,16 +84,46 @@ impl EventFault {
         }
     }
 
-    // Its text, and behind that, where it has these, the path that it speaks of and the system's
-    // reason. An error where a growth was refused.
-    fn text_with_path(&self, alloc: Global, file: &str) -> Result<String, AllocError> {
+    /// Its text.
+    pub fn text(&self) -> &'static str
+        ensures { result.now ≡ event_text self.now }
+    {
+        match self {
+            EventFault::Place(FileFault::Inside) => {
+                "FILE of --event lies in SOURCE, DEST/ocfl or DEST/staging"
+            }
+            EventFault::Place(FileFault::Hidden) => {
+                "the system cannot tell where FILE of --event lies"
+            }
+            EventFault::Stands(_) => "FILE of --event stands already, or FILE.part does",
+            EventFault::Unseen(_) => "FILE.part of --event cannot be looked at",
+            EventFault::Unwritten(_, _) => "cannot write FILE of --event",
+            EventFault::Place(FileFault::Memory) | EventFault::Memory => "out of memory",
+        }
+    }
+
+    // Its line behind a text: its own text, and behind that, where it has these, the path that it
+    // speaks of and the system's reason. An error where a growth was refused.
+    fn line(&self, alloc: Global, front: &str, file: &str) -> Result<String, AllocError>
+        ensures { IfOk result (λ line. (rest : List ℕ)
+            × (string_bytes line ≡ front.now ++ event_text self.now ++ rest)) }
+    {
+        let rest = self.rest(alloc, file)?;
+        let mut line = String::from_str(alloc, front)?;
+        line.push_str(self.text())?;
+        line.push_str(rest.as_str())?;
+        Ok(line)
+    }
+
+    // What stands behind its text in its line.
+    fn rest(&self, alloc: Global, file: &str) -> Result<String, AllocError> {
         let file = escape(alloc, file)?;
         match self {
-            EventFault::Place(_) | EventFault::Memory => self.to_string(alloc),
-            EventFault::Stands(path) => format!(in alloc; "{self}: {file}{}", path.end()),
-            EventFault::Unseen(error) => format!(in alloc; "{self}: {file}{PART}: {error}"),
+            EventFault::Place(_) | EventFault::Memory => String::from_str(alloc, "\n"),
+            EventFault::Stands(path) => format!(in alloc; ": {file}{}\n", path.end()),
+            EventFault::Unseen(error) => format!(in alloc; ": {file}{PART}: {error}\n"),
             EventFault::Unwritten(path, error) => {
-                format!(in alloc; "{self}: {file}{}: {error}", path.end())
+                format!(in alloc; ": {file}{}: {error}\n", path.end())
             }
         }
     }
@@ -251,14 +282,13 @@ impl<'a> EventPaths<'a> {
     }
 }
 
-// The text of an event that ended with this status, and so.
+// The text of an event of what ended so.
 fn end_text<R: Clock + AllocGlobal>(
     rt: &R,
     mut event: Event,
-    status: u8,
-    outcome: &Outcome,
+    made: &Conclusion,
 ) -> Result<String, AllocError> {
-    event.end(rt, status, outcome)?;
+    event.end(rt, made.status, &made.outcome)?;
     event.line()
 }
 
@@ -311,19 +341,18 @@ where
     Ok(Some(file))
 }
 
-/// Ends an event, where one was begun, with the status and the outcome of what it records, and
-/// gives the status: that, or 3 where the end can't be recorded, of which standard error is told.
-pub(crate) fn end_event<R: Clock + Eprint + AllocGlobal, H: Host>(
+/// Ends an event, where one was begun, by how what it records ended, and gives the status: that, or
+/// 3 where the end can't be recorded, of which standard error is told.
+pub(crate) fn end_event<R: Clock + AllocGlobal, H: Host>(
     rt: &R,
     host: &mut H,
     event: Option<EventFile>,
-    status: u8,
-    outcome: &Outcome,
+    made: &Conclusion,
 ) -> u8
-    ensures { EndsEvent ⟦<H as Machine>⟧.words event status host.old host.new result }
+    ensures { EndsEvent ⟦<H as Machine>⟧.words event made.now.status host.old host.new result }
 {
     let Some(file) = event else {
-        return status;
+        return made.status;
     };
     let EventFile {
         path,
@@ -335,51 +364,62 @@ pub(crate) fn end_event<R: Clock + Eprint + AllocGlobal, H: Host>(
         file: path.as_str(),
         part: part.as_str(),
     };
-    match paths.finish(host, end_text(rt, event, status, outcome)) {
-        Ok(()) => status,
-        Err(fault) => end_unrecorded(rt, &fault, paths.file),
-    }
-}
-
-// Says why the end of the event of this file isn't recorded, and gives the status of that.
-fn end_unrecorded<R: Eprint + AllocGlobal>(rt: &R, fault: &EventFault, file: &str) -> u8
-    ensures { result ≡ 3 }
-{
-    match fault {
-        EventFault::Memory => end_with_fault(rt, &Fault::Memory),
-        _ => {
-            tell(rt, "the event has no end: ", fault, file);
+    match paths.finish(host, end_text(rt, event, made)) {
+        Ok(()) => made.status,
+        Err(fault) => {
+            tell(rt.alloc(), host, UNENDED, (&fault, paths.file));
             FAILED
         }
     }
 }
 
-// Says why an event isn't recorded in this file, behind a text. Where there is no memory for the
-// path it isn't told.
-fn tell<R: Eprint + AllocGlobal>(rt: &R, front: &str, fault: &EventFault, file: &str) {
-    let _ = match fault.text_with_path(rt.alloc(), file) {
-        Ok(text) => eprintln!(rt; "pairtree2ocfl: {front}{text}"),
-        Err(_) => eprintln!(rt; "pairtree2ocfl: {front}{fault}"),
-    };
+// Says why an event isn't recorded, whose file is named so, behind a text.
+fn tell<H: Host>(alloc: Global, host: &mut H, front: &str, why: (&EventFault, &str))
+    ensures { TellsEvent ⟦<H as Machine>⟧.words front.now why.entry.0.now host.old host.new }
+{
+    let (fault, file) = why;
+    match fault {
+        EventFault::Memory | EventFault::Place(FileFault::Memory) => {
+            host.tell(Words::Run.line_of(&Fault::Memory));
+        }
+        _ => tell_long(alloc, host, front, (fault, file)),
+    }
+}
+
+// The same of what isn't want of memory. Where there is no memory for the path it isn't told.
+fn tell_long<H: Host>(alloc: Global, host: &mut H, front: &str, why: (&EventFault, &str))
+    ensures { TellsLong ⟦<H as Machine>⟧.words front.now (event_text why.entry.0.now)
+        host.old host.new }
+{
+    let (fault, file) = why;
+    match fault.line(alloc, front, file) {
+        Ok(line) => host.tell(line.as_str()),
+        Err(_) => {
+            host.tell(front);
+            host.tell(fault.text());
+            host.tell("\n");
+        }
+    }
 }
 
 /// Says why an event can't be begun, whose file is named so, and gives the status of that.
-pub(crate) fn end_unbegun<R: Eprint + AllocGlobal>(
+pub(crate) fn end_unbegun<R: AllocGlobal, H: Host>(
     rt: &R,
+    host: &mut H,
     fault: &EventFault,
     file: Option<&str>,
 ) -> u8
-    ensures { result ≡ event_status fault.now }
+    ensures status { result ≡ event_status fault.now }
+    ensures told { TellsEvent ⟦<H as Machine>⟧.words (codes "pairtree2ocfl: ") fault.now
+        host.old host.new }
 {
-    let status = match fault {
-        EventFault::Memory | EventFault::Place(FileFault::Memory) => {
-            return end_with_fault(rt, &Fault::Memory);
-        }
+    tell(rt.alloc(), host, UNBEGUN, (fault, file.unwrap_or("")));
+    match fault {
         EventFault::Place(FileFault::Inside | FileFault::Hidden)
         | EventFault::Stands(_)
         | EventFault::Unseen(_) => REFUSED,
-        EventFault::Unwritten(_, _) => FAILED,
-    };
-    tell(rt, "", fault, file.unwrap_or(""));
-    status
+        EventFault::Unwritten(_, _) | EventFault::Place(FileFault::Memory) | EventFault::Memory => {
+            FAILED
+        }
+    }
 }

@@ -5,13 +5,13 @@
 //! `audit_guarded` are each that, of their own options. With a list of identifiers the status may be 1 in place
 //! of 0, and without one it stays (`EndsWithList`); what is told of them is tested.
 ghost use Rattle.pt_guard.specs.Guard.{Begins};
-ghost use Rattle.pt_host.specs.Operation.{MakesGuarded};
+ghost use Rattle.pt_host.specs.Operation.{Makes, MakesGuarded};
 ghost use Rattle.pt_messages.specs.Expected.{AsksEnd};
 
 use crate::event::{begin_event, end_event, end_unbegun};
 use crate::folders::Folders;
 use crate::operation::{Conclusion, Operation};
-use crate::saying::end_with_refusal;
+use crate::saying::{end_with_refusal, tell_end, tell_why};
 use crate::unmet::SoughtList;
 use crate::{Host, Machine};
 use pt_guard::{FolderLock, GuardFault, begin};
@@ -39,22 +39,45 @@ where
 {
     let lock = match check_guard(rt, host, &operation, folders) {
         Ok(lock) => lock,
-        Err(fault) => return end_with_refusal(rt, fault),
+        Err(fault) => return end_with_refusal(host, fault),
     };
     let status = match begin_event(rt, host, &operation, folders) {
         Ok(event) => {
-            let sought = SoughtList::of(&operation.job().share);
-            let Conclusion { status, outcome } = operation.make(rt, host, folders);
-            let status = sought.end(rt, status);
-            end_event(rt, host, event, status, &outcome)
+            let made = make_told(rt, host, operation, folders);
+            end_event(rt, host, event, &made)
         }
-        Err(fault) => end_unbegun(rt, &fault, operation.feedback().event()),
+        Err(fault) => end_unbegun(rt, host, &fault, operation.feedback().event()),
     };
     match lock {
         FolderLock::Held(lock) => host.release(lock),
         FolderLock::Unheld(_) => {}
     }
     status
+}
+
+// Makes an operation between two folders, which may begin, and gives how it ended, with its list or
+// without one. Standard error is told of the fault that ended it, if one did, and of which
+// identifiers of its list no object was met.
+fn make_told<R, H: Host, O: Operation + Drop>(
+    rt: &R,
+    host: &mut H,
+    operation: O,
+    folders: Folders<'_>,
+) -> Conclusion
+where
+    R: Reads + Clock + Eprint + AllocGlobal + Terminals,
+    ensures { Makes ⟦<H as Machine>⟧.words
+        (AsksEnd (⟦<R as ReadsFiles>⟧.file_words rt.now)) O.Operation
+        ((folders.entry.store.now, folders.entry.folder.now), operation)
+        (host.old, host.new) result }
+{
+    let sought = SoughtList::of(&operation.job().share);
+    let verbose = operation.feedback().verbose;
+    let Conclusion { status, outcome } = operation.make(rt, host, folders);
+    tell_end(host, &outcome);
+    tell_why(rt, &outcome, verbose, folders);
+    let status = sought.end(rt, status);
+    Conclusion { status, outcome }
 }
 
 // Asks the guard whether the operation may begin, and for the lock that it wants. Where it may, and

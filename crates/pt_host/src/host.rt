@@ -4,7 +4,8 @@
 //!
 //! Beside the machine the functions of this crate have a clock, standard error, an allocator and
 //! terminals, and `Reads`, by bounds; no call of these can change a file or write to the output.
-ghost use Rattle.pt_host.specs.HostCall.{HostCall, Lend, MakeFile, MoveFile, OpenOutput, TakeBack};
+ghost use Rattle.pt_host.specs.HostCall.{HostCall, Lend, MakeFile, MoveFile, OpenOutput};
+ghost use Rattle.pt_host.specs.HostCall.{TakeBack, Tell};
 ghost use Rattle.pt_host.specs.declared.host.HostIo.{HostIo};
 
 use crate::durable_log::SyncsOutput;
@@ -62,4 +63,9 @@ pub trait Host: Places {
     /// made or changed.
     fn move_file(&mut self, from: &str, to: &str) -> io::Result<()>
         ensures { does self.old (MoveFile from.now to.now result) self.new };
+
+    /// Tells standard error a text, as it is. Where that can't be written nothing is answered, as
+    /// nothing changes by it.
+    fn tell(&mut self, text: &str)
+        ensures { does self.old (Tell text.now) self.new };
 }

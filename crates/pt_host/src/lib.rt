@@ -19,6 +19,9 @@
 //!   which is given back, and the lock (`Audits`, `AuditsOver`).
 //! - `check_store`: what is lent is asked for, and nothing else; the check of pt_check is made over
 //!   SOURCE and the output, and what was lent is given back (`ChecksStore`, `ChecksOver`).
+//! - The fault that ended one of these is told once, by its own line (`TellsEnd`); so is why a run or
+//!   an audit may not begin (`refusal_line`), and, by its own text, why there is no event
+//!   (`TellsEvent`).
 //! - Where a file is named for its event (`--event`), a run or an audit is recorded in it
 //!   (`IsRecorded`).
 //! - A rehearsal leaves all that the system keeps of DEST (`LeavesKept`); where it and the run that

@@ -3,17 +3,19 @@
 //! Each says which lock it wants, what its event records, and what making it comes to; how it is
 //! guarded, recorded and held against a list is the same for both (guarded.rt).
 ghost use Rattle.std.specs.Prelude.{◌≡◌, ℕ, List, Option};
+ghost use Rattle.std.specs.Result.{result_err};
 ghost use Rattle.pt_guard.specs.declared.places.Claim.{Claim};
 ghost use Rattle.pt_messages.specs.Expected.{AsksEnd};
 ghost use Rattle.pt_state.specs.declared.job.Job.{Job};
 ghost use Rattle.pt_host.specs.Machine.{MachineWords};
+ghost use Rattle.pt_host.specs.declared.operation.Conclusion.{Conclusion};
 ghost use Rattle.pt_host.specs.declared.options.Feedback.{Feedback};
 
 use crate::folders::Folders;
 use crate::{Feedback, Host, Machine};
 use pt_guard::Claim;
 use pt_messages::{Members, Outcome, Reads, ReadsFiles, Terminals};
-use pt_move::Job;
+use pt_move::{Fault, Job};
 use std::alloc::{AllocError, AllocGlobal, Global};
 use std::rt::Clock;
 
@@ -22,6 +24,16 @@ use std::rt::Clock;
 pub(crate) struct Conclusion {
     pub status: u8,
     pub outcome: Outcome,
+}
+
+/// The fault that ended what came to this, if one did.
+pub(crate) fn fault_in<T>(ran: &Result<T, Fault>) -> Option<Fault>
+    ensures { result ≡ result_err ran.now }
+{
+    match ran {
+        Ok(_) => None,
+        Err(fault) => Some(*fault),
+    }
 }
 
 /// A run or an audit that is asked for, by all that its options say.
@@ -36,10 +48,9 @@ pub(crate) trait Operation {
     ghost feedback_of: { Self → Feedback };
 
     /// Making it between these two folders takes a machine, by its words, from one state to
-    /// another, which are a pair, and ends with this status. The log that `--expect` names is
-    /// asked for its end.
+    /// another, which are a pair, and ends so. The log that `--expect` names is asked for its end.
     ghost makes: { {H : Type 0} → MachineWords H → (Option (List ℕ) → Type 0)
-        → List ℕ × List ℕ → Self → H × H → ℕ → Type 0 };
+        → List ℕ × List ℕ → Self → H × H → Conclusion → Type 0 };
 
     /// The lock that it asks for.
     fn claim(&self) -> Claim
@@ -60,11 +71,12 @@ pub(crate) trait Operation {
     /// nothing to say is left out. An error where a growth was refused.
     fn members(&self, alloc: Global) -> Result<Members, AllocError>;
 
-    /// Makes it over what the machine lends, which is given back, and says how it ended.
+    /// Makes it over what the machine lends, which is given back, and gives how it ended. Of that
+    /// nothing is told.
     fn make<R, H: Host>(self, rt: &R, host: &mut H, folders: Folders<'_>) -> Conclusion
     where
         R: Reads + Clock + Eprint + AllocGlobal + Terminals,
         ensures { makes ⟦<H as Machine>⟧.words (AsksEnd (⟦<R as ReadsFiles>⟧.file_words rt.now))
             (folders.entry.store.now, folders.entry.folder.now) self (host.old, host.new)
-            result.status };
+            result };
 }

@@ -13,8 +13,11 @@
 //! that is set as wanted, to its end (`Serves`); of a rehearsal, which makes nothing there, that
 //! isn't said.
 ghost use Rattle.pt_messages.specs.Expected.{AsksEnd};
-ghost use Rattle.std.specs.Prelude.{◌≡◌};
+ghost use Rattle.pt_messages.specs.declared.watch.Words.TheVariants.{Run};
+ghost use Rattle.pt_plan.specs.declared.fault.Fault.TheVariants.{Log};
+ghost use Rattle.std.specs.Prelude.{◌≡◌, Some};
 ghost use Rattle.pt_host.specs.Made.{Carries, FindsLog, Runs, run_call};
+ghost use Rattle.pt_host.specs.Told.{CameTo};
 
 use crate::devices::{DeviceParts, open_devices};
 use crate::durable_log::Syncs;
@@ -23,7 +26,7 @@ use crate::guarded::make_guarded;
 use crate::operation::{Conclusion, Operation};
 use crate::recorded_options::options_of_run;
 use crate::running::run_over;
-use crate::saying::end_with_fault;
+use crate::status::FAILED;
 use crate::{Feedback, Host, Machine, RunOptions};
 use pt_guard::Claim;
 use pt_messages::{Members, Outcome, Reads, ReadsFiles, Terminals, Words, lines_expected, reason};
@@ -102,7 +105,7 @@ impl Operation for RunOptions {
     {
         let file = match synced_output(rt, host, self.sync) {
             Ok(file) => file,
-            Err(_) => return end_unsynced(rt),
+            Err(_) => return unsynced_end(),
         };
         let expected = lines_expected(rt, self.feedback.expected_log());
         let host_io = host.lend();
@@ -114,13 +117,14 @@ impl Operation for RunOptions {
     }
 }
 
-// Says that the output failed, as it can't be put onto its disk, and gives the end of that.
-fn end_unsynced(rt: &impl Eprint) -> Conclusion
-    ensures { result.status ≡ 3 }
+// The end of a run whose output can't be put onto its disk: that failed.
+fn unsynced_end() -> Conclusion
+    ensures status { result.status ≡ 3 }
+    ensures fault { CameTo Run (Some Log) result.outcome }
 {
     Conclusion {
-        status: end_with_fault(rt, &Fault::Log),
-        outcome: Outcome::of_fault(Words::Run, &Fault::Log),
+        status: FAILED,
+        outcome: Outcome::without_lines(Words::Run, Some(Fault::Log)),
     }
 }
 

@@ -24,7 +24,7 @@ use crate::account::Account;
 use crate::devices::RunDevices;
 use crate::durable_log::{DurableLog, SyncsOutput};
 use crate::folders::Folders;
-use crate::operation::Conclusion;
+use crate::operation::{Conclusion, fault_in};
 use crate::status::{DONE, FAILED, INCOMPLETE};
 use crate::{AllowedLines, HostIo, RunOptions};
 use pt_folder::{HostDest, HostSource, System};
@@ -36,10 +36,9 @@ use std::alloc::{AllocGlobal, Global};
 use std::io::Write;
 use std::rt::Clock;
 
-/// Makes the run that is asked for over its devices, or rehearses it, watched as its options say,
-/// and tells standard error of a fault. `expected` is how many lines its log may come to, where
-/// that is known, and `folders` has the paths that are told. Gives back what the devices were made
-/// over, and how the run ended.
+/// Makes the run that is asked for over its devices, or rehearses it, watched as its options say.
+/// `expected` is how many lines its log may come to, where that is known, and `folders` has the
+/// paths that are told. Gives back what the devices were made over, and how the run ended.
 pub(crate) fn run_over<R, S: System, D: System, W: Write, F: SyncsOutput<W> + Drop>(
     rt: &R,
     devices: RunDevices<'_, S, D, W, F>,
@@ -64,7 +63,7 @@ where
           kept = kept_by devices.entry.dest;
         })
         (ServesTo options.rehearse devices.entry.dest result.0.folder)
-        result.0 result.1.status }
+        result.0 result.1 }
     ensures logged { devices.entry.log.failures ≡ 0
         → IsLogged F.puts devices.entry.log.file devices.entry.log.writer
         result.0.output result.1.status }
@@ -82,7 +81,7 @@ where
     };
     let RunEnd { ran, dest } = run_or_rehearse(rt.alloc(), &mut source, dest, &mut log, task);
     let calls = LastCalls::of_dest(&dest);
-    let (source, log, outcome) = account.close(rt, (source, log), ran.as_ref().err(), calls);
+    let (source, log, outcome) = account.close(rt, (source, log), fault_in(&ran), calls);
     let status = status_of(&ran, options.allowed);
     let host_io = HostIo {
         store: source.into_system(),

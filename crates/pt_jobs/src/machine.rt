@@ -138,6 +138,8 @@ impl<'a> Host for Machine<'a> {
     fn move_file(&mut self, _: &str, _: &str) -> io::Result<()> {
         Err(io::Error::from(ErrorKind::PermissionDenied))
     }
+
+    fn tell(&mut self, _: &str) {}
 }
 
 /// How a store is carried.

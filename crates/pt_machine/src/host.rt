@@ -58,7 +58,7 @@ impl<'a, R: Files> OutputCalls for HostMachine<'a, R> {
     }
 }
 
-impl<'a, R: Files + Print> Host for HostMachine<'a, R>
+impl<'a, R: Files + Print + Eprint> Host for HostMachine<'a, R>
 where
     HostMachine<'a, R>: Places + Terminals,
 {
@@ -105,5 +105,10 @@ where
     // rename.
     fn move_file(&mut self, from: &str, to: &str) -> io::Result<()> {
         self.rt.rename(from, to)
+    }
+
+    // write, to standard error.
+    fn tell(&mut self, text: &str) {
+        let _ = self.rt.eprint(text);
     }
 }

@@ -1,3 +1,4 @@
 pub mod Expected
+pub mod FaultLines
 pub mod Fields
 pub mod Reading

@@ -1,6 +1,8 @@
 //! The record of a run or an audit beside its log: what an archive's record of preservation events
 //! wants of it (PREMIS 3.0, "Event"), as one JSON object on a line. It has two texts: as the run
 //! begins, and with how it ended.
+ghost use Rattle.std.specs.Prelude.{◌≡◌};
+
 use crate::counted::LineCounts;
 use crate::members::Members;
 use crate::reads::{Reads, read_small};
@@ -31,31 +33,28 @@ pub struct Event {
 /// What a run or an audit came to.
 #[derive(Drop)]
 pub struct Outcome {
-    words: Words,
-    counts: LineCounts,
-    fault: Option<Fault>,
-    why: Explanation,
+    /// Which lines its log has.
+    pub words: Words,
+    /// How many it put.
+    pub counts: LineCounts,
+    /// The fault that ended it, if one did.
+    pub fault: Option<Fault>,
+    /// What is known of why.
+    pub why: Explanation,
 }
 
 impl Outcome {
-    /// It put so many lines, and ended with this fault, if with any, and so much is known of why.
-    pub fn new(
-        words: Words,
-        counts: LineCounts,
-        fault: Option<&Fault>,
-        why: Explanation,
-    ) -> Outcome {
+    /// No line was put, and no more is known of why than this fault, if there is one.
+    pub fn without_lines(words: Words, fault: Option<Fault>) -> Outcome
+        ensures words { result.words ≡ words }
+        ensures fault { result.fault ≡ fault }
+    {
         Outcome {
             words,
-            counts,
-            fault: fault.copied(),
-            why,
+            counts: LineCounts::none(),
+            fault,
+            why: Explanation::Nothing,
         }
-    }
-
-    /// No line was put, for this fault.
-    pub fn of_fault(words: Words, fault: &Fault) -> Outcome {
-        Outcome::new(words, LineCounts::none(), Some(fault), Explanation::Nothing)
     }
 }
 
@@ -126,9 +125,7 @@ impl Outcome {
     fn fault_members(&self, alloc: Global, fault: &Fault) -> Result<Members, AllocError> {
         let mut told = Members::new(alloc);
         told.put_number("number", u64::from(fault.number()))?;
-        let text = fault.to_string(alloc)?;
-        let text = self.words.text_of(fault).unwrap_or(text.as_str());
-        told.put_text("text", text)?;
+        told.put_text("text", self.words.text_of(fault))?;
         match &self.why {
             Explanation::Known(reason) => reason.put_into(&mut told)?,
             Explanation::Nothing => {}

@@ -13,6 +13,7 @@
 //! - `Watch` is told of each call of a source (pt_tree, `Watched`), and can't touch it; so what is
 //!   proved of a run holds of a watched one. What is shown and said has no contract, but that each
 //!   function is safe and ends.
+//! - `line_of` gives the line of a fault, with its number and its own text (`fault_line`).
 //! - `Watch` and `CountedLog` have the fields that Fields.antt lists, and no other: nothing that
 //!   grows with a run.
 //! - `Reads` is what can be read of files beside a run: the end of a log, a list of identifiers,
@@ -28,6 +29,7 @@
 mod counted;
 mod event;
 mod expected;
+mod fault_lines;
 mod members;
 mod numbers;
 pub mod prefix;

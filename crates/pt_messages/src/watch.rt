@@ -7,7 +7,6 @@ use crate::numbers::{group_digits, size, time};
 use crate::shown::escape;
 use crate::tally::Tally;
 use crate::terminal::{Terminals, columns};
-use pt_move::Fault;
 use pt_tree::{NamePath, Watcher};
 use std::alloc::{AllocError, AllocGlobal, Global};
 use std::rt::Clock;
@@ -52,16 +51,6 @@ pub enum Words {
     Audit,
     /// Those of an audit that tells of what the store lacks too.
     BothWays,
-}
-
-impl Words {
-    /// What is told of a fault in place of its own text: an audit only reads its destination.
-    pub fn text_of(self, fault: &Fault) -> Option<&'static str> {
-        match (self, fault) {
-            (Words::Audit | Words::BothWays, Fault::Dest) => Some("cannot read the destination"),
-            _ => None,
-        }
-    }
 }
 
 /// Shows how far a run is, as its source is called.

@@ -101,6 +101,8 @@ impl<'a> Host for Machine<'a> {
     fn move_file(&mut self, _: &str, _: &str) -> io::Result<()> {
         Err(io::Error::from(ErrorKind::PermissionDenied))
     }
+
+    fn tell(&mut self, _: &str) {}
 }
 
 /// What runs leave.

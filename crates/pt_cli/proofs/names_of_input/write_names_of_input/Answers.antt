@@ -12,6 +12,8 @@ returns g c = (
   c.list_names-listed.new.out,
   c.list_names-listed.result,
   c.list_names-listed.ensures,
+  c.take_back.new.self,
   c.take_back.ensures,
-  c.report_list.ensures,
+  c.report_list.ensures.told,
+  c.report_list.ensures.status,
 )

@@ -1,4 +1,4 @@
-use Rattle.std.proofs.Common.{Err, Ok, refl}
+use Rattle.std.proofs.Common.{Err, Ok}
 use Rattle.pt_cli.proofs.program.make_audit.Goals as goal
 
 pub returns-in-Ok : goal.returns-in-Ok
@@ -9,4 +9,4 @@ returns-in-Ok g c = (
 )
 
 pub returns-in-Err : goal.returns-in-Err
-returns-in-Err g c = (Err c.in-Err.status, c.in-Err.ensures, (refl, refl))
+returns-in-Err g c = (Err c.in-Err.why, c.in-Err.ensures, c.refuse_list.ensures)

@@ -1,4 +1,4 @@
-use Rattle.std.proofs.Common.{Err, Ok, map, refl, string_bytes}
+use Rattle.std.proofs.Common.{Err, Ok, map, string_bytes}
 use Rattle.pt_cli.proofs.program.run.Goals as goal
 
 pub returns-in-Ok : goal.returns-in-Ok
@@ -9,4 +9,4 @@ returns-in-Ok g c = (
 )
 
 pub returns-in-Err : goal.returns-in-Err
-returns-in-Err g c = (Err c.in-Err.error, c.in-Err.ensures, (rw c.from-in-Err.ensures c.wordless.ensures, refl))
+returns-in-Err g c = (Err c.in-Err.error, c.in-Err.ensures, rw c.from-in-Err.ensures c.wordless.ensures)

@@ -14,6 +14,7 @@ returns g c =
       c.write_out-written.result,
       subst (λ (t : List ℕ). WritesText t before after c.write_out-written.result) (c.as_bytes.ensures.value ∙ c.as_str.ensures)
           (record { ok = done.ok; err = done.part }),
+      c.take_back.new.self,
       c.take_back.ensures,
       c.report_text.ensures,
     )

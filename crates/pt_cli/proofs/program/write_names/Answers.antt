@@ -18,6 +18,8 @@ returns g c =
       subst (λ (p : List ℕ). WritesNames asked.layout p asked.id before after written) c.as_str-prefix.ensures
           (subst (λ (i : List ℕ). WritesNames asked.layout prefix i before after written) c.as_str-id.ensures
           (record { empty = done.empty; ok = done.ok; err = done.err })),
+      c.take_back.new.self,
       c.take_back.ensures,
-      c.report_names.ensures,
+      c.report_names.ensures.told,
+      c.report_names.ensures.status,
     )

@@ -38,4 +38,8 @@ returns g c =
       root_stays = sym stands ∙ made.sides.root.1 ∙ folder;
       grows = subst (λ l. Grows l (contents c.into_writer.result)) first (subst (Grows _) (ap contents (sym output)) made.log.1);
       status_is = c.status_of-status.ensures;
+      fault_is = (
+        c.close-source.ensures.outcome.0 ∙ ap (λ w. w.words) (c.new-account.ensures ∙ c.watching-watching.ensures) ∙ c.words_of.ensures,
+        c.close-source.ensures.outcome.1 ∙ c.fault_in.ensures,
+      );
     }

@@ -32,4 +32,5 @@ returns g c =
       grows = subst (λ l. Grows l (contents c.into_writer.result)) first (subst (Grows _) (ap contents (sym output)) made.keeps.log);
       folder_stays = refl;
       status_is = c.status_of-status.ensures;
+      fault_is = (c.without_lines-outcome.ensures.words, c.without_lines-outcome.ensures.fault ∙ c.fault_in-fault.ensures);
     }

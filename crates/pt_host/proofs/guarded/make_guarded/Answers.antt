@@ -1,14 +1,13 @@
 use Rattle.std.proofs.Common.{ℕ, List, Ok, rules}
 use Rattle.pt_messages.specs.Expected.{AsksEnd}
 use Rattle.pt_messages.specs.Reading.{FileWords}
-use Rattle.pt_host.proofs.ListedEnds.{ends_with_list}
 use Rattle.pt_host.proofs.Recorded.{recorded, unbegun}
 use Rattle.pt_host.proofs.Released.{released, unreleased}
 use Rattle.pt_host.specs.Events.{IsRecorded}
 use Rattle.pt_host.specs.Machine.{MachineWords, host_io_words}
 use Rattle.pt_host.specs.Operation.{Makes}
 use Rattle.pt_host.specs.Served.{Serves}
-use Rattle.pt_host.specs.declared.unmet.SoughtList.TheVariants.{Nothing}
+use Rattle.pt_host.specs.declared.operation.Conclusion.{Conclusion}
 use Rattle.pt_host.proofs.guarded.make_guarded.Goals as goal
 use Rattle.pt_host.proofs.guarded.make_guarded.Goals.{in-Ok-begin_event, in-Err-begin_event, in-Held, in-Unheld}
 
@@ -37,7 +36,7 @@ returns g c =
       reads = g.R.Opened.Input.reads;
     } in
     let at : List ℕ × List ℕ = (c.args.folders.store.now, c.args.folders.folder.now) in
-    let makes : g.row.H.Denot → g.row.H.Denot → ℕ → Type 0 =
+    let makes : g.row.H.Denot → g.row.H.Denot → Conclusion → Type 0 =
     λ old new. Makes words (AsksEnd reading) g.O.Operation (at, c.args.operation) (old, new) in
     let path = (g.O.Operation.feedback_of c.args.operation).event in
     let mid = c.check_guard.new.host in
@@ -45,23 +44,19 @@ returns g c =
     let status = c.match-begin_event.status in
     let carried : IsRecorded words at path makes mid after status = elim c.match-begin_event.branch [
       | in-Ok-begin_event w ↦ rw (w.host-is, w.status-is) (recorded words at makes path w.in-Ok-begin_event.event mid c.begin_event.new.host
-          w.make-status.new.host w.end_event-status.new.host w.end-status.result w.end_event-status.result w.in-Ok-begin_event.ensures (
-            w.make-status.result.status,
-            w.make-status.ensures,
-            ends_with_list w.of-sought.result Nothing (g.O.Operation.job_of c.args.operation).share.list _ _ (rw w.job.ensures at w.of-sought.ensures)
-                w.end-status.ensures.none w.end-status.ensures.some,
-          )
-          w.end_event-status.ensures)
+          w.make_told-made.new.host w.end_event-status.new.host w.make_told-made.result w.end_event-status.result w.in-Ok-begin_event.ensures
+          w.make_told-made.ensures w.end_event-status.ensures)
       | in-Err-begin_event w ↦ rw (w.host-is, w.status-is) (unbegun words at makes path w.in-Err-begin_event.fault mid c.begin_event.new.host
-          w.end_unbegun-status.result w.in-Err-begin_event.ensures w.end_unbegun-status.ensures)
+          w.end_unbegun-status.new.host w.end_unbegun-status.result w.in-Err-begin_event.ensures w.end_unbegun-status.ensures.status
+          w.end_unbegun-status.ensures.told)
     ] in (
       Ok c.in-Ok.lock,
       mid,
       c.in-Ok.ensures,
       elim c.match-lock.branch [
-        | in-Held w ↦ rw w.host-is (released g.H.Places.does (IsRecorded words at path makes) c.in-Ok.lock mid after w.release.new.self status
+        | in-Held w ↦ rw w.host-is (released words (IsRecorded words at path makes) c.in-Ok.lock mid after w.release.new.self status
             w.in-Held.lock w.in-Held.is carried w.release.ensures)
-        | in-Unheld w ↦ rw w.host-is (unreleased g.H.Places.does (IsRecorded words at path makes) c.in-Ok.lock mid after status
+        | in-Unheld w ↦ rw w.host-is (unreleased words (IsRecorded words at path makes) c.in-Ok.lock mid after status
             w.in-Unheld.field-0 w.in-Unheld.is carried)
       ],
     )

@@ -27,6 +27,10 @@ returns-clause-runs g c =
           ← c.watch-source.ensures.log,
         ) (rw (made.source.1.folder, made.source.0, made.dest) at made.promises),
         c.status_of-status.ensures,
+        (
+          c.close-source.ensures.outcome.0 ∙ ap (λ w. w.words) (c.new-account.ensures ∙ c.watching-watching.ensures),
+          c.close-source.ensures.outcome.1 ∙ c.fault_in.ensures,
+        ),
       ),
       rw (c.into_system-2.ensures)
           (leaves_at g.D.System.kept c.args.options.rehearse _ dest.syscalls.system (ap (λ f. f.path.now) made.dest) made.rehearsed),
