@@ -244,8 +244,12 @@ class Store:
 
     def start(self, number, out, running):
         """Starts the run of a share."""
-        with contextlib.suppress(FileExistsError):
+        try:
             os.mkdir(str(number), dir_fd=out)
+        except FileExistsError:
+            pass
+        except OSError as error:
+            raise Fault(f"{self.at(number)}: {error.strerror}") from error
         with folder(str(number), out, f"{self.out}/") as share:
             is_locked = self.lock(number, share)
             if stat.S_ISLNK(mode_of("ocfl", share)):

@@ -1,5 +1,6 @@
 """Cases of `shares.py status`, which tells how far the shares of a store are: by logs, events, locks and OUT/joining, changing none of them."""
 
+import contextlib
 import fcntl
 import json
 import os
@@ -13,6 +14,7 @@ import scripted
 import stores
 from alone import Alone, differs
 from guide import guide_block, with_program
+from running import mount_below
 from scripted import LOCKLESS, SCRIPT, by_script, environment
 from sharing import ran
 from stores import DIR, FIFO, GONE, Link, build, differences, read_tree
@@ -284,6 +286,15 @@ def torn_notes(program, folder):
     return faults
 
 
+def read_only(program, folder):
+    """A share whose folder can't be made is named with that folder's path."""
+    with contextlib.ExitStack() as last:
+        build(folder, {"fixed": DIR})
+        mount_below(folder, ("-t", "tmpfs", "-o", "ro,size=1m", "none", "fixed"), last)
+        told = f"shares.py: share 2 of 3: {folder}/fixed/2: Read-only file system\n"
+        return differs(told=(by_script(program, folder, "share", "2", "3", OUT=f"{folder}/fixed"), (3, b"", told)))
+
+
 def refused(program, folder):
     """Words that are wrong, an OUT that isn't set, isn't there or is no folder, and a link at OUT/joining are refused with status 2 and no line."""
     out, faults = f"{folder}/out of it", []
@@ -361,6 +372,7 @@ CASES = [
     Alone("how far shares are, the join", joins),
     Alone("how far shares are, the join's notes", join_notes),
     Alone("how far shares are, torn notes of the join", torn_notes),
+    Alone("shares that can't be begun", read_only),
     Alone("how far shares are, refused", refused),
     Alone("how far shares are, as the guide shows it", of_the_guide),
     Alone("how far shares are, many shares and long logs", small),
