@@ -28,7 +28,7 @@ OUT_OF_MEMORY = b"pairtree2ocfl: fault 4: out of memory\n"
 
 # How it is told that no object was met of an identifier of a list, and what is told in its place where there is no memory for that.
 UNMET = b"pairtree2ocfl: no object was met: "
-UNSHOWN = (UNMET + b"an identifier that there is no memory to show\n", b"pairtree2ocfl: it is not known of which identifiers no object was met\n")
+UNSHOWN = (UNMET + b"an identifier that there is no memory to show\n",)
 
 # A name that is too long by a byte to be held in the value of a name, a longer one, and the longest that there is.
 LONGER, LONG, LONGEST = "b" * 22, "c" * 36, "d" * 255

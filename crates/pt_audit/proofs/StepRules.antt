@@ -41,6 +41,8 @@ use Rattle.pt_audit.specs.Surveying.{
   passed,
   source_alone,
 }
+use Rattle.pt_move.specs.Unmet.{AreUnmet}
+use Rattle.pt_state.specs.States.{IsUnmetAfter}
 use Rattle.pt_audit.proofs.Working.{is_left}
 use Rattle.pt_audit.proofs.Stepping.{fed_so, going, looking_is, looks, may_look, passes_there, stands_so}
 use Rattle.pt_audit.proofs.StepLeaves.{leaves_err, leaves_halted, leaves_ok, leaves_passed, well_err, well_ok}
@@ -59,6 +61,7 @@ new_survey r job new layout told proper = record {
       (new_past {states = source_alone told} layout (record { source = proper; dest = λ s e. absurd (cc) })));
   within = subst (λ j. ForSome told (λ s. IsWithinWork (job_of j) s.tree 0 (run_of r []))) (sym new.job_is)
       (subst (λ (run : Run). ForSome told (λ s. IsWithinWork (job_of job) s.tree 0 run)) (sym run_is) (λ s is. omega arith));
+  unmet = λ s is. subst (λ (p : Phase). AreUnmet (job_of r.state.job) s.tree p 0 r.state.unmet) (sym new.phase) tt;
   stands = ap is_of_survey new.phase;
 }
   where
@@ -97,10 +100,11 @@ says_step {T} answer why job at source is says = subst (λ (r : Result T Fault).
 
 module _ (here next : Phase) (s s' : State) (told told' : Option Reading) (v : Option Writing) (l l' : Option (List ℕ)) (a c a' c' : ℕ) (at : Phase) where
   pub step_looks : (count : ℕ) → at ≡ passed next → is_looking here ≡ true
-      → CountedTurn here s s' (states told (Some bare) l a 0 c) (states told' v l' a' 0 c') (Ok next) → IsSurvey told count (record { phase = here; state = s })
+      → CountedTurn here s s' (states told (Some bare) l a 0 c) (states told' v l' a' 0 c') (Ok next) → IsUnmetAfter here s s'
+      → IsSurvey told count (record { phase = here; state = s })
       → GoesOn (told, l) (told', l') count (record { phase = here; state = s }) (record { phase = at; state = s' })
-  step_looks count is looking counted it = subst (λ (p : Phase). GoesOn (told, l) (told', l') count (record { phase = here; state = s })
-      (record { phase = p; state = s' })) (sym is) (looks here next s s' told told' v l l' a 0 c a' 0 c' count looking it counted)
+  step_looks count is looking counted met it = subst (λ (p : Phase). GoesOn (told, l) (told', l') count (record { phase = here; state = s })
+      (record { phase = p; state = s' })) (sym is) (looks here next s s' told told' v l l' a 0 c a' 0 c' count looking it counted met)
 
   pub step_well : at ≡ passed next → IsReady told here s → CountedTurn here s s' (states told (Some bare) l a 0 c) (states told' v l' a' 0 c') (Ok next)
       → TypeInvariant (record { phase = at; state = s' })
@@ -114,10 +118,10 @@ module _ (here next : Phase) (s s' : State) (told told' : Option Reading) (v : O
 
   pub step_passes : (count : ℕ) → at ≡ passed next → is_at_hand here ≡ true
       → CountedTurn here s s' (states told (Some bare) None a 0 0) (states told' v None a' 0 0) (Ok next)
-      → IsSurvey told count (record { phase = here; state = s })
+      → IsUnmetAfter here s s' → IsSurvey told count (record { phase = here; state = s })
       → GoesOn (told, l) (told', l) count (record { phase = here; state = s }) (record { phase = at; state = s' })
-  step_passes count is line counted it = subst (λ (p : Phase). GoesOn (told, l) (told', l) count (record { phase = here; state = s })
-      (record { phase = p; state = s' })) (sym is) (passes_there here next s s' told told' v l a 0 0 a' 0 0 count line it counted)
+  step_passes count is line counted met it = subst (λ (p : Phase). GoesOn (told, l) (told', l) count (record { phase = here; state = s })
+      (record { phase = p; state = s' })) (sym is) (passes_there here next s s' told told' v l a 0 0 a' 0 0 count line it counted met)
 
   pub step_leaves_log : at ≡ passed next → IsReady told here s → CountedTurn here s s' (states told (Some bare) None a 0 0) (states told' v None a' 0 0)
       (Ok next) → Leaves (states told (Some bare) l a 0 c) (states told' (Some bare) l a' 0 c) s.job (Ok at)

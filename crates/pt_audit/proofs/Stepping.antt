@@ -2,6 +2,7 @@
 use Rattle.std.proofs.Common.{◌≡◌, ◌≢◌, ◌+◌, arith, ℕ, suc, true, false, List, [], ◌∷◌, refl, ap, sym, ◌∙◌, subst}
 use Rattle.std.specs.Prelude.{Option, None, Some, Ok, count_by, option_to_list}
 use Rattle.std.specs.Option.{ForSome}
+use Rattle.std.specs.String.{string_bytes}
 use Rattle.std.proofs.lemmas.Bool.{true≢false}
 use Rattle.pt_object.specs.Hasher.{HasBeenFed}
 use Rattle.pt_tree.specs.Dest.{Writing}
@@ -9,6 +10,7 @@ use Rattle.pt_tree.specs.Forest.{Forest}
 use Rattle.pt_tree.specs.Source.{Reading}
 use Rattle.pt_plan.specs.Job.{Job}
 use Rattle.pt_plan.specs.Lines.{Done, End, Line, Present, Skipped, is_skipped}
+use Rattle.pt_plan.specs.Met.{unmet_after}
 use Rattle.pt_plan.specs.Enabled.{Enabled}
 use Rattle.pt_plan.specs.Run.{Counts, Held, Kept, turning}
 use Rattle.pt_plan.specs.Turn.{Did, Next, GoesOn as TurnGoesOn, Make, Place, Scan, Start, Turn, Walk, counted as counted_with}
@@ -23,13 +25,16 @@ use Rattle.pt_plan.specs.declared.phase.Stage.TheVariants as stage
 use Rattle.pt_invariant.specs.RunInvariant.{IsHistory}
 use Rattle.pt_invariant.specs.History.{History, done_after, history_after}
 use Rattle.pt_invariant.specs.WorkLaws.{InvariantWithinWork}
-use Rattle.pt_invariant.proofs.ends.TurnKeeps.{turned}
+use Rattle.pt_invariant.proofs.ends.TurnKeeps.{told_source, turned}
+use Rattle.pt_invariant.proofs.source.SourceKeeps.{tree_kept}
 use Rattle.pt_state.specs.Outside.{states}
-use Rattle.pt_state.specs.States.{held_of, job_of, kept_of}
+use Rattle.pt_state.specs.States.{IsUnmetAfter, held_of, job_of, kept_of}
 use Rattle.pt_state.specs.declared.state.State.{State}
 use Rattle.pt_move.specs.Running.{BeganSomewhere, IsBegun, TypeInvariant, Running, run_of}
 use Rattle.pt_move.specs.Stands.{Stands}
 use Rattle.pt_move.specs.Turning.{CountedTurn, HasFed}
+use Rattle.pt_move.specs.Unmet.{AreUnmet}
+use Rattle.pt_move.proofs.Unmet.{follows_unmet}
 use Rattle.pt_move.proofs.Answering.{fed_going, fed_to_end, has_fed, may_turn, stands_there}
 use Rattle.pt_audit.specs.EmptyDest.{bare}
 use Rattle.pt_plan.specs.TurnPlace.{done_line}
@@ -156,6 +161,13 @@ passed_well (phase.Carrying object (stage.Make part.Staging)) well = record {
 }
 passed_well _ well = well
 
+-- where the survey passes what a run would make, the same are unmet
+passed_unmet : (job : Job) (source : Forest) (next : Phase) (count : ℕ) (unmet : List (Option (List ℕ))) → AreUnmet job source next count unmet
+    → AreUnmet job source (passed next) count unmet
+passed_unmet job source (phase.Opening opening.Staging) count unmet it = it
+passed_unmet job source (phase.Carrying object (stage.Make part.Staging)) count unmet it = it
+passed_unmet job source _ count unmet it = it
+
 -- ---- it goes on
 
 -- what the hasher was fed has no part in what is seen
@@ -196,8 +208,9 @@ module _ (here next : Phase) (s s' : State) (told told' : Option Reading) where
   survey_on : {count : ℕ} (it : IsSurvey told count Before) (fed' : List ℕ) → s'.job ≡ s.job → HasBeenFed s.job.algorithm s'.hasher fed'
       → IsHistory (job_of s.job) no_start (source_alone told') (record { phase = next; kept = kept_of s' fed' }) (later_of it.past it.fed)
       → ForSome told' (λ r. IsWithinWork (job_of s.job) r.tree (later_of it.past it.fed).count (record { phase = passed next; kept = kept_of s' fed' }))
+      → ForSome told' (λ r. AreUnmet (job_of s.job) r.tree next (later_of it.past it.fed).count s'.unmet)
       → is_of_survey (passed next) ≡ true → IsSurvey told' (later_of it.past it.fed).count After
-  survey_on it fed' job was past within stands = record {
+  survey_on it fed' job was past within unmet stands = record {
     fed = fed';
     was = fed_to_end (passed next) s'.job.algorithm s'.hasher fed' (subst (λ j. HasBeenFed j.algorithm s'.hasher fed') (sym job) was);
     past = later_of it.past it.fed;
@@ -206,16 +219,32 @@ module _ (here next : Phase) (s s' : State) (told told' : Option Reading) where
         (sym job) (passed_past next past);
     within = subst (λ j. ForSome told' (λ r. IsWithinWork (job_of j) r.tree (later_of it.past it.fed).count
         (record { phase = passed next; kept = kept_of s' fed' }))) (sym job) within;
+    unmet = λ r e. subst (λ j. AreUnmet (job_of j) r.tree (passed next) (later_of it.past it.fed).count s'.unmet) (sym job)
+        (passed_unmet (job_of s.job) r.tree next (later_of it.past it.fed).count s'.unmet (unmet r e));
     stands = stands;
   }
+
+  -- after the turn those are unmet that no site so far reads
+  unmet_on : {fed fed' : List ℕ} {past : History} {calls : Calls} → Next (job_of s.job) (turning (kept_of s fed)).counts here (kept_of s fed).prefix
+      (held_of s fed) (kept_of s' fed').prefix (held_of s' fed') calls (Ok next)
+      → Answers calls.asked told told' → IsHistory (job_of s.job) no_start (source_alone told) (run_of Before fed) past
+      → ForSome told (λ r. AreUnmet (job_of s.job) r.tree here past.count s.unmet) → IsUnmetAfter here s s'
+      → ForSome told' (λ r. AreUnmet (job_of s.job) r.tree next (later_of past fed).count s'.unmet)
+  unmet_on {fed} {past = past} {calls} follows answers it are met = λ r e.
+      let had = told_source calls.asked told r (subst (Answers calls.asked told) e answers) in
+      let same = tree_kept calls.asked had.0 r (subst (λ o. Answers calls.asked o (Some r)) had.1 (subst (Answers calls.asked told) e answers)) in
+      subst (λ (u : List (Option (List ℕ))). AreUnmet (job_of s.job) r.tree next (later_of past fed).count u) (sym met)
+      (subst (λ (f : Forest). AreUnmet (job_of s.job) f next (later_of past fed).count
+      (unmet_after (job_of s.job) here (string_bytes s.prefix) s.trail s.unmet)) (sym same)
+      (follows_unmet (job_of s.job) past had.0 (string_bytes s.prefix) s.unmet follows it.held.trail.is_one (it.source had.0 had.1) (are had.0 had.1)))
 
 -- a turn that looks
 pub looks : (here next : Phase) (s s' : State) (told told' : Option Reading) (w : Option Writing) (l l' : Option (List ℕ)) (a b c a' b' c' : ℕ) (count : ℕ)
     → is_looking here ≡ true → IsSurvey told count (record { phase = here; state = s })
-    → CountedTurn here s s' (states told (Some bare) l a b c) (states told' w l' a' b' c') (Ok next)
+    → CountedTurn here s s' (states told (Some bare) l a b c) (states told' w l' a' b' c') (Ok next) → IsUnmetAfter here s s'
     → GoesOn (told, l) (told', l') count (record { phase = here; state = s }) (record { phase = passed next; state = s' })
 unfolding CountedTurn Did
-looks here next s s' told told' w l l' a b c a' b' c' count looking it counted =
+looks here next s s' told told' w l l' a b c a' b' c' count looking it counted met =
     let made = counted.1 it.fed (fed_going s.job.algorithm s.hasher it.fed (going here it.stands) it.was) in
     by made.0 made.1.0 made.1.1
   where
@@ -228,7 +257,8 @@ looks here next s s' told told' w l l' a b c a' b' c' count looking it counted =
     by fed' was (TurnGoesOn calls _ follows did counts) = record {
       next = later.count;
       is = survey_on here next s s' told told' it fed' counted.0 was (past_on here next s s' told told' follows did.0.source counts it.is)
-          (within_on here next s s' told told' follows did.0.source counts it.is it.within) (looks_on looking follows);
+          (within_on here next s s' told told' follows did.0.source counts it.is it.within)
+          (unmet_on here next s s' told told' follows did.0.source it.is it.unmet met) (looks_on looking follows);
       saw = λ r e. record {
         line = calls.line;
         sees = subst (λ (n : ℕ). Sees (job_of s.job) r.tree n here (held_of s []) calls.line later.count) it.seen
@@ -258,9 +288,10 @@ line_follows (Place (place.TellsDone _ _)) = (refl, refl)
 pub passes : (object : Object) (next : Phase) (s s' : State) (told told' : Option Reading) (w : Option Writing) (l : Option (List ℕ)) (a b c a' b' c' : ℕ)
     (count : ℕ) → IsSurvey told count (record { phase = phase.Carrying object stage.Line; state = s })
     → CountedTurn (phase.Carrying object stage.Line) s s' (states told (Some bare) None a b c) (states told' w None a' b' c') (Ok next)
+    → IsUnmetAfter (phase.Carrying object stage.Line) s s'
     → GoesOn (told, l) (told', l) count (record { phase = phase.Carrying object stage.Line; state = s }) (record { phase = passed next; state = s' })
 unfolding CountedTurn Did Puts
-passes object next s s' told told' w l a b c a' b' c' count it counted =
+passes object next s s' told told' w l a b c a' b' c' count it counted met =
     let made = counted.1 it.fed (fed_going s.job.algorithm s.hasher it.fed (going (phase.Carrying object stage.Line) it.stands) it.was) in
     by made.0 made.1.0 made.1.1
   where
@@ -277,6 +308,7 @@ passes object next s s' told told' w l a b c a' b' c' count it counted =
           is = survey_on (phase.Carrying object stage.Line) next s s' told told' it fed' counted.0 was
               (past_on (phase.Carrying object stage.Line) next s s' told told' follows did.0.source kept it.is)
               (within_on (phase.Carrying object stage.Line) next s s' told told' follows did.0.source kept it.is it.within)
+              (unmet_on (phase.Carrying object stage.Line) next s s' told told' follows did.0.source it.is it.unmet met)
               (ap (λ (p : Phase). is_of_survey (passed p)) walks.0);
           saw = λ r e. record {
             line = None;
@@ -299,13 +331,14 @@ the_object _ is = absurd (true≢false (sym is))
 -- over whatever log
 pub passes_there : (here next : Phase) (s s' : State) (told told' : Option Reading) (w : Option Writing) (l : Option (List ℕ)) (a b c a' b' c' : ℕ) (count : ℕ)
     → is_at_hand here ≡ true → IsSurvey told count (record { phase = here; state = s })
-    → CountedTurn here s s' (states told (Some bare) None a b c) (states told' w None a' b' c') (Ok next)
+    → CountedTurn here s s' (states told (Some bare) None a b c) (states told' w None a' b' c') (Ok next) → IsUnmetAfter here s s'
     → GoesOn (told, l) (told', l) count (record { phase = here; state = s }) (record { phase = passed next; state = s' })
-passes_there here next s s' told told' w l a b c a' b' c' count is it counted =
+passes_there here next s s' told told' w l a b c a' b' c' count is it counted met =
     let line = the_object here is in
     subst (λ (p : Phase). GoesOn (told, l) (told', l) count (record { phase = p; state = s }) (record { phase = passed next; state = s' })) (sym line.1)
     (passes line.0 next s s' told told' w l a b c a' b' c' count (subst (λ (p : Phase). IsSurvey told count (record { phase = p; state = s })) line.1 it)
-    (subst (λ (p : Phase). CountedTurn p s s' (states told (Some bare) None a b c) (states told' w None a' b' c') (Ok next)) line.1 counted))
+    (subst (λ (p : Phase). CountedTurn p s s' (states told (Some bare) None a b c) (states told' w None a' b' c') (Ok next)) line.1 counted)
+    (subst (λ (p : Phase). IsUnmetAfter p s s') line.1 met))
 
 -- what isn't at hand nor at the end is looked at
 pub looking_is : (told : Option Reading) (here : Phase) (s : State) → Surveys told (record { phase = here; state = s }) → is_at_hand here ≡ false

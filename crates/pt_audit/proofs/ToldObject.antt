@@ -55,6 +55,7 @@ use Rattle.pt_plan.specs.declared.phase.Phase.{Phase}
 use Rattle.pt_plan.specs.declared.phase.Phase.TheVariants as phase
 use Rattle.pt_plan.specs.declared.phase.Stage.TheVariants as stage
 use Rattle.pt_state.specs.States.{held_of, job_of}
+use Rattle.pt_move.specs.Unmet.{AreUnmet}
 use Rattle.pt_state.specs.declared.job.Job as own
 use Rattle.pt_state.specs.declared.state.State.{State}
 use Rattle.pt_audit.specs.Surveying.{HasAtHand, IsHand, IsHandAt, IsOf, IsSurvey, IsWithinWork, is_before_sites, Surveys, sight_at}
@@ -95,6 +96,9 @@ source_again {told} {again} {r} {count} is same it = record {
   within = λ s e.
       let had = reading_of told (sym same ∙ ap (option_map (λ (s : Reading). s.tree)) e) in
       subst (λ (t : Forest). IsWithinWork (job_of r.state.job) t it.past.count (run_of r it.fed)) had.2 (it.within had.0 had.1);
+  unmet = λ s e.
+      let had = reading_of told (sym same ∙ ap (option_map (λ (s : Reading). s.tree)) e) in
+      subst (λ (t : Forest). AreUnmet (job_of r.state.job) t r.phase it.past.count r.state.unmet) had.2 (it.unmet had.0 had.1);
   stands = it.stands;
 }
   where

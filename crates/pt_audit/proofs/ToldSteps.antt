@@ -30,8 +30,11 @@ use Rattle.pt_audit.specs.Layout.{IsOfLayout}
 use Rattle.pt_audit.specs.declared.counts.Counts.{Counts}
 use Rattle.pt_invariant.specs.SourceInvariant.{SourceAt, SourcePart}
 use Rattle.pt_move.specs.Running.{IsNew, Running}
+use Rattle.pt_move.specs.Unmet.{AreUnmet}
 use Rattle.pt_move.proofs.Outcomes.{reading_of}
+use Rattle.pt_move.proofs.Unmet.{unmet_at_end}
 use Rattle.pt_plan.specs.Items.{item_of, items}
+use Rattle.pt_plan.specs.Met.{unmet_in_store}
 use Rattle.pt_plan.specs.Job.{Job, reach_of}
 use Rattle.pt_plan.specs.Store.{prefix_of, sites_of}
 use Rattle.pt_plan.specs.declared.phase.Phase.{Phase}
@@ -71,6 +74,12 @@ seen_all told source root first now counts r is tree it = record {
   prefix = λ s e.
       let told_is = reading_of told (tree ∙ e) in
       (at_end told_is.0 told_is.1).1.read ∙ ap prefix_of told_is.2;
+  unmet = λ s e.
+      let told_is = reading_of told (tree ∙ e) in
+      subst (λ (t : Forest). r.state.unmet ≡ unmet_in_store (job_of r.state.job) t) told_is.2
+      (subst (λ (p : Phase). AreUnmet (job_of r.state.job) told_is.0.tree p it.is.past.count r.state.unmet) (end_at r.phase is)
+      (it.is.unmet told_is.0 told_is.1)
+      ∙ unmet_at_end (job_of r.state.job) told_is.0.tree it.is.past.count (at_end told_is.0 told_is.1).2);
 }
   where
     at_end : (s : Reading) → told ≡ Some s → SourceAt (job_of r.state.job) s (string_bytes r.state.prefix) it.is.past.count phase.End

@@ -2,6 +2,7 @@
 use Rattle.std.specs.Prelude.{◌≡◌, ◌≤◌, ◌+◌, ℕ, IfOk, Option, Result, Ok, Err}
 use Rattle.std.specs.Option.{ForSome}
 use Rattle.pt_audit.specs.AuditFields.{AuditHoldsFieldsAlone}
+use Rattle.pt_audit.specs.declared.auditing.AuditCompletion.{AuditCompletion}
 use Rattle.pt_audit.specs.declared.auditing.ObjectsAudit.{ObjectsAudit}
 use Rattle.pt_audit.specs.declared.counts.Counts.{Counts}
 use Rattle.pt_move.specs.Running.{IsNew, Running}
@@ -27,6 +28,11 @@ AllSeen r counts = (r.phase ≡ phase.End) × (counts.skipped ≡ r.state.counts
 abbrev pub counts_in : Result ObjectsAudit Fault → Result Counts Fault
 counts_in (Ok audited) = Ok audited.counts
 counts_in (Err why) = Err why
+
+-- or of one that told the end too
+abbrev pub counts_at_end : Result AuditCompletion Fault → Result Counts Fault
+counts_at_end (Ok audited) = Ok audited.counts
+counts_at_end (Err why) = Err why
 
 -- an audit goes on from this survey by so many steps, to its end where it answers Ok
 pub record IsMadeFrom (source : Option Forest) (first : Running) (result : Result Counts Fault) : Type 0 where

@@ -31,6 +31,7 @@ use Rattle.pt_invariant.specs.Rank.{rank}
 use Rattle.pt_move.specs.Bounds.{IsBounded}
 use Rattle.pt_move.specs.Outcome.{HoldsWithinBound, SaysRightly}
 use Rattle.pt_move.specs.Running.{FedUntilEnd, TypeInvariant, Running, run_of}
+use Rattle.pt_move.specs.Unmet.{AreUnmet}
 use Rattle.pt_name.specs.Place.{place_of}
 use Rattle.pt_object.specs.FilePaths.{File}
 use Rattle.pt_object.specs.Object.{bytes_in, rows_of, stored_files}
@@ -162,6 +163,7 @@ pub record IsSurvey (told : Option Reading) (count : ℕ) (r : Running) : Type 0
   pub seen : past.count ≡ count
   pub is : IsHistory (job_of r.state.job) no_start (source_alone told) (run_of r fed) past
   pub within : ForSome told (λ s. IsWithinWork (job_of r.state.job) s.tree past.count (run_of r fed))
+  pub unmet : ForSome told (λ s. AreUnmet (job_of r.state.job) s.tree r.phase past.count r.state.unmet)
   pub stands : is_of_survey r.phase ≡ true
 
 -- or of some number of items

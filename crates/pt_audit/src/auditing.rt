@@ -17,14 +17,15 @@ ghost use Rattle.pt_audit.specs.AuditSteps.{FailsRightly, KeepsAll, StepsOn, Tel
 ghost use Rattle.pt_audit.specs.AuditSteps.{TellsStep};
 ghost use Rattle.pt_audit.specs.AuditSteps.{audit_states};
 ghost use Rattle.pt_audit.specs.Auditing.{FrontToldAs, GivesBack, HasSeenAll, IsFoundAtHand};
-ghost use Rattle.pt_audit.specs.Auditing.{IsTwinAtHand, LogsAs, StopsUnderWay, TellsItems};
+ghost use Rattle.pt_audit.specs.Auditing.{IsTwinAtHand, LeavesUnmet, LogsAs, StopsUnderWay};
+ghost use Rattle.pt_audit.specs.Auditing.{TellsItems};
 ghost use Rattle.pt_audit.specs.Auditing.{counted, last_text, start_over};
 ghost use Rattle.pt_audit.specs.declared.counts.Counts.{Counts};
 ghost use Rattle.std.specs.Option.{ForSome};
 ghost use Rattle.std.specs.Io.KnownBytes.{Appends};
 ghost use Rattle.pt_tree.specs.Log.{AppendsFront};
 ghost use Rattle.pt_audit.specs.RootReader.{Begins, Follows, FollowsOn, Saw};
-ghost use Rattle.pt_audit.specs.Bounds.{IsMade, IsMadeFrom, counts_in};
+ghost use Rattle.pt_audit.specs.Bounds.{IsMade, IsMadeFrom, counts_at_end, counts_in};
 ghost use Rattle.pt_audit.specs.Failing.{AuditSays, BlamesRightly, FailsAs, failures};
 ghost use Rattle.pt_audit.specs.Layout.{IsOfLayout};
 ghost use Rattle.pt_compare.specs.Root.{KeepsRoot};
@@ -43,6 +44,7 @@ use crate::survey::{ObjectAtHand, Survey, SurveyEvent};
 use crate::twin::{is_second, skip_prefix};
 use pt_compare::{Comparison, ScannedObject, compare};
 use pt_move::{Job, Observer};
+use pt_name::UnmetIdentifiers;
 use pt_plan::Fault;
 use pt_state::paths::{in_pairtree, in_storage_root};
 use pt_tree::{Log, Source};
@@ -74,9 +76,9 @@ pub fn audit<S: Source, R: Source, L: Log, O: Observer<Counts>>(
     log: &mut L,
     job: Job,
     observer: &O,
-) -> Result<Counts, Fault>
+) -> Result<AuditCompletion, Fault>
     ensures ends { LogsAs (job_of job) (tree_in (S.told source.old))
-        (tree_in (R.told root.old)) (L.told log.old) (L.told log.new) result }
+        (tree_in (R.told root.old)) (L.told log.old) (L.told log.new) (counts_at_end result) }
     ensures layout { OnOk result (ForSome (tree_in (R.told root.old)) (IsOfLayout (job_of job))) }
     ensures source { KeepsRoot S.told S.keeps source.old source.new }
     ensures root { KeepsRoot R.told R.keeps root.old root.new }
@@ -86,10 +88,25 @@ pub fn audit<S: Source, R: Source, L: Log, O: Observer<Counts>>(
         (failures (S.failed source.new) (R.failed root.new) (L.failed log.new)) result }
     ensures says { IfErr result (AuditSays job (tree_in (S.told source.old))
         (tree_in (R.told root.old))) }
-    ensures made { IsMade job (tree_in (S.told source.old)) result }
+    ensures made { IsMade job (tree_in (S.told source.old)) (counts_at_end result) }
+    ensures unmet { IfOk result (λ audited.
+        LeavesUnmet job (tree_in (S.told source.old)) audited.unmet) }
 {
     let audited = audit_objects(alloc, source, root, log, job, observer)?;
-    tell_audit_end(alloc, audited.counts, log)
+    let counts = tell_audit_end(alloc, audited.counts, log)?;
+    Ok(AuditCompletion {
+        counts,
+        unmet: audited.unmet,
+    })
+}
+
+/// What an audit came to that came to its end.
+#[derive(Drop)]
+pub struct AuditCompletion {
+    /// How many lines there are of each kind.
+    pub counts: Counts,
+    /// The identifiers of the share's list of which it met no object.
+    pub unmet: UnmetIdentifiers,
 }
 
 /// An audit that told of all objects, and not yet of its end.
@@ -101,6 +118,8 @@ pub struct ObjectsAudit {
     pub job: Job,
     /// What each identifier of the store begins with.
     pub prefix: String,
+    /// The identifiers of the share's list of which it met no object.
+    pub unmet: UnmetIdentifiers,
 }
 
 /// The same as `audit`, but for the end line, which is left to the caller: after a fault the log
@@ -127,6 +146,8 @@ pub fn audit_objects<S: Source, R: Source, L: Log, O: Observer<Counts>>(
     ensures says { IfErr result (AuditSays job (tree_in (S.told source.old))
         (tree_in (R.told root.old))) }
     ensures made { IsMade job (tree_in (S.told source.old)) (counts_in result) }
+    ensures unmet { IfOk result (λ audited.
+        LeavesUnmet job (tree_in (S.told source.old)) audited.unmet) }
 {
     let mut auditor = Auditor {
         alloc,
@@ -135,12 +156,7 @@ pub fn audit_objects<S: Source, R: Source, L: Log, O: Observer<Counts>>(
         counts: Counts::none(),
     };
     let counts = auditor.go_through(source, root, log, observer)?;
-    let (job, prefix) = auditor.survey.into_parts();
-    Ok(ObjectsAudit {
-        counts,
-        job,
-        prefix,
-    })
+    Ok(auditor.survey.into_audit(counts))
 }
 
 // An audit between two steps.

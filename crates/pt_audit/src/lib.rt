@@ -41,7 +41,7 @@ mod root_reader;
 mod survey;
 mod twin;
 
-pub use auditing::{ObjectsAudit, audit, audit_objects};
+pub use auditing::{AuditCompletion, ObjectsAudit, audit, audit_objects};
 pub use counts::Counts;
 pub use pt_compare::{Comparison, Difference, Why};
 pub use survey::{ObjectAtHand, OpenedFile, Survey, SurveyEvent};

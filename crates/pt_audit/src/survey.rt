@@ -22,13 +22,14 @@
 #![tactic(auto, using(crate::proofs::SurveyRules::survey_rules))]
 
 ghost use Rattle.std.specs.Option.{ForSome};
-ghost use Rattle.std.specs.Prelude.{◌≡◌, ◌≢◌, true, length, Option, IfErr, IfOk};
+ghost use Rattle.std.specs.Prelude.{◌≡◌, ◌≢◌, true, length, Option, IfErr, IfOk, OnOk};
 ghost use Rattle.std.specs.String.{string_bytes};
 ghost use Rattle.pt_move.specs.Bounds.{most_calls};
 ghost use Rattle.pt_move.specs.Running.{IsNew, TypeInvariant};
 ghost use Rattle.pt_plan.specs.Answer.{phase_after};
 ghost use Rattle.pt_audit.specs.Growing.{BlamesRightly, KeepsDevices, KeepsLog, KeepsTree, Leaves};
 ghost use Rattle.pt_state.specs.Counting.{AtMostCalls};
+ghost use Rattle.pt_state.specs.States.{IsUnmetAfter};
 ghost use Rattle.pt_move.specs.Turning.{CountedTurn};
 ghost use Rattle.pt_plan.specs.declared.phase.Phase.TheVariants as phase;
 ghost use Rattle.pt_scan.specs.Blocks.{ReadsNext};
@@ -43,6 +44,8 @@ ghost use Rattle.pt_tree.specs.Forest.{is_proper};
 ghost use Rattle.pt_tree.specs.Source.{Reading, tree_in};
 ghost use Rattle.pt_walk.specs.Trail.{trail_path};
 
+use crate::auditing::ObjectsAudit;
+use crate::counts::Counts;
 use crate::empty_dest::{EmptyDest, NullLog};
 use pt_move::turning::{new_state, turn};
 use pt_move::{Job, Report};
@@ -240,12 +243,19 @@ impl Survey {
         self.state.prefix.as_str()
     }
 
-    /// What it was asked for, and what each identifier begins with.
-    pub(crate) fn into_parts(self) -> (Job, String)
-        ensures { (result.0 ≡ self.state.job) × (result.1 ≡ self.state.prefix) }
+    /// What an audit of these counts gives back, once all was seen.
+    pub(crate) fn into_audit(self, counts: Counts) -> ObjectsAudit
+        ensures counts { result.counts ≡ counts }
+        ensures given { (result.job ≡ self.state.job) × (result.prefix ≡ self.state.prefix) }
+        ensures unmet { result.unmet ≡ self.state.unmet }
     {
         let state = self.state;
-        (state.job, state.prefix)
+        ObjectsAudit {
+            counts,
+            job: state.job,
+            prefix: state.prefix,
+            unmet: state.unmet,
+        }
     }
 
     /// What it was asked for.
@@ -312,6 +322,7 @@ fn look<S: Source, L: Log>(
         (bare_states S.Source L.Log source.old log.old)
         (bare_states S.Source L.Log source.new log.new) result }
     ensures block { ReadsNext here (S.told source.old) state.new.block.items result }
+    ensures unmet { OnOk result (IsUnmetAfter here state.old state.new) }
     ensures source_stays { S.keeps source.old source.new
         × AtMostCalls (most_calls here) (S.called source.old) (S.called source.new) }
     ensures log_stays { L.keeps log.old log.new }
@@ -333,6 +344,7 @@ fn pass<S: Source>(state: &mut State, here: Phase, source: &mut S) -> Result<Pha
     requires at_hand { is_at_hand_there here ≡ true }
     ensures turn { CountedTurn here state.old state.new
         (unlogged_states S.Source source.old) (unlogged_states S.Source source.new) result }
+    ensures unmet { OnOk result (IsUnmetAfter here state.old state.new) }
     ensures source_stays { S.keeps source.old source.new
         × AtMostCalls (most_calls here) (S.called source.old) (S.called source.new) }
 {

@@ -40,7 +40,8 @@ fn is_identified(path: &NamePath, prefix: &str, share: u32, said: &Said) -> bool
 fn says(path: &NamePath, prefix: &str, layout: Layout, share: &Share, said: &Said) -> bool
     requires { 0 < length path.now }
 {
-    match identify(path, prefix, layout, share) {
+    let mut unmet = UnmetIdentifiers::none(path.allocator());
+    match identify(path, prefix, layout, share, &mut unmet) {
         Ok(answer) => is_said(&answer, said),
         Err(_) => false,
     }

@@ -1,9 +1,9 @@
 //! Lists of identifiers: what stands in one, and of what in it no object was met.
 use crate::identifiers::owned;
 use crate::tables::{Holds, all_hold};
-use pt_name::{IdentifierList, Share};
+use pt_name::{IdentifierList, Share, UnmetIdentifiers};
 use pt_tree::MemoryFault;
-use std::alloc::{AllocError, Global};
+use std::alloc::Global;
 
 enum Row {
     // The identifiers of a list, one, and whether the whole holds it of which only these are taken.
@@ -20,30 +20,26 @@ impl Holds for Row {
                 Ok(share) => share.holds(id) == *answer,
                 Err(_) => false,
             },
-            Row::Unmet(ids, id, unmet) => match list_of(alloc, ids) {
-                Ok(list) => tells_unmet(&list, id, unmet),
+            Row::Unmet(ids, id, unmet) => match listed(alloc, ids) {
+                Ok(share) => leaves_unmet(alloc, &share, id, unmet),
                 Err(_) => false,
             },
         }
     }
 }
 
-fn list_of(alloc: Global, ids: &[&str]) -> Result<IdentifierList, AllocError> {
-    IdentifierList::of(alloc, String::from_str(alloc, "ids")?, owned(alloc, ids)?)
-}
-
 fn listed(alloc: Global, ids: &[&str]) -> Result<Share, MemoryFault> {
-    Share::whole().with_list(alloc, list_of(alloc, ids)?)
+    let list = IdentifierList::of(String::from_str(alloc, "ids")?, owned(alloc, ids)?);
+    Share::whole().with_list(alloc, list)
 }
 
 // Whether of just these no object was met, once this one was met.
-fn tells_unmet(list: &IdentifierList, met: &[u8], unmet: &[Option<&str>]) -> bool {
-    list.note_met(met);
-    list.len() == unmet.len()
-        && unmet
-            .iter()
-            .enumerate()
-            .all(|(at, id)| list.unmet_at(at) == *id)
+fn leaves_unmet(alloc: Global, share: &Share, met: &[u8], unmet: &[Option<&str>]) -> bool {
+    let Ok(mut left) = UnmetIdentifiers::of(alloc, share) else {
+        return false;
+    };
+    left.note_met(met);
+    left.len() == unmet.len() && unmet.iter().enumerate().all(|(at, id)| left.at(at) == *id)
 }
 
 const LISTS: &[Row] = &[

@@ -3,11 +3,11 @@
 //! At each it is exactly what `folder_trouble`, `reserved_trouble`, `width_trouble`,
 //! `count_trouble`, `entry_trouble` and `room_trouble` say of it, each by a line of its own
 //! (`Tells`): the cause for which a run of the form that is wanted passes a site over, names that
-//! aren't those of the identifier's own pairpath, a folder that looks like a longer piece, the first
-//! file over the limit of an object, names that desktops leave, links and special files, and paths
-//! in an object that are too long, for a run or for the room that a destination has. `reserved` is that of the layout that is asked for, and of the prefix as it was
-//! read, empty where none is known. Of a file that was read it is what `size_trouble` says of its
-//! length.
+//! aren't those of the identifier's own pairpath, a folder that looks like a longer piece, the
+//! first file over the limit of an object, names that desktops leave, links and special files, and
+//! paths in an object that are too long, for a run or for the room that a destination has.
+//! `reserved` is that of the layout that is asked for, and of the prefix as it was read, empty
+//! where none is known. Of a file that was read it is what `size_trouble` says of its length.
 #![tactic(auto, using(crate::proofs::NamesRead::names_read))]
 
 ghost use Rattle.std.specs.Prelude.{◌≡◌, ◌<◌, drop, length, IfOk};
@@ -36,7 +36,8 @@ ghost use Rattle.pt_walk.specs.declared.site.Form.TheVariants as form;
 
 use crate::{Trouble, Within};
 use pt_name::{
-    Identification, Layout, Refusal, Share, UncleanFault, clean, concatenate, identify, unclean,
+    Identification, Layout, Refusal, Share, UncleanFault, UnmetIdentifiers, clean, concatenate,
+    identify, unclean,
 };
 use pt_tree::{Kind, Listing, MemoryFault, Name, NamePath};
 use pt_walk::{At, Cause, Finding, Form, Limits, is_shorty, judge};
@@ -159,7 +160,8 @@ fn reserved_below(
     ensures { IfOk result (λ trouble. trouble
         ≡ reserved_by_answer (identification_of layout whole prefix.now below.now)) }
 {
-    match identify(below, prefix, layout, &Share::whole()) {
+    let mut unmet = UnmetIdentifiers::none(below.allocator());
+    match identify(below, prefix, layout, &Share::whole(), &mut unmet) {
         Ok(said) => Ok(reserved_by(said)),
         Err(fault) => Err(fault),
     }

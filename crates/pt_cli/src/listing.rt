@@ -75,8 +75,7 @@ fn with_list(
     ensures { IfOk result (IsListing (map string_bytes ids.items) share) }
 {
     let name = String::from_str(alloc, path)?;
-    let list = IdentifierList::of(alloc, name, ids)?;
-    share.with_list(alloc, list)
+    share.with_list(alloc, IdentifierList::of(name, ids))
 }
 
 // Why the identifiers of the list at a path can't be had.

@@ -5,9 +5,10 @@ use Rattle.std.specs.Prelude.{IfErr, IfOk, OnErr, OnOk, Option, Some, Result, Ok
 use Rattle.std.specs.String.{string_bytes}
 use Rattle.pt_audit.proofs.Telling.{put_behind}
 use Rattle.pt_audit.proofs.ToldFront.{front_put}
-use Rattle.pt_audit.specs.Auditing.{AllToldAs, AuditStart, FrontToldAs, GivesBack, IsAllTold, LogsAs, start_over}
-use Rattle.pt_audit.specs.Bounds.{IsMade}
+use Rattle.pt_audit.specs.Auditing.{AllToldAs, AuditStart, FrontToldAs, GivesBack, IsAllTold, LeavesUnmet, LogsAs, start_over}
+use Rattle.pt_audit.specs.Bounds.{IsMade, counts_at_end}
 use Rattle.pt_audit.specs.Failing.{BlamesRightly}
+use Rattle.pt_audit.specs.declared.auditing.AuditCompletion.{AuditCompletion}
 use Rattle.pt_audit.specs.declared.auditing.ObjectsAudit.{ObjectsAudit}
 use Rattle.pt_audit.specs.declared.counts.Counts.{Counts}
 use Rattle.pt_tree.specs.Source.{tree_in}
@@ -181,13 +182,20 @@ pub record PlainKeeps (A : Type 0) (B : Fault → Type 0) (old new : Failures) (
   pub says : IfErr told B
   pub blames : BlamesRightly old new told
 
-pub plain_keeps : (A : Type 0) (B : Fault → Type 0) (old new : Failures) (ran : Result Counts Fault) (told : Result AuditCounts Fault) → told ≡ counts_of ran
-    → OnOk ran A → IfErr ran B → BlamesRightly old new ran → PlainKeeps A B old new told
+pub plain_keeps : (A : Type 0) (B : Fault → Type 0) (old new : Failures) (ran : Result AuditCompletion Fault) (told : Result AuditCounts Fault)
+    → told ≡ counts_of (counts_at_end ran) → OnOk ran A → IfErr ran B → BlamesRightly old new ran → PlainKeeps A B old new told
 plain_keeps A B old new ran told is ok says blames = subst (PlainKeeps A B old new) (sym is) (by ran ok says blames)
   where
-    by : (ran : Result Counts Fault) → OnOk ran A → IfErr ran B → BlamesRightly old new ran → PlainKeeps A B old new (counts_of ran)
+    by : (ran : Result AuditCompletion Fault) → OnOk ran A → IfErr ran B → BlamesRightly old new ran → PlainKeeps A B old new (counts_of (counts_at_end ran))
     by (Ok counts) ok says blames = record { ok = ok; says = says; blames = record { source = blames.source; root = blames.root; log = blames.log } }
     by (Err why) ok says blames = record { ok = ok; says = says; blames = record { source = blames.source; root = blames.root; log = blames.log } }
+
+-- what is unmet at the end
+pub plain_unmet : (job : own.Job) (source : Option Forest) (audited : Result AuditCompletion Fault) (told : Result AuditCounts Fault)
+    (unmet : List (Option (List ℕ))) → told ≡ counts_of (counts_at_end audited) → IfOk audited (λ a. unmet ≡ a.unmet)
+    → IfOk audited (λ a. LeavesUnmet job source a.unmet) → OnOk told (LeavesUnmet job source unmet)
+plain_unmet job source (Ok audited) told unmet is same leaves = rw is (subst (LeavesUnmet job source) (sym same) leaves)
+plain_unmet job source (Err why) told unmet is same leaves = rw is tt
 
 pub plain_made : (job : own.Job) (source : Option Forest) (ran : Result Counts Fault) (told : Result AuditCounts Fault) → told ≡ counts_of ran
     → IsMade job source ran → IsMade job source (in_both told)

@@ -3,6 +3,7 @@
 ghost use Rattle.std.specs.Prelude.{◌≡◌, true, IfOk, OnErr};
 ghost use Rattle.std.specs.Io.KnownBytes.{Appends};
 ghost use Rattle.pt_audit.specs.Auditing.{start_over};
+ghost use Rattle.pt_audit.specs.Bounds.{counts_at_end};
 ghost use Rattle.pt_audit.specs.Failing.{FailsAs, failures};
 ghost use Rattle.pt_audit.specs.Growing.{KeepsLog, KeepsSides};
 ghost use Rattle.pt_tree.specs.Source.{tree_in};
@@ -14,9 +15,10 @@ ghost use Rattle.pt_tree.specs.Log.{AppendsFront};
 
 use crate::lines::end_line;
 use crate::{ExtraDevices, ExtraNumbers, Extras};
-use pt_audit::{Counts, ObjectsAudit, audit_objects};
+use pt_audit::{AuditCompletion, Counts, ObjectsAudit, audit_objects};
 use pt_check::Explains;
 use pt_move::{Job, Observer};
+use pt_name::UnmetIdentifiers;
 use pt_plan::Fault;
 use pt_tree::{Log, Source};
 use std::alloc::Global;
@@ -35,6 +37,8 @@ pub struct AuditCounts {
 pub struct AuditEnd<S, R, L, E> {
     /// How many lines its log has, or why it broke off.
     pub ran: Result<AuditCounts, Fault>,
+    /// The identifiers of the share's list of which it met no object; none where it broke off.
+    pub unmet: UnmetIdentifiers,
     /// The devices.
     pub devices: ExtraDevices<S, R, L, E>,
 }
@@ -69,9 +73,10 @@ where
         mut log,
         explains,
     } = devices;
-    let ran = pt_audit::audit(alloc, &mut store, &mut root, &mut log, job, observer);
+    let audited = pt_audit::audit(alloc, &mut store, &mut root, &mut log, job, observer);
     AuditEnd {
-        ran: without_extras(ran),
+        ran: without_extras(&audited),
+        unmet: unmet_after(alloc, audited),
         devices: ExtraDevices {
             store,
             root,
@@ -82,15 +87,25 @@ where
 }
 
 // What an audit came to that told of nothing that the store lacks.
-fn without_extras(ran: Result<Counts, Fault>) -> Result<AuditCounts, Fault>
-    ensures { result ≡ counts_of ran }
+fn without_extras(audited: &Result<AuditCompletion, Fault>) -> Result<AuditCounts, Fault>
+    ensures { result ≡ counts_of (counts_at_end audited.now) }
 {
-    match ran {
-        Ok(counts) => Ok(AuditCounts {
-            counts,
+    match audited {
+        Ok(audited) => Ok(AuditCounts {
+            counts: audited.counts,
             numbers: ExtraNumbers::none(),
         }),
-        Err(fault) => Err(fault),
+        Err(fault) => Err(*fault),
+    }
+}
+
+// What it leaves unmet; nothing where it broke off.
+fn unmet_after(alloc: Global, audited: Result<AuditCompletion, Fault>) -> UnmetIdentifiers
+    ensures { IfOk audited (λ audited. result ≡ audited.unmet) }
+{
+    match audited {
+        Ok(audited) => audited.unmet,
+        Err(_) => UnmetIdentifiers::none(alloc),
     }
 }
 
@@ -126,6 +141,7 @@ where
         Ok(audited) => tell_rest(alloc, devices, audited),
         Err(fault) => AuditEnd {
             ran: Err(fault),
+            unmet: UnmetIdentifiers::none(alloc),
             devices,
         },
     }
@@ -147,6 +163,7 @@ where
         (tree_in (R.told devices.root)) (L.told devices.log))
         (L.told result.devices.log) result.ran }
     ensures counts { IfOk result.ran (λ told. told.counts ≡ audited.counts) }
+    ensures unmet { result.unmet ≡ audited.unmet }
     ensures sides { KeepsSides S.told S.keeps R.told R.keeps (devices.store, devices.root)
         (result.devices.store, result.devices.root) }
     ensures log { KeepsLog L.told L.keeps devices.log result.devices.log }
@@ -159,6 +176,7 @@ where
         counts,
         job,
         prefix,
+        unmet,
     } = audited;
     let mut walk = Extras::new(alloc, devices, job, prefix);
     let found = walk.run();
@@ -167,10 +185,15 @@ where
         Ok(numbers) => {
             let told = AuditCounts { counts, numbers };
             let ran = tell_end_of_both(alloc, told, &mut devices.log);
-            AuditEnd { ran, devices }
+            AuditEnd {
+                ran,
+                unmet,
+                devices,
+            }
         }
         Err(fault) => AuditEnd {
             ran: Err(fault),
+            unmet,
             devices,
         },
     }

@@ -16,8 +16,8 @@
 //!   of specs/). One that keeps none tells nothing (Untold.antt).
 //! - A system may tell at which paths below a folder that is read it fails (`failing`). Its calls
 //!   keep a law each then too (FailingLaws.antt of specs/).
-//! - `HostSource` tells the system's tree, and what isn't read of the open file. It fails just where
-//!   its system tells that it does, if that tells it. It meets `Source`.
+//! - `HostSource` tells the system's tree, and what isn't read of the open file. It fails just
+//!   where its system tells that it does, if that tells it. It meets `Source`.
 //! - `HostDest` tells the system's tree and the path of the open file. It meets `Dest`. After any
 //!   number of calls it is over the same folder and set as it was, and the system is in the state
 //!   to which those calls led, one after another (`Steps`).

@@ -2,6 +2,7 @@ mod Audited
 mod Begun
 mod Checked
 mod FailedSteps
+mod LeftUnmet
 mod ListedEnds
 mod Logged
 mod Recorded

@@ -1,5 +1,6 @@
 -- What a migration ends with.
-use Rattle.std.specs.Prelude.{◌≡◌, ◌⊎◌, ◌+◌, ◌==◌, ℕ, Bool, true, false, if◌then◌else◌, List, None, Option, Result, Some, Ok, Err}
+use Rattle.std.specs.List.{list_all}
+use Rattle.std.specs.Prelude.{◌≡◌, ◌+◌, ◌==◌, ℕ, zero, suc, Bool, true, false, cond, if◌then◌else◌, is_none, List, None, Option, Result, Some, Ok, Err}
 use Rattle.pt_guard.specs.declared.guard.GuardFault.{GuardFault}
 use Rattle.pt_guard.specs.declared.guard.GuardFault.TheVariants as guard
 use Rattle.pt_plan.specs.declared.fault.Fault.{Fault}
@@ -30,8 +31,12 @@ abbrev pub run_status : AllowedLines → Result Report Fault → ℕ
 run_status allowed (Ok report) = if uncarried allowed report == 0 then 0 else 1
 run_status allowed (Err fault) = 3
 
--- with a list of identifiers a run or an audit that would end with 0 may end with 1, where no object was met of one of them; without a list
--- it ends as it does
-abbrev pub EndsWithList : Option (List (List ℕ)) → ℕ → ℕ → Type 0
-EndsWithList None plain status = status ≡ plain
-EndsWithList (Some ids) plain status = (status ≡ plain) ⊎ ((plain ≡ 0) × (status ≡ 1))
+-- the status with what is unmet: 1 in place of 0 where something is
+abbrev pub status_with : List (Option (List ℕ)) → ℕ → ℕ
+status_with unmet zero = cond (list_all is_none unmet) 0 1
+status_with unmet (suc status) = suc status
+
+-- with a list of identifiers a run or an audit that would end with 0 ends with 1 just where one of these is unmet; without a list it ends as it does
+abbrev pub EndsWithList : Option (List (List ℕ)) → List (Option (List ℕ)) → ℕ → ℕ → Type 0
+EndsWithList None unmet plain status = status ≡ plain
+EndsWithList (Some ids) unmet plain status = status ≡ status_with unmet plain

@@ -1,5 +1,5 @@
 -- Which run was made, over what, and what it came to.
-use Rattle.std.specs.Prelude.{◌≡◌, ◌≢◌, ◌⊎◌, ⊤, ℕ, Bool, true, false, List, Option, Some, None, is_some, Result, Ok, Err}
+use Rattle.std.specs.Prelude.{◌≡◌, ◌≢◌, ◌⊎◌, ⊤, ℕ, Bool, true, false, List, Option, Some, None, is_some, OnOk, Result, Ok, Err}
 use Rattle.std.specs.IoError.{error_kind}
 use Rattle.std.specs.Option.{ForSome, option_map}
 use Rattle.std.specs.Result.{result_err}
@@ -11,6 +11,7 @@ use Rattle.pt_folder.specs.SourceHeld.{told_of as source_told}
 use Rattle.pt_folder.specs.declared.unsynced_change.UnsyncedChange.{UnsyncedChange}
 use Rattle.pt_folder.specs.declared.writing.FileInWriting.{FileInWriting as Open}
 use Rattle.pt_tree.specs.Ignoring.{told_without}
+use Rattle.pt_audit.specs.Auditing.{LeavesUnmet}
 use Rattle.pt_guard.specs.Guard.{Begins}
 use Rattle.pt_guard.specs.PlaceCall.{Release}
 use Rattle.pt_guard.specs.declared.guard.FolderLock.{FolderLock}
@@ -29,6 +30,7 @@ use Rattle.pt_state.specs.declared.job.Report.{Report}
 use Rattle.pt_tree.specs.Dest.{Writing}
 use Rattle.pt_tree.specs.Failing.{Failing}
 use Rattle.pt_tree.specs.Path.{Path}
+use Rattle.pt_tree.specs.Source.{tree_in}
 use Rattle.pt_host.specs.Durable.{IsLogged}
 use Rattle.pt_host.specs.Ends.{EndsWithList, guard_status, run_status}
 use Rattle.pt_host.specs.Events.{IsRecorded}
@@ -53,11 +55,12 @@ pub record IsRun (job : Job) (rehearse : Bool) (was : Option Writing) (old new :
   pub tells : is_some plays ≡ is_some was
   pub promises : Migrates job (seen rehearse was old) (seen rehearse plays new) ran
 
--- and this is its status, and its fault
+-- and this is its status, its fault, and what it left unmet
 abbrev pub IsMade : RunOptions → Option Writing → DeviceStates → DeviceStates → Conclusion → Type 0
 IsMade options was old new end =
     (ran : Result Report Fault) × IsRun options.job options.rehearse was old new ran
     × (end.status ≡ run_status options.allowed ran) × CameTo Run (result_err ran) end.outcome
+    × OnOk ran (LeavesUnmet options.job (tree_in old.source) end.unmet)
 
 -- the paths of a run's two folders, the names of the entries that are left out of the store, and whether files are
 -- put onto the disk
@@ -203,7 +206,8 @@ module _ {H : Type 0} (words : MachineWords H) where
   -- it is made, the fault that ended it is told, if one did, and it ends with a list or without one
   abbrev pub OfList : Option (List (List ℕ)) → (H → H → Conclusion → Type 0) → H → H → Conclusion → Type 0
   OfList list makes old new end = (plain : Conclusion) × (mid : H) × makes old mid plain
-      × TellsEnd words plain.outcome mid new × EndsWithList list plain.status end.status × (end.outcome ≡ plain.outcome)
+      × TellsEnd words plain.outcome mid new × EndsWithList list plain.unmet plain.status end.status
+      × (end.outcome ≡ plain.outcome)
 
 -- ---- the run, on a machine
 

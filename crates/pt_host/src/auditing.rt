@@ -53,7 +53,11 @@ where
         log,
         explains: LastFailure,
     };
-    let AuditEnd { ran, devices } = audit(alloc, devices, options.job, options.extra, &tally);
+    let AuditEnd {
+        ran,
+        unmet,
+        devices,
+    } = audit(alloc, devices, options.job, options.extra, &tally);
     let ExtraDevices {
         store,
         root,
@@ -68,7 +72,12 @@ where
         folder: root.into_system(),
         output: log.into_writer(),
     };
-    (host_io, Conclusion { status, outcome })
+    let conclusion = Conclusion {
+        status,
+        outcome,
+        unmet,
+    };
+    (host_io, conclusion)
 }
 
 // Which lines its log has.

@@ -21,6 +21,7 @@ use pt_check::{Check, CheckDevices, Numbers, Wants};
 use pt_folder::{HostSource, System};
 use pt_messages::{Outcome, Words};
 use pt_move::Fault;
+use pt_name::UnmetIdentifiers;
 use pt_tree::Ignoring;
 use pt_walk::Form;
 use std::alloc::AllocGlobal;
@@ -42,7 +43,14 @@ where
     let host_io = host.lend();
     let file: Option<H::File> = None;
     let parts = DeviceParts { host_io, file };
-    let (host_io, Conclusion { status, outcome }) = check_over(rt, parts, options, store);
+    let (
+        host_io,
+        Conclusion {
+            status,
+            outcome,
+            ..
+        },
+    ) = check_over(rt, parts, options, store);
     host.take_back(host_io);
     tell_end(host, &outcome);
     status
@@ -86,7 +94,12 @@ where
         folder,
         output: log.into_writer(),
     };
-    (host_io, Conclusion { status, outcome })
+    let conclusion = Conclusion {
+        status,
+        outcome,
+        unmet: UnmetIdentifiers::none(alloc),
+    };
+    (host_io, conclusion)
 }
 
 // What these options want of a check.

@@ -2,8 +2,9 @@
 //! that records it, and the list that it is held against.
 //!
 //! `make_guarded` makes an operation behind the guard (`MakesGuarded`): `run_guarded` and
-//! `audit_guarded` are each that, of their own options. With a list of identifiers the status may be 1 in place
-//! of 0, and without one it stays (`EndsWithList`); what is told of them is tested.
+//! `audit_guarded` are each that, of their own options. With a list of identifiers the status is 1
+//! in place of 0 just where one of them is unmet, and without one it stays (`EndsWithList`); what
+//! is told of them is tested.
 ghost use Rattle.pt_guard.specs.Guard.{Begins};
 ghost use Rattle.pt_host.specs.Operation.{Makes, MakesGuarded};
 ghost use Rattle.pt_messages.specs.Expected.{AsksEnd};
@@ -12,7 +13,7 @@ use crate::event::{begin_event, end_event, end_unbegun};
 use crate::folders::Folders;
 use crate::operation::{Conclusion, Operation};
 use crate::saying::{end_with_refusal, tell_end, tell_why};
-use crate::unmet::SoughtList;
+use crate::unmet::end_with_list;
 use crate::{Host, Machine};
 use pt_guard::{FolderLock, GuardFault, begin};
 use pt_messages::{Reads, ReadsFiles, Terminals, prefix, reason};
@@ -71,13 +72,21 @@ where
         ((folders.entry.store.now, folders.entry.folder.now), operation)
         (host.old, host.new) result }
 {
-    let sought = SoughtList::of(&operation.job().share);
+    let has_list = operation.job().share.list().is_some();
     let verbose = operation.feedback().verbose;
-    let Conclusion { status, outcome } = operation.make(rt, host, folders);
+    let Conclusion {
+        status,
+        outcome,
+        unmet,
+    } = operation.make(rt, host, folders);
     tell_end(host, &outcome);
     tell_why(rt, &outcome, verbose, folders);
-    let status = sought.end(rt, status);
-    Conclusion { status, outcome }
+    let status = end_with_list(rt, has_list, &unmet, status);
+    Conclusion {
+        status,
+        outcome,
+        unmet,
+    }
 }
 
 // Asks the guard whether the operation may begin, and for the lock that it wants. Where it may, and

@@ -19,17 +19,17 @@
 //!   which is given back, and the lock (`Audits`, `AuditsOver`).
 //! - `check_store`: what is lent is asked for, and nothing else; the check of pt_check is made over
 //!   SOURCE and the output, and what was lent is given back (`ChecksStore`, `ChecksOver`).
-//! - The fault that ended one of these is told once, by its own line (`TellsEnd`); so is why a run or
-//!   an audit may not begin (`refusal_line`), and, by its own text, why there is no event
-//!   (`TellsEvent`).
-//! - Where a file is named for its event (`--event`), a run or an audit is recorded in it
-//!   (`IsRecorded`).
+//! - The fault that ended one of these is told once, by its own line (`TellsEnd`); so is why one
+//!   may not begin (`refusal_line`), and why there is no event (`TellsEvent`).
+//! - Where a file is named for its event, a run or an audit is recorded in it (`IsRecorded`).
 //! - A rehearsal leaves all that the system keeps of DEST (`LeavesKept`); where it and the run that
 //!   it rehearses both end well, their logs get the same text, and their statuses are the same
 //!   (`RehearsalTellsTheRun`).
 //! - `DurableLog`: a log whose lines are put onto the disk where it has a file (`IsPutBehind`).
 //! - Where a check read each file whole and told nothing, no run over its store answers `Source`,
-//!   if the source tells the paths at which it fails (`NoRunIsHaltedForSource`).
+//!   if the source tells the paths at which it fails (`NoRunIsHaltedForSource`,
+//!   `NoRunIsHaltedAfterQuietCheck`). A run that answers fault 2 made a call of DEST that failed
+//!   (`DestFaultMeansFailedStep`).
 //!
 //! Guarantees of README that rest on its definitions: An audit is exact.
 #![tactic(auto)]

@@ -16,14 +16,18 @@ use crate::{Feedback, Host, Machine};
 use pt_guard::Claim;
 use pt_messages::{Members, Outcome, Reads, ReadsFiles, Terminals};
 use pt_move::{Fault, Job};
+use pt_name::UnmetIdentifiers;
 use std::alloc::{AllocError, AllocGlobal, Global};
 use std::rt::Clock;
 
 /// How a run or an audit ended: its exit status, and what its event records of that.
 #[derive(Drop)]
 pub(crate) struct Conclusion {
+    /// The exit status, but for what is unmet.
     pub status: u8,
     pub outcome: Outcome,
+    /// The identifiers of its list of which no object was met; none after a fault.
+    pub unmet: UnmetIdentifiers,
 }
 
 /// The fault that ended what came to this, if one did.

@@ -31,16 +31,18 @@ use crate::{Feedback, Host, Machine, RunOptions};
 use pt_guard::Claim;
 use pt_messages::{Members, Outcome, Reads, ReadsFiles, Terminals, Words, lines_expected, reason};
 use pt_move::{Fault, Job};
+use pt_name::UnmetIdentifiers;
 use std::alloc::{AllocError, AllocGlobal, Global};
 use std::io;
 use std::io::ErrorKind;
 use std::rt::Clock;
 
 /// Carries a store into a destination on a machine, or rehearses that, and gives the exit status: 0
-/// all was carried; 1 the log has lines that tell of what was not, unless the options say that these
-/// are well, or no object was met of an identifier of the list; 2 the folders lie in one another, or it isn't known where, or the
-/// destination is a storage root itself; 3 a fault, or another run or an audit holds the
-/// destination. Standard error tells of 2 and 3, and of these identifiers.
+/// all was carried; 1 the log has lines that tell of what was not, unless the options say that
+/// these are well, or no object was met of an identifier of the list; 2 the folders lie in one
+/// another, or it isn't known where, or the destination is a storage root itself; 3 a fault, or
+/// another run or an audit holds the destination. Standard error tells of 2 and 3, and of these
+/// identifiers.
 ///
 /// The guard is asked first, and the lock for this run alone. Where the run may begin, the log that
 /// `--expect` names is looked at, if it names one, and the run is made over what the machine lends,
@@ -105,7 +107,7 @@ impl Operation for RunOptions {
     {
         let file = match synced_output(rt, host, self.sync) {
             Ok(file) => file,
-            Err(_) => return unsynced_end(),
+            Err(_) => return unsynced_end(rt.alloc()),
         };
         let expected = lines_expected(rt, self.feedback.expected_log());
         let host_io = host.lend();
@@ -118,13 +120,14 @@ impl Operation for RunOptions {
 }
 
 // The end of a run whose output can't be put onto its disk: that failed.
-fn unsynced_end() -> Conclusion
+fn unsynced_end(alloc: Global) -> Conclusion
     ensures status { result.status ≡ 3 }
     ensures fault { CameTo Run (Some Log) result.outcome }
 {
     Conclusion {
         status: FAILED,
         outcome: Outcome::without_lines(Words::Run, Some(Fault::Log)),
+        unmet: UnmetIdentifiers::none(alloc),
     }
 }
 

@@ -6,7 +6,7 @@
 //! rehearsal leaves all that the system keeps of DEST (`LeavesKept`). Something is unsynced at the
 //! end only where syncing was wanted and a fault ended the run (`IsUnsyncedBy`). Over a store whose
 //! system tells where it fails the source failed only at what a run asks for (`FailsByAsking`).
-ghost use Rattle.std.specs.Prelude.{◌≡◌};
+ghost use Rattle.std.specs.Prelude.{◌≡◌, IfOk, OnOk};
 ghost use Rattle.pt_folder.specs.HostDest.{folder_path as dest_path, kept_by};
 ghost use Rattle.pt_folder.specs.HostSource.{failing, folder_path as store_path};
 ghost use Rattle.pt_host.specs.Devices.{seen_without, told_at_rest};
@@ -16,9 +16,12 @@ ghost use Rattle.pt_host.specs.Machine.{host_io_words};
 ghost use Rattle.pt_host.specs.Made.{IsRun, IsUnsyncedBy, LeavesKept, RunsFrom};
 ghost use Rattle.pt_host.specs.Served.{IsServed, ServesTo};
 ghost use Rattle.pt_host.specs.declared.options.AllowedLines.{AllowedLines};
+ghost use Rattle.pt_audit.specs.Auditing.{LeavesUnmet};
+ghost use Rattle.pt_move.specs.Unmet.{report_of};
 ghost use Rattle.pt_plan.specs.SourceFailures.{FailsOnlyWhereAsked};
 ghost use Rattle.pt_state.specs.Outside.{states_of};
 ghost use Rattle.pt_state.specs.SourceFailures.{source_view};
+ghost use Rattle.pt_tree.specs.Source.{tree_in};
 
 use crate::account::Account;
 use crate::devices::RunDevices;
@@ -29,7 +32,8 @@ use crate::status::{DONE, FAILED, INCOMPLETE};
 use crate::{AllowedLines, HostIo, RunOptions};
 use pt_folder::{HostDest, HostSource, System};
 use pt_messages::{LastCalls, Reads, Tally, Terminals, Words};
-use pt_move::{Fault, Job, Report, migrate_observed};
+use pt_move::{Completion, Fault, Job, Report, migrate_observed};
+use pt_name::UnmetIdentifiers;
 use pt_rehearsal::Rehearsal;
 use pt_tree::{Dest, Ignoring, Log, Source};
 use std::alloc::{AllocGlobal, Global};
@@ -79,7 +83,13 @@ where
         rehearse: options.rehearse,
         tally: &tally,
     };
-    let RunEnd { ran, dest } = run_or_rehearse(rt.alloc(), &mut source, dest, &mut log, task);
+    let RunEnd { ran, unmet, dest } = run_or_rehearse(
+        rt.alloc(),
+        &mut source,
+        dest,
+        &mut log,
+        task,
+    );
     let calls = LastCalls::of_dest(&dest);
     let (source, log, outcome) = account.close(rt, (source, log), fault_in(&ran), calls);
     let status = status_of(&ran, options.allowed);
@@ -88,7 +98,12 @@ where
         folder: dest.into_system(),
         output: log.into_writer(),
     };
-    (host_io, Conclusion { status, outcome })
+    let conclusion = Conclusion {
+        status,
+        outcome,
+        unmet,
+    };
+    (host_io, conclusion)
 }
 
 // What a run has to do: its job, whether it is only rehearsed, and what is told after each turn how
@@ -99,10 +114,12 @@ struct Task<'t> {
     tally: &'t Tally,
 }
 
-// What a run came to, and its destination.
+// What a run came to, which identifiers of its list it left unmet, none after a fault, and its
+// destination.
 #[derive(Drop)]
 struct RunEnd<'a, D: System> {
     ran: Result<Report, Fault>,
+    unmet: UnmetIdentifiers,
     dest: HostDest<'a, D>,
 }
 
@@ -118,6 +135,8 @@ fn run_or_rehearse<'a, S: Source, D: System, L: Log>(
         (states_of S.Source ⟦<HostDest<'a, D> as Dest>⟧ L.Log source.old dest.entry log.old)
         (states_of S.Source ⟦<HostDest<'a, D> as Dest>⟧ L.Log source.new result.dest log.new)
         result.ran }
+    ensures unmet { OnOk result.ran
+        (LeavesUnmet task.entry.job (tree_in (S.told source.old)) result.unmet) }
     ensures source { S.keeps source.old source.new }
     ensures fails { FailsOnlyWhereAsked (source_view S.Source source.old)
         (source_view S.Source source.new) }
@@ -137,11 +156,35 @@ fn run_or_rehearse<'a, S: Source, D: System, L: Log>(
         let mut rehearsal = Rehearsal::new(alloc, dest);
         let ran = migrate_observed(alloc, source, &mut rehearsal, log, job, tally);
         let dest = rehearsal.into_dest();
-        return RunEnd { ran, dest };
+        return end_of(alloc, ran, dest);
     }
     let mut dest = dest;
     let ran = migrate_observed(alloc, source, &mut dest, log, job, tally);
-    RunEnd { ran, dest }
+    end_of(alloc, ran, dest)
+}
+
+// The end of a run that came to this over a destination.
+fn end_of<D: System>(
+    alloc: Global,
+    ran: Result<Completion, Fault>,
+    dest: HostDest<'_, D>,
+) -> RunEnd<'_, D>
+    ensures ran { result.ran ≡ report_of ran }
+    ensures unmet { IfOk ran (λ completion. result.unmet ≡ completion.unmet) }
+    ensures dest { result.dest ≡ dest.entry }
+{
+    match ran {
+        Ok(completion) => RunEnd {
+            ran: Ok(completion.report),
+            unmet: completion.unmet,
+            dest,
+        },
+        Err(fault) => RunEnd {
+            ran: Err(fault),
+            unmet: UnmetIdentifiers::none(alloc),
+            dest,
+        },
+    }
 }
 
 // The exit status of a run, whose log may have these lines.

@@ -14,6 +14,7 @@ pub mod Staying
 pub mod WholeLog
 pub mod Ran
 pub mod Told
+pub mod Unmet
 mod MoveRules
 mod Holding
 mod Rerun

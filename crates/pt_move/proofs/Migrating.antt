@@ -1,5 +1,5 @@
 -- What a whole run promises, from its steps.
-use Rattle.std.proofs.Common.{◌≡◌, ◌≢◌, refl, ◌∙◌}
+use Rattle.std.proofs.Common.{◌≡◌, ◌≢◌, refl, subst, sym, ◌∙◌}
 use Rattle.std.specs.Prelude.{IsErrAnd, Ok, Err, Result}
 use Rattle.pt_invariant.specs.RunInvariant.{AreStates, start_of}
 use Rattle.pt_state.proofs.Words.{DeviceStates, IsLayout, tree_in}
@@ -10,6 +10,10 @@ use Rattle.pt_move.specs.Lines.{HasTold}
 use Rattle.pt_move.specs.Migrates.{Migrates}
 use Rattle.pt_move.specs.Outcome.{IfEarly, IfLog, LeavesAll, LeavesNoStaging, SaysRightly, WantsMemory}
 use Rattle.pt_move.specs.Promises.{IfHalted, Keeps, TakesStep}
+use Rattle.pt_move.proofs.Unmet.{unmet_in_the_end}
+use Rattle.pt_move.specs.Runs.{Finished}
+use Rattle.pt_move.specs.Unmet.{LeavesUnmet}
+use Rattle.pt_move.specs.declared.migration.Completion.{Completion}
 use Rattle.pt_move.specs.Running.{IsBegun, IsNew, TypeInvariant, Running}
 use Rattle.pt_move.specs.Stepping.{Blamed, BlamesRightly, EndsAs, StepLeaves}
 use Rattle.pt_plan.specs.declared.fault.Fault.{Fault}
@@ -18,7 +22,7 @@ use Rattle.pt_move.specs.declared.mover.Turn.{Turn}
 use Rattle.pt_move.specs.declared.mover.Turn.TheVariants as turn
 use Rattle.pt_move.proofs.Ending.{new_goes_on, not_ended}
 use Rattle.pt_move.proofs.Staying.{holds_fields_alone, stays_bounded, stays_small}
-use Rattle.pt_move.proofs.Ran.{RanSoFar, blames_err, blames_ok, none_failed, ran_halted, ran_nothing, ran_on, ran_whole}
+use Rattle.pt_move.proofs.Ran.{RanSoFar, blames_err, blames_ok, is_whole_run, none_failed, ran_halted, ran_nothing, ran_on, ran_whole}
 use Rattle.pt_move.proofs.WholeLog.{told_finished, told_front, told_more, told_none}
 
 -- ---- between two steps
@@ -66,13 +70,25 @@ module _ (job : Job) (first old new : DeviceStates) (a b : Running) (so_far : So
     well = so_far.well;
     going = more.1;
     told = told_more _ _ _ _ _ so_far.told step.steps.leaves.told;
-    ran = ran_on job first old new a b so_far.same so_far.going so_far.ran is step.steps.leaves step.steps.turn;
+    ran = ran_on job first old new a b so_far.same so_far.going so_far.ran is step.steps.leaves step.steps.turn step.steps.unmet;
   }
     where
       more : EndsAs a b (Ok turn.More)
       more = rw is at step.steps.answer
 
-  -- it comes to its end
+  -- it comes to its end, by turns that leave this unmet
+  pub finishes : (t : Turn) (report : Report) → t ≡ turn.Finished → report ≡ b.state.counts → TakesStep old new a b (Ok t)
+      → Finished job first new report b.state.unmet
+  finishes t report is counts step =
+      ran_whole job first old new a b so_far.same so_far.going so_far.ran is counts step.steps.leaves step.steps.turn step.steps.unmet
+
+  -- and leaves just what is met nowhere in the store
+  pub leaves_unmet : (t : Turn) (completion : Completion) → t ≡ turn.Finished → completion.report ≡ b.state.counts → completion.unmet ≡ b.state.unmet
+      → TakesStep old new a b (Ok t) → LeavesUnmet job first new completion
+  leaves_unmet t completion is counts unmet step =
+      let turns = subst (Finished job first new completion.report) (sym unmet) (finishes t completion.report is counts step) in
+      record { turns = turns; store = unmet_in_the_end job first new completion.report completion.unmet so_far.layout so_far.well turns }
+
   pub migrates_whole : (t : Turn) (report : Report) → t ≡ turn.Finished → report ≡ b.state.counts → TypeInvariant b → TakesStep old new a b (Ok t)
       → Migrates job first new (Ok report)
   unfolding BlamesRightly Keeps StepLeaves
@@ -96,7 +112,7 @@ module _ (job : Job) (first old new : DeviceStates) (a b : Running) (so_far : So
         never_ended = tt;
         told = rw counts (told_finished t _ _ _ _ _ so_far.told step.steps.leaves.finished is);
         told_front = tt;
-        run = ran_whole job first old new a b so_far.same so_far.going so_far.ran is counts step.steps.leaves step.steps.turn;
+        run = is_whole_run job first old new a b so_far.same so_far.going so_far.ran (finishes t report is counts step);
         work = rw counts (rw (so_far.same, so_far.tree) at kept.work);
         turns = rw counts (rw (step.steps.leaves.job ∙ so_far.same) at well.bounded.turns);
         lines = rw counts well.bounded.lines;

@@ -16,3 +16,4 @@ pub mod Stands
 pub mod Staying
 pub mod Stepping
 pub mod Turning
+pub mod Unmet

@@ -44,6 +44,7 @@ pub record IsNew (job : Job) (r : Running) : Type 0 where
   pub job_is : r.state.job ≡ job
   pub kept : kept_of r.state [] ≡ fresh_kept
   pub counts : r.state.counts ≡ no_lines
+  pub unmet : r.state.unmet ≡ []
   pub fed : HasBeenFed job.algorithm r.state.hasher []
 
 -- it holds nothing, and its hasher was fed nothing

@@ -1,10 +1,10 @@
 -- What one step answers, and what it leaves.
-use Rattle.std.specs.Prelude.{◌≡◌, ◌≢◌, ◌+◌, ◌<◌, ◌==◌, ◌≤◌, ℕ, IfOk, Result, Ok, Err, cond, ⊤}
+use Rattle.std.specs.Prelude.{◌≡◌, ◌≢◌, ◌+◌, ◌<◌, ◌==◌, ◌≤◌, ℕ, IfOk, OnOk, Result, Ok, Err, cond, ⊤}
 use Rattle.pt_plan.specs.DeviceStates.{DeviceStates}
 use Rattle.pt_tree.specs.Source.{tree_in}
 use Rattle.pt_plan.specs.declared.fault.Fault.{Fault}
 use Rattle.pt_plan.specs.declared.phase.Phase.TheVariants as phase
-use Rattle.pt_state.specs.States.{counts_of}
+use Rattle.pt_state.specs.States.{IsUnmetAfter, counts_of}
 use Rattle.pt_move.specs.Bounds.{lines_put}
 use Rattle.pt_move.specs.Turning.{CountedTurn}
 use Rattle.pt_move.specs.Counting.{Counts}
@@ -99,9 +99,10 @@ StepLeaves old new before after result = Left old new before after result
 
 -- ---- a step over three devices
 
--- what a step answers, whom it blames, what it leaves, and that it made a turn
+-- what a step answers, whom it blames, what it leaves, that it made a turn, and what is unmet after it
 pub record Steps (old new : DeviceStates) (before after : Running) (result : Result Turn Fault) : Type 0 where
   pub answer : EndsAs before after result
   pub blames : BlamesRightly old new result
   pub leaves : StepLeaves old new before after result
   pub turn : MakesTurn old new before after result
+  pub unmet : OnOk result (IsUnmetAfter before.phase before.state after.state)

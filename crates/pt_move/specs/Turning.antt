@@ -1,6 +1,6 @@
 -- One turn of a run, counted.
 use Rattle.std.specs.Bool.{OnFalse}
-use Rattle.std.specs.Prelude.{◌≡◌, IfErr, ℕ, List}
+use Rattle.std.specs.Prelude.{◌≡◌, IfErr, OnOk, ℕ, List}
 use Rattle.pt_object.specs.Hasher.{HasBeenFed}
 use Rattle.pt_object.specs.declared.algorithm.Algorithm.{Algorithm}
 use Rattle.pt_object.specs.declared.hasher.Hasher.{Hasher}
@@ -13,7 +13,7 @@ use Rattle.pt_plan.specs.DeviceStates.{DeviceStates}
 use Rattle.pt_plan.specs.declared.phase.Phase.{Phase}
 use Rattle.pt_scan.specs.Blocks.{ReadsNext}
 use Rattle.pt_state.specs.Outside.{FedAfter}
-use Rattle.pt_state.specs.States.{job_of, kept_of}
+use Rattle.pt_state.specs.States.{IsUnmetAfter, job_of, kept_of}
 use Rattle.pt_state.specs.declared.outside.Io.{Ghosts as OfOutside}
 use Rattle.pt_state.specs.declared.state.State.{State}
 
@@ -27,13 +27,14 @@ CountedTurn here s s' old new answer =
     × Turn (job_of s.job) here (turning (kept_of s fed)) (kept_of s' fed') old new answer))
 
 -- so it is over all devices as one. The faults that are the run's own are no answers; where a file is read, the block that is held is its next one;
--- and the source is called no more often than this
+-- the source is called no more often than this; and those of the list are unmet that the definitions have
 pub record TakesCounted {O : Type 0} (of : OfOutside O) (most : ℕ × ℕ) (here : Phase)
     (old new : State × O) (answer : Answer) : Type 0 where
   pub turn : CountedTurn here old.0 new.0 (of.states old.1) (of.states new.1) answer
   pub own : IfErr answer IsOfTurn
   pub block : ReadsNext here (of.states old.1).source new.0.block.items answer
   pub few : of.within most.0 most.1 old.1 new.1
+  pub unmet : OnOk answer (IsUnmetAfter here old.0 new.0)
 
 -- until a run has ended, its hasher has been fed something
 abbrev pub HasFed : Phase → Algorithm → Hasher → Type 0

@@ -12,7 +12,8 @@
 //! - `migrate_observed` asks for nothing. It promises `MigratesOver`: each device stays, a source
 //!   fails only where a run asks, and `Migrates` has the rest, each clause by its name, and which
 //!   devices have to tell. An observer gets the report after each turn that goes on (`Observer`).
-//!   `migrate` is that without one.
+//!   `migrate` is that without one. At its end it says of which identifiers of the list no object
+//!   was met (`LeavesUnmet`).
 //! - `Mover::step` asks that the devices are those of the earlier steps, as those left them. It
 //!   promises the same after each answer, against the start at which the run began (`Keeps`), and
 //!   besides that what is held is within the bound, that it is the fields that are listed and
@@ -37,7 +38,7 @@ mod mover;
 mod observer;
 pub mod turning;
 
-pub use migration::{migrate, migrate_observed};
+pub use migration::{Completion, migrate, migrate_observed};
 pub use mover::{Mover, Turn};
 pub use observer::{NoObserver, Observer};
 pub use pt_plan::Fault;

@@ -4,11 +4,14 @@
 //! stays; and of a source that tells where it fails, that if a call of it failed, it did so at what
 //! a run asks for, or at the file that was open (`FailsOnlyWhereAsked` of pt_plan). Each step
 //! promises the same.
-ghost use Rattle.std.specs.Prelude.{ℕ};
+ghost use Rattle.std.specs.Prelude.{IfOk, ℕ};
 ghost use Rattle.pt_move.specs.Migrates.{Migrates};
 ghost use Rattle.pt_move.specs.MigratesOver.{MigratesOver};
+ghost use Rattle.pt_move.specs.Unmet.{LeavesUnmet, report_of};
+ghost use Rattle.pt_state.specs.Outside.{states_of};
 
 use crate::{Fault, Mover, NoObserver, Observer, Turn};
+use pt_name::UnmetIdentifiers;
 use pt_state::{Devices, Io, Job, Report};
 use pt_tree::{Dest, Log, Source};
 use std::alloc::Global;
@@ -39,12 +42,25 @@ pub fn migrate<S: Source, D: Dest, L: Log>(
     ensures { MigratesOver S.Source D.Dest L.Log job
         ((source.old, dest.old, log.old), (source.new, dest.new, log.new)) result }
 {
-    migrate_observed(alloc, source, dest, log, job, &NoObserver)
+    match migrate_observed(alloc, source, dest, log, job, &NoObserver) {
+        Ok(completion) => Ok(completion.report),
+        Err(fault) => Err(fault),
+    }
 }
 
-/// A run as `migrate` makes it, and with all that is promised of that. The observer gets the run's
-/// report after each turn that isn't the last one or a faulty one; it has no part in what the run
-/// does.
+/// What a run came to that came to its end.
+#[derive(Drop)]
+pub struct Completion {
+    /// Its lines of each kind, and the turns that it made.
+    pub report: Report,
+    /// The identifiers of the share's list of which it met no object.
+    pub unmet: UnmetIdentifiers,
+}
+
+/// A run as `migrate` makes it, and with all that is promised of that. At its end it says too of
+/// which identifiers of the list no object was met: of just those that no site of the store with an
+/// object reads (`LeavesUnmet`). The observer gets the run's report after each turn that isn't the
+/// last one or a faulty one; it has no part in what the run does.
 pub fn migrate_observed<S: Source, D: Dest, L: Log, O: Observer<Report>>(
     alloc: Global,
     source: &mut S,
@@ -52,9 +68,12 @@ pub fn migrate_observed<S: Source, D: Dest, L: Log, O: Observer<Report>>(
     log: &mut L,
     job: Job,
     observer: &O,
-) -> Result<Report, Fault>
-    ensures { MigratesOver S.Source D.Dest L.Log job
-        ((source.old, dest.old, log.old), (source.new, dest.new, log.new)) result }
+) -> Result<Completion, Fault>
+    ensures run { MigratesOver S.Source D.Dest L.Log job
+        ((source.old, dest.old, log.old), (source.new, dest.new, log.new)) (report_of result) }
+    ensures unmet { IfOk result (LeavesUnmet job
+        (states_of S.Source D.Dest L.Log source.old dest.old log.old)
+        (states_of S.Source D.Dest L.Log source.new dest.new log.new)) }
 {
     run(alloc, &mut Devices { source, dest, log }, job, observer)
 }
@@ -65,15 +84,16 @@ fn run<O: Io, W: Observer<Report>>(
     out: &mut O,
     job: Job,
     observer: &W,
-) -> Result<Report, Fault>
-    ensures run { Migrates job (O.states out.old) (O.states out.new) result }
+) -> Result<Completion, Fault>
+    ensures run { Migrates job (O.states out.old) (O.states out.new) (report_of result) }
+    ensures unmet { IfOk result (LeavesUnmet job (O.states out.old) (O.states out.new)) }
     ensures same { (n k : ℕ) × O.within n k out.old out.new }
 {
     let mut mover = Mover::start(alloc, job);
     loop {
         match mover.advance(out) {
             Ok(Turn::More) => observer.observe(mover.report()),
-            Ok(Turn::Finished) => break Ok(mover.report()),
+            Ok(Turn::Finished) => break Ok(mover.into_completion()),
             Err(fault) => break Err(fault),
         }
     }

@@ -23,6 +23,7 @@ ghost use Rattle.pt_move.specs.Promises.{TakesStep};
 ghost use Rattle.pt_move.specs.Running.{BeganSomewhere, HasBegun, IsBegun, IsNew, TypeInvariant};
 ghost use Rattle.pt_move.specs.Stepping.{Any, SameDevice, most_calls_at};
 
+use crate::migration::Completion;
 use crate::turning::{new_state, turn};
 use pt_plan::{Fault, Opening, Phase};
 use pt_state::{Devices, Io, Job, Report, State};
@@ -164,6 +165,20 @@ impl Mover {
         self.state.trail.records()
             + self.state.rows.len() as u128
             + self.state.contents.len() as u128
+    }
+
+    /// What it came to, where it was the last step that was made.
+    pub(crate) fn into_completion(self) -> Completion
+        ensures report { result.report ≡ self.state.counts }
+        ensures unmet { result.unmet ≡ self.state.unmet }
+        ensures well { TypeInvariant self }
+    {
+        let report = self.report();
+        let state = self.state;
+        Completion {
+            report,
+            unmet: state.unmet,
+        }
     }
 
     /// The lines of each kind whose `put` was answered Ok, and the turns made, a faulty one among

@@ -12,6 +12,7 @@ ghost use Rattle.pt_move.specs.Stands.{CanAdd, Stands};
 ghost use Rattle.pt_move.specs.Turning.{HasFed, TakesCounted};
 
 use pt_make::{ObjectContent, copying, making, placing, root, telling};
+use pt_name::UnmetIdentifiers;
 use pt_object::{Contents, Hasher, Rows};
 use pt_plan::{Fault, Opening, Phase, Stage};
 use pt_scan::{judging, reading, scanning, store, walking};
@@ -34,6 +35,7 @@ pub fn new_state(alloc: Global, job: Job) -> State
         contents: Contents::new(alloc),
         block: Block::new(),
         hasher,
+        unmet: UnmetIdentifiers::none(alloc),
         counts: Report {
             done: 0,
             present: 0,

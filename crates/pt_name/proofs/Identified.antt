@@ -1,7 +1,7 @@
 -- What the names of a site say of its object, from what was read of them.
 use Rattle.std.proofs.Common.{◌≡◌, ◌<◌, ℕ, Bool, ◌&&◌, ◌==◌, true, false, List, [], ◌∷◌, ◌++◌, refl, sym, ap, ◌∙◌, length, cond, arith}
 use Rattle.std.specs.Global.{Global}
-use Rattle.std.specs.Prelude.{String, Option, None, Some, Result, Ok, Err, IsTrue, slice_get}
+use Rattle.std.specs.Prelude.{String, OnOk, Option, None, Some, Result, Ok, Err, IsTrue, slice_get}
 use Rattle.std.specs.List.{concat}
 use Rattle.std.specs.Str.{bytes_eq, is_utf8}
 use Rattle.std.specs.String.{string_bytes}
@@ -9,7 +9,16 @@ use Rattle.std.proofs.lemmas.List.{length-append}
 use Rattle.std.proofs.lemmas.Str.{IsUtf8-from_is_utf8, IsUtf8-string_bytes, is_utf8-from_IsUtf8}
 use Rattle.pt_tree.specs.Name.{is_name}
 use Rattle.pt_tree.specs.Path.{Path, same_path}
-use Rattle.pt_name.specs.Identifying.{identification_by, identification_of, identifier_by, is_own_place, unless_reserved}
+use Rattle.pt_name.specs.Identifying.{
+  identification_by,
+  identification_of,
+  identifier_at,
+  identifier_by,
+  identifier_read,
+  identifier_read_by,
+  is_own_place,
+  unless_reserved,
+}
 use Rattle.pt_name.specs.Place.{place_of}
 use Rattle.pt_name.specs.Reading.{GivesReading, before, hex_value, read_character, reading_of}
 use Rattle.pt_name.specs.Share.{Portion, takes}
@@ -64,6 +73,26 @@ read_whole tuples share site text prefix id t read reads joined same is =
     ∙ sym (ap (λ (o : Option (List ℕ)). identification_by tuples share site (identifier_by tuples prefix o)) (ap reading_of (sym joined) ∙ reads)
     ∙ ap (λ (b : Bool). identification_by tuples share site (cond b (unless_reserved tuples (prefix ++ string_bytes read)) (Err refusal.NotUtf8)))
     (is_utf8-from_IsUtf8 (string_bytes read) (IsUtf8-string_bytes read)))
+
+-- and it is the one that was read, whatever its place
+pub read_named : (site : Path) (text prefix id t : List ℕ) (read : String Global) → reading_of text ≡ Some (string_bytes read) → text ≡ concat site
+    → t ≡ string_bytes read → id ≡ prefix ++ t → identifier_read prefix site ≡ Some id
+read_named site text prefix id t read reads joined same is =
+    ap (identifier_read_by prefix) (ap reading_of (sym joined) ∙ reads)
+    ∙ ap (λ (b : Bool). cond b (Some (prefix ++ string_bytes read)) None) (is_utf8-from_IsUtf8 (string_bytes read) (IsUtf8-string_bytes read))
+    ∙ ap (λ (b : List ℕ). Some b) (ap (λ (b : List ℕ). prefix ++ b) (sym same) ∙ sym is)
+
+pub read_bad : (site : Path) (text prefix : List ℕ) → GivesReading (reading_of text) (Err unclean.NotUtf8) → text ≡ concat site
+    → identifier_read prefix site ≡ None
+read_bad site text prefix (bytes, reads, not) joined = ap (identifier_read_by prefix) (ap reading_of (sym joined) ∙ reads) ∙ by (is_utf8 bytes) refl
+  where
+    by : (b : Bool) → is_utf8 bytes ≡ b → cond b (Some (prefix ++ bytes)) None ≡ None
+    by true is = absurd (not (IsUtf8-from_is_utf8 bytes is))
+    by false is = refl
+
+pub on_ok : {T E : Type 0} {P : Type 0} (r : Result T E) → P → OnOk r P
+on_ok (Ok x) p = p
+on_ok (Err e) p = tt
 
 pub read_not_utf8 : (tuples : Tuples) (share : Portion) (site : Path) (text prefix : List ℕ) → GivesReading (reading_of text) (Err unclean.NotUtf8)
     → text ≡ concat site

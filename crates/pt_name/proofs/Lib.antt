@@ -11,4 +11,5 @@ pub mod Places
 pub mod Readings
 pub mod Spelled
 pub mod Shares
+pub mod StillUnmet
 pub mod Tuples

@@ -28,17 +28,17 @@ use Rattle.std.proofs.Common.{
 use Rattle.std.specs.Cmp.{IsTotalOrder, both_ways, on_equiv}
 use Rattle.std.specs.Cmp.Lexicographic.{nat_list_cmp_total, nat_list_eq_equiv, slice_cmp}
 use Rattle.std.specs.Global.{Global}
-use Rattle.std.specs.List.{AllWithin, Any, Contains, HoldsAt, dedup, list_any}
+use Rattle.std.specs.List.{All, AllWithin, Any, Contains, HoldsAt, dedup, list_any}
 use Rattle.std.specs.List.Retain.{DiffersFromLast, IsFiltered}
 use Rattle.std.specs.List.Sorted.{IsBinarySearchResult, IsPermutation, IsSorted, IsSearchInRange, IsStrictlySortedBy}
 use Rattle.std.specs.Ordering.{eq_by_cmp, is_eq, is_lt, nat_cmp, ordering_reverse}
-use Rattle.std.specs.Prelude.{◌⊎◌, String, Result, Ok, Err, is_ok}
+use Rattle.std.specs.Prelude.{◌⊎◌, IfOk, String, Result, Ok, Err, is_ok}
 use Rattle.std.specs.Str.{bytes_eq}
 use Rattle.std.specs.String.{string_bytes, string_cmp, string_cmp_total, string_eq}
 use Rattle.std.specs.declared.cmp.Ordering.{Ordering}
 use Rattle.std.specs.declared.cmp.Ordering.TheVariants.{Less, Equal, Greater}
 use Rattle.std.proofs.lemmas.Bool.{cases_lt}
-use Rattle.std.proofs.lemmas.List.Elements.{All-get_or, All-from_get_or}
+use Rattle.std.proofs.lemmas.List.Elements.{All-get_or, All-from_get_or, All-weaker}
 use Rattle.std.proofs.lemmas.List.Filters.{dedup_is}
 use Rattle.std.proofs.lemmas.List.Folds.{Any-from_list_any, list_any-from_Any, list_any_at, list_any_none}
 use Rattle.std.proofs.lemmas.List.Kept.{Any-dedup, Contains-from_dedup, IsStrictlySortedBy-dedup}
@@ -48,6 +48,7 @@ use Rattle.std.proofs.lemmas.Map.Text.{is_eq-slice_cmp}
 use Rattle.std.proofs.lemmas.Map.Views.{All-after_first}
 use Rattle.pt_tree.proofs.Names.{same_name}
 use Rattle.pt_name.specs.Share.{ListsAs, is_listed}
+use Rattle.pt_name.specs.Unmet.{StandsOnlyAt}
 use Rattle.pt_name.proofs.Shares.{any_mapped}
 
 abbrev Text : Type 0
@@ -73,11 +74,12 @@ module _ {K : Type 0} {R : K → K → Ordering} (o : IsTotalOrder R) where
 same_texts : (x y : Text) → string_eq x y ≡ eq_by_cmp string_cmp x y
 same_texts x y = sym (is_eq-slice_cmp (string_bytes x) (string_bytes y))
 
--- each once, they are sorted still
-pub sorted_once : (sorted once : List Text) → IsSorted string_cmp sorted → IsFiltered (DiffersFromLast string_eq) [] sorted once → IsSorted string_cmp once
-sorted_once sorted once up filtered =
-    subst (IsSorted string_cmp) (sym (dedup_is string_eq sorted once filtered))
-    (sorted_from_strict string_cmp_total (dedup string_eq sorted) (IsStrictlySortedBy-dedup string_cmp_total same_texts sorted up))
+-- each once, they are sorted strictly
+pub strict_once : (sorted once : List Text) → IsSorted string_cmp sorted → IsFiltered (DiffersFromLast string_eq) [] sorted once
+    → IsStrictlySortedBy string_cmp once
+strict_once sorted once up filtered =
+    subst (IsStrictlySortedBy string_cmp) (sym (dedup_is string_eq sorted once filtered))
+    (IsStrictlySortedBy-dedup string_cmp_total same_texts sorted up)
 
 -- ---- what stands in them
 
@@ -144,6 +146,41 @@ module _ (id : List ℕ) where
           by (inl less) = by_order (get_or (x ∷ xs) k x) ∙ ap is_eq (before k x (omega arith) less)
           by (inr more) = by_order (get_or (x ∷ xs) k x) ∙ ap is_eq (behind k x more low)
 
+  -- where one is this, those before it are less, and those behind it greater
+  less : (x : Text) (xs : List Text) → All (λ y. string_cmp x y ≡ Less) xs → (i : ℕ) → i < length xs → HoldsAt (λ y. order y ≡ Equal) xs i → is_it id x ≡ false
+  unfolding is_it order
+  less x [] before i low at = absurd (omega (arith, low))
+  less x (y ∷ ys) before i low at = other (All-get_or (λ q. string_cmp x q ≡ Less) (y ∷ ys) i y low before)
+    where
+      it : Text
+      it = get_or (y ∷ ys) i y
+
+      same : string_bytes it ≡ id
+      same = same_name (string_bytes it) id (by_order it ∙ ap is_eq (at y))
+
+      other : string_cmp x it ≡ Less → is_it id x ≡ false
+      other below = by_order x ∙ ap is_eq (ap (slice_cmp nat_cmp (string_bytes x)) (sym same) ∙ below)
+
+  behind : (x : Text) (xs : List Text) → All (λ y. string_cmp x y ≡ Less) xs → order x ≡ Equal → is_listed (map string_bytes xs) id ≡ false
+  unfolding is_it order
+  behind x xs above is = mapped xs ∙ list_any_none (is_it id) xs (All-weaker _ _ other xs above)
+    where
+      same : string_bytes x ≡ id
+      same = same_name (string_bytes x) id (by_order x ∙ ap is_eq is)
+
+      other : (y : Text) → string_cmp x y ≡ Less → is_it id y ≡ false
+      other y below = by_order y ∙ ap is_eq (ap (slice_cmp nat_cmp (string_bytes y)) (sym same) ∙ string_cmp_total.antisymm y x ∙ ap ordering_reverse below)
+
+  alone : (xs : List Text) (i : ℕ) → IsStrictlySortedBy string_cmp xs → i < length xs → HoldsAt (λ y. order y ≡ Equal) xs i
+      → StandsOnlyAt id (map string_bytes xs) i
+  unfolding is_it
+  alone [] i strict low at = absurd (omega (arith, low))
+  alone (x ∷ xs) zero strict low at = (by_order x ∙ ap is_eq (at x), behind x xs (All-after_first string_cmp x xs strict) (at x))
+  alone (x ∷ xs) (suc i) strict low at = (
+    less x xs (All-after_first string_cmp x xs strict) i (omega (arith, low)) at,
+    alone xs i (sorted_tail string_cmp x xs strict) (omega (arith, low)) at,
+  )
+
   searched : (xs : List Text) (r : Result ℕ ℕ) → IsSorted string_cmp xs → IsSearchInRange r (length xs)
       → IsBinarySearchResult (λ text. slice_cmp nat_cmp (string_bytes text) id) xs r → is_ok r ≡ is_listed (map string_bytes xs) id
   unfolding order
@@ -156,6 +193,13 @@ pub lists_as : (lines sorted once : List Text) → IsPermutation lines sorted �
 lists_as lines sorted once moved filtered id = once_as id lines sorted once moved filtered
 
 -- a search finds just what stands there
-pub is_found : (id : List ℕ) (xs : List Text) (r : Result ℕ ℕ) → IsSorted string_cmp xs → IsSearchInRange r (length xs)
+pub is_found : (id : List ℕ) (xs : List Text) (r : Result ℕ ℕ) → IsStrictlySortedBy string_cmp xs → IsSearchInRange r (length xs)
     → IsBinarySearchResult (λ text. slice_cmp nat_cmp (string_bytes text) id) xs r → is_ok r ≡ is_listed (map string_bytes xs) id
-is_found id xs r up low at = searched id xs r up low at
+is_found id xs r up low at = searched id xs r (sorted_from_strict string_cmp_total xs up) low at
+
+-- and only at one place
+pub is_found_once : (id : List ℕ) (xs : List Text) (r : Result ℕ ℕ) → IsStrictlySortedBy string_cmp xs → IsSearchInRange r (length xs)
+    → IsBinarySearchResult (λ text. slice_cmp nat_cmp (string_bytes text) id) xs r → IfOk r (StandsOnlyAt id (map string_bytes xs))
+unfolding order
+is_found_once id xs (Err i) up low at = tt
+is_found_once id xs (Ok i) up low at = alone id xs i up low at

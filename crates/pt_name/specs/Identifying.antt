@@ -31,6 +31,15 @@ identifier_by tuples prefix (Some read) =
 abbrev pub identifier_at : Tuples → List ℕ → Path → Result (List ℕ) Refusal
 identifier_at tuples prefix site = identifier_by tuples prefix (reading_of (concat site))
 
+-- by what the names read: the identifier, whatever its place; none where they read nothing, or bytes that aren't UTF-8
+abbrev pub identifier_read_by : List ℕ → Option (List ℕ) → Option (List ℕ)
+identifier_read_by prefix None = None
+identifier_read_by prefix (Some read) = cond (is_utf8 read) (Some (prefix ++ read)) None
+
+-- the identifier that the names of a site's path read, behind the prefix, whatever its place
+abbrev pub identifier_read : List ℕ → Path → Option (List ℕ)
+identifier_read prefix site = identifier_read_by prefix (reading_of (concat site))
+
 -- the object of a site by its identifier: with its place, if it is of the share
 abbrev pub identification_by : Tuples → Portion → Path → Result (List ℕ) Refusal → Identification
 identification_by tuples share site (Err why) = answer.Refused why

@@ -7,5 +7,6 @@ pub mod Layout
 pub mod Place
 pub mod Share
 pub mod ShareFields
+pub mod Unmet
 pub mod Prefix
 pub mod Reading

@@ -1,51 +1,42 @@
-//! A list of identifiers, and which of them were met. The latter, and what `SoughtIdentifiers` says
-//! of it, has no clause: no contract can say what a cell holds.
-#![tactic(auto, using(crate::proofs::Lists::lists_as, crate::proofs::Lists::sorted_once, crate::proofs::Lists::is_found))]
+//! A list of identifiers.
+#![tactic(auto, using(crate::proofs::Lists::lists_as, crate::proofs::Lists::strict_once))]
 
-ghost use Rattle.std.specs.Prelude.{◌≡◌, List, ℕ, IfOk, is_ok, map};
+ghost use Rattle.std.specs.Prelude.{◌≡◌, List, ℕ, IfOk, is_ok, map, slice_get};
+ghost use Rattle.std.specs.Option.{option_map};
 ghost use Rattle.std.specs.String.{string_bytes};
 ghost use Rattle.pt_name.specs.Share.{ListsAs, is_listed};
+ghost use Rattle.pt_name.specs.Unmet.{StandsOnlyAt};
 
-use std::alloc::{AllocError, Global};
-use std::cell::Cell;
 use std::marker::Model;
 
-/// A list of identifiers, by the name of its file. It holds each once, in the order of their bytes,
-/// and whether it was met.
+/// A list of identifiers, by the name of its file. It holds each once, in the order of their bytes.
 #[derive(Debug, Drop)]
 pub struct IdentifierList {
     name: String,
     ids: Vec<String>,
-    // Of each whether it was met, at the same position.
-    met: Vec<Cell<bool>>,
 }
 
 impl Model for IdentifierList {
     ghost use Rattle.std.specs.Prelude.{List, ℕ, map};
-    ghost use Rattle.std.specs.List.Sorted.{IsSorted};
+    ghost use Rattle.std.specs.List.Sorted.{IsStrictlySortedBy};
     ghost use Rattle.std.specs.String.{string_bytes, string_cmp};
 
     ghost Value = { List (List ℕ) };
 
     ghost view = { λ l. map string_bytes l.ids.items };
 
-    ghost invariant = { λ l. IsSorted string_cmp l.ids.items };
+    ghost invariant = { λ l. IsStrictlySortedBy string_cmp l.ids.items };
 }
 
 impl IdentifierList {
-    /// The list of these identifiers, of which none was met yet. One that stands there twice is
-    /// held once. `AllocError` where a growth was refused.
-    pub fn of(alloc: Global, name: String, lines: Vec<String>) -> Result<IdentifierList, AllocError>
-        ensures { IfOk result (λ list. ListsAs list (map string_bytes lines.items)) }
+    /// The list of these identifiers. One that stands there twice is held once.
+    pub fn of(name: String, lines: Vec<String>) -> IdentifierList
+        ensures { ListsAs result (map string_bytes lines.items) }
     {
         let mut ids = lines;
         ids.sort_unstable();
         ids.dedup();
-        let mut met = Vec::with_capacity(alloc, ids.len())?;
-        for _ in 0..ids.len() {
-            met.push(Cell::new(false))?;
-        }
-        Ok(IdentifierList { name, ids, met })
+        IdentifierList { name, ids }
     }
 
     /// The name of its file.
@@ -60,31 +51,24 @@ impl IdentifierList {
         self.position(id).is_ok()
     }
 
-    /// Notes that an identifier was met, if it stands in the list.
-    pub fn note_met(&self, id: &[u8]) {
-        if let Ok(at) = self.position(id)
-            && let Some(met) = self.met.get(at)
-        {
-            met.set(true);
-        }
+    /// Its identifiers.
+    pub(crate) fn ids(&self) -> &[String]
+        ensures { map string_bytes result.now ≡ self.now }
+    {
+        self.ids.as_slice()
     }
 
-    /// How many identifiers it has.
-    pub fn len(&self) -> usize {
-        self.ids.len()
-    }
-
-    /// The identifier at a position, where no object of it was met.
-    pub fn unmet_at(&self, at: usize) -> Option<&str> {
-        match (self.ids.get(at), self.met.get(at)) {
-            (Some(id), Some(met)) if !met.get() => Some(id.as_str()),
-            _ => None,
-        }
+    // The identifier at a position.
+    pub(crate) fn get(&self, position: usize) -> Option<&str>
+        ensures { option_map (λ id. id.now) result ≡ slice_get self.now position }
+    {
+        self.ids.get(position).map(|id| id.as_str())
     }
 
     // Where an identifier stands, or would.
-    fn position(&self, id: &[u8]) -> Result<usize, usize>
-        ensures { is_ok result ≡ is_listed self.now id.now }
+    pub(crate) fn position(&self, id: &[u8]) -> Result<usize, usize>
+        ensures found { is_ok result ≡ is_listed self.now id.now }
+        ensures alone { IfOk result (StandsOnlyAt id.now self.now) }
     {
         self.ids
             .binary_search_by(|listed| listed.as_bytes().cmp(id))

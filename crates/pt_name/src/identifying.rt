@@ -1,15 +1,16 @@
 //! What the names of a site say of its object: its identifier, and its place.
 #![tactic(auto, using(crate::proofs::Identified::identifying))]
 
-ghost use Rattle.std.specs.Prelude.{◌≡◌, ◌<◌, ◌++◌, ◌∷◌, [], codes, length, IfOk};
+ghost use Rattle.std.specs.Prelude.{◌≡◌, ◌<◌, ◌++◌, ◌∷◌, [], codes, length, IfOk, OnOk};
 ghost use Rattle.std.specs.List.{concat};
-ghost use Rattle.pt_name.specs.Identifying.{identification_by, identification_of, is_own_place};
-ghost use Rattle.pt_name.specs.Identifying.{unless_reserved};
+ghost use Rattle.pt_name.specs.Identifying.{identification_by, identification_of, identifier_read};
+ghost use Rattle.pt_name.specs.Identifying.{is_own_place, unless_reserved};
+ghost use Rattle.pt_name.specs.Unmet.{without_any};
 ghost use Rattle.pt_tree.specs.Path.{same_path};
 
 use crate::joining::concatenate;
 use crate::reading::{UncleanFault, unclean};
-use crate::{Identifier, Layout, Share};
+use crate::{Identifier, Layout, Share, UnmetIdentifiers};
 use pt_tree::{MemoryFault, NamePath};
 use std::alloc::Global;
 
@@ -50,23 +51,27 @@ pub enum Identification {
 ///
 /// Asked in this order: whether the names read something (`Malformed`), whether that is UTF-8
 /// (`NotUtf8`), whether the place is the storage root's own (`Reserved`), and whether the object is
-/// of this share. The path isn't empty. `Memory` where a growth was refused. An identifier of the
-/// share is noted in its list, if there is one and it stands there; that changes no answer.
+/// of this share. The path isn't empty. `Memory` where a growth was refused. The identifier that
+/// the names read counts as met then, whatever becomes of the object.
 pub fn identify(
     site: &NamePath,
     prefix: &str,
     layout: Layout,
     share: &Share,
+    unmet: &mut UnmetIdentifiers,
 ) -> Result<Identification, MemoryFault>
     requires { 0 < length site.now }
-    ensures { IfOk result (λ answer. answer
+    ensures says { IfOk result (λ answer. answer
         ≡ identification_of layout share.now prefix.now site.now) }
+    ensures notes { OnOk result (unmet.new
+        ≡ without_any (identifier_read prefix.now site.now) unmet.old) }
 {
     let alloc = site.allocator();
     let text = text_of_names(alloc, site)?;
     match unclean(alloc, &text) {
         Ok(read) => {
             let id = with_prefix(alloc, prefix, &read)?;
+            unmet.note_met(id.as_str().as_bytes());
             with_place(site, id, layout, share)
         }
         Err(UncleanFault::Malformed) => Ok(Identification::Refused(Refusal::Malformed)),
@@ -98,8 +103,7 @@ fn with_prefix(alloc: Global, prefix: &str, text: &str) -> Result<Identifier, Me
 }
 
 // The object of a site, of this identifier, with its place, unless that is the storage root's own,
-// or the object of another share. An identifier of this share is noted in its list, whatever
-// becomes of the object.
+// or the object of another share.
 fn with_place(
     site: &NamePath,
     id: Identifier,
@@ -112,14 +116,10 @@ fn with_place(
 {
     let text = id.as_str().as_bytes();
     let place = layout.place(site.allocator(), text)?;
-    let taken = share.takes(site, text);
-    if taken {
-        share.note_met(text);
-    }
     if is_reserved(layout, &place) {
         return Ok(Identification::Refused(Refusal::Reserved));
     }
-    if !taken {
+    if !share.takes(site, text) {
         return Ok(Identification::OtherShare);
     }
     Ok(Identification::Candidate(PlacedObject { id, place }))

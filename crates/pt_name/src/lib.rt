@@ -20,10 +20,11 @@
 //!   no identifier that can be carried (`Refusal`), that it is of another share, or its identifier,
 //!   behind the store's prefix (`read_prefix`), and its place. Asked in that order.
 //! - `Share::of`: accepts exactly the shares 1 to N of up to 4,096. `takes`: exactly whether the
-//!   share's number is the one that the identifier's SHA-256 gives (`share_number`), or, by folders,
-//!   that of the way to its site (`way_text`), and the identifier is `chosen`, by the texts that it
-//!   may begin with or by a list (`IdentifierList`). `walks`, `tells_at`: exactly which folders a
-//!   share lists, and where it tells what is passed over.
+//!   share's number is the one that the identifier's SHA-256 gives (`share_number`), or, by
+//!   folders, that of the way to its site (`way_text`), and the identifier is `chosen`, by the
+//!   texts that it may begin with or by a list (`IdentifierList`). `walks`, `tells_at`: exactly
+//!   which folders a share lists, and where it tells what is passed over. `UnmetIdentifiers`:
+//!   exactly those of the list that the share may meet and that weren't met.
 //! - Laws: a text reads at most one list of bytes (`one_reading`); what was cleaned reads back
 //!   (`cleaned_reads_back`); reading as a relation and as a function say the same
 //!   (`reading_is_computed`); two different identifiers share a place only where both encodings are
@@ -47,7 +48,7 @@ mod layout;
 mod prefix;
 mod reading;
 mod share;
-mod sought;
+mod unmet_identifiers;
 
 pub use cleaning::{clean, pairpath};
 pub use division::Division;
@@ -60,4 +61,4 @@ pub use layout::{Layout, LayoutFault};
 pub use prefix::{PrefixFault, is_doubtful, read_prefix};
 pub use reading::{UncleanFault, unclean};
 pub use share::{Share, ShareFault};
-pub use sought::SoughtIdentifiers;
+pub use unmet_identifiers::UnmetIdentifiers;

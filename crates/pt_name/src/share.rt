@@ -1,13 +1,14 @@
-ghost use Rattle.std.specs.Prelude.{◌≡◌, ◌≤◌, ◌<◌, ◌^◌, ◌==◌, ◌⊎◌, IfOk, map};
+ghost use Rattle.std.specs.Prelude.{◌≡◌, ◌≤◌, ◌<◌, ◌^◌, ◌==◌, IfOk, map};
 ghost use Rattle.std.specs.List.{list_any};
 ghost use Rattle.std.specs.String.{string_bytes};
-ghost use Rattle.std.specs.Option.{IsSome, option_map};
+ghost use Rattle.std.specs.Option.{option_map};
 ghost use Rattle.pt_name.specs.Share.{begins_so, begins_with, chosen, is_on_own_way, share_number};
+ghost use Rattle.pt_name.specs.Unmet.{may_meet};
 
 use crate::division::{number_of_text, number_of_way};
-use crate::{Division, IdentifierList, SoughtIdentifiers};
+use crate::{Division, IdentifierList};
 use pt_tree::{MemoryFault, NamePath};
-use std::alloc::{AllocError, Global};
+use std::alloc::Global;
 use std::marker::Model;
 use std::rc::Rc;
 use thiserror::Error;
@@ -191,28 +192,6 @@ impl Share {
         self.list.as_ref()
     }
 
-    /// The identifiers of its list that it may meet, if it has a list: those of the share; all of
-    /// them, where the store is divided by folders. `AllocError` where the list can't have one more
-    /// owner.
-    pub fn sought_identifiers(&self) -> Result<Option<SoughtIdentifiers>, AllocError>
-        ensures { IsSome self.now.list ⊎ (result ≡ Ok None) }
-    {
-        let Some(list) = &self.list else {
-            return Ok(None);
-        };
-        let sought = match self.division {
-            Division::Identifiers => Share {
-                index: self.index,
-                count: self.count,
-                division: Division::Identifiers,
-                only: None,
-                list: None,
-            },
-            Division::Folders(_) => Share::whole(),
-        };
-        Ok(Some(SoughtIdentifiers::of(list.clone()?, sought)))
-    }
-
     /// Whether it is the first: what is passed over before an identifier is read is told by the
     /// first share alone, unless the store is divided by folders.
     pub fn is_first(&self) -> bool
@@ -300,18 +279,22 @@ impl Share {
         self.count == 1 || number_of_text(self.count, id) == self.index
     }
 
+    // Whether it may meet an object of this identifier. The way to its site isn't known, so where
+    // the store is divided by folders each share may.
+    pub(crate) fn may_meet(&self, id: &[u8]) -> bool
+        ensures { result ≡ may_meet self.now id.now }
+    {
+        match self.division {
+            Division::Identifiers => self.numbers(id),
+            Division::Folders(_) => true,
+        }
+    }
+
     // Whether the number of the share that the way to a site gives is this one's.
     fn is_on_own_way(&self, site: &NamePath, depth: u32) -> bool
         ensures { result ≡ is_on_own_way self.now site.now depth }
     {
         self.count == 1 || number_of_way(self.count, site, depth) == self.index
-    }
-
-    // Notes in the list that an identifier was met, if there is a list and it stands there.
-    pub(crate) fn note_met(&self, id: &[u8]) {
-        if let Some(list) = &self.list {
-            list.note_met(id);
-        }
     }
 
     // Whether an identifier begins with one of the texts, or stands in the list, or there is

@@ -15,6 +15,7 @@ pub mod Job
 pub mod Lines
 pub mod ListedKinds
 pub mod Members
+pub mod Met
 pub mod Object
 pub mod PlaceLaws
 pub mod RerunLaws

@@ -108,8 +108,9 @@ looked_left path here line f a b c first next = (
 -- ---- what is held
 
 pub moved : {s s' : State} {trail : List Frame} {counts : Report} → s'.job ≡ s.job → string_bytes s'.prefix ≡ string_bytes s.prefix → s'.trail ≡ trail
-    → s'.rows ≡ s.rows → s'.contents ≡ s.contents → s'.counts ≡ counts → s'.hasher ≡ s.hasher → Moved trail counts s s'
-moved job prefix trail_is rows contents counts_are hasher = record {
+    → s'.rows ≡ s.rows → s'.contents ≡ s.contents → s'.counts ≡ counts → s'.hasher ≡ s.hasher → s'.unmet ≡ s.unmet
+    → Moved trail counts s s'
+moved job prefix trail_is rows contents counts_are hasher unmet = record {
   job = job;
   prefix = prefix;
   trail_is = trail_is;
@@ -117,6 +118,7 @@ moved job prefix trail_is rows contents counts_are hasher = record {
   contents = contents;
   counts_are = counts_are;
   hasher = hasher;
+  unmet = unmet;
 }
 
 -- ---- turns

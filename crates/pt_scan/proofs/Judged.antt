@@ -5,7 +5,9 @@ use Rattle.std.specs.String.{string_bytes}
 use Rattle.std.proofs.lemmas.Option.{slice_get_within}
 use Rattle.std.proofs.lemmas.Bool.{le-leb}
 use Rattle.pt_name.proofs.Identified.{IsRead, candidate_as, other_as, refused_as}
-use Rattle.pt_name.specs.Identifying.{identification_of, identifier_at}
+use Rattle.pt_name.specs.Identifying.{identification_of, identifier_at, identifier_read}
+use Rattle.pt_name.specs.Unmet.{without_any}
+use Rattle.pt_plan.specs.Met.{met_at, met_by_finding, unmet_after}
 use Rattle.pt_name.specs.declared.identifying.PlacedObject.{PlacedObject}
 use Rattle.pt_name.specs.declared.identifying.Identification.{Identification}
 use Rattle.pt_name.specs.declared.identifying.Identification.TheVariants as answer
@@ -59,7 +61,7 @@ use Rattle.pt_state.proofs.Together.{did_nothing, looked_stays, looked_then}
 use Rattle.pt_state.proofs.Turns.{Leads, left_some, stayed}
 use Rattle.pt_scan.proofs.HeldTurns.{finds_and_tells, looked_left, looked_told, moved, moves}
 use Rattle.pt_scan.specs.Scanning.{Moved}
-use Rattle.pt_scan.specs.Judging.{FindsObject, IsIdentified, PassesSite}
+use Rattle.pt_scan.specs.Judging.{FindsObject, IsIdentified, IsJudging, PassesSite}
 
 -- ---- what the site is
 
@@ -149,6 +151,30 @@ object_below s site index is at = by s.trail site is at
     by : (trail : List Frame) (site : Path) → found_at (form_of (job_of s.job)) trail ≡ has_object index → site ≡ trail_path trail → 0 < length site
     by [] site is at = absurd (none index is)
     by (frame ∷ frames) site is at = rw (at) (below frame.listing (names_to frames) (form_of (job_of s.job)) is)
+
+-- it is judged still, whatever is unmet
+pub still_judging : {s : State} {site : Path} {index : Option ℕ} (unmet : List (Option (List ℕ))) → IsJudging s site index
+    → IsJudging (record s { unmet = unmet }) site index
+unfolding FindsObject
+still_judging unmet judges = record { there = judges.there; object = judges.object }
+
+-- the identifier that the names read is met
+pub met_here : (s : State) (site : Path) (index : Option ℕ) (prefix : List ℕ) (unmet : List (Option (List ℕ))) → IsJudging s site index
+    → prefix ≡ string_bytes s.prefix → unmet ≡ without_any (identifier_read prefix site) s.unmet
+    → unmet ≡ unmet_after (job_of s.job) phase.Judge (string_bytes s.prefix) s.trail s.unmet
+unfolding FindsObject
+met_here s site index prefix unmet judges same is =
+    is ∙ (λ i. without_any (identifier_read (same i) (judges.there i)) s.unmet) ∙ ap (λ met. without_any met s.unmet) (by index judges.object)
+  where
+    by : (index : Option ℕ) → found_at (form_of (job_of s.job)) s.trail ≡ has_object index
+        → identifier_read (string_bytes s.prefix) (trail_path s.trail) ≡ met_at (job_of s.job) (string_bytes s.prefix) s.trail
+    by None found = sym (ap (met_by_finding (string_bytes s.prefix) (trail_path s.trail)) found)
+    by (Some i) found = sym (ap (met_by_finding (string_bytes s.prefix) (trail_path s.trail)) found)
+
+-- a site without an object meets none
+pub met_none : (s : State) (f : Finding) → f ≡ found_at (form_of (job_of s.job)) s.trail → met_by_finding (string_bytes s.prefix) (trail_path s.trail) f ≡ None
+    → s.unmet ≡ unmet_after (job_of s.job) phase.Judge (string_bytes s.prefix) s.trail s.unmet
+met_none s f is none = ap (λ met. without_any met s.unmet) (sym none ∙ ap (met_by_finding (string_bytes s.prefix) (trail_path s.trail)) is)
 
 -- what was asked for was the object of this site
 pub identified_here : (s : State) (site : Path) (prefix : List ℕ) (what : Identification) → what ≡ identification_of s.job.layout s.job.share prefix site

@@ -81,8 +81,8 @@ use Rattle.pt_scan.proofs.HeldTurns.{moved, moves}
 
 pub back_at : {object : Object} {s s' : State} {left : List Frame} → left ≡ drop (length s.trail - object.site) s.trail → s'.trail ≡ sought 0 left
     → s'.job ≡ s.job → s'.rows ≡ [] → s'.contents ≡ [] → s'.counts ≡ with_skipped s.counts → string_bytes s'.prefix ≡ string_bytes s.prefix
-    → s'.hasher ≡ s.hasher → IsBackAtSite object s s'
-back_at is trail job rows contents counts prefix hasher = record {
+    → s'.hasher ≡ s.hasher → s'.unmet ≡ s.unmet → IsBackAtSite object s s'
+back_at is trail job rows contents counts prefix hasher unmet = record {
   job = job;
   prefix = prefix;
   trail = trail
@@ -91,6 +91,7 @@ back_at is trail job rows contents counts prefix hasher = record {
   contents = contents;
   counts = counts;
   hasher = hasher;
+  unmet = unmet;
 }
 
 pub has_entered : (s s' : State) (a b : DeviceStates) (path : Path) (items : List Item) (is_empty : Bool) → Did (asks (Lists path items)) a b

@@ -102,6 +102,7 @@ pub record Moved (trail : List Frame) (counts : Report) (s s' : State) : Type 0 
   pub contents : s'.contents ≡ s.contents
   pub counts_are : s'.counts ≡ counts
   pub hasher : s'.hasher ≡ s.hasher
+  pub unmet : s'.unmet ≡ s.unmet
 
 -- it stands at the object's site again and holds nothing of the object, of which a skip line was counted
 pub record IsBackAtSite (object : Object) (s s' : State) : Type 0 where
@@ -112,6 +113,7 @@ pub record IsBackAtSite (object : Object) (s s' : State) : Type 0 where
   pub contents : s'.contents ≡ []
   pub counts : s'.counts ≡ with_skipped s.counts
   pub hasher : s'.hasher ≡ s.hasher
+  pub unmet : s'.unmet ≡ s.unmet
 
 -- the directory at the trail's place was listed and entered, and this says whether it has no entries
 pub record Enters (s s' : State) (old new : DeviceStates) (is_empty : Bool) : Type 0 where

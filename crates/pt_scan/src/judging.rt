@@ -9,7 +9,7 @@ ghost use Rattle.pt_plan.specs.declared.phase.Stage.TheVariants as stage;
 ghost use Rattle.pt_walk.specs.Trail.{has_place, trail_path};
 ghost use Rattle.pt_walk.specs.declared.site.Form.TheVariants as form;
 ghost use Rattle.pt_state.specs.Outside.{Found};
-ghost use Rattle.pt_state.specs.Turns.{TakesTurn};
+ghost use Rattle.pt_state.specs.Turns.{TakesTurn, TakesTurnAt};
 ghost use Rattle.pt_state.specs.States.{job_of};
 ghost use Rattle.pt_scan.specs.Judging.{CanPass, IsIdentified, IsJudging, IsPassedAt};
 
@@ -17,7 +17,7 @@ use pt_name::{Identification, PlacedObject, Refusal, identify};
 use pt_plan::{Fault, Object, Phase, Stage};
 use pt_state::lines::{put_present, put_skip};
 use pt_state::paths::in_storage_root;
-use pt_state::{Io, State};
+use pt_state::{Io, Job, State};
 use pt_tree::{Kind, MemoryFault, NamePath};
 use pt_walk::{Cause, Finding, Form, Trail, judge as judged};
 use std::alloc::Global;
@@ -81,7 +81,7 @@ fn pass_over<O: Io>(
 ) -> Result<Phase, Fault>
     requires line { IsPassedAt state.old site.now cause }
     requires few { state.old.counts.skipped < 2 ^ 40 }
-    ensures turn { TakesTurn O.Io (0, 0) phase.Judge
+    ensures turn { TakesTurnAt O.Io (0, 0) (λ here. here ≡ phase.Judge)
         (state.old, out.old) (state.new, out.new) result }
 {
     if !state.job.share.tells_at(site) {
@@ -92,7 +92,8 @@ fn pass_over<O: Io>(
 }
 
 // Asks what the names of a site say of its object, which is the entry of this index, or else is
-// gathered. One of another share is passed.
+// gathered. The identifier that they read is met, whatever they say; an object of another share is
+// passed.
 fn judge_object<O: Io>(
     state: &mut State,
     site: &NamePath,
@@ -105,7 +106,8 @@ fn judge_object<O: Io>(
         (state.old, out.old) (state.new, out.new) result }
 {
     let prefix = state.prefix.as_str();
-    match identify(site, prefix, state.job.layout, &state.job.share)? {
+    let Job { layout, share, .. } = &state.job;
+    match identify(site, prefix, *layout, share, &mut state.unmet)? {
         Identification::Refused(refusal) => pass_over(state, site, cause_of(refusal), out),
         Identification::OtherShare => Ok(Phase::Walk),
         Identification::Candidate(candidate) => find_place(state, site, index, candidate, out),
@@ -134,7 +136,7 @@ fn find_place<O: Io>(
     requires judges { IsJudging state.old site.now index }
     requires ours { IsIdentified state.old (answer.Candidate candidate) }
     requires present { state.old.counts.present < 2 ^ 40 }
-    ensures turn { TakesTurn O.Io (0, 1) phase.Judge
+    ensures turn { TakesTurnAt O.Io (0, 1) (λ here. here ≡ phase.Judge)
         (state.old, out.old) (state.new, out.new) result }
 {
     match kind_at(state.alloc, &candidate.place, out)? {

@@ -74,6 +74,7 @@ fn end_file(state: &mut State, object: Object, bytes: u64) -> Result<Phase, Faul
     ensures turn { (before after : DeviceStates) → Did (asks (Reads [])) before after → Turned
         (phase.Carrying object (stage.Read bytes)) state.old state.new before after result }
     ensures scans { IfOk result (λ next. next ≡ phase.Carrying object stage.Scan) }
+    ensures unmet { state.new.unmet ≡ state.old.unmet }
 {
     let names = logical_path(&object, &state.trail)?;
     let path = NamePath::of_names(state.alloc, names.names())?;

@@ -203,6 +203,7 @@ fn leave_listing(state: &mut State, object: Object, in_site: bool) -> Phase
     requires inside { IsInObject object state.old.trail }
     ensures turn { (w : DeviceStates) → Turned (phase.Carrying object stage.Scan)
         state.old state.new w w (Ok result) }
+    ensures unmet { state.new.unmet ≡ state.old.unmet }
 {
     if in_site {
         return Phase::Carrying(object, Stage::Make(Part::Staging));

@@ -8,11 +8,12 @@ ghost use Rattle.pt_plan.specs.Enabled.{MayOpenPrefix};
 ghost use Rattle.pt_plan.specs.declared.phase.Opening.TheVariants as opening;
 ghost use Rattle.pt_plan.specs.declared.phase.Phase.TheVariants as phase;
 ghost use Rattle.pt_object.specs.WellKnown.{known_text};
-ghost use Rattle.pt_state.specs.Outside.{Looked};
+ghost use Rattle.pt_state.specs.Outside.{Looked, Turned};
 ghost use Rattle.pt_state.specs.Turns.{TakesTurn};
+ghost use Rattle.pt_state.specs.declared.state.State.{State};
 ghost use Rattle.pt_scan.specs.Store.{PrefixFails};
 
-use pt_name::{PrefixFault, read_prefix};
+use pt_name::{PrefixFault, UnmetIdentifiers, read_prefix};
 use pt_object::WellKnownName;
 use pt_plan::kinds::{is_dir, is_file};
 use pt_plan::{Fault, Opening, Phase};
@@ -23,26 +24,36 @@ use std::alloc::Global;
 
 /// Looks at what a Pairtree store has at its top (Pairtree 0.1): the file `pairtree_version0_1`,
 /// the directory `pairtree_root` and the prefix file. However much else stands there, that is three
-/// looks.
+/// looks. Of the list's identifiers none was met yet.
 ///
 /// Halts for `NotPairtree` where there is no such file or no such directory, for `Source` where a
 /// look fails or a top without the file can't be listed, and for `Memory` where a growth is
 /// refused.
-pub fn begin<O: Io>(state: &State, out: &mut O) -> Result<Phase, Fault>
+pub fn begin<O: Io>(state: &mut State, out: &mut O) -> Result<Phase, Fault>
     ensures turn { TakesTurn O.Io (3, 0) (phase.Opening opening.Begin)
-        (state.now, out.old) (state.now, out.new) result }
+        (state.old, out.old) (state.new, out.new) result }
 {
-    let version = look_at_top(state.alloc, WellKnownName::VersionFile, out)?;
+    state.unmet = UnmetIdentifiers::of(state.alloc, &state.job.share)?;
+    look_at_store(state.alloc, out)
+}
+
+// Looks at what stands at the top.
+fn look_at_store<O: Io>(alloc: Global, out: &mut O) -> Result<Phase, Fault>
+    ensures turn { (state : State) → Turned (phase.Opening opening.Begin) state state
+        (O.states out.old) (O.states out.new) result }
+    ensures few { O.within 3 0 out.old out.new }
+{
+    let version = look_at_top(alloc, WellKnownName::VersionFile, out)?;
     if !is_file(version) {
         // A folder that isn't there is no folder without that file, so it has to be readable.
-        out.list(&NamePath::new(state.alloc))?;
+        out.list(&NamePath::new(alloc))?;
         return Err(Fault::NotPairtree);
     }
-    let pairtree = look_at_top(state.alloc, WellKnownName::PairtreeRoot, out)?;
+    let pairtree = look_at_top(alloc, WellKnownName::PairtreeRoot, out)?;
     if !is_dir(pairtree) {
         return Err(Fault::NotPairtree);
     }
-    let prefix = look_at_top(state.alloc, WellKnownName::PrefixFile, out)?;
+    let prefix = look_at_top(alloc, WellKnownName::PrefixFile, out)?;
     Ok(Phase::Opening(Opening::Prefix(prefix)))
 }
 

@@ -1,7 +1,8 @@
 -- A turn of all that a run holds, from what its calls came to.
-use Rattle.std.proofs.Common.{◌≡◌, ℕ, List, refl, sym, ap, inl}
+use Rattle.std.proofs.Common.{◌≡◌, ℕ, List, refl, sym, ap, inl, ◌∙◌}
 use Rattle.std.specs.Prelude.{Option, None, Ok, Err, IsErrAnd}
 use Rattle.std.specs.String.{string_bytes}
+use Rattle.std.proofs.lemmas.Result.{on_ok_weaker}
 use Rattle.pt_state.proofs.Words.{
   HasBeenFed,
   Content,
@@ -37,6 +38,8 @@ use Rattle.pt_state.proofs.Words.{
 use Rattle.pt_state.specs.declared.state.State.{State}
 use Rattle.pt_state.proofs.Words.fault
 use Rattle.pt_state.proofs.Together.{asked_stays}
+use Rattle.pt_plan.specs.Met.{unmet_after}
+use Rattle.pt_state.specs.States.{IsUnmetAfter}
 use Rattle.pt_state.specs.Turns.{TakesTurn, TakesTurnAt}
 use Rattle.pt_state.specs.declared.outside.Io.{Ghosts as OfOutside}
 
@@ -169,17 +172,33 @@ pub turned_read : (here : Phase) (s s' : State) (block : _) (w w' : DeviceStates
 unfolding Turned
 turned_read here s s' block w w' result turned = turned
 
+-- nor has what is unmet
+pub turned_unmet : (here : Phase) (s s' : State) (unmet : _) (w w' : DeviceStates) (result : Answer) → Turned here (record s { unmet = unmet }) s' w w' result
+    → Turned here s s' w w' result
+unfolding Turned
+turned_unmet here s s' unmet w w' result turned = turned
+
 -- ---- turns over all devices as one
 
 module _ {O : Type 0} {of : OfOutside O} {most most' : ℕ × ℕ} {At : Phase → Type 0} {s s' : State} {old new : O} {answer : Answer} where
   -- at a phase of which what is asked holds
   pub taken_at : {here : Phase} → TakesTurnAt of most At (s, old) (s', new) answer → At here → of.within most'.0 most'.1 old new
+      → (s'.unmet ≡ s.unmet → IsUnmetAfter here s s') → TakesTurn of most' here (s, old) (s', new) answer
+  taken_at {here} takes at few same = record { turn = takes.turn here at; few = few; unmet = on_ok_weaker answer same takes.unmet }
+
+  -- whatever was unmet before
+  pub taken_unmet : {here : Phase} (unmet : _) → TakesTurnAt of most At (record s { unmet = unmet }, old) (s', new) answer → At here
+      → of.within most'.0 most'.1 old new → unmet ≡ unmet_after (job_of s.job) here (string_bytes s.prefix) s.trail s.unmet
       → TakesTurn of most' here (s, old) (s', new) answer
-  taken_at {here} takes at few = record { turn = takes.turn here at; few = few }
+  taken_unmet {here} unmet takes at few is = record {
+    turn = turned_unmet here s s' unmet _ _ _ (takes.turn here at);
+    few = few;
+    unmet = on_ok_weaker answer (λ same. same ∙ is) takes.unmet;
+  }
 
   -- at each phase of which more holds
   pub taken_where : {At' : Phase → Type 0} → TakesTurnAt of most At (s, old) (s', new) answer → ((here : Phase) → At' here → At here)
       → of.within most'.0 most'.1 old new → TakesTurnAt of most' At' (s, old) (s', new) answer
-  taken_where takes at few = record { turn = λ here more. takes.turn here (at here more); few = few }
+  taken_where takes at few = record { turn = λ here more. takes.turn here (at here more); few = few; unmet = takes.unmet }
 
 pub ruleset turns = (keeps_all, stayed, short, taken_at, taken_where)

@@ -15,6 +15,7 @@ holds_nothing_else s = record {
     contents = s.contents;
     block = s.block.items;
     hasher = s.hasher;
+    unmet = s.unmet;
     counts = s.counts;
   };
   state = refl;

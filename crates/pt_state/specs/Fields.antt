@@ -1,5 +1,5 @@
 -- All that a run holds between two turns beside its phase, field by field. A further field, which might hold content or text, would have to stand here.
-use Rattle.std.specs.Prelude.{◌≡◌, ℕ, List, String}
+use Rattle.std.specs.Prelude.{◌≡◌, ℕ, List, Option, String}
 use Rattle.std.specs.Global.{Global}
 use Rattle.pt_object.specs.Hasher.{IsItsCore}
 use Rattle.pt_object.specs.declared.table.contents.Content.{Content}
@@ -14,7 +14,7 @@ use Rattle.pt_state.specs.declared.state.State.{State}
 pub record Fields : Type 0 where
   -- where memory is asked for
   pub alloc : Global
-  -- what was asked of the run; nothing of it changes but which identifiers of a list are noted as met
+  -- what was asked of the run
   pub job : Job
   -- the one text: the prefix of the identifiers, at most 1,024 bytes
   pub prefix : String Global
@@ -28,6 +28,8 @@ pub record Fields : Type 0 where
   pub block : List ℕ
   -- a digest that isn't ended, of one size whatever was fed to it
   pub hasher : Hasher
+  -- of each identifier of the list whether an object of it was met; the list is the job's
+  pub unmet : List (Option (List ℕ))
   -- four numbers
   pub counts : Report
 
@@ -42,6 +44,7 @@ state_of f = record {
   contents = f.contents;
   block = record { items = f.block };
   hasher = f.hasher;
+  unmet = f.unmet;
   counts = f.counts;
 }
 

@@ -6,7 +6,9 @@ use Rattle.pt_object.specs.declared.rows.Row.{Row}
 use Rattle.pt_walk.specs.Trail.{sought}
 use Rattle.pt_walk.specs.declared.frame.Frame.{Frame}
 use Rattle.pt_plan.specs.Job.{Job}
+use Rattle.pt_plan.specs.Met.{unmet_after}
 use Rattle.pt_plan.specs.Run.{Counts, Held, Kept}
+use Rattle.pt_plan.specs.declared.phase.Phase.{Phase}
 use Rattle.pt_state.specs.declared.job.Job as own
 use Rattle.pt_state.specs.declared.job.Report.{Report}
 use Rattle.pt_state.specs.declared.state.State.{State}
@@ -35,7 +37,12 @@ held_of s fed = record { trail = s.trail; rows = s.rows; contents = s.contents; 
 abbrev pub kept_of : State → List ℕ → Kept
 kept_of s fed = record { prefix = string_bytes s.prefix; held = held_of s fed; counts = counts_of s.counts }
 
--- all but the block and the hasher is as it was
+-- after a turn from this phase those of the list are unmet that the definitions have
+abbrev pub IsUnmetAfter : Phase → State → State → Type 0
+IsUnmetAfter here s s' =
+    s'.unmet ≡ unmet_after (job_of s.job) here (string_bytes s.prefix) s.trail s.unmet
+
+-- all but the block, the hasher and what is unmet is as it was
 pub record KeepsAll (s s' : State) : Type 0 where
   pub job : s'.job ≡ s.job
   pub prefix : string_bytes s'.prefix ≡ string_bytes s.prefix

@@ -9,6 +9,7 @@ use Rattle.pt_plan.specs.declared.fault.Fault.{Fault}
 use Rattle.pt_plan.specs.declared.phase.Phase.{Phase}
 use Rattle.pt_state.specs.Lines.{with_line}
 use Rattle.pt_state.specs.Outside.{Turned, Wrote}
+use Rattle.pt_state.specs.States.{IsUnmetAfter}
 use Rattle.pt_state.specs.declared.job.Report.{Report}
 use Rattle.pt_state.specs.declared.outside.Io.{Ghosts as OfOutside}
 use Rattle.pt_state.specs.declared.state.State.{State}
@@ -31,12 +32,14 @@ pub record TakesTurn {O : Type 0} (of : OfOutside O) (most : ℕ × ℕ) (here :
     (old new : State × O) (answer : Answer) : Type 0 where
   pub turn : Turned here old.0 new.0 (of.states old.1) (of.states new.1) answer
   pub few : of.within most.0 most.1 old.1 new.1
+  pub unmet : OnOk answer (IsUnmetAfter here old.0 new.0)
 
--- a turn at each phase of which this holds
+-- a turn at each phase of which this holds, none of which meets an identifier
 pub record TakesTurnAt {O : Type 0} (of : OfOutside O) (most : ℕ × ℕ) (At : Phase → Type 0)
     (old new : State × O) (answer : Answer) : Type 0 where
   pub turn : (here : Phase) → At here → Turned here old.0 new.0 (of.states old.1) (of.states new.1) answer
   pub few : of.within most.0 most.1 old.1 new.1
+  pub unmet : OnOk answer (new.0.unmet ≡ old.0.unmet)
 
 -- the rest of a turn at this phase, after these calls; it makes none that is counted
 pub record EndsTurn {O : Type 0} (of : OfOutside O) (calls : Calls) (here : Phase)
@@ -44,3 +47,4 @@ pub record EndsTurn {O : Type 0} (of : OfOutside O) (calls : Calls) (here : Phas
   pub turn : (before : DeviceStates) → Did calls before (of.states old.1)
       → Turned here old.0 new.0 before (of.states new.1) answer
   pub few : of.within 0 0 old.1 new.1
+  pub unmet : OnOk answer (new.0.unmet ≡ old.0.unmet)

@@ -1,4 +1,5 @@
 use crate::{Job, Report};
+use pt_name::UnmetIdentifiers;
 use pt_object::{Contents, Hasher, Rows};
 use pt_tree::Block;
 use pt_walk::Trail;
@@ -24,6 +25,8 @@ pub struct State {
     /// What was read of the open file; and from the version's inventory on the text of that, whose
     /// digest both sidecars have.
     pub hasher: Hasher,
+    /// The identifiers of the share's list of which no object was met, from the first turn on.
+    pub unmet: UnmetIdentifiers,
     /// How many lines of each kind were put, and how many turns were made.
     pub counts: Report,
 }

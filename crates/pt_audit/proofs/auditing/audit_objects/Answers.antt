@@ -1,7 +1,7 @@
-use Rattle.std.proofs.Common.{◌∙◌, rules, subst}
+use Rattle.std.proofs.Common.{◌∙◌, rules, subst, sym}
 use Rattle.std.specs.Prelude.{IfErr}
 use Rattle.std.specs.Option.{ForSome}
-use Rattle.pt_audit.specs.Auditing.{AllToldAs, FrontToldAs, start_over}
+use Rattle.pt_audit.specs.Auditing.{AllToldAs, FrontToldAs, LeavesUnmet, start_over}
 use Rattle.pt_audit.specs.Failing.{AuditSays}
 use Rattle.pt_audit.specs.Layout.{IsOfLayout}
 use Rattle.pt_audit.specs.declared.counts.Counts.{Counts}
@@ -40,8 +40,8 @@ pub returns-clause-ends : goal.returns-clause-ends
 returns-clause-ends g c =
     let start = start_over (tree_in (g.S.Source.told c.args.source.now)) (tree_in (g.R.Source.told c.args.root.now)) (g.L.Log.told c.args.log.now) in
     let was = c.in_ok-counts.ensures.ends in
-    subst (λ (job : Job). AllToldAs (job_of job) start (g.L.Log.told c.go_through.new.log) c.in_ok-counts.counts) (was.1 ∙ c.start.ensures.new.job_is)
-    was.0.told
+    rw c.into_audit.ensures.counts (subst (λ (job : Job). AllToldAs (job_of job) start (g.L.Log.told c.go_through.new.log) c.in_ok-counts.counts)
+    (was.1 ∙ c.start.ensures.new.job_is) was.0.told)
 
 pub returns-clause-layout : goal.returns-clause-layout
 returns-clause-layout g c =
@@ -49,7 +49,7 @@ returns-clause-layout g c =
     subst (λ (job : Job). ForSome (tree_in (g.R.Source.told c.args.root.now)) (IsOfLayout (job_of job))) (was.1 ∙ c.start.ensures.new.job_is) was.0.layout
 
 pub returns-clause-made : goal.returns-clause-made
-returns-clause-made g c = made_within c.start.ensures.new c.in_ok-counts.ensures.made
+returns-clause-made g c = rw c.into_audit.ensures.counts (made_within c.start.ensures.new c.in_ok-counts.ensures.made)
 
 pub returns-in_err-counts-clause-sides : goal.returns-in_err-counts-clause-sides
 returns-in_err-counts-clause-sides g c = c.in_err-counts.ensures.keeps.sides
@@ -78,3 +78,10 @@ pub returns-clause-blames : goal.returns-clause-blames
 returns-clause-blames g c =
     let went = c.in_ok-counts.ensures.blamed.blames in
     record { source = went.source; root = went.root; log = went.log }
+
+pub returns-clause-unmet : goal.returns-clause-unmet
+returns-clause-unmet g c =
+    let store = tree_in (g.S.Source.told c.args.source.now) in
+    let was = c.in_ok-counts.ensures.ends in
+    subst (λ (job : Job). LeavesUnmet job store c.into_audit.result.unmet) (was.1 ∙ c.start.ensures.new.job_is)
+    (subst (LeavesUnmet c.go_through.new.self.survey.state.job store) (sym c.into_audit.ensures.unmet) was.0.unmet)

@@ -26,7 +26,8 @@ returns-in_err-look-clause-leaves g c =
 
 pub returns-in_ok-pass-clause-on : goal.returns-in_ok-pass-clause-on
 returns-in_ok-pass-clause-on g c = λ count it.
-    step_passes c.args.here c.in_ok-pass.field-0 _ _ _ _ _ _ None _ 0 _ 0 _ count (search rules) (search rules) c.in_ok-pass.ensures.turn it
+    step_passes c.args.here c.in_ok-pass.field-0 _ _ _ _ _ _ None _ 0 _ 0 _ count (search rules)
+    (search rules) c.in_ok-pass.ensures.turn c.in_ok-pass.ensures.unmet it
 
 pub returns-in_ok-pass-clause-well : goal.returns-in_ok-pass-clause-well
 returns-in_ok-pass-clause-well g c =
@@ -39,7 +40,7 @@ returns-in_ok-pass-clause-leaves g c =
 pub returns-in_ok-look-clause-on : goal.returns-in_ok-look-clause-on
 returns-in_ok-look-clause-on g c = λ count it.
     step_looks c.args.here c.in_ok-look.field-0 _ _ _ _ _ _ _ _ _ _ _ _ count (search rules)
-    (looking_is _ c.args.here _ c.requires.ready.under_way (search rules) c.requires.more) c.in_ok-look.ensures.turn it
+    (looking_is _ c.args.here _ c.requires.ready.under_way (search rules) c.requires.more) c.in_ok-look.ensures.turn c.in_ok-look.ensures.unmet it
 
 pub returns-in_ok-look-clause-well : goal.returns-in_ok-look-clause-well
 returns-in_ok-look-clause-well g c =

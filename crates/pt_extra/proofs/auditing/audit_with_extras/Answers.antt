@@ -2,7 +2,7 @@ use Rattle.std.proofs.Common.{ap, arith, subst, sym, ℕ, ◌≡◌, ◌≤◌}
 use Rattle.std.specs.Prelude.{IfOk, OnOk, Option, Result, Ok, Err}
 use Rattle.pt_audit.proofs.Bounding.{made_by}
 use Rattle.pt_audit.proofs.Saying.{blames_by, says_by}
-use Rattle.pt_audit.specs.Auditing.{start_over}
+use Rattle.pt_audit.specs.Auditing.{LeavesUnmet, start_over}
 use Rattle.pt_audit.specs.Bounds.{IsMade}
 use Rattle.pt_audit.specs.Failing.{BlamesRightly, failures}
 use Rattle.pt_audit.specs.Growing.{sides_on}
@@ -65,6 +65,7 @@ returns-in-Ok g c =
       says = says_by ran _ _ _ _ _ fails.2;
       made = made_rest _ _ c.in-Ok.audited.counts ran c.tell_rest.ensures.counts c.in-Ok.ensures.made;
       holds = walk_holds_fields_alone;
+      unmet = whenever ran (subst (LeavesUnmet c.args.job start.source) (sym c.tell_rest.ensures.unmet) c.in-Ok.ensures.unmet);
     }
 
 pub returns-in-Err : goal.returns-in-Err
@@ -80,4 +81,5 @@ returns-in-Err g c =
       says = c.in-Err.ensures.says;
       made = c.in-Err.ensures.made;
       holds = walk_holds_fields_alone;
+      unmet = tt;
     }

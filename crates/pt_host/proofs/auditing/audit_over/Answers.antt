@@ -1,6 +1,7 @@
 use Rattle.std.proofs.Common.{ap, sym, subst, ◌∙◌}
 use Rattle.std.specs.Prelude.{OnOk}
 use Rattle.std.specs.Option.{ForSome}
+use Rattle.pt_audit.specs.Auditing.{LeavesUnmet}
 use Rattle.pt_audit.specs.Layout.{IsOfLayout}
 use Rattle.pt_state.specs.States.{job_of}
 use Rattle.pt_tree.specs.Log.{Grows}
@@ -42,4 +43,5 @@ returns g c =
         c.close-source.ensures.outcome.0 ∙ ap (λ w. w.words) (c.new-account.ensures ∙ c.watching-watching.ensures) ∙ c.words_of.ensures,
         c.close-source.ensures.outcome.1 ∙ c.fault_in.ensures,
       );
+      unmet = subst (λ t. OnOk ran (LeavesUnmet job t c.audit-ran.result.unmet)) store made.unmet;
     }

@@ -31,6 +31,11 @@ returns-clause-runs g c =
           c.close-source.ensures.outcome.0 ∙ ap (λ w. w.words) (c.new-account.ensures ∙ c.watching-watching.ensures),
           c.close-source.ensures.outcome.1 ∙ c.fault_in.ensures,
         ),
+        rw (
+          ← c.new-ignoring.ensures.source,
+          ← c.new-ignoring.ensures.names,
+          ← c.watch-source.ensures.source,
+        ) made.unmet,
       ),
       rw (c.into_system-2.ensures)
           (leaves_at g.D.System.kept c.args.options.rehearse _ dest.syscalls.system (ap (λ f. f.path.now) made.dest) made.rehearsed),

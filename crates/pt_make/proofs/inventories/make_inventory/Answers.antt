@@ -16,6 +16,7 @@ returns-in-Some g c =
         turn = made_version_inventory _ _ _ _ _ _ _ _ here.0 c.in_ok-put_text.ensures.wrote.did c.in_ok-path.ensures c.in_ok-text_of.ensures here.1
             (keeps_all refl refl refl refl refl refl);
         few = c.in_ok-put_text.ensures.wrote.few;
+        unmet = refl;
       };
     }
 
@@ -27,5 +28,6 @@ returns g c =
         turn = made_top_inventory _ _ _ _ _ _ _ _ (at_top _ _ _ fed) c.requires.fed c.in_ok-put_text.ensures.wrote.did c.in_ok-path.ensures
             c.in_ok-text_of.ensures refl keeps_same;
         few = c.in_ok-put_text.ensures.wrote.few;
+        unmet = refl;
       };
     }

@@ -1,4 +1,4 @@
-use Rattle.std.proofs.Common.{rules}
+use Rattle.std.proofs.Common.{rules, refl}
 use Rattle.pt_state.proofs.Together.{looked_then}
 use Rattle.pt_state.proofs.Turns.{stayed}
 use Rattle.pt_make.proofs.RootTurns.{starting}
@@ -10,6 +10,7 @@ returns-in_err-peek g c = record {
     turn = stayed _ _ _ _ _ c.in_err-peek.field-0.0 _ (search rules) (looked_then _ _ _ _ _ _ c.in_ok-here.ensures.did c.in_err-peek.ensures.failed)
         (search (rules, starting));
     few = g.met.O.Io.more _ _ _ 0 0 1 1 c.kind.ensures.few c.peek.ensures.few;
+    unmet = search rules;
   };
 }
 
@@ -18,6 +19,7 @@ returns-then-ne g c = record {
   turn = record {
     turn = search (rules, starting);
     few = g.met.O.Io.more _ _ _ 0 0 1 1 c.kind.ensures.few c.peek.ensures.few;
+    unmet = tt;
   };
 }
 
@@ -26,5 +28,6 @@ returns g c = record {
   turn = record {
     turn = search (rules, starting);
     few = g.met.O.Io.more _ _ _ 0 0 1 1 c.kind.ensures.few c.peek.ensures.few;
+    unmet = refl;
   };
 }

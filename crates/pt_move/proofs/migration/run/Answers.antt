@@ -1,10 +1,9 @@
-use Rattle.std.proofs.Common.{rules}
+use Rattle.std.proofs.Common.{refl, rules}
 use Rattle.pt_invariant.specs.RunInvariant.{AreStates}
 use Rattle.pt_move.proofs.Answering.{has_begun}
-use Rattle.pt_move.proofs.Migrating.{migrates_halted, migrates_whole, new_so_far, so_far_on}
+use Rattle.pt_move.proofs.Migrating.{leaves_unmet, migrates_halted, migrates_whole, new_so_far, so_far_on}
 use Rattle.pt_move.proofs.Ran.{smaller}
 use Rattle.pt_move.proofs.migration.run.Goals as goal
-use Rattle.pt_move.proofs.migration.run.Goals.{in-Ok-Finished, in-Err}
 
 -- before the first step nothing was done: Migrating.antt (`new_so_far`)
 pub loop-mover-init : goal.loop-mover-init
@@ -31,13 +30,21 @@ loop-mover-smaller g c = smaller _ _ _ _ c.in-Ok-More.field-0 c.in-Ok-More.field
     c.in-Ok-More.ensures.step.steps.answer
 
 -- `run`, where the last turn was made and where a step met a fault: Migrating.antt (`migrates_whole`, `migrates_halted`)
-pub returns-clause-run : goal.returns-clause-run
-returns-clause-run g c = elim c.match-advance.branch [
-  | in-Ok-Finished w ↦ rw w.result-is (migrates_whole _ _ _ _ _ _ c.loop-mover.invariant.0 w.in-Ok-Finished.field-0 w.report-in-Ok-Finished.result
-      w.in-Ok-Finished.field-0-is (search rules) (search rules) w.in-Ok-Finished.ensures.step)
-  | in-Err w ↦ migrates_halted _ _ _ _ _ _ c.loop-mover.invariant.0 w.in-Err.fault _ (search rules) w.in-Err.ensures.step
-]
+pub returns-in-Ok-Finished-clause-run : goal.returns-in-Ok-Finished-clause-run
+returns-in-Ok-Finished-clause-run g c = migrates_whole _ _ _ _ _ _ c.loop-mover.invariant.0 c.in-Ok-Finished.field-0 _ c.in-Ok-Finished.field-0-is
+    c.into_completion.ensures.report c.into_completion.ensures.well c.in-Ok-Finished.ensures.step
+
+pub returns-in-Err-clause-run : goal.returns-in-Err-clause-run
+returns-in-Err-clause-run g c = migrates_halted _ _ _ _ _ _ c.loop-mover.invariant.0 c.in-Err.fault _ refl c.in-Err.ensures.step
+
+-- `unmet`, where the last turn was made: Migrating.antt (`leaves_unmet`)
+pub returns-in-Ok-Finished-clause-unmet : goal.returns-in-Ok-Finished-clause-unmet
+returns-in-Ok-Finished-clause-unmet g c = leaves_unmet _ _ _ _ _ _ c.loop-mover.invariant.0 c.in-Ok-Finished.field-0 _ c.in-Ok-Finished.field-0-is
+    c.into_completion.ensures.report c.into_completion.ensures.unmet c.in-Ok-Finished.ensures.step
 
 -- `same`: the devices allow the calls of one step more
-pub returns-clause-same : goal.returns-clause-same
-returns-clause-same g c = (_, _, g.met.O.Io.more _ _ _ _ _ _ _ c.loop-mover.invariant.1.2 c.advance.ensures.calls)
+pub returns-in-Ok-Finished-clause-same : goal.returns-in-Ok-Finished-clause-same
+returns-in-Ok-Finished-clause-same g c = (_, _, g.met.O.Io.more _ _ _ _ _ _ _ c.loop-mover.invariant.1.2 c.advance.ensures.calls)
+
+pub returns-in-Err-clause-same : goal.returns-in-Err-clause-same
+returns-in-Err-clause-same g c = (_, _, g.met.O.Io.more _ _ _ _ _ _ _ c.loop-mover.invariant.1.2 c.advance.ensures.calls)

@@ -14,5 +14,6 @@ returns g c =
         own = own_fault _ _ _ _ _ _ c.requires.stands c.requires.fed turned;
         block = c.turn_at.ensures.block;
         few = c.turn_at.ensures.turn.few;
+        unmet = c.turn_at.ensures.turn.unmet;
       };
     }

@@ -12,5 +12,6 @@ returns g c =
         turn = λ here meets. entered_next here c.args.object _ _ _ _ _ _ (meets.shallow (omega (arith, listings, depth, shallow))) c.in_ok-is_empty.ensures.did
             c.with_directory.ensures;
         few = c.in_ok-is_empty.ensures.few;
+        unmet = c.in_ok-is_empty.ensures.did.moved.unmet;
       };
     }

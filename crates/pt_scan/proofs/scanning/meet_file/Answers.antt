@@ -11,5 +11,6 @@ returns-then-is_longer g c = record {
     turn = c.pass_object-then-is_longer.ensures.turn.turn _ (path_too_long _ _ _ _ _ c.is_longer.ensures c.path_bytes.ensures.value
         c.logical_names-logical.ensures c.requires.file c.if-is_longer.true);
     few = search (rules, g.met.O.Io.most);
+    unmet = c.pass_object-then-is_longer.ensures.turn.unmet;
   };
 }

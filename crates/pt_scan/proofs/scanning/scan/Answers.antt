@@ -7,5 +7,6 @@ returns-in-Other g c = record {
   turn = record {
     turn = c.pass_object.ensures.turn.turn _ (meets_other _ c.args.object c.in-Some.name.now c.in-Some.kind c.in-Some.ensures c.in-Other.is);
     few = search (rules, g.met.O.Io.most);
+    unmet = c.pass_object.ensures.turn.unmet;
   };
 }

@@ -18,6 +18,7 @@ returns-in_err-next g c = record {
       blames = search (rules, stepping, making_turn);
       leaves = search (rules, stepping, making_turn, outcomes);
       turn = search (rules, stepping);
+      unmet = search rules;
     };
   };
   calls = let same : c.replace.result ≡ c.args.self.now.phase = search rules in
@@ -38,6 +39,7 @@ returns-in_default-2 g c = record {
       blames = search (rules, stepping, making_turn);
       leaves = search (rules, stepping, making_turn, outcomes);
       turn = search (rules, stepping);
+      unmet = search rules;
     };
   };
   calls = let same : c.replace.result ≡ c.args.self.now.phase = search rules in
@@ -57,6 +59,7 @@ returns-in-Ended-2 g c = record {
       blames = search (rules, stepping, making_turn);
       leaves = search (rules, stepping, making_turn, outcomes);
       turn = search (rules, stepping);
+      unmet = search rules;
     };
   };
   calls = let same : c.replace.result ≡ c.args.self.now.phase = search rules in
