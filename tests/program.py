@@ -103,7 +103,7 @@ def is_help_on_audit(text):
 
 def is_help_on_check(text):
     """The help of `check`, which takes a source alone, and whose line on each trouble says what it is."""
-    words = (b"unreadable", b"missing", b"prefix", b"doubtful", b"spelling", b"deep", b"long", b"many", b"large", b"place", b"desktop", b"end")
+    words = (b"unreadable", b"missing", b"prefix", b"doubtful", b"spelling", b"deep", b"long", b"many", b"large", b"place", b"desktop", b"width", b"end")
     said = all(b"\n  %s  " % word in text for word in words) and b"\n  root, empty, split, past, name, utf8, reserved, other\n" in text
     return is_long_help(text) and said and b"Usage: pairtree2ocfl check [OPTIONS] <SOURCE>\n" in text and b"<DEST>" not in text.partition(b"Options:")[0]
 

@@ -198,14 +198,14 @@ def closed(folder, *modes):
 def closed_to_others(program, folder):
     """What another user can't list, search or read is told, each once, and the rest is met; to root nothing of it is closed."""
     nobody = as_nobody()
-    tree = {"ab/c/obj/f": b"abc", "ab/c/obj/g": b"de", "ad/e/obj/f": b"", "af/g/obj/d/f": b"", "ah/i/obj/f": b"1"}
+    tree = {"ab/c/obj/f": b"abc", "ab/c/obj/g": b"de", "ad/e/obj/f": b"", "af/g/obj/sub/f": b"", "ah/i/obj/f": b"1"}
     os.chmod(folder, 0o755)
     build(f"{folder}/t", store(tree))
     root = "t/pairtree_root"
-    with closed(folder, (f"{root}/ab/c/obj/f", 0), (f"{root}/ad", 0), (f"{root}/af/g/obj/d", 0o444)):
-        told = [unread("ab/c/obj/f", DENIED), unread("ad", DENIED), unread("af/g/obj/d", DENIED)]
-        met = {**store(tree), **store({"ad": DIR, "af/g/obj/d": DIR})}
-        met = {path: content for path, content in met.items() if "/ad/" not in path and "/d/" not in path}
+    with closed(folder, (f"{root}/ab/c/obj/f", 0), (f"{root}/ad", 0), (f"{root}/af/g/obj/sub", 0o444)):
+        told = [unread("ab/c/obj/f", DENIED), unread("ad", DENIED), unread("af/g/obj/sub", DENIED)]
+        met = {**store(tree), **store({"ad": DIR, "af/g/obj/sub": DIR})}
+        met = {path: content for path, content in met.items() if "/ad/" not in path and "/sub/" not in path}
         faults = differs(nobody=(checked(program, folder, before=nobody, source="t"), answer(*told, end(met, 3, 7, 3))))
         faults += differs(read=(checked(program, folder, "--read", before=nobody, source="t"), answer(*told, end(met, 3, 7, 3, bytes=3, largest=2))))
         faults += differs(root=(checked(program, folder, source="t"), answer(end(store(tree), 0, 9, 4))))
