@@ -12,7 +12,7 @@
 //!   `Declines`). `migrate` makes the run of pt_host from SOURCE to DEST, with all that its options
 //!   say, and the status is its status; `audit` makes the audit likewise, and `check` the check of
 //!   SOURCE; `names` writes the two names, and `names -` those of the identifiers in the input's
-//!   lines. Refused words (2) and want of memory (3) ask nothing of the machine.
+//!   lines. Refused words (2) and want of memory (3) ask the machine only to tell why.
 //! - `run` asks for the words that it was started with (`Invocation`), and ends with the status of
 //!   `answer` to just these (`Ends`).
 //! - `read_words`: the words are read exactly as `clap` reads them, for the grammar that the

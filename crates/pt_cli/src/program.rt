@@ -5,7 +5,8 @@
 //! command does, and writes the names of the identifiers in its lines, by `list_names`
 //! (`TellsAll`). Help and the version are written to the machine's output: 0 where they were, or
 //! nobody may read them any more, and else 3 (`TellsText`). Where the words that the program was
-//! started with aren't text that is refused (2), and want of memory is 3.
+//! started with aren't text that is refused (2), and want of memory is 3. Why something is refused
+//! or failed is told by the machine, but for a line of `names -` that is no identifier.
 //!
 //! The options that have a part in what is said of a run or an audit: those of the job, `--list`,
 //! `--ignore`, `--sync`, `--dry-run`, `--present-ok`, `--skips-ok`, `--extra`, `--read` and

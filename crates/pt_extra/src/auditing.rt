@@ -37,7 +37,7 @@ pub struct AuditCounts {
 pub struct AuditEnd<S, R, L, E> {
     /// How many lines its log has, or why it broke off.
     pub ran: Result<AuditCounts, Fault>,
-    /// The identifiers of the share's list of which it met no object; none where it broke off.
+    /// The identifiers of the share's list of which it met no object, where it came to its end.
     pub unmet: UnmetIdentifiers,
     /// The devices.
     pub devices: ExtraDevices<S, R, L, E>,

@@ -7,7 +7,8 @@
 //! (`event_status`), and no run or audit is made. After it, and before the lock is given back,
 //! another is made at the path with `.part` behind it and renamed to the file (`EndsFile`); where
 //! that fails the status is 3. No other path is named in these calls. Where no file is named none
-//! of them is made. What the texts say isn't promised.
+//! of them is made. Why there is no event, or none with an end, is told by its own text
+//! (`TellsEvent`). What the file's texts say isn't promised.
 ghost use Rattle.std.specs.Prelude.{◌≡◌, ◌++◌, Err, IfOk, List, codes, string_bytes, ℕ};
 ghost use Rattle.pt_host.specs.Events.{BeginsEvent, EndsEvent, EndsFile, MakesEvent, MakesNew};
 ghost use Rattle.pt_host.specs.Events.{MakesBy, MakesUnlessLeft, MovesOver, Replaces, event_status};

@@ -7,8 +7,8 @@
 //! store answers `Source`, if the source tells the paths at which it fails, as the check's did, has
 //! no such file open, and can count a failure more (`NoRunIsHaltedForSource`). So it is with the
 //! program's own calls where the system of the store tells the paths at which it fails
-//! (`NoRunIsHaltedAfterQuietCheck`); the real one doesn't. Where a run answers `Dest`, a call of
-//! its destination failed (`DestFaultMeansFailedStep`).
+//! (`NoRunIsHaltedAfterQuietCheck`); the real one doesn't. Where a run that is no rehearsal answers
+//! `Dest`, a call of its destination failed (`DestFaultMeansFailedStep`).
 ghost use Rattle.pt_host.specs.DestFaultLaw.{DestFaultMeansFailedStep};
 ghost use Rattle.pt_host.specs.Machine.{host_io_words};
 ghost use Rattle.pt_host.specs.QuietCheckLaw.{NoRunIsHaltedForSource};

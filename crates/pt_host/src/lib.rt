@@ -11,14 +11,14 @@
 //! file or write to the output:
 //!
 //! - `run_guarded` says which run is made (`Runs`). The guard is asked first, with the lock for
-//!   this run alone; where it refuses, that is the status, and nothing more is asked. Else the run
-//!   is made over what is lent, and then the lock is given back, not before what was lent is back.
-//!   With it comes all that `Migrates` of pt_move promises, and the status by its answer
-//!   (`run_status`).
+//!   this run alone; where it refuses, that is the status, and nothing more is asked but to tell
+//!   why. Else the run is made over what is lent, and then the lock is given back, not before what
+//!   was lent is back. With it comes all that `Migrates` of pt_move promises, and the status by its
+//!   answer (`run_status`), with a list by what is unmet too (`EndsWithList`).
 //! - `audit_guarded`: the guard, with a lock that others may share, the audit over what is lent,
 //!   which is given back, and the lock (`Audits`, `AuditsOver`).
-//! - `check_store`: what is lent is asked for, and nothing else; the check of pt_check is made over
-//!   SOURCE and the output, and what was lent is given back (`ChecksStore`, `ChecksOver`).
+//! - `check_store`: the check of pt_check is made over SOURCE and the output, which are lent and
+//!   given back, and a fault is told; nothing else is asked (`ChecksStore`, `ChecksOver`).
 //! - The fault that ended one of these is told once, by its own line (`TellsEnd`); so is why one
 //!   may not begin (`refusal_line`), and why there is no event (`TellsEvent`).
 //! - Where a file is named for its event, a run or an audit is recorded in it (`IsRecorded`).
@@ -28,8 +28,8 @@
 //! - `DurableLog`: a log whose lines are put onto the disk where it has a file (`IsPutBehind`).
 //! - Where a check read each file whole and told nothing, no run over its store answers `Source`,
 //!   if the source tells the paths at which it fails (`NoRunIsHaltedForSource`,
-//!   `NoRunIsHaltedAfterQuietCheck`). A run that answers fault 2 made a call of DEST that failed
-//!   (`DestFaultMeansFailedStep`).
+//!   `NoRunIsHaltedAfterQuietCheck`). A run, and no rehearsal, that answers fault 2 made a call of
+//!   DEST that failed (`DestFaultMeansFailedStep`).
 //!
 //! Guarantees of README that rest on its definitions: An audit is exact.
 #![tactic(auto)]

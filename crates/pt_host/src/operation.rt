@@ -26,7 +26,7 @@ pub(crate) struct Conclusion {
     /// The exit status, but for what is unmet.
     pub status: u8,
     pub outcome: Outcome,
-    /// The identifiers of its list of which no object was met; none after a fault.
+    /// The identifiers of its list of which no object was met, where it came to its end.
     pub unmet: UnmetIdentifiers,
 }
 
