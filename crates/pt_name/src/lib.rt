@@ -23,8 +23,8 @@
 //!   share's number is the one that the identifier's SHA-256 gives (`share_number`), or, by
 //!   folders, that of the way to its site (`way_text`), and the identifier is `chosen`, by the
 //!   texts that it may begin with or by a list (`IdentifierList`). `walks`, `tells_at`: exactly
-//!   which folders a share lists, and where it tells what is passed over. `UnmetIdentifiers`:
-//!   exactly those of the list that the share may meet and that weren't met.
+//!   which folders a share lists, and where it tells what is passed over.
+//! - `UnmetIdentifiers`: exactly those of the list that the share may meet and that weren't met.
 //! - Laws: a text reads at most one list of bytes (`one_reading`); what was cleaned reads back
 //!   (`cleaned_reads_back`); reading as a relation and as a function say the same
 //!   (`reading_is_computed`); two different identifiers share a place only where both encodings are

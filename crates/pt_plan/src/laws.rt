@@ -260,8 +260,8 @@ pub fn folder_shares_meet_in_folders()
 
 /// Over one root, what stands at a path after a run of the whole stands there after the run of some
 /// choice, as it is, and nothing else stands there after any choice's: where each identifier of the
-/// store is of one choice, and those of one place are of the same. Choices are shares, and shares
-/// of what begins with some texts.
+/// store is of one choice, and those of one place are of the same. Choices are shares by
+/// identifiers, and shares of what begins with some texts or stands in a list.
 pub fn choices_leave_the_whole()
     ensures { ChoicesLeaveTheWhole }
 {}
