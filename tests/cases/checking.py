@@ -72,7 +72,7 @@ def answer(*entries):
 TROUBLES = {
     "a store with nothing in it": ({}, [], 1, 0),
     "one object": ({"ab/c/obj/f": b"abc"}, [], 3, 1),
-    "objects and a folder that leads on": ({"ab/c/obj/f": b"1", "ab/cd/e/obj/d/f": b"2", "ab/cd/obj/f": b"3"}, [], 5, 3),
+    "objects and a folder that leads on": ({"ab/c/obj/f": b"1", "ab/cd/e/obj/dir/f": b"2", "ab/cd/obj/f": b"3"}, [], 5, 3),
     "an object with empty folders": ({"ab/c/obj/empty": DIR}, [], 3, 1),
     "a file in pairtree_root": ({"f": b""}, [of_path("root")], 1, 0),
     "an empty folder of an identifier": ({"ab/c": DIR}, [of_path("empty", "ab/c")], 3, 0),
@@ -418,11 +418,11 @@ def gathering(program, folder):
         gathered=(checked(program, folder, "--gather", source="t"), answer(empty, end(store(DIRECT), 1, 6, 3))),
         read=(checked(program, folder, "--gather", "--read", source="t"), answer(empty, end(store(DIRECT), 1, 6, 3, bytes=11, largest=6))),
     )
-    build(f"{folder}/s", store({"ab/cd/.DS_Store": b"", "^z/a": b"", "^6/1b/f": b""}))
+    tree = store({"ab/cd/.DS_Store": b"", "^z/a": b"", "^6/1b/f": b""})
+    build(f"{folder}/u", tree)
     told = [of_path("name", "^z"), of_path("spelling", "^6/1b"), of_path("desktop", "ab/cd/.DS_Store")]
     told = sorted(told, key=lambda entry: entry["path"].encode())
-    tree = store({"ab/cd/.DS_Store": b"", "^z/a": b"", "^6/1b/f": b""})
-    return faults + differs(names=(checked(program, folder, "--gather"), answer(*told, end(tree, 3, 6, 3))))
+    return faults + differs(names=(checked(program, folder, "--gather", source="u"), answer(*told, end(tree, 3, 6, 3))))
 
 
 def counting(program, folder):
