@@ -155,6 +155,7 @@ def twins_apart(program, folder):
 
 def first_tells_extras(program, folder):
     """What a root has more is told by the first share alone, and each share tells of its own objects."""
+    shutil.rmtree(f"{folder}/s")
     build(f"{folder}/s", store({f"{x}{y}/obj/f": b"1" for x in "abc" for y in "abc"}))
     ran(program, folder, "d")
     shutil.rmtree(f"{folder}/s/pairtree_root/ab")
