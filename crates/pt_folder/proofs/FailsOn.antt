@@ -12,7 +12,8 @@ use Rattle.pt_tree.specs.declared.faults.TreeFault.{TreeFault}
 use Rattle.pt_tree.specs.declared.faults.TreeFault.TheVariants.{Device, Memory}
 use Rattle.pt_folder.specs.Calls.{fault_of}
 use Rattle.pt_folder.specs.FailingLaws.{FailingBelow, FailsToldLaw, FileFails, FileFailsLaw}
-use Rattle.pt_folder.specs.Reading.{FailsAtRead, FailsToGoBack, FailsToReadOn, GoesFirst, IsTooFar, ReadsBy, ReadsNext, Stands, StandsOpen, unread_of, unread_open}
+use Rattle.pt_folder.specs.Reading.{FailsAtRead, FailsToGoBack, FailsToReadOn, GoesFirst, IsTooFar, ReadsBy, ReadsNext, Stands}
+use Rattle.pt_folder.specs.Reading.{StandsOpen, unread_of, unread_open}
 use Rattle.pt_folder.specs.Runs.{ReadsBlock, ReadsMore}
 use Rattle.pt_folder.specs.SourceHeld.{failing_of, fails_on, told_of}
 use Rattle.pt_folder.specs.declared.reading.FileInReading.{FileInReading}
@@ -158,6 +159,7 @@ module _ {S F : Type 0} (forest : S → List ℕ → Option Forest) (failing : F
 
           so : (fault : TreeFault) → fault ≡ fault_of e → (fails_on fails (Some next) ≡ fails_on fails (Some old))
               × (fault_of e ≡ Device → fails_on fails (Some old) ≡ true)
-              → (fails_on fails (Some next) ≡ fails_on fails (Some old)) × ReadsWith {T = Unit {0}} (record { at = at; reading = fails_on fails (Some old) }) block (Err fault)
+              → (fails_on fails (Some next) ≡ fails_on fails (Some old))
+              × ReadsWith {T = Unit {0}} (record { at = at; reading = fails_on fails (Some old) }) block (Err fault)
           so Device is_fault (stays, failed) = (stays, failed (sym is_fault))
           so Memory is_fault (stays, failed) = (stays, tt)

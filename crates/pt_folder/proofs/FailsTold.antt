@@ -101,7 +101,8 @@ module _ {S F : Type 0} (forest : S → List ℕ → Option Forest) (failing : F
     stops (inl (inl (empty, same))) = λ at is. absurd ((told_at at is).2 empty)
     stops (inl (inr (inl (e, opened, device)))) = λ at is. law s new folder p (Err e) can opened at is device
     stops (inl (inr (inr (dir, after, opened, failed)))) = λ at is. (law s new folder p (Ok dir) can opened at is after).unread failed
-    stops (inr by) = λ at is. (law s by.mid folder p (Ok by.dir) can by.opened at is by.after).unseen by.names by.order new by.read by.ordered by.sorted by.looked
+    stops (inr by) = λ at is.
+        (law s by.mid folder p (Ok by.dir) can by.opened at is by.after).unseen by.names by.order new by.read by.ordered by.sorted by.looked
 
     pub lists_as : (result : Result (List Item) TreeFault) (w v : Option (FileInReading F)) (now : Option (Path → Bool)) → v ≡ w → now ≡ failing s folder
         → IfOk result (IsListedBy sys input (entry_in folder p) (change_of s new))

@@ -31,7 +31,8 @@ loop-name-preserved g c =
       text = c.in_ok-kind.ensures.text ∙ inv.text;
       seen = sees_more g.S.System.forest looks g.met.S.System.look_law front old mid new c.loop-name.listing c.add_entry.new.listing name kind inv.seen
           c.in_ok-kind.ensures.named asked added;
-      still = still_on g.S.System.failing old mid new inv.still (looks_still g.S.System.failing g.met.S.System.fails_still_law.looked front mid new name (Ok kind) asked);
+      still = still_on g.S.System.failing old mid new inv.still
+          (looks_still g.S.System.failing g.met.S.System.fails_still_law.looked front mid new name (Ok kind) asked);
       looked = subst (λ l. FoldsTo (LooksAt looks front) old l new) (sym added) more;
     }
 

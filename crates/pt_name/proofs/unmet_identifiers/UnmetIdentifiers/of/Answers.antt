@@ -12,4 +12,5 @@ returns c =
     let ids = c.ids.ensures ∙ c.deref.ensures in
     let flags : c.in_ok-flags.flags.items ≡ map (may_meet share) list =
     c.in_ok-flags.ensures ∙ sym (mapped_flags share c.ids.result.now) ∙ ap (map (may_meet share)) ids in
-    (λ i. unmet_flagged (c.in_ok-clone.ensures.cases i) (flags i)) ∙ all_flags share list ∙ ap (λ (ids : Option (List (List ℕ))). unmet_in share ids) c.in-Some.ensures
+    (λ i. unmet_flagged (c.in_ok-clone.ensures.cases i) (flags i)) ∙ all_flags share list
+    ∙ ap (λ (ids : Option (List (List ℕ))). unmet_in share ids) c.in-Some.ensures

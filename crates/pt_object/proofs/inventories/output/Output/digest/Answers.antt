@@ -6,4 +6,5 @@ use Rattle.pt_object.proofs.inventories.output.Output.digest.Goals as goal
 
 pub from_utf8_unchecked-text-requires : goal.from_utf8_unchecked-text-requires
 from_utf8_unchecked-text-requires c =
-    subst (λ (bytes : List ℕ). IsUtf8 bytes) (sym (c.write_hex-digits.ensures.digits ∙ ap encode_lower c.bytes.ensures.bytes)) (digest_is_text c.args.digest.now)
+    subst (λ (bytes : List ℕ). IsUtf8 bytes) (sym (c.write_hex-digits.ensures.digits ∙ ap encode_lower c.bytes.ensures.bytes))
+    (digest_is_text c.args.digest.now)
