@@ -241,15 +241,15 @@ abbrev pub GivesBack : own.Job → Option Forest → ObjectsAudit → Type 0
 GivesBack job source audited = (audited.job ≡ job) × IsPrefix source (string_bytes audited.prefix)
 
 -- where the store is told, those of the share's list are unmet that are met nowhere in it
-abbrev pub LeavesUnmet : own.Job → Option Forest → List (Option (List ℕ)) → Type 0
-LeavesUnmet job source unmet = ForSome source (λ s. unmet ≡ unmet_in_store (job_of job) s)
+abbrev pub AreUnmetIn : own.Job → Option Forest → List (Option (List ℕ)) → Type 0
+AreUnmetIn job source unmet = ForSome source (λ s. unmet ≡ unmet_in_store (job_of job) s)
 
 -- a survey at its end has seen all, and all was told with these counts
 pub record HasSeenAll (start : AuditStart) (now : Option (List ℕ)) (counts : Counts) (r : Running) : Type 0 where
   pub told : AllToldAs (job_of r.state.job) start now counts
   pub layout : CanGoOn start.root r
   pub prefix : IsPrefix start.source (string_bytes r.state.prefix)
-  pub unmet : LeavesUnmet r.state.job start.source r.state.unmet
+  pub unmet : AreUnmetIn r.state.job start.source r.state.unmet
 
 -- what is told of all items, and the end line
 pub record IsAuditLog (job : Job) (source root : Forest) (text : List ℕ) (counts : Counts) : Type 0 where

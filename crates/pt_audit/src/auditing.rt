@@ -16,8 +16,8 @@ ghost use Rattle.std.specs.Prelude.{◌≡◌, IfErr, IfOk, OnErr, OnOk};
 ghost use Rattle.pt_audit.specs.AuditSteps.{FailsRightly, KeepsAll, StepsOn, TellsObject};
 ghost use Rattle.pt_audit.specs.AuditSteps.{TellsStep};
 ghost use Rattle.pt_audit.specs.AuditSteps.{audit_states};
-ghost use Rattle.pt_audit.specs.Auditing.{FrontToldAs, GivesBack, HasSeenAll, IsFoundAtHand};
-ghost use Rattle.pt_audit.specs.Auditing.{IsTwinAtHand, LeavesUnmet, LogsAs, StopsUnderWay};
+ghost use Rattle.pt_audit.specs.Auditing.{AreUnmetIn, FrontToldAs, GivesBack, HasSeenAll};
+ghost use Rattle.pt_audit.specs.Auditing.{IsFoundAtHand, IsTwinAtHand, LogsAs, StopsUnderWay};
 ghost use Rattle.pt_audit.specs.Auditing.{TellsItems};
 ghost use Rattle.pt_audit.specs.Auditing.{counted, last_text, start_over};
 ghost use Rattle.pt_audit.specs.declared.counts.Counts.{Counts};
@@ -31,7 +31,7 @@ ghost use Rattle.pt_audit.specs.Layout.{IsOfLayout};
 ghost use Rattle.pt_compare.specs.Root.{KeepsRoot};
 ghost use Rattle.pt_tree.specs.Source.{tree_in};
 ghost use Rattle.pt_state.specs.States.{job_of};
-ghost use Rattle.pt_audit.specs.Growing.{KeepsLog, KeepsSides};
+ghost use Rattle.pt_audit.specs.Growing.{KeepsLog};
 ghost use Rattle.pt_audit.specs.SurveySteps.{MovesOn};
 ghost use Rattle.pt_audit.specs.Surveying.{IsHand, Steps, Surveys, sight_at};
 ghost use Rattle.pt_audit.specs.declared.survey.SurveyEvent.TheVariants as sight;
@@ -80,9 +80,8 @@ pub fn audit<S: Source, R: Source, L: Log, O: Observer<Counts>>(
     ensures ends { LogsAs (job_of job) (tree_in (S.told source.old))
         (tree_in (R.told root.old)) (L.told log.old) (L.told log.new) (counts_at_end result) }
     ensures layout { OnOk result (ForSome (tree_in (R.told root.old)) (IsOfLayout (job_of job))) }
-    ensures source { KeepsRoot S.told S.keeps source.old source.new }
-    ensures root { KeepsRoot R.told R.keeps root.old root.new }
-    ensures log { KeepsLog L.told L.keeps log.old log.new }
+    ensures keeps { KeepsAll S.Source R.Source L.Log (source.old, root.old, log.old)
+        (source.new, root.new, log.new) }
     ensures blames { BlamesRightly
         (failures (S.failed source.old) (R.failed root.old) (L.failed log.old))
         (failures (S.failed source.new) (R.failed root.new) (L.failed log.new)) result }
@@ -90,7 +89,7 @@ pub fn audit<S: Source, R: Source, L: Log, O: Observer<Counts>>(
         (tree_in (R.told root.old))) }
     ensures made { IsMade job (tree_in (S.told source.old)) (counts_at_end result) }
     ensures unmet { IfOk result (λ audited.
-        LeavesUnmet job (tree_in (S.told source.old)) audited.unmet) }
+        AreUnmetIn job (tree_in (S.told source.old)) audited.unmet) }
 {
     let audited = audit_objects(alloc, source, root, log, job, observer)?;
     let counts = tell_audit_end(alloc, audited.counts, log)?;
@@ -137,9 +136,8 @@ pub fn audit_objects<S: Source, R: Source, L: Log, O: Observer<Counts>>(
         (tree_in (R.told root.old)) (L.told log.old)) (L.told log.new) result }
     ensures given { IfOk result (GivesBack job (tree_in (S.told source.old))) }
     ensures layout { OnOk result (ForSome (tree_in (R.told root.old)) (IsOfLayout (job_of job))) }
-    ensures sides { KeepsSides S.told S.keeps R.told R.keeps (source.old, root.old)
-        (source.new, root.new) }
-    ensures log { KeepsLog L.told L.keeps log.old log.new }
+    ensures keeps { KeepsAll S.Source R.Source L.Log (source.old, root.old, log.old)
+        (source.new, root.new, log.new) }
     ensures blames { BlamesRightly
         (failures (S.failed source.old) (R.failed root.old) (L.failed log.old))
         (failures (S.failed source.new) (R.failed root.new) (L.failed log.new)) result }
@@ -147,7 +145,7 @@ pub fn audit_objects<S: Source, R: Source, L: Log, O: Observer<Counts>>(
         (tree_in (R.told root.old))) }
     ensures made { IsMade job (tree_in (S.told source.old)) (counts_in result) }
     ensures unmet { IfOk result (λ audited.
-        LeavesUnmet job (tree_in (S.told source.old)) audited.unmet) }
+        AreUnmetIn job (tree_in (S.told source.old)) audited.unmet) }
 {
     let mut auditor = Auditor {
         alloc,

@@ -5,7 +5,7 @@ use Rattle.std.specs.Prelude.{IfErr, IfOk, OnErr, OnOk, Option, Some, Result, Ok
 use Rattle.std.specs.String.{string_bytes}
 use Rattle.pt_audit.proofs.Telling.{put_behind}
 use Rattle.pt_audit.proofs.ToldFront.{front_put}
-use Rattle.pt_audit.specs.Auditing.{AllToldAs, AuditStart, FrontToldAs, GivesBack, IsAllTold, LeavesUnmet, LogsAs, start_over}
+use Rattle.pt_audit.specs.Auditing.{AllToldAs, AuditStart, FrontToldAs, GivesBack, IsAllTold, AreUnmetIn, LogsAs, start_over}
 use Rattle.pt_audit.specs.Bounds.{IsMade, counts_at_end}
 use Rattle.pt_audit.specs.Failing.{BlamesRightly}
 use Rattle.pt_audit.specs.declared.auditing.AuditCompletion.{AuditCompletion}
@@ -193,8 +193,8 @@ plain_keeps A B old new ran told is ok says blames = subst (PlainKeeps A B old n
 -- what is unmet at the end
 pub plain_unmet : (job : own.Job) (source : Option Forest) (audited : Result AuditCompletion Fault) (told : Result AuditCounts Fault)
     (unmet : List (Option (List ℕ))) → told ≡ counts_of (counts_at_end audited) → IfOk audited (λ a. unmet ≡ a.unmet)
-    → IfOk audited (λ a. LeavesUnmet job source a.unmet) → OnOk told (LeavesUnmet job source unmet)
-plain_unmet job source (Ok audited) told unmet is same leaves = rw is (subst (LeavesUnmet job source) (sym same) leaves)
+    → IfOk audited (λ a. AreUnmetIn job source a.unmet) → OnOk told (AreUnmetIn job source unmet)
+plain_unmet job source (Ok audited) told unmet is same leaves = rw is (subst (AreUnmetIn job source) (sym same) leaves)
 plain_unmet job source (Err why) told unmet is same leaves = rw is tt
 
 pub plain_made : (job : own.Job) (source : Option Forest) (ran : Result Counts Fault) (told : Result AuditCounts Fault) → told ≡ counts_of ran

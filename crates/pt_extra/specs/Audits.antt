@@ -3,7 +3,7 @@ use Rattle.std.specs.Prelude.{◌≡◌, ◌≤◌, ℕ, Bool, true, false, IfEr
 use Rattle.std.specs.Io.KnownBytes.{Appends}
 use Rattle.std.specs.Option.{ForSome}
 use Rattle.std.specs.String.{string_bytes}
-use Rattle.pt_audit.specs.Auditing.{AuditStart, IsAllTold, IsOfItems, LeavesUnmet, LogsAs, start_over}
+use Rattle.pt_audit.specs.Auditing.{AuditStart, IsAllTold, IsOfItems, AreUnmetIn, LogsAs, start_over}
 use Rattle.pt_audit.specs.Bounds.{IsMade}
 use Rattle.pt_audit.specs.Failing.{AuditSays, BlamesRightly, failures}
 use Rattle.pt_audit.specs.Growing.{KeepsLog, KeepsSides}
@@ -143,4 +143,4 @@ pub record AuditsDevices {S R L E : Type 0} (s : OfSource S) (r : OfSource R) (l
   -- nor does a walk over the root
   pub holds : WalkHoldsFieldsAlone S R L E
   -- at its end just those of the list are unmet that are met nowhere in the store
-  pub unmet : OnOk audit.1.ran (LeavesUnmet job (tree_in (s.told audit.0.store)) audit.1.unmet)
+  pub unmet : OnOk audit.1.ran (AreUnmetIn job (tree_in (s.told audit.0.store)) audit.1.unmet)

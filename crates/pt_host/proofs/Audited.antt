@@ -1,7 +1,7 @@
 -- What an audit over the devices of a machine says of what its systems keep.
-use Rattle.std.proofs.Common.{◌≡◌, ◌∙◌, ℕ, List, refl, subst}
-use Rattle.std.specs.Prelude.{Bool, IfErr, None, Option, Some, Result}
-use Rattle.pt_audit.specs.Auditing.{start_over}
+use Rattle.std.proofs.Common.{◌≡◌, ◌∙◌, ℕ, List, refl, subst, sym}
+use Rattle.std.specs.Prelude.{Bool, IfErr, None, OnOk, Option, Some, Result}
+use Rattle.pt_audit.specs.Auditing.{AreUnmetIn, start_over}
 use Rattle.pt_audit.specs.Bounds.{IsMade}
 use Rattle.pt_audit.specs.Failing.{AuditSays}
 use Rattle.pt_audit.specs.declared.counts.Counts.{Counts}
@@ -59,3 +59,10 @@ says_as ran job {source} {store} {root} {folder} source_is root_is says =
 -- and so it is made
 pub made_as : (ran : Result Counts Fault) (job : own.Job) {source store : Option Forest} → source ≡ store → IsMade job source ran → IsMade job store ran
 made_as ran job same = subst (λ (t : Option Forest). IsMade job t ran) same
+
+-- and what it leaves unmet, whatever that is called
+pub unmet_as : (ran : Result AuditCounts Fault) (job : own.Job) {source store : Option Forest} {left unmet : List (Option (List ℕ))} → source ≡ store
+    → left ≡ unmet → OnOk ran (AreUnmetIn job source unmet) → OnOk ran (AreUnmetIn job store left)
+unmet_as ran job {source} {store} {left} {unmet} source_is left_is are =
+    subst (λ (t : Option Forest). OnOk ran (AreUnmetIn job t left)) source_is
+    (subst (λ (u : List (Option (List ℕ))). OnOk ran (AreUnmetIn job source u)) (sym left_is) are)

@@ -14,8 +14,8 @@ use Rattle.pt_host.specs.declared.host.HostIo.{HostIo}
 use Rattle.pt_host.specs.declared.operation.Conclusion.{Conclusion}
 use Rattle.pt_state.specs.Outside.{states}
 
-pub begun : {S D W E F : Type 0} (words : HostIoWords S D W (Kept F)) (bytes : E
-    → Option (List ℕ)) (fails : Option (E → Bool)) (call : RunCall) (host_io : HostIo S D W) (s : S) (s-at : List ℕ) (r : Option (FileInReading E)) (s-fails : ℕ) (d : D) (d-at : List ℕ)
+pub begun : {S D W E F : Type 0} (words : HostIoWords S D W (Kept F)) (bytes : E → Option (List ℕ)) (fails : Option (E → Bool)) (call : RunCall)
+    (host_io : HostIo S D W) (s : S) (s-at : List ℕ) (r : Option (FileInReading E)) (s-fails : ℕ) (d : D) (d-at : List ℕ)
     (synced : Bool) (unsynced : Option UnsyncedChange) (w : Option (Open F)) (d-fails : ℕ) (o : W) (l-fails : ℕ)
     → (s ≡ host_io.store) × (s-at ≡ call.store) → (r ≡ None) × (s-fails ≡ 0) → (d ≡ host_io.folder) × (d-at ≡ call.folder) → (w ≡ None) × (d-fails ≡ 0)
     → (synced ≡ call.options.sync) × (unsynced ≡ None) → (o ≡ host_io.output) × (l-fails ≡ 0)

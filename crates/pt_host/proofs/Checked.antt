@@ -18,7 +18,8 @@ use Rattle.pt_host.specs.Checking.{CheckCall, ChecksTree, IsFaultOfCheck, says_a
 
 -- a check is one of a call, whatever its tree and how far it is are called
 pub checks_as : (ran : Result Numbers Fault) (call : CheckCall) (a b : CheckState) {wants : Wants} {tree store : Option Forest} {failing : Option (Path → Bool)}
-    {was held : Option (List ℕ)} → wants ≡ wants_of call.options → tree ≡ store → a.failing ≡ failing → a.failed ≡ 0 → a.held ≡ was → a.numbers ≡ no_numbers → b.held ≡ held
+    {was held : Option (List ℕ)} → wants ≡ wants_of call.options → tree ≡ store → a.failing ≡ failing → a.failed ≡ 0 → a.held ≡ was
+    → a.numbers ≡ no_numbers → b.held ≡ held
     → IfOk ran (λ numbers. ForSome tree (λ t. Checks says_anything wants t numbers a b))
     → IfOk ran (λ numbers. ForSome store (ChecksTree call failing was held numbers))
 checks_as (Err why) call a b wants_are same untold unfailed held uncounted held_is checks = tt

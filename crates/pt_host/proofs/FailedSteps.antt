@@ -59,8 +59,8 @@ module _ {S F D : Type 0} {sys : OfSystem S F D} {handle : OfHandle F} {file : O
       by (inl same) (inr failed) = inr (record { old = mid; new = last; before = steps; step = step; failed = failed; after = none })
 
 -- the destination is blamed exactly where it failed
-dest_counts : (job : Job) (rehearse : Bool) (was : Option Writing) (old new : DeviceStates) (ran : Result Report Fault) → rehearse ≡ false → IsRun job rehearse was old new ran
-    → Counts 2 old.failures.dest new.failures.dest ran
+dest_counts : (job : Job) (rehearse : Bool) (was : Option Writing) (old new : DeviceStates) (ran : Result Report Fault) → rehearse ≡ false
+    → IsRun job rehearse was old new ran → Counts 2 old.failures.dest new.failures.dest ran
 dest_counts job true was old new ran is run = absurd (cc)
 dest_counts job false was old new ran is run = run.promises.dest
 

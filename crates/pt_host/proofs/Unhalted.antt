@@ -13,7 +13,8 @@ use Rattle.pt_host.specs.QuietCheckLaw.{NoRunIsHaltedForSource}
 unrisen : (old new : ℕ) → old < greatest_count → new ≡ old → HasRisen old new → ⊥
 unrisen old new fewer same rose = omega (arith, fewer, same, rose)
 
-pub unblamed : (old new : ℕ) (result : Result Report Fault) → old < greatest_count → new ≡ old → Counts 1 old new result → IfErr result (λ why. why ≢ fault.Source)
+pub unblamed : (old new : ℕ) (result : Result Report Fault) → old < greatest_count → new ≡ old → Counts 1 old new result
+    → IfErr result (λ why. why ≢ fault.Source)
 unblamed old new (Ok report) fewer same counts = tt
 unblamed old new (Err fault.Source) fewer same counts = λ is. unrisen old new fewer same counts
 unblamed old new (Err why) fewer same counts = λ is. absurd (cc)

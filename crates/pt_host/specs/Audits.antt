@@ -2,7 +2,7 @@
 use Rattle.std.specs.Prelude.{◌≡◌, ◌+◌, ◌==◌, ℕ, Bool, true, false, if◌then◌else◌, IfErr, List, None, OnOk, Option, Result, Ok, Err}
 use Rattle.std.specs.Option.{ForSome}
 use Rattle.std.specs.Result.{result_err}
-use Rattle.pt_audit.specs.Auditing.{LeavesUnmet, start_over}
+use Rattle.pt_audit.specs.Auditing.{AreUnmetIn, start_over}
 use Rattle.pt_audit.specs.Bounds.{IsMade}
 use Rattle.pt_audit.specs.Failing.{AuditSays}
 use Rattle.pt_audit.specs.Layout.{IsOfLayout}
@@ -92,7 +92,7 @@ pub record AuditsOver {S D W : Type 0} (words : HostIoWords S D W (Option Forest
   pub grows : Grows (words.output old.output) (words.output new.output)
   pub status_is : end.status ≡ audit_status call.options.skips_ok ran
   pub fault_is : CameTo (words_with call.options.extra) (result_err ran) end.outcome
-  pub unmet : OnOk ran (LeavesUnmet call.options.job (store_seen words call old) end.unmet)
+  pub unmet : OnOk ran (AreUnmetIn call.options.job (store_seen words call old) end.unmet)
 
 module _ {H : Type 0} (words : MachineWords H) (asks : Option (List ℕ) → Type 0) (call : AuditCall) where
   -- an audit once it may begin: it is asked what is expected of it, and made over what the machine lends, which is given back

@@ -11,7 +11,7 @@ use Rattle.pt_folder.specs.SourceHeld.{told_of as source_told}
 use Rattle.pt_folder.specs.declared.unsynced_change.UnsyncedChange.{UnsyncedChange}
 use Rattle.pt_folder.specs.declared.writing.FileInWriting.{FileInWriting as Open}
 use Rattle.pt_tree.specs.Ignoring.{told_without}
-use Rattle.pt_audit.specs.Auditing.{LeavesUnmet}
+use Rattle.pt_audit.specs.Auditing.{AreUnmetIn}
 use Rattle.pt_guard.specs.Guard.{Begins}
 use Rattle.pt_guard.specs.PlaceCall.{Release}
 use Rattle.pt_guard.specs.declared.guard.FolderLock.{FolderLock}
@@ -24,13 +24,15 @@ use Rattle.pt_move.specs.Migrates.{Migrates}
 use Rattle.pt_plan.specs.declared.fault.Fault.{Fault}
 use Rattle.pt_plan.specs.declared.fault.Fault.TheVariants.{Log}
 use Rattle.pt_plan.specs.DeviceStates.{Failures, DeviceStates}
-use Rattle.pt_plan.specs.SourceFailures.{FailsAtOpen, FailsWhereAsked, SourceView}
+use Rattle.pt_plan.specs.SourceFailures.{FailsAtOpen, FailsOnlyWhereAsked, FailsWhereAsked, SourceView}
+use Rattle.pt_state.specs.SourceFailures.{source_view}
 use Rattle.pt_state.specs.declared.job.Job.{Job}
 use Rattle.pt_state.specs.declared.job.Report.{Report}
 use Rattle.pt_tree.specs.Dest.{Writing}
 use Rattle.pt_tree.specs.Failing.{Failing}
 use Rattle.pt_tree.specs.Path.{Path}
 use Rattle.pt_tree.specs.Source.{tree_in}
+use Rattle.pt_tree.specs.declared.source.Source.{Ghosts as OfSource}
 use Rattle.pt_host.specs.Durable.{IsLogged}
 use Rattle.pt_host.specs.Ends.{EndsWithList, guard_status, run_status}
 use Rattle.pt_host.specs.Events.{IsRecorded}
@@ -60,7 +62,7 @@ abbrev pub IsMade : RunOptions → Option Writing → DeviceStates → DeviceSta
 IsMade options was old new end =
     (ran : Result Report Fault) × IsRun options.job options.rehearse was old new ran
     × (end.status ≡ run_status options.allowed ran) × CameTo Run (result_err ran) end.outcome
-    × OnOk ran (LeavesUnmet options.job (tree_in old.source) end.unmet)
+    × OnOk ran (AreUnmetIn options.job (tree_in old.source) end.unmet)
 
 -- the paths of a run's two folders, the names of the entries that are left out of the store, and whether files are
 -- put onto the disk
@@ -107,6 +109,11 @@ source_of start =
 -- a source's count of failures changed only if it fails at something that a run asks for, or at a file that was open
 abbrev pub FailsByAsking : SourceView → ℕ → Type 0
 FailsByAsking source failed = (failed ≡ source.failed) ⊎ (FailsAtOpen source ⊎ FailsWhereAsked source)
+
+-- it is the same source still, and failed only where it fails at something that a run asks for, or at the file that was open
+pub record IsSameSource {S : Type 0} (words : OfSource S) (old new : S) : Type 0 where
+  pub keeps : words.keeps old new
+  pub fails : FailsOnlyWhereAsked (source_view words old) (source_view words new)
 
 -- a run was made from this start to what its devices then tell over these systems and this output, with this end and
 -- this unsynced; a rehearsal left of the folder what the system kept; the source failed only where it fails that is asked for; and the

@@ -5,21 +5,25 @@
 //! stands, a refusal is true of the store and of the root, and the status follows from the answer
 //! (`AuditsOver`). Where that was asked for, what was passed over counts as well (`others`).
 ghost use Rattle.std.specs.Prelude.{◌≡◌};
+ghost use Rattle.std.specs.Result.{result_err};
+ghost use Rattle.pt_folder.specs.HostSource.{system_of as store_system};
 ghost use Rattle.pt_host.specs.Audits.{AuditsOver, audit_call, audit_status, words_with};
 ghost use Rattle.pt_host.specs.Machine.{host_io_words};
+ghost use Rattle.pt_host.specs.Told.{CameTo};
 
 use crate::account::Account;
 use crate::devices::{AuditSides, DeviceParts, open_sides};
-use crate::durable_log::SyncsOutput;
+use crate::durable_log::{DurableLog, SyncsOutput};
 use crate::explaining::LastFailure;
 use crate::folders::Folders;
 use crate::operation::{Conclusion, fault_in};
 use crate::status::{DONE, FAILED, INCOMPLETE};
 use crate::{AuditOptions, HostIo};
 use pt_extra::{AuditCounts, AuditEnd, ExtraDevices, audit};
-use pt_folder::System;
-use pt_messages::{LastCalls, Reads, Tally, Terminals, Words};
+use pt_folder::{HostSource, System};
+use pt_messages::{CountedLog, LastCalls, Reads, Tally, Terminals, Watch, Words};
 use pt_move::Fault;
+use pt_tree::{Ignoring, Watched};
 use std::alloc::AllocGlobal;
 use std::io::Write;
 use std::rt::Clock;
@@ -53,11 +57,41 @@ where
         log,
         explains: LastFailure,
     };
+    let end = audit(alloc, devices, options.job, options.extra, &tally);
+    conclude(rt, account, end, options.skips_ok)
+}
+
+// An audit that has ended over a store and a log that are watched.
+type WatchedEnd<'w, 'a, R, S, D, W, F> = AuditEnd<
+    Watched<Ignoring<HostSource<'a, S>>, Watch<'w, R>>,
+    HostSource<'a, D>,
+    CountedLog<DurableLog<W, F>>,
+    LastFailure,
+>;
+
+// Ends what is shown of an audit, whose skip lines are well or not. Gives back what its devices
+// were made over, and how it ended.
+fn conclude<'a, R, S: System, D: System, W: Write, F: SyncsOutput<W> + Drop>(
+    rt: &R,
+    account: Account<'a>,
+    end: WatchedEnd<'_, 'a, R, S, D, W, F>,
+    skips_ok: bool,
+) -> (HostIo<S, D, W>, Conclusion)
+where
+    R: Reads + Clock + Eprint + AllocGlobal + Terminals,
+    ensures store { result.0.store ≡ store_system end.entry.devices.store.source.source }
+    ensures folder { result.0.folder ≡ store_system end.entry.devices.root }
+    ensures output { result.0.output ≡ end.entry.devices.log.log.writer }
+    ensures status { result.1.status ≡ audit_status skips_ok end.entry.ran }
+    ensures fault { CameTo account.entry.watching.words (result_err end.entry.ran)
+        result.1.outcome }
+    ensures unmet { result.1.unmet ≡ end.entry.unmet }
+{
     let AuditEnd {
         ran,
         unmet,
         devices,
-    } = audit(alloc, devices, options.job, options.extra, &tally);
+    } = end;
     let ExtraDevices {
         store,
         root,
@@ -66,7 +100,7 @@ where
     } = devices;
     let calls = LastCalls::of_root(&root);
     let (source, log, outcome) = account.close(rt, (store, log), fault_in(&ran), calls);
-    let status = status_of(&ran, options.skips_ok);
+    let status = status_of(&ran, skips_ok);
     let host_io = HostIo {
         store: source.into_system(),
         folder: root.into_system(),

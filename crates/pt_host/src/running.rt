@@ -7,20 +7,18 @@
 //! end only where syncing was wanted and a fault ended the run (`IsUnsyncedBy`). Over a store whose
 //! system tells where it fails the source failed only at what a run asks for (`FailsByAsking`).
 ghost use Rattle.std.specs.Prelude.{◌≡◌, IfOk, OnOk};
+ghost use Rattle.pt_audit.specs.Auditing.{AreUnmetIn};
 ghost use Rattle.pt_folder.specs.HostDest.{folder_path as dest_path, kept_by};
 ghost use Rattle.pt_folder.specs.HostSource.{failing, folder_path as store_path};
 ghost use Rattle.pt_host.specs.Devices.{seen_without, told_at_rest};
 ghost use Rattle.pt_host.specs.Durable.{IsLogged};
 ghost use Rattle.pt_host.specs.Ends.{run_status};
 ghost use Rattle.pt_host.specs.Machine.{host_io_words};
-ghost use Rattle.pt_host.specs.Made.{IsRun, IsUnsyncedBy, LeavesKept, RunsFrom};
+ghost use Rattle.pt_host.specs.Made.{IsRun, IsSameSource, IsUnsyncedBy, LeavesKept, RunsFrom};
 ghost use Rattle.pt_host.specs.Served.{IsServed, ServesTo};
 ghost use Rattle.pt_host.specs.declared.options.AllowedLines.{AllowedLines};
-ghost use Rattle.pt_audit.specs.Auditing.{LeavesUnmet};
 ghost use Rattle.pt_move.specs.Unmet.{report_of};
-ghost use Rattle.pt_plan.specs.SourceFailures.{FailsOnlyWhereAsked};
 ghost use Rattle.pt_state.specs.Outside.{states_of};
-ghost use Rattle.pt_state.specs.SourceFailures.{source_view};
 ghost use Rattle.pt_tree.specs.Source.{tree_in};
 
 use crate::account::Account;
@@ -136,10 +134,8 @@ fn run_or_rehearse<'a, S: Source, D: System, L: Log>(
         (states_of S.Source ⟦<HostDest<'a, D> as Dest>⟧ L.Log source.new result.dest log.new)
         result.ran }
     ensures unmet { OnOk result.ran
-        (LeavesUnmet task.entry.job (tree_in (S.told source.old)) result.unmet) }
-    ensures source { S.keeps source.old source.new }
-    ensures fails { FailsOnlyWhereAsked (source_view S.Source source.old)
-        (source_view S.Source source.new) }
+        (AreUnmetIn task.entry.job (tree_in (S.told source.old)) result.unmet) }
+    ensures source { IsSameSource S.Source source.old source.new }
     ensures log { L.keeps log.old log.new }
     ensures dest { result.dest.folder ≡ dest.entry.folder }
     ensures served { IsServed task.entry.rehearse dest.entry result.dest }

@@ -43,17 +43,23 @@ returns-in_err-counts-clause-made g c =
 pub returns-clause-made : goal.returns-clause-made
 returns-clause-made g c = made_end _ (Ok c.in_ok-counts.counts) c.in_ok-counts.ensures.told c.in_ok-audited.ensures.made
 
-pub returns-in_err-counts-clause-log : goal.returns-in_err-counts-clause-log
-returns-in_err-counts-clause-log g c = (
-  g.met.L.Log.keeps_on _ _ _ c.in_ok-audited.ensures.log.0 c.tell_audit_end.ensures.log.0,
-  grows_on _ _ _ c.in_ok-audited.ensures.log.1 c.tell_audit_end.ensures.log.1,
-)
+pub returns-in_err-counts-clause-keeps : goal.returns-in_err-counts-clause-keeps
+returns-in_err-counts-clause-keeps g c = record {
+  sides = c.in_ok-audited.ensures.keeps.sides;
+  log = (
+    g.met.L.Log.keeps_on _ _ _ c.in_ok-audited.ensures.keeps.log.0 c.tell_audit_end.ensures.log.0,
+    grows_on _ _ _ c.in_ok-audited.ensures.keeps.log.1 c.tell_audit_end.ensures.log.1,
+  );
+}
 
-pub returns-clause-log : goal.returns-clause-log
-returns-clause-log g c = (
-  g.met.L.Log.keeps_on _ _ _ c.in_ok-audited.ensures.log.0 c.tell_audit_end.ensures.log.0,
-  grows_on _ _ _ c.in_ok-audited.ensures.log.1 c.tell_audit_end.ensures.log.1,
-)
+pub returns-clause-keeps : goal.returns-clause-keeps
+returns-clause-keeps g c = record {
+  sides = c.in_ok-audited.ensures.keeps.sides;
+  log = (
+    g.met.L.Log.keeps_on _ _ _ c.in_ok-audited.ensures.keeps.log.0 c.tell_audit_end.ensures.log.0,
+    grows_on _ _ _ c.in_ok-audited.ensures.keeps.log.1 c.tell_audit_end.ensures.log.1,
+  );
+}
 
 pub returns-in_err-counts-clause-says : goal.returns-in_err-counts-clause-says
 returns-in_err-counts-clause-says g c =

@@ -1,7 +1,7 @@
 use Rattle.std.proofs.Common.{◌∙◌, rules, subst, sym}
 use Rattle.std.specs.Prelude.{IfErr}
 use Rattle.std.specs.Option.{ForSome}
-use Rattle.pt_audit.specs.Auditing.{AllToldAs, FrontToldAs, LeavesUnmet, start_over}
+use Rattle.pt_audit.specs.Auditing.{AllToldAs, FrontToldAs, AreUnmetIn, start_over}
 use Rattle.pt_audit.specs.Failing.{AuditSays}
 use Rattle.pt_audit.specs.Layout.{IsOfLayout}
 use Rattle.pt_audit.specs.declared.counts.Counts.{Counts}
@@ -51,18 +51,6 @@ returns-clause-layout g c =
 pub returns-clause-made : goal.returns-clause-made
 returns-clause-made g c = rw c.into_audit.ensures.counts (made_within c.start.ensures.new c.in_ok-counts.ensures.made)
 
-pub returns-in_err-counts-clause-sides : goal.returns-in_err-counts-clause-sides
-returns-in_err-counts-clause-sides g c = c.in_err-counts.ensures.keeps.sides
-
-pub returns-in_err-counts-clause-log : goal.returns-in_err-counts-clause-log
-returns-in_err-counts-clause-log g c = c.in_err-counts.ensures.keeps.log
-
-pub returns-clause-sides : goal.returns-clause-sides
-returns-clause-sides g c = c.in_ok-counts.ensures.keeps.sides
-
-pub returns-clause-log : goal.returns-clause-log
-returns-clause-log g c = c.in_ok-counts.ensures.keeps.log
-
 pub returns-in_err-counts-clause-blames : goal.returns-in_err-counts-clause-blames
 returns-in_err-counts-clause-blames g c =
     (fails_err {T = Counts} c.from_residual.result c.in_err-counts.field-0.0 (search rules) c.in_err-counts.ensures.blamed).blames
@@ -83,5 +71,5 @@ pub returns-clause-unmet : goal.returns-clause-unmet
 returns-clause-unmet g c =
     let store = tree_in (g.S.Source.told c.args.source.now) in
     let was = c.in_ok-counts.ensures.ends in
-    subst (λ (job : Job). LeavesUnmet job store c.into_audit.result.unmet) (was.1 ∙ c.start.ensures.new.job_is)
-    (subst (LeavesUnmet c.go_through.new.self.survey.state.job store) (sym c.into_audit.ensures.unmet) was.0.unmet)
+    subst (λ (job : Job). AreUnmetIn job store c.into_audit.result.unmet) (was.1 ∙ c.start.ensures.new.job_is)
+    (subst (AreUnmetIn c.go_through.new.self.survey.state.job store) (sym c.into_audit.ensures.unmet) was.0.unmet)

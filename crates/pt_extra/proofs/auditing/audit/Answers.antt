@@ -26,13 +26,14 @@ returns g c =
     let told = c.without_extras.result in
     let is = c.without_extras.ensures in
     let it = c.audit-audited.ensures in
-    let kept = plain_keeps (ForSome root (IsOfLayout (job_of job))) (AuditSays job store root) old new c.audit-audited.result told is it.layout it.says it.blames in
+    let kept = plain_keeps (ForSome root (IsOfLayout (job_of job))) (AuditSays job store root) old new c.audit-audited.result told is it.layout it.says
+    it.blames in
     rw c.if-with_extras.false (record {
       ends = plain_logs (HasRisen (g.R.Source.failed before.root) (g.R.Source.failed after.root)) (job_of job)
           (start_over store root (g.L.Log.told before.log)) (g.L.Log.told after.log) ran told is it.ends;
       layout = kept.ok;
-      sides = record { source = it.source; root = it.root };
-      log = it.log;
+      sides = it.keeps.sides;
+      log = it.keeps.log;
       blames = kept.blames;
       says = kept.says;
       made = plain_made job store ran told is it.made;

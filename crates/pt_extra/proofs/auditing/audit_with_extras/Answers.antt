@@ -2,7 +2,7 @@ use Rattle.std.proofs.Common.{ap, arith, subst, sym, ℕ, ◌≡◌, ◌≤◌}
 use Rattle.std.specs.Prelude.{IfOk, OnOk, Option, Result, Ok, Err}
 use Rattle.pt_audit.proofs.Bounding.{made_by}
 use Rattle.pt_audit.proofs.Saying.{blames_by, says_by}
-use Rattle.pt_audit.specs.Auditing.{LeavesUnmet, start_over}
+use Rattle.pt_audit.specs.Auditing.{AreUnmetIn, start_over}
 use Rattle.pt_audit.specs.Bounds.{IsMade}
 use Rattle.pt_audit.specs.Failing.{BlamesRightly, failures}
 use Rattle.pt_audit.specs.Growing.{sides_on}
@@ -46,13 +46,13 @@ returns-in-Ok g c =
           (extra_logs (HasRisen (g.R.Source.failed mid.root) (g.R.Source.failed end.root)) c.args.job start
           (tree_in (g.S.Source.told mid.source)) (tree_in (g.R.Source.told mid.root))
           (g.L.Log.told mid.log) (g.L.Log.told end.log) c.in-Ok.audited ran
-          c.audit_objects-audited.ensures.sides.source.1 c.audit_objects-audited.ensures.sides.root.1 c.in-Ok.ensures.ends c.in-Ok.ensures.given
+          c.audit_objects-audited.ensures.keeps.sides.source.1 c.audit_objects-audited.ensures.keeps.sides.root.1 c.in-Ok.ensures.ends c.in-Ok.ensures.given
           c.tell_rest.ensures.told);
       layout = whenever ran c.in-Ok.ensures.layout;
-      sides = sides_on g.met.S.Source.keeps_on g.met.R.Source.keeps_on _ _ _ c.audit_objects-audited.ensures.sides c.tell_rest.ensures.sides;
+      sides = sides_on g.met.S.Source.keeps_on g.met.R.Source.keeps_on _ _ _ c.audit_objects-audited.ensures.keeps.sides c.tell_rest.ensures.sides;
       log = (
-        g.met.L.Log.keeps_on _ _ _ c.audit_objects-audited.ensures.log.0 c.tell_rest.ensures.log.0,
-        grows_on _ _ _ c.audit_objects-audited.ensures.log.1 c.tell_rest.ensures.log.1,
+        g.met.L.Log.keeps_on _ _ _ c.audit_objects-audited.ensures.keeps.log.0 c.tell_rest.ensures.log.0,
+        grows_on _ _ _ c.audit_objects-audited.ensures.keeps.log.1 c.tell_rest.ensures.log.1,
       );
       blames = (
         passed,
@@ -65,7 +65,7 @@ returns-in-Ok g c =
       says = says_by ran _ _ _ _ _ fails.2;
       made = made_rest _ _ c.in-Ok.audited.counts ran c.tell_rest.ensures.counts c.in-Ok.ensures.made;
       holds = walk_holds_fields_alone;
-      unmet = whenever ran (subst (LeavesUnmet c.args.job start.source) (sym c.tell_rest.ensures.unmet) c.in-Ok.ensures.unmet);
+      unmet = whenever ran (subst (AreUnmetIn c.args.job start.source) (sym c.tell_rest.ensures.unmet) c.in-Ok.ensures.unmet);
     }
 
 pub returns-in-Err : goal.returns-in-Err
@@ -75,8 +75,8 @@ returns-in-Err g c =
           (start_over (tree_in (g.S.Source.told c.args.devices.store)) (tree_in (g.R.Source.told c.args.devices.root)) (g.L.Log.told c.args.devices.log))
           _ c.in-Err.fault c.in-Err.ensures.ends;
       layout = tt;
-      sides = c.in-Err.ensures.sides;
-      log = c.in-Err.ensures.log;
+      sides = c.in-Err.ensures.keeps.sides;
+      log = c.in-Err.ensures.keeps.log;
       blames = (g.R.Source.failed c.args.devices.root, omega (arith), record { source = had.source; root = had.root; log = had.log });
       says = c.in-Err.ensures.says;
       made = c.in-Err.ensures.made;

@@ -52,3 +52,13 @@ pub returns-clause-unmet : goal.returns-clause-unmet
 returns-clause-unmet g c = left_unmet c.args.task.job (tree_in (g.S.Source.told c.args.source.now)) c.migrate_observed-ran-2.result
     c.end_of-2.result.ran c.end_of-2.result.unmet c.end_of-2.ensures.ran c.end_of-2.ensures.unmet
     (IfOk-weaker c.migrate_observed-ran-2.result _ _ (λ completion leaves. leaves.store) c.migrate_observed-ran-2.ensures.unmet)
+
+pub returns-then-rehearse-clause-source : goal.returns-then-rehearse-clause-source
+returns-then-rehearse-clause-source g c =
+    let run = c.migrate_observed-ran.ensures.run in
+    record { keeps = run.source_stays; fails = run.source_fails }
+
+pub returns-clause-source : goal.returns-clause-source
+returns-clause-source g c =
+    let run = c.migrate_observed-ran-2.ensures.run in
+    record { keeps = run.source_stays; fails = run.source_fails }

@@ -25,7 +25,7 @@ returns-clause-runs g c =
           ← c.new-ignoring.ensures.names,
           ← c.watch-source.ensures.source,
           ← c.watch-source.ensures.log,
-        ) (rw (made.source.1.folder, made.source.0, made.dest) at made.promises),
+        ) (rw (made.source.keeps.1.folder, made.source.keeps.0, made.dest) at made.promises),
         c.status_of-status.ensures,
         (
           c.close-source.ensures.outcome.0 ∙ ap (λ w. w.words) (c.new-account.ensures ∙ c.watching-watching.ensures),
@@ -40,7 +40,7 @@ returns-clause-runs g c =
       rw (c.into_system-2.ensures)
           (leaves_at g.D.System.kept c.args.options.rehearse _ dest.syscalls.system (ap (λ f. f.path.now) made.dest) made.rehearsed),
       λ s is. let unsynced = made.unsynced c.args.options.allowed s is in (unsynced.0, λ none. c.status_of-status.ensures ∙ unsynced.1 none),
-      rw (← c.new-ignoring.ensures.source, ← c.new-ignoring.ensures.names, ← c.watch-source.ensures.source) made.fails.failed,
+      rw (← c.new-ignoring.ensures.source, ← c.new-ignoring.ensures.names, ← c.watch-source.ensures.source) made.source.fails.failed,
       (dest, made.served, sym c.into_system-2.ensures, refl),
     )
 
