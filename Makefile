@@ -28,7 +28,7 @@ demo: build ## build the program and carry the store in demo/ into a temporary f
 test: toolchain ## every test: the toolchain's gate, then the tests of the program that it built
 	@$(PYTHON) tests/all.py $(RT) $(BUILT)
 
-mutants: build ## build the program with each wrong body of a call of the system in turn, which some test has to see (WORDS='..' of these)
+mutants: toolchain ## run the program, UNPROVED, with each wrong body of a call of the system in turn, which some test has to see (WORDS='..' of these)
 	@$(PYTHON) tools/mutants.py $(RT) $(WORDS)
 
 allocations: build ## refuse each request for memory of the program in turn, where a C compiler is

@@ -301,14 +301,24 @@ def changed_by(mutant):
             yield path, text
 
 
+def bodies_faults(mutant, files):
+    """Why a wrong body can't stand in the program beside the call's own, from which it differs."""
+    try:
+        found = mutants.with_all([mutant], lambda path: files[path])
+    except ValueError as error:
+        return [str(error)]
+    return [] if found and all("match crate::taken_body() {\n1 => {" in text for text in found.values()) else ["it changes nothing"]
+
+
 def wrong_bodies(program, folder):
-    """Each wrong body of a call of the system can be applied to the code as it stands, says what it does, and names cases that are there. Each call
-    has one."""
+    """Each wrong body of a call of the system can be applied to the code as it stands, where it changes bodies of functions alone, says what it does, and
+    names cases that are there. Each call has one."""
     import migration
 
     files, faults, changed = files_of_calls(), [], []
     for mutant in mutants.mutants():
-        faults += [f"{mutant.name}: {fault}" for fault in edit_faults(mutant.text, files)]
+        found = list(edit_faults(mutant.text, files))
+        faults += [f"{mutant.name}: {fault}" for fault in found or bodies_faults(mutant, files)]
         faults += [] if mutant.does and mutant.seen else [f"{mutant.name} doesn't say what it does, or what sees it"]
         faults += [f"{mutant.name}: no case has the words {words}" for words in mutant.seen if not any(migration.cases_with(words))]
         changed += changed_by(mutant)
