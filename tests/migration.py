@@ -1,6 +1,7 @@
 """The built program's tests over real folders. tests/cases has the cases: carrying, refusing and options those of `migrate`, auditing and twins
 those of `audit`, extras those of `--extra`, checking those of `check`, watching of progress, events of the records beside the log, sharing of
-shares, dividing of shares by folders, scripted of tools/shares.py, sharestatus of what it tells of shares, started of how scripts are started,
+shares, dividing of shares by folders, scripted of tools/shares.py, guarding of what it
+doesn't begin, sharestatus of what it tells of shares, started of how scripts are started,
 choosing of lists, peers beside plain Rust, surroundings of what is around a run, calls of single calls of the system, completions of what is made of
 the grammar, packages of what is shipped, anywhere of its programs, guide, guideroots and guidestores of the guide's commands, joining,
 joiningfolders, sums and aside of tools/roots.py, report, reportevents and reportstate of examples/report.py, odd of what is odd for scripts,
@@ -31,6 +32,7 @@ import documents
 import events
 import extras
 import gate
+import guarding
 import guide
 import guideroots
 import guidestores
@@ -58,7 +60,7 @@ import watching
 from tally import Tally
 
 FILES = (
-    carrying, auditing, twins, extras, checking, refusing, options, events, watching, surroundings, calls, sharing, dividing, scripted, sharestatus,
+    carrying, auditing, twins, extras, checking, refusing, options, events, watching, surroundings, calls, sharing, dividing, scripted, guarding, sharestatus,
     started, choosing, peers, guide, guideroots, guidestores, joining, joiningfolders, sums, aside, report, reportevents, reportstate, odd,
     completions, packages, anywhere, documents, resting, gate,
 )

@@ -59,7 +59,7 @@ put 644 "$made/_pairtree2ocfl" share/zsh/site-functions/_pairtree2ocfl
 put 644 "$made/pairtree2ocfl.fish" share/fish/vendor_completions.d/pairtree2ocfl.fish
 put 755 "$top/tools/roots.py" share/pairtree2ocfl/roots.py
 put 755 "$top/tools/shares.py" share/pairtree2ocfl/shares.py
-for name in roots_aside roots_joining roots_logs roots_objects roots_sums roots_telling shares_running shares_status shown starting; do
+for name in roots_aside roots_joining roots_logs roots_objects roots_sums roots_telling shares_notes shares_running shares_status shown starting; do
     put 644 "$top/tools/$name.py" "share/pairtree2ocfl/$name.py"
 done
 put 755 "$top/examples/report.py" share/pairtree2ocfl/report.py

@@ -27,6 +27,9 @@ What was stopped at any moment goes on by the same command. The staging that a s
 Where this script alone is killed its runs go on, and until they end the same command says which folder another run has. Once the join has
 begun, which OUT/joining tells, no share is carried any more. One share is the whole, and isn't joined. No link in OUT is followed.
 
+OUT/shares notes N, and D where `--by-folders D` was given. Others than before are refused, and so are a second `here` in OUT while one is at work, and
+a rehearsal, which leaves no roots. `join` is refused while one of the shares that have a log hasn't ended well.
+
 By `status` a share is done where its last log ends with the end line, and under way where a run has its folder. With the `--event` that the shares
 had it names faults too. Where a log has no end it shares the folder's lock for a moment: a run that begins just then is refused, and to be given again.
 
@@ -47,8 +50,6 @@ import starting
 
 import collections
 import contextlib
-import errno
-import fcntl
 import itertools
 import re
 import shlex
@@ -56,15 +57,15 @@ import shutil
 import stat
 import subprocess
 
+import shares_notes as notes
+from shares_notes import DIVIDED, Division
 from shares_running import Running
-from shares_status import JOINING, NO_LOCKS, Shares, tell
+from shares_status import DONE, JOINING, NOT_BEGUN, ROOTLESS, Shares, mode_of, spans, tell
 from shown import shown
 
 CALLED = os.path.basename(sys.argv[0])
 MOST = 4096
 FOLDER = os.O_RDONLY | os.O_DIRECTORY | os.O_CLOEXEC
-NEW = os.O_WRONLY | os.O_APPEND | os.O_CREAT | os.O_EXCL | os.O_NOFOLLOW | os.O_CLOEXEC
-OLD = os.O_RDWR | os.O_NOFOLLOW | os.O_NONBLOCK | os.O_CLOEXEC
 
 
 class Refused(Exception):
@@ -105,20 +106,11 @@ def folder(path, above=None, where=""):
         os.close(fd)
 
 
-def mode_of(name, above):
-    """The mode of what stands at a name, links not followed; 0 where nothing does."""
-    try:
-        return os.stat(name, dir_fd=above, follow_symlinks=False).st_mode
-    except FileNotFoundError:
-        return 0
-
-
 def joins(out, path):
     """Whether the join has begun, by what stands in the open folder OUT at a path that is shown so."""
-    mode = mode_of(JOINING, out)
-    if mode and not stat.S_ISREG(mode):
+    if notes.is_no_file(JOINING, out):
         raise Fault(f"{path} is no file, or a link")
-    return bool(mode)
+    return bool(mode_of(JOINING, out))
 
 
 def number_in(text, name, most=MOST):
@@ -147,35 +139,12 @@ def marked(options, mark):
     return words, files
 
 
-def unfinished_from(fd):
-    """Where the last line of a file begins, if it has no end; the file's length if it has one."""
-    at = os.fstat(fd).st_size
-    while at:
-        begin = max(0, at - 65536)
-        found = os.pread(fd, at - begin, begin).rfind(b"\n")
-        if found >= 0:
-            return begin + found + 1
-        at = begin
-    return 0
-
-
-def add_line(line, name, above):
-    """Adds a line to a file, on a line of its own where the last was never finished."""
-    fd = os.open(name, OLD | os.O_APPEND, dir_fd=above)
-    try:
-        left = b"\n" * (unfinished_from(fd) < os.fstat(fd).st_size) + line
-        while left:
-            left = left[os.write(fd, left) :]
-    finally:
-        os.close(fd)
-
-
 def end_last_line(name, above, where):
     """Cuts off what a log has behind its last whole line, and shows it. A file that has other names too is left as it is."""
-    fd = os.open(name, OLD, dir_fd=above)
+    fd = os.open(name, notes.OLD, dir_fd=above)
     try:
         found = os.fstat(fd)
-        begin = unfinished_from(fd) if found.st_nlink == 1 else found.st_size
+        begin = notes.unfinished_from(fd) if found.st_nlink == 1 else found.st_size
         if begin < found.st_size:
             say(f"{where}{name}: its last line was never finished, and is cut off: {shown(os.pread(fd, 1000, begin))}")
             os.ftruncate(fd, begin)
@@ -193,7 +162,12 @@ class Store:
             raise Refused(f"{' and '.join(lacking)} {'is' if len(lacking) == 1 else 'are'} not set: --help says what they are")
         if os.environ.get("OPTIONS"):
             raise Refused("OPTIONS is set, and isn't read: give the options behind --, as they are")
-        self.count, self.options = count, options
+        depth = notes.depth_of(options)
+        if depth is None:
+            raise Refused(f"D of --by-folders is a number from 1 to {notes.DEEPEST}")
+        if notes.rehearses(options):
+            raise Refused("--dry-run leaves no roots, so nothing is to be joined: give it to `pairtree2ocfl migrate`, with --share or without")
+        self.count, self.options, self.division = count, options, Division(count, depth)
         self.store, self.out, self.created, self.name = told.values()
         self.out = self.out.rstrip("/") or "/"
         self.program, self.roots = program_here(), roots_here()
@@ -204,15 +178,10 @@ class Store:
 
     def lock(self, number, share):
         """Holds the lock of a share's folder, as a run into it does, if its file system has locks."""
-        try:
-            fcntl.flock(share, fcntl.LOCK_EX | fcntl.LOCK_NB)
-        except OSError as error:
-            if error.errno == errno.EWOULDBLOCK:
-                raise Fault(f"another run has {self.at(number)}") from error
-            if error.errno not in NO_LOCKS:
-                raise
-            return False
-        return True
+        is_held = notes.lock(share)
+        if is_held is False:
+            raise Fault(f"another run has {self.at(number)}")
+        return bool(is_held)
 
     def take_staging(self, number, share, is_locked):
         """Takes away the staging that a stopped run left in the open folder of a share."""
@@ -237,10 +206,12 @@ class Store:
             words, files = marked(self.options, mark)
             mode = mode_of(f"{mark}.log", out)
             if stat.S_ISREG(mode) and is_locked:
+                if notes.is_written(f"{mark}.log", out):
+                    raise Fault(f"another run has {self.at(number)}")
                 end_last_line(f"{mark}.log", out, self.at(""))
             if not mode and not any(os.path.lexists(path) for file in files for path in (file, f"{file}.part")):
                 with contextlib.suppress(FileExistsError):
-                    return mark, words, os.open(f"{mark}.log", NEW, 0o666, dir_fd=out)
+                    return mark, words, notes.new_log(f"{mark}.log", out, is_locked)
 
     def start(self, number, out, running):
         """Starts the run of a share."""
@@ -301,6 +272,28 @@ class Store:
         """Whether the join has begun."""
         return joins(out, self.at(JOINING))
 
+    def hold(self, out):
+        """Sees to it that no other script carries all shares into the open folder OUT, or joins them, as long as this one does."""
+        if notes.lock(out) is False:
+            raise Refused(f"another {CALLED} carries the shares in {shown(self.out)}, or joins them")
+
+    def see_division(self, out):
+        """Sees to it that the store is divided as it was before by what stands in the open folder OUT, where that is noted."""
+        noted = division_in(out, self.out)
+        if noted is None:
+            self.division.note(out)
+        noted = noted or division_in(out, self.out) or self.division
+        if noted != self.division:
+            raise Refused(f"by {self.at(DIVIDED)} the shares are {noted}, not {self.division}: give what was given before, or another OUT")
+
+    def see_ended(self, out):
+        """Sees to it that each share of which a log stands in the open folder OUT has ended. Once the join has begun all have."""
+        see_count(out, self.out, self.count)
+        found = {} if self.count == 1 or self.joins(out) else Shares(out, self.count, False, lambda mark: []).found
+        left = sorted(number for what, numbers in found.items() if what not in (DONE, NOT_BEGUN, ROOTLESS) for number in numbers)
+        if left:
+            raise Refused(f"the shares aren't joined: not ended well: {spans(left)} of {self.count}; {CALLED} status {self.count} tells of each")
+
     def see_roots(self, out):
         """Sees to it that each share has a root, behind no link."""
         for number in range(1, self.count + 1):
@@ -315,7 +308,7 @@ class Store:
             self.see_roots(out)
             # Another join may have made it just now: by the locks one of the two goes on.
             with contextlib.suppress(FileExistsError):
-                os.close(os.open(JOINING, NEW, 0o666, dir_fd=out))
+                os.close(os.open(JOINING, notes.NEW, 0o666, dir_fd=out))
             self.joins(out)
             status = self.noted(out, "join", *names)
             if status:
@@ -327,7 +320,7 @@ class Store:
         status = self.by_roots(*words)
         try:
             if self.joins(out):
-                add_line(b"%s ended with status %d\n" % (words[0].encode(), status), JOINING, out)
+                notes.add_line(b"%s ended with status %d\n" % (words[0].encode(), status), JOINING, out)
         except (Fault, OSError) as error:
             say(f"{self.at(JOINING)}: how the join ended isn't noted: {reason(error)}")
         return status
@@ -358,19 +351,36 @@ def roots_here():
     return path
 
 
+def division_in(out, path):
+    """How the store is divided, as the open folder OUT, at this path, notes it; `None` where it doesn't."""
+    if notes.is_no_file(DIVIDED, out):
+        raise Fault(f"{shown(f'{path}/{DIVIDED}')} is no file, or a link")
+    return Division.noted(out)
+
+
+def see_count(out, path, count):
+    """Sees to it that so many shares are in the open folder OUT, at this path, where that is noted."""
+    noted = division_in(out, path)
+    if noted and noted.count != count:
+        raise Refused(f"by {shown(f'{path}/{DIVIDED}')} the shares are {noted}, not {count}")
+
+
 @contextlib.contextmanager
-def opened(store):
+def opened(store, is_alone=False):
     """The folder OUT, open, made if it isn't there."""
     os.makedirs(store.out, exist_ok=True)
     with folder(store.out) as out:
+        if is_alone:
+            store.hold(out)
         store.joins(out)
+        store.see_division(out)
         yield out
 
 
 def here(store):
     """Carries all shares on this machine, and joins them; gives the status."""
     jobs = jobs_at_once()
-    with opened(store) as out:
+    with opened(store, is_alone=True) as out:
         if store.joins(out):
             say(f"{store.at(JOINING)} stands: the join has begun, so no share is carried any more")
         if not store.carry(range(1, store.count + 1), jobs, out):
@@ -426,6 +436,7 @@ def status(count, options):
     try:
         with folder(path) as out:
             has_begun = joins(out, shown(f"{path}/{JOINING}"))
+            see_count(out, path, count)
             return tell(Shares(out, count, has_begun, lambda mark: marked(options, mark)[1]), shown(CALLED))
     except (Fault, OSError) as error:
         raise Refused(reason(error)) from error
@@ -455,6 +466,8 @@ def run(words):
         return one_share(store, number_in(numbers[0], "K", store.count))
     if command == "join":
         with folder(store.out) as out:
+            store.hold(out)
+            store.see_ended(out)
             return join_of(store, out)
     return here(store) if command == "here" else cluster(store)
 

@@ -41,6 +41,14 @@ def spans(numbers):
     return ", ".join(str(first) if first == last else f"{first}-{last}" for first, last in found)
 
 
+def mode_of(name, above):
+    """The mode of what stands at a name, links not followed; 0 where nothing does."""
+    try:
+        return os.stat(name, dir_fd=above, follow_symlinks=False).st_mode
+    except FileNotFoundError:
+        return 0
+
+
 def is_count(value):
     """Whether a value of JSON is a count."""
     return type(value) is int and 0 <= value < 10**20

@@ -97,6 +97,8 @@ def store_in_shares(program, folder):
     os.chmod(f"{folder}/bin/sbatch", 0o755)
     scripts, faults = [guide_block("One store in shares", part).replace("/data", "data") for part in ("ocfl-shares here 4", "here 64 -- ")], []
     export = re.search("^    export .*", scripts[0], re.MULTILINE)[0]
+    # One or the other: what is divided by 4 isn't divided by 64 too.
+    scripts[0] = scripts[0].replace("pairtree2ocfl-shares cluster", "OUT=data/3 pairtree2ocfl-shares cluster")
     for number, script in enumerate((scripts[0], f"{export.replace('data/out', 'data/2')}\n{scripts[1]}")):
         done = subprocess.run(["bash", "-eu", "-c", script], cwd=folder, env=environment, capture_output=True, timeout=240)
         faults += differs(**{f"commands {number}": ((done.returncode, done.stdout, done.stderr), (0, b"" if number else b"7\n", b""))})

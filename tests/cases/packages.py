@@ -30,7 +30,7 @@ INSTALLED = {
     "share/fish/vendor_completions.d/pairtree2ocfl.fish",
     "share/pairtree2ocfl/roots.py",
     "share/pairtree2ocfl/shares.py",
-    *(f"share/pairtree2ocfl/shares_{name}.py" for name in ("running", "status")),
+    *(f"share/pairtree2ocfl/shares_{name}.py" for name in ("notes", "running", "status")),
     *(f"share/pairtree2ocfl/roots_{name}.py" for name in ("aside", "joining", "logs", "objects", "sums", "telling")),
     "share/pairtree2ocfl/shown.py",
     "share/pairtree2ocfl/starting.py",

@@ -27,7 +27,7 @@ from shown import shown
 
 SCRIPT = f"{TOP}/tools/shares.py"
 # The script, and what it needs beside it for all but the join.
-PARTS = ("shares.py", "shares_running.py", "shares_status.py", "shown.py", "starting.py")
+PARTS = ("shares.py", "shares_notes.py", "shares_running.py", "shares_status.py", "shown.py", "starting.py")
 
 
 def many(folder, objects):
