@@ -334,15 +334,27 @@ def stopped(program, folder):
     return faults + list(differences(read_tree(f"{folder}/out of it/1"), read_tree(f"{folder}/whole")))
 
 
-def killed(program, folder):
-    """Ended at 60 of the script's calls and at 30 times, with its runs and alone, no object is lost or in part, no log has a torn line in it,
-    and the same command again does the rest."""
-    many(folder, 60)
-    ran(program, folder, "whole")
-    command = [sys.executable, "-B", f"{TOP}/tests/harness/kills_of_shares.py", SCRIPT, folder, "60", "30"]
+def ended_at(program, folder, at_calls, at_times, *options):
+    """The script with these options is ended at so many of its calls, and so many times, with its runs and alone: no object is lost or in part, no log has
+    a torn line in it, and by the same command what one run leaves stands, and what it tells is told."""
+    build(folder, {"whole.log": b"".join(line + b"\n" for line in ran(program, folder, "whole")[1])})
+    command = [sys.executable, "-B", f"{TOP}/tests/harness/kills_of_shares.py", SCRIPT, folder, str(at_calls), str(at_times), *options]
     done = subprocess.run(command, env=environment(program, folder), capture_output=True, timeout=850)
     *faults, count = done.stdout.decode().splitlines() or ["nothing was said"]
-    return faults[:5] + differs(count=(count, "90"), errors=(done.stderr, b""))
+    return faults[:5] + differs(count=(count, str(at_calls + at_times)), errors=(done.stderr, b""))
+
+
+def killed(program, folder):
+    """Ended at 60 of its calls and at 30 times, the script goes on."""
+    many(folder, 60)
+    return ended_at(program, folder, 60, 30)
+
+
+def killed_by_folders(program, folder):
+    """The same of shares by folders, of a store of which some is passed over, at 8 of its calls and 4 times."""
+    many(folder, 60)
+    build(f"{folder}/s/pairtree_root", {"00/zz": DIR, "00/00/07/two": b"1", "ab/c/d": DIR})
+    return ended_at(program, folder, 8, 4, "--by-folders", "3")
 
 
 def no_raw_names(program, folder):
@@ -445,6 +457,7 @@ CASES = [
     Alone("shares by the script, no locks", lockless),
     Alone("shares by the script, asked to end", stopped),
     Alone("shares by the script, killed at 90 moments", killed),
+    Alone("shares by folders by the script, killed at 12 moments", killed_by_folders),
     Alone("shares by the script, names", no_raw_names),
     Alone("names as scripts show them", shows),
     Alone("shares by the script, on a cluster", on_a_cluster),

@@ -1,11 +1,13 @@
 """Ends tools/shares.py at many moments, with the runs and the join that it began or without them, and gives the same command again.
 
-Usage: kills_of_shares.py SHARES FOLDER CALLS TIMES. The environment is the script's, but for OUT; FOLDER/whole is what one run leaves. So many
-ends come just before or just after one of the script's calls of the system, and so many at times spread over its work. After each every object
-has to stand whole at one place, and each line that was put to a log speaks of one; after the command that follows what stands has to be what
-one run leaves, and each log is one of whole lines. What isn't so is printed; the last line is the number of moments.
+Usage: kills_of_shares.py SHARES FOLDER CALLS TIMES [OPTION..]. The environment is the script's, but for OUT; FOLDER/whole is what one run leaves, and
+FOLDER/whole.log its log. So many ends come just before or just after one of the script's calls of the system, and so many at times spread over
+its work. After each every object has to stand whole at one place, and each line that was put to a log speaks of one; after the command that follows
+what stands has to be what one run leaves, each log is one of whole lines, and the last of each share tell together what that run tells, `done` in
+place of `present`. What isn't so is printed; the last line is the number of moments.
 """
 
+import collections
 import contextlib
 import fcntl
 import glob
@@ -55,7 +57,7 @@ def begin(module, out, last, writing):
         os.dup2(null, 1)
         os.dup2(null, 2)
         calls = counted(module, last)
-        sys.argv = ["shares.py", "here", str(SHARES)]
+        sys.argv = ["shares.py", "here", str(SHARES), "--", *sys.argv[5:]]
         status = module.main()
         tell(writing, b"%d" % calls.count)
         os._exit(status)
@@ -101,6 +103,20 @@ def lines_of(out):
     return lines, left
 
 
+def told_in(path):
+    """What a log tells but for its end line: of an object that stands whose it is and where, and of what is passed over why."""
+    with open(path, "rb") as file:
+        entries = [json.loads(line) for line in file.read().splitlines()]
+    return collections.Counter(tuple(entry.get(name) for name in ("at", "id", "to", "cause")) for entry in entries if entry["as"] != "end")
+
+
+def told_last(out):
+    """What the last logs of all shares tell."""
+    by_turn = lambda path: (len(path), path)
+    logs = (max(glob.glob(f"{out}/{number}.log") + glob.glob(f"{out}/{number}.try*.log"), key=by_turn) for number in range(1, SHARES + 1))
+    return sum(map(told_in, logs), collections.Counter())
+
+
 def places_of(out):
     """Each object's files by its place, of all shares."""
     found = {}
@@ -120,13 +136,15 @@ def faults_of(out, wanted):
 
 
 def faults_after(out, status, whole, wanted):
-    """What isn't as it must be after the command that goes on."""
+    """What isn't as it must be after the command that goes on. What one run leaves and its log stand beside OUT."""
     if status != 0:
         yield f"it ends with {status}"
     yield from list(stores.differences(stores.read_tree(f"{out}/1"), whole))[:3]
     lines, left = lines_of(out)
     if left or {line["to"] for line in lines if "to" in line} != wanted.keys():
         yield f"the logs don't tell of all, or have no end: {left}"
+    elif told_last(out) != told_in(f"{os.path.dirname(out)}/whole.log"):
+        yield "the last logs don't tell together what one run tells"
 
 
 def given_again(module, out):
@@ -158,7 +176,7 @@ def trial(module, folder, moment, whole):
 def main():
     sys.path.append(os.path.dirname(sys.argv[1]))
     module, folder, whole = kills.loaded(sys.argv[1]), sys.argv[2], stores.read_tree(f"{sys.argv[2]}/whole")
-    at_calls, at_times = map(int, sys.argv[3:])
+    at_calls, at_times = map(int, sys.argv[3:5])
     begun = time.monotonic()
     status, calls = carried(module, f"{folder}/sure")
     took = time.monotonic() - begun
