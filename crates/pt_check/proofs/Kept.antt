@@ -36,7 +36,7 @@ use Rattle.pt_check.specs.declared.wants.Wants.{Wants}
 use Rattle.pt_check.specs.declared.within.Within.{Within}
 use Rattle.pt_check.specs.declared.within.Within.TheVariants as within
 use Rattle.pt_check.proofs.Others.{each_both}
-use Rattle.pt_check.proofs.WithinLimits.{is_told, leads_to, same_found}
+use Rattle.pt_check.proofs.SameFound.{is_told, leads_to, same_found}
 use Rattle.pt_name.specs.Identifying.{identification_by, identifier_at, identifier_by, unless_reserved}
 use Rattle.pt_name.specs.Place.{place_of}
 use Rattle.pt_name.specs.Reading.{reading_of}
@@ -150,7 +150,8 @@ module _ (wants : Wants) (prefix top : List ℕ) where
           free_shorty reach path (left - 1) name inside (subst (λ (s : Bool). Met (path ++ name ∷ []) (left - 1) inside
           (in_site (at_of path) seen bytes name s)) is met) on
 
-  free_root : (reach : Reach) (left : ℕ) (tree : Option Forest) → Met [] left (unwrap_or tree none) (within.Site at.Root) → Each FreeSite (sites_in_root reach tree)
+  free_root : (reach : Reach) (left : ℕ) (tree : Option Forest) → Met [] left (unwrap_or tree none) (within.Site at.Root)
+      → Each FreeSite (sites_in_root reach tree)
   free_root reach left None met = tt
   free_root reach left (Some inside) met =
       ((met.0.1, met.0.2), free_sites reach [] left (finding_of wants.form (within.Site at.Root) (listing_of inside)) inside met.1)

@@ -1,4 +1,5 @@
 mod EndLine
+mod FineEntries
 mod Goes
 mod FilesHeld
 mod Keeping
@@ -12,5 +13,6 @@ mod Others
 mod Quiet
 mod QuietSteps
 pub mod Readable
+mod SameFound
 mod Visiting
 mod WithinLimits

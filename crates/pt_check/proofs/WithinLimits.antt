@@ -5,8 +5,6 @@ use Rattle.std.proofs.Common.{
   ◌∙◌,
   ◌+◌,
   ◌-◌,
-  ◌==◌,
-  ◌||◌,
   ◌^◌,
   ℕ,
   zero,
@@ -26,31 +24,29 @@ use Rattle.std.proofs.Common.{
   Result,
   Ok,
   Err,
-  inl,
-  inr,
   refl,
   sym,
   ap,
   subst,
   arith,
-  nat_le,
   nat_lt,
   append_assoc,
   append-nil,
 }
 use Rattle.std.specs.Prelude.{◌≢◌, ◌&&◌, ◌⊎◌, ⊤, not, option_map, map, slice_get, unwrap_or}
-use Rattle.std.proofs.lemmas.Bool.{eqb-false, le-ltb, lt-leb, ltb-false, ltb-true, or_from}
+use Rattle.std.proofs.lemmas.Bool.{eqb-false, le-ltb, ltb-true}
 use Rattle.std.proofs.lemmas.List.{length-append}
 use Rattle.pt_check.specs.Clean.{AreCleanBytes, Each, HasRoomFor, IsClean, IsCleanFolder, IsCleanStore, IsNotSkippedForLimit, NoRunSkipsForLimit, file_count}
 use Rattle.pt_check.specs.Counting.{plus}
-use Rattle.pt_check.specs.Visits.{Folder, entry_trouble, finding_of, folder_trouble, name_trouble}
+use Rattle.pt_check.specs.Visits.{Folder, entry_trouble, finding_of, name_trouble}
 use Rattle.pt_check.specs.Within.{below_site, beside_shorties, starts_object}
-use Rattle.pt_check.specs.declared.trouble.Trouble.{Trouble}
 use Rattle.pt_check.specs.declared.trouble.Trouble.TheVariants as trouble
 use Rattle.pt_check.specs.declared.wants.Wants.{Wants}
 use Rattle.pt_check.specs.declared.within.Within.{Within}
 use Rattle.pt_check.specs.declared.within.Within.TheVariants as within
 use Rattle.pt_check.proofs.Others.{each_both}
+use Rattle.pt_check.proofs.FineEntries.{FineEntry, IsNoLimit, behind_name, files_count, first_fine, not_told, one_longer, short_enough}
+use Rattle.pt_check.proofs.SameFound.{is_told, leads_to, same_found}
 use Rattle.pt_name.specs.Identifying.{identifier_at}
 use Rattle.pt_name.specs.Share.{walks}
 use Rattle.pt_name.specs.declared.identifying.Refusal.{Refusal}
@@ -75,19 +71,17 @@ use Rattle.pt_plan.specs.Items.{
 }
 use Rattle.pt_plan.specs.Job.{Job, form_of, reach_of}
 use Rattle.pt_plan.specs.Store.{pairtree_root, prefix_of, sites_in_root}
-use Rattle.pt_tree.specs.Forest.{Forest, none, file, other, dir, File, Dir, Other, dir_at, listing_of}
+use Rattle.pt_tree.specs.Forest.{Forest, none, file, other, dir, File, dir_at, listing_of}
 use Rattle.pt_tree.specs.Listing.{Item}
 use Rattle.pt_tree.specs.Path.{Path, joined}
 use Rattle.pt_tree.specs.declared.kind.Kind.{Kind}
 use Rattle.pt_tree.specs.declared.kind.Kind.TheVariants as kind
-use Rattle.pt_walk.proofs.BadEntries.{counts}
 use Rattle.pt_walk.proofs.Findings.{candidate, last_name_says}
 use Rattle.pt_walk.specs.Left.{entries_from}
 use Rattle.pt_walk.specs.Limits.{Bounds, greatest_limits}
-use Rattle.pt_walk.specs.Object.{Entry, bad_or, entries_in, entry_cause, files, first_bad, without_shorties}
-use Rattle.pt_walk.specs.Site.{found, found_at_top, found_below, is_short, non_shorties}
+use Rattle.pt_walk.specs.Object.{entries_in, files, first_bad, without_shorties}
+use Rattle.pt_walk.specs.Site.{found, found_at_top, is_short, non_shorties}
 use Rattle.pt_walk.specs.Sites.{Reach, Site, Visit, Listed, Past, Deep, Elsewhere, at_of, is_last, sites_in, visit_of, walked}
-use Rattle.pt_walk.specs.declared.cause.Cause.{Cause}
 use Rattle.pt_walk.specs.declared.cause.Cause.TheVariants as cause
 use Rattle.pt_walk.specs.declared.site.At.{At}
 use Rattle.pt_walk.specs.declared.site.At.TheVariants as at
@@ -96,82 +90,9 @@ use Rattle.pt_walk.specs.declared.site.Finding.TheVariants as finding
 use Rattle.pt_walk.specs.declared.site.Form.{Form}
 use Rattle.pt_walk.specs.declared.site.Form.TheVariants as form
 
--- ---- the length of a path
-
-behind : (x : List ℕ) (base : Path) (y : List ℕ) (rel : Path) → length (joined ((x ∷ base) ++ (y ∷ rel)))
-    ≡ length (joined (x ∷ base)) + suc (length (joined (y ∷ rel)))
-behind x [] y rel = length-append x (47 ∷ joined (y ∷ rel))
-behind x (z ∷ base) y rel =
-    let inner = behind z base y rel in
-    let whole : length (joined ((x ∷ z ∷ base) ++ (y ∷ rel))) ≡ length x + suc (length (joined ((z ∷ base) ++ (y ∷ rel)))) = length-append x
-    (47 ∷ joined ((z ∷ base) ++ (y ∷ rel))) in
-    let front : length (joined (x ∷ z ∷ base)) ≡ length x + suc (length (joined (z ∷ base))) = length-append x (47 ∷ joined (z ∷ base)) in
-    omega (arith, inner, whole, front)
-
-behind_name : (x : List ℕ) (base rel : Path) (name : List ℕ)
-    → length (joined ((x ∷ base) ++ (rel ++ name ∷ []))) ≡ length (joined (x ∷ base)) + suc (length (joined (rel ++ name ∷ [])))
-behind_name x base [] name = behind x base name []
-behind_name x base (y ∷ rel) name = behind x base y (rel ++ name ∷ [])
-
-one_longer : (path : Path) (name : List ℕ) → length (path ++ name ∷ []) ≡ length path + 1
-one_longer path name = length-append path (name ∷ [])
-
-not_told : (t : Bool) (it : Trouble) (rest : Option Trouble) → cond t (Some it) rest ≡ None → t ≡ false
-not_told true it rest e = absurd (cc)
-not_told false it rest e = refl
-
--- ---- what is found of a site
-
-pub leads_to : (w : At) (name : List ℕ) → is_last w ≡ false → below_site w name ≡ within.Site (cond (length name == 1) at.Last at.Pair)
-leads_to at.Root name is = refl
-leads_to at.Pair name is = refl
-leads_to at.Last name is = absurd (cc)
-
-abbrev pub is_told : At → Finding → Path → Option Trouble
-is_told w f path = folder_trouble (within.Site w) f path
-
-same_below : (w : At) (how : Form) (items : List Item) (path : Path) (l : List (ℕ × Kind)) → is_told w (found_below form.Plain items l) path ≡ None
-    → found_below how items l ≡ found_below form.Plain items l
-same_below w how items path [] silent = refl
-same_below w how items path ((i, kind.Dir) ∷ []) silent = refl
-same_below w how items path ((i, kind.File) ∷ []) silent = absurd (cc)
-same_below w how items path ((i, kind.Other) ∷ []) silent = absurd (cc)
-same_below w how items path (first ∷ second ∷ others) silent = absurd (cc)
-
-same_plain : (w : At) (how : Form) (items : List Item) (path : Path) → is_told w (found items w form.Plain) path ≡ None
-    → found items w how ≡ found items w form.Plain
-same_plain at.Root how items path silent = refl
-same_plain at.Pair how items path silent = same_below at.Pair how items path (non_shorties items) silent
-same_plain at.Last how items path silent = same_below at.Last how items path (non_shorties items) silent
-
--- what is wanted is of that form, or gathers nothing: then so does a run to which there is nothing to gather
-pub same_found : (w : At) (wanted how : Form) (items : List Item) (path : Path) → (wanted ≡ form.Plain) ⊎ (wanted ≡ how)
-    → is_told w (found items w wanted) path ≡ None
-    → found items w how ≡ found items w wanted
-same_found w wanted how items path (inl plain) silent =
-    let told : is_told w (found items w form.Plain) path ≡ None = subst (λ (f : Form). is_told w (found items w f) path ≡ None) plain silent in
-    same_plain w how items path told ∙ ap (found items w) (sym plain)
-same_found w wanted how items path (inr same) silent = ap (found items w) (sym same)
-
-no_gathered_at_top : (l : List (ℕ × Kind)) → found_at_top l ≡ finding.Gathered → ⊥
-no_gathered_at_top [] e = absurd (cc)
-no_gathered_at_top (x ∷ l) e = absurd (cc)
-
--- ---- the entries of an object
-
-abbrev FineEntry : ℕ → Entry → Type 0
-FineEntry depth (path, File bytes) = (nat_lt 4000 (length (joined path)) ≡ false) × (nat_lt (2 ^ 43) (length bytes) ≡ false)
-FineEntry depth (path, Dir inside) = depth + length path ≤ 600
-FineEntry depth (path, Other) = ⊤
-
 -- a folder in an object whose own path is this, below a folder of this name, in a store of this prefix
 abbrev inner : List ℕ → List ℕ → Path → Path → ℕ → Folder
 inner prefix top own path left = record { path = top ∷ path; prefix = prefix; here = within.Object (plus (length (joined (top ∷ own))) 1); left = left }
-
-short_enough : (before bytes rest : ℕ) → nat_lt (plus (plus before 1) 4000) bytes ≡ false → bytes ≡ before + suc rest → nat_lt 4000 rest ≡ false
-short_enough before bytes rest is whole =
-    let most = ltb-false (plus (plus before 1) 4000) bytes is in
-    le-ltb 4000 rest (omega (arith, most, whole))
 
 -- what is wanted, but for its form and that files are read whole
 abbrev Rest : Type 0
@@ -220,52 +141,6 @@ module _ (rest : Rest) (start : List ℕ) where
             (fine_entries top own (rel ++ name ∷ []) (left - 1) inside deeper there)
             (fine_entries top own rel left after deep clean.4),
       )
-
-  files_count : (path : Path) (tree : Forest) → length (files (entries_in path tree)) ≡ file_count tree
-  files_count path none = refl
-  files_count path (file name bytes after) = ap suc (files_count path after)
-  files_count path (other name after) = files_count path after
-  files_count path (dir name inside after) =
-      let here = files_count (path ++ name ∷ []) inside in
-      let there = files_count path after in
-      let both = ap length (counts (entries_in (path ++ name ∷ []) inside) (entries_in path after)).0 in
-      let sum = length-append (files (entries_in (path ++ name ∷ []) inside)) (files (entries_in path after)) in
-      omega (arith, here, there, both, sum)
-
-  -- ---- the cause against an object
-
-  abbrev IsNoLimit : Option Cause → Type 0
-  IsNoLimit why = why ≢ Some cause.Limit
-
-  none_is_no_limit : IsNoLimit None
-  none_is_no_limit e = absurd (cc)
-
-  where_false : (t : Bool) → t ≡ false → IsNoLimit (cond t (Some cause.Limit) None)
-  where_false true is = absurd (cc)
-  where_false false is = none_is_no_limit
-
-  bad_no_limit : (why : Option Cause) (entry : Entry) (later : Option (Entry × Cause)) → IsNoLimit why → IsNoLimit (option_map (λ bad. bad.1) later)
-      → IsNoLimit (option_map (λ bad. bad.1) (bad_or why entry later))
-  bad_no_limit None entry later first rest = rest
-  bad_no_limit (Some why) entry later first rest = first
-
-  first_fine : (depth held : ℕ) (all : List Entry) → Each (FineEntry depth) all → held + length (files all) ≤ 1000000
-      → IsNoLimit (option_map (λ bad. bad.1) (first_bad greatest_limits depth held all))
-  first_fine depth held [] fine few = none_is_no_limit
-  first_fine depth held ((path, File bytes) ∷ others) fine few =
-      let full : nat_le 1000000 held ≡ false = lt-leb 1000000 held (omega (arith, few)) in
-      let now : (held + 1) + length (files others) ≤ 1000000 = omega (arith, few) in
-      let parts = or_from (nat_le 1000000 held || nat_lt 4000 (length (joined path))) (nat_lt (2 ^ 43) (length bytes))
-      (or_from (nat_le 1000000 held) (nat_lt 4000 (length (joined path))) full fine.0.0) fine.0.1 in
-      bad_no_limit (entry_cause greatest_limits depth held (path, File bytes)) (path, File bytes) (first_bad greatest_limits depth (held + 1) others)
-      (where_false ((nat_le 1000000 held || nat_lt 4000 (length (joined path))) || nat_lt (2 ^ 43) (length bytes)) parts)
-      (first_fine depth (held + 1) others fine.1 now)
-  first_fine depth held ((path, Dir inside) ∷ others) fine few =
-      bad_no_limit (entry_cause greatest_limits depth held (path, Dir inside)) (path, Dir inside) (first_bad greatest_limits depth held others)
-      (where_false (nat_lt 600 (depth + length path)) (le-ltb 600 (depth + length path) fine.0))
-      (first_fine depth held others fine.1 few)
-  first_fine depth held ((path, Other) ∷ others) fine few =
-      bad_no_limit (Some cause.Other) (path, Other) (first_bad greatest_limits depth held others) (λ e. absurd (cc)) (first_fine depth held others fine.1 few)
 
   fine_object : (top : List ℕ) (own : Path) (left : ℕ) (inside : Forest) → left + length own ≡ 601 → (left ≡ 0 → ⊥)
       → IsClean (read_whole rest) (inner start top own own left) finding.Interior inside → file_count inside ≤ 1000000
@@ -369,7 +244,8 @@ module _ (rest : Rest) (start : List ℕ) where
       bytes = length (joined (top ∷ (path ++ name ∷ [])))
 
       by : (b : Bool) → is_short name ≡ b → Met top (path ++ name ∷ []) (left - 1) inside (in_site (at_of path) seen name site bytes (is_short name))
-          → (CleanSite top (path ++ name ∷ []) inside → Each (FineSite top) (sites_in (deepest walks) (path ++ name ∷ []) inside)) → Each (FineSite top) (here b)
+          → (CleanSite top (path ++ name ∷ []) inside → Each (FineSite top) (sites_in (deepest walks) (path ++ name ∷ []) inside))
+          → Each (FineSite top) (here b)
       by false is met on = tt
       by true is met on =
           fine_shorty walks top path left name inside deep (subst (λ (s : Bool). Met top (path ++ name ∷ []) (left - 1) inside
