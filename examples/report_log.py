@@ -24,8 +24,10 @@ LACKED = {"stray": {"reason"}}
 AUDIT = ("absent", "differs", "same", "skip")
 CHECK = ("bytes", "files", "folders", "largest", "longest", "objects", "sites", "told")
 ENDS = {("done", "present", "skip"): "run", AUDIT: "audit", (*AUDIT, "extra", "stray"): "audit", CHECK: "check"}
-# That of a check has one of these too for each kind that it told.
-BESIDE = {"check": set(TROUBLES)}
+# What a check counts class by class: sites and objects by their depth, files and bytes by the digits of a length; and how many classes there are.
+CLASSES = {"sites_at": 33, "objects_at": 33, "files_of": 21, "bytes_of": 21}
+# The end line of a check has one of these too for each kind that it told, for each class of which it counted something, and for objects that are renamed.
+BESIDE = {"check": {*TROUBLES, "renamed", *(f"{word}_{number:02}" for word, count in CLASSES.items() for number in range(count))}}
 # The keys by which an event is told from a log, and how many bytes one has at most: more than a command line may have.
 EVENT_KEYS = {"as", "begin", "dest", "options", "source"}
 LONGEST = 1 << 26

@@ -5,6 +5,7 @@ Whatever comes from a log or an event, or is the name of one, goes through `told
 import html
 import shlex
 
+from report_log import CLASSES
 from report_verdict import Verdict
 from report_words import ADVICE, HEAD, MEANINGS, OF_LIMIT, TAIL, TROUBLES, WHYS
 from shown import shown
@@ -27,6 +28,11 @@ def in_units(size):
 def power_of_ten(digits):
     """The least number of bytes with so many digits."""
     return f"{10 ** ((digits - 1) % 3)} {['B', 'kB', 'MB', 'GB', 'TB', 'PB', 'EB', 'ZB'][(digits - 1) // 3]}"
+
+
+def between(digits):
+    """The lengths with so many digits, by the least of them and the least that is longer; 0 has none."""
+    return f"{power_of_ten(digits)} to {power_of_ten(digits + 1)}" if digits else "0 B"
 
 
 def member(entry, name, kind=str):
@@ -128,7 +134,7 @@ class Page:
         yield from (self.notes(), self.by_log()) if self.report.logs else ()
         yield from (self.events(), self.missing(), self.by_kind(), self.by_cause(), self.by_why(), self.by_size())
         yield from (self.skipped(), self.unlike(), self.lacking(), self.twins(), self.lost())
-        yield from (self.by_check(), self.by_trouble(), self.troubles())
+        yield from (self.by_check(), self.by_depth(), self.by_length(), self.by_trouble(), self.troubles())
 
     def link(self, heading, text):
         """A link to a heading of the guide."""
@@ -193,16 +199,46 @@ class Page:
         """What each check met."""
         if self.checks:
             yield "<h2>Checks</h2>\n<p>What a check met, by its end line. Sites are the folders that identifiers lead to, with those on their way. Bytes are "
-            yield "counted with <code>--read</code> alone.</p>\n"
-            heads = ["Log", "Ends", "#Lines", "#Sites", "#Objects", "#Folders", "#Files", "#Bytes read", "#Largest object", "#Longest path"]
+            yield "counted with <code>--read</code> alone. Renamed are objects whose own folder has another name than those of its site join to.</p>\n"
+            heads = ["Log", "Ends", "#Lines", "#Sites", "#Objects", "#Renamed", "#Folders", "#Files", "#Bytes read", "#Largest object", "#Longest path"]
             yield from table("checks", heads, map(self.check, self.checks))
 
     @staticmethod
     def check(log):
         """The cells of a check; of one that was cut short what its lines tell."""
-        keys = ("sites", "objects", "folders", "files", "bytes", "largest", "longest")
-        met = numbers(*(log.met[key] for key in keys)) if log.is_whole() else ['<td class="n"></td>'] * len(keys)
+        keys = ("sites", "objects", "renamed", "folders", "files", "bytes", "largest", "longest")
+        met = numbers(*(log.met.get(key, 0) for key in keys)) if log.is_whole() else ['<td class="n"></td>'] * len(keys)
         return cells(told(log.path), how_ended(log)) + numbers(sum(log.kinds.values())) + met
+
+    def classes(self, first, second):
+        """Of each check that ended the classes of which it counted some: the log, the class, and how many of the first and of the second there are."""
+        for log in self.checks:
+            for number in range(CLASSES[first]) if log.is_whole() else ():
+                counts = [log.met.get(f"{word}_{number:02}", 0) for word in (first, second)]
+                if any(counts):
+                    yield log, number, *counts
+
+    def by_depth(self):
+        """How many sites lie at each depth, and into how many shares a store may be divided by the folders there: each wants some twenty."""
+        found = [row for row in self.classes("sites_at", "objects_at") if row[1]]
+        if found:
+            yield "<h2>Depths</h2>\n<p>How many sites lie so deep below <code>pairtree_root</code>, and how many of them have an object; those that lie 32 deep or "
+            yield "deeper are counted together. <code>--by-folders</code> a depth serves so many shares that each has some twenty sites there.</p>\n"
+            names = {CLASSES["sites_at"] - 1: "32 or more"}
+            rows = (self.log_of(log) + cells(names.get(it, it)) + numbers(sites, objects, sites // 20) for log, it, sites, objects in found)
+            yield from table("depths", [*["Log"] * self.several, "Depth", "#Sites", "#Objects", "#Shares"], rows)
+
+    def by_length(self):
+        """How many files there are of each power of ten, and their bytes."""
+        found = list(self.classes("files_of", "bytes_of"))
+        if found:
+            yield "<h2>Lengths of files</h2>\n<p>Of the files that a check with <code>--read</code> read, by their length; the upper bound isn't in it.</p>\n"
+            rows = (self.log_of(log) + cells(between(it)) + numbers(files, size) for log, it, files, size in found)
+            yield from table("lengths", [*["Log"] * self.several, "Length", "#Files", "#Bytes"], rows)
+
+    def log_of(self, log):
+        """The cell of a log, where there are several."""
+        return cells(told(log.path)) * self.several
 
     def by_trouble(self):
         found = self.kinds if self.report.troubles.count else {}
@@ -254,7 +290,7 @@ class Page:
         if of:
             yield "<h2>Sizes of objects</h2>\n<p>Of the objects in the root, each once, with the lengths of all files added up; "
             yield "the upper bound isn't in it.</p>\n"
-            names = ((it, f"{power_of_ten(it)} to {power_of_ten(it + 1)}" if it else "0 B") for it in range(min(of), max(of) + 1))
+            names = ((it, between(it)) for it in range(min(of), max(of) + 1))
             yield from table("sizes", ["Size", "#Objects", ""], (cells(name) + numbers(of[it]) + bar(of[it], of.values(), "size") for it, name in names))
 
     def listed(self, name, found, title, heads, row, listed=None):

@@ -3,6 +3,7 @@
 import collections
 import contextlib
 import fcntl
+import json
 import os
 import subprocess
 import sys
@@ -38,15 +39,52 @@ def paths_of(tree):
     return {path: content for path, content in whole.items() if path.startswith("pairtree_root/")}
 
 
-def end(tree, told, sites, objects=0, **numbers):
-    """The last line of a check that met all of a tree and read nothing of it: what isn't given is counted here."""
+def is_site(names):
+    """Whether shorties with these names lead to a site: none stands below one of one byte."""
+    return all(len(name.encode()) == 2 for name in names[:-1]) and len("".join(names[-1:]).encode()) <= 2
+
+
+def depths(met, unjudged, gathers):
+    """The members that count the sites among these entries, and those that have an object, by their depth, and objects whose own folder has another name
+    than those of its site join to; a folder that can't be listed whole is no site."""
+    beside = {"pairtree_root": []}
+    for path, content in met.items():
+        above, _, name = path.rpartition("/")
+        beside.setdefault(path, []) if content == DIR else None
+        beside.setdefault(above, []).append((name, content)) if content != DIR or len(name.encode()) > 2 else None
+    counts = collections.Counter()
+    for path, entries in beside.items():
+        names = path.split("/")[1:]
+        if is_site(names) and "/".join(names) not in unjudged:
+            encapsulated = bool(names) and [content for _, content in entries] == [DIR]
+            counts[f"sites_at_{min(len(names), 32):02}"] += 1
+            counts[f"objects_at_{min(len(names), 32):02}"] += encapsulated or gathers and bool(names and entries)
+            counts["renamed"] += encapsulated and entries[0][0] != "".join(names)
+    return +counts
+
+
+def lengths(files):
+    """The members that count these files, and their bytes, by how many digits their length has, which is 0 for an empty one."""
+    counts = collections.Counter()
+    for content in files:
+        digits = len(str(len(content)).lstrip("0"))
+        counts[f"files_of_{digits:02}"] += 1
+        counts[f"bytes_of_{digits:02}"] += len(content)
+    return +counts
+
+
+def end(tree, told, sites, objects=0, unjudged=(), unread=(), gathers=False, **numbers):
+    """The last line of a check that met all of a tree: what isn't given is counted here. Where it counts bytes it read each file, but for those that are `unread`."""
     met = paths_of(tree)
+    files = {path: content for path, content in met.items() if isinstance(content, bytes)}
     counts = {
         "bytes": 0,
-        "files": sum(isinstance(content, bytes) for content in met.values()),
+        "files": len(files),
         "folders": sum(content == DIR for content in met.values()),
         "largest": 0,
         "longest": max((len(path.encode()) for path in met), default=0),
+        **(depths(met, unjudged, gathers) if sites else {}),
+        **(lengths(content for path, content in files.items() if path.partition("/")[2] not in unread) if "bytes" in numbers else {}),
     }
     return {"as": "end", **counts, "objects": objects, "sites": sites, "told": told, **numbers}
 
@@ -206,8 +244,9 @@ def closed_to_others(program, folder):
         told = [unread("ab/c/obj/f", DENIED), unread("ad", DENIED), unread("af/g/obj/sub", DENIED)]
         met = {**store(tree), **store({"ad": DIR, "af/g/obj/sub": DIR})}
         met = {path: content for path, content in met.items() if "/ad/" not in path and "/sub/" not in path}
-        faults = differs(nobody=(checked(program, folder, before=nobody, source="t"), answer(*told, end(met, 3, 7, 3))))
-        faults += differs(read=(checked(program, folder, "--read", before=nobody, source="t"), answer(*told, end(met, 3, 7, 3, bytes=3, largest=2))))
+        faults = differs(nobody=(checked(program, folder, before=nobody, source="t"), answer(*told, end(met, 3, 7, 3, unjudged={"ad"}))))
+        last = end(met, 3, 7, 3, unjudged={"ad"}, unread={"ab/c/obj/f"}, bytes=3, largest=2)
+        faults += differs(read=(checked(program, folder, "--read", before=nobody, source="t"), answer(*told, last)))
         faults += differs(root=(checked(program, folder, source="t"), answer(end(store(tree), 0, 9, 4))))
     build(f"{folder}/t", {"pairtree_prefix": b"p"})
     with closed(folder, ("t/pairtree_prefix", 0), (root, 0)):
@@ -232,7 +271,8 @@ def names_that_are_no_text(program, folder):
     with_files(folder, "pairtree_root/ab/c/obj/d", b"\xe9\xff")
     with_files(folder, "pairtree_root/ad/e", "é ".encode() + b"a\n\\\xff'z")
     told = [unread("ab/c/obj/d", NAME + r"\xe9\xff"), unread("ad/e", NAME + r"\xc3\xa9 a\n\\\xff\'z")]
-    return differs(answer=(checked(program, folder, "--read", source="t"), answer(*told, end(store(tree), 2, 4, 1, bytes=1))))
+    last = end(store(tree), 2, 4, 1, unjudged={"ad/e"}, bytes=1)
+    return differs(answer=(checked(program, folder, "--read", source="t"), answer(*told, last)))
 
 
 BAD = (b"a\xfe", b"\xe9z", b"\xff")
@@ -249,12 +289,13 @@ def many_names_that_are_no_text(program, folder):
     top = [{"as": "unreadable", "path": "", "reason": reason} for reason in each]
     above, below = [unread("ab", reason) for reason in each], [unread("ae/f/obj", reason) for reason in each]
     told = [*top, *above, of_path("other", "ab/c/obj/l"), of_path("desktop", "ab/other/.DS_Store"), *below]
-    whole = end(store(tree), len(told), 5, 3, bytes=8, largest=3)
+    whole = end(store(tree), len(told), 5, 3, unjudged={"ab"}, bytes=8, largest=3)
     left = {path: content for path, content in tree.items() if "ab/other" not in path and "ab/c/obj/l" not in path}
     ignoring = [*top, *above, *below]
+    less = end(store(left), len(ignoring), 5, 3, unjudged={"ab"})
     return differs(
         answer=(checked(program, folder, "--read", source="t"), answer(*told, whole)),
-        ignored=(checked(program, folder, "--ignore", "other", "--ignore", "l", source="t"), answer(*ignoring, end(store(left), len(ignoring), 5, 3))),
+        ignored=(checked(program, folder, "--ignore", "other", "--ignore", "l", source="t"), answer(*ignoring, less)),
     )
 
 
@@ -268,7 +309,7 @@ def further_reasons(program, folder):
     before = ("strace", "-o", "/dev/null", "-P", path, "-e", "trace=/stat|statx", "-e", "inject=/stat|statx:error=EIO")
     told = [*(unread("ab", NAME + text) for text in (r"a\xfe", r"\xe9z", r"\xff")), unread("ab", "Input/output error (os error 5)")]
     met = store({"ab": DIR, "ad/e/obj/f": b""})
-    return differs(answer=(checked(program, folder, before=before, source=f"{folder}/t"), answer(*told, end(met, 4, 3, 1))))
+    return differs(answer=(checked(program, folder, before=before, source=f"{folder}/t"), answer(*told, end(met, 4, 3, 1, unjudged={"ab"}))))
 
 
 # Makes a folder in the working folder by steps, in each of which the path is short enough for the system, and in it a file.
@@ -297,6 +338,7 @@ def long_paths(program, folder):
     told = [of_path("long", f"ab/d/obj/{deep}/f"), unread(f"ab/e/obj/{deep}", TOO_LONG)]
     longest = len(f"pairtree_root/ab/d/obj/{deep}/f")
     last = {"as": "end", "bytes": 0, "files": 2, "folders": 67, "largest": 0, "longest": longest, "objects": 3, "sites": 5, "told": 2}
+    last |= {"objects_at_02": 3, "renamed": 3, "sites_at_00": 1, "sites_at_01": 1, "sites_at_02": 3}
     return differs(answer=(checked(program, folder, source="t"), answer(*told, last)))
 
 
@@ -311,6 +353,7 @@ def many_files(program, folder):
     for number in range(20):
         os.remove(f"{top}/x{number:02}")
     last = {"as": "end", "bytes": 0, "files": 1_000_003, "folders": 106, "largest": 0, "longest": len("pairtree_root/ab/c/obj/000/0000"), "objects": 2}
+    last |= {"objects_at_02": 2, "renamed": 2, "sites_at_00": 1, "sites_at_01": 1, "sites_at_02": 2}
     told = of_path("many", "ab/c/obj/100/0000")
     return differs(answer=(checked(program, folder, source="t"), answer(told, {**last, "sites": 4, "told": 1})))
 
@@ -391,15 +434,16 @@ def a_place_of_the_roots_own(program, folder):
 
 
 def deep_folders(program, folder):
-    """A folder more than 600 below pairtree_root is told, and not listed."""
+    """A folder more than 600 below pairtree_root is told, and not listed. Sites that are 32 deep or deeper are counted together."""
     chain = {count: "/".join(["ab"] * count) for count in (600, 601)}
+    at = {**{f"sites_at_{depth:02}": 1 for depth in range(32)}, "sites_at_32": 601 - 32}
     faults = []
     for count, told, sites in ((600, [], 601), (601, [of_path("deep", chain[601])], 601)):
         source = f"t{count}"
         build(f"{folder}/{source}", store({}))
         os.makedirs(f"{folder}/{source}/pairtree_root/{chain[count]}")
         told = told or [of_path("empty", chain[600])]
-        last = end({}, len(told), sites, folders=count, longest=len("pairtree_root") + 3 * count)
+        last = end({}, len(told), sites, folders=count, longest=len("pairtree_root") + 3 * count, **at)
         faults += differs(**{source: (checked(program, folder, source=source), answer(*told, last))})
     return faults
 
@@ -415,14 +459,14 @@ def gathering(program, folder):
     empty = of_path("empty", "gh/xy")
     faults = differs(
         plain=(checked(program, folder, source="t"), answer(*plain, end(store(DIRECT), 3, 6, 1))),
-        gathered=(checked(program, folder, "--gather", source="t"), answer(empty, end(store(DIRECT), 1, 6, 3))),
-        read=(checked(program, folder, "--gather", "--read", source="t"), answer(empty, end(store(DIRECT), 1, 6, 3, bytes=11, largest=6))),
+        gathered=(checked(program, folder, "--gather", source="t"), answer(empty, end(store(DIRECT), 1, 6, 3, gathers=True))),
+        read=(checked(program, folder, "--gather", "--read", source="t"), answer(empty, end(store(DIRECT), 1, 6, 3, gathers=True, bytes=11, largest=6))),
     )
     tree = store({"ab/cd/.DS_Store": b"", "^z/a": b"", "^6/1b/f": b""})
     build(f"{folder}/u", tree)
     told = [of_path("name", "^z"), of_path("spelling", "^6/1b"), of_path("desktop", "ab/cd/.DS_Store")]
     told = sorted(told, key=lambda entry: entry["path"].encode())
-    return faults + differs(names=(checked(program, folder, "--gather", source="u"), answer(*told, end(tree, 3, 6, 3))))
+    return faults + differs(names=(checked(program, folder, "--gather", source="u"), answer(*told, end(tree, 3, 6, 3, gathers=True))))
 
 
 def counting(program, folder):
@@ -431,8 +475,8 @@ def counting(program, folder):
     build(f"{folder}/t", store(tree))
     desktop = of_path("desktop", "ab/c/obj/.DS_Store")
     whole = end(store(tree), 1, 4, 2)
-    read = {**whole, "bytes": 40_613, "largest": 20_307}
-    left = {**end(store({path: content for path, content in tree.items() if ".DS" not in path}), 0, 4, 2), "bytes": 40_606, "largest": 20_306}
+    read = end(store(tree), 1, 4, 2, bytes=40_613, largest=20_307)
+    left = end(store({path: content for path, content in tree.items() if ".DS" not in path}), 0, 4, 2, bytes=40_606, largest=20_306)
     return differs(
         opened=(checked(program, folder, source="t"), answer(desktop, whole)),
         read=(checked(program, folder, "--read", source="t"), answer(desktop, read)),
@@ -449,10 +493,36 @@ def failing_reads(program, folder):
     path = f"{folder}/t/pairtree_root/ab/c/obj/g"
     before = ("strace", "-o", "/dev/null", "-P", path, "-e", "trace=read", "-e", "inject=read:error=EIO")
     told = unread("ab/c/obj/g", "Input/output error (os error 5)")
+    last = end(store(tree), 1, 3, 1, unread={"ab/c/obj/g"}, bytes=4, largest=4)
     return differs(
-        read=(checked(program, folder, "--read", before=before, source=f"{folder}/t"), answer(told, end(store(tree), 1, 3, 1, bytes=4, largest=4))),
+        read=(checked(program, folder, "--read", before=before, source=f"{folder}/t"), answer(told, last)),
         opened=(checked(program, folder, before=before, source=f"{folder}/t"), answer(end(store(tree), 0, 3, 1))),
     )
+
+
+def by_length(program, folder):
+    """With --read files are counted by how many digits their length has, and so are their bytes; without it none is."""
+    tree = {f"ab/c/obj/{10 ** power + more}": b"x" * (10**power + more) for power in range(6) for more in (-1, 0)}
+    build(f"{folder}/t", store(tree))
+    last = end(store(tree), 0, 3, 1, bytes=sum(map(len, tree.values())), largest=sum(map(len, tree.values())))
+    faults = differs(
+        read=(checked(program, folder, "--read", source="t"), answer(last)),
+        classes=({key: it for key, it in last.items() if "_of_0" in key and int(key[-2:]) < 3}, {"bytes_of_01": 10, "bytes_of_02": 109, "files_of_00": 1} | {"files_of_01": 2, "files_of_02": 2}),
+        opened=(checked(program, folder, source="t"), answer(end(store(tree), 0, 3, 1))),
+    )
+    return faults
+
+
+def own_folders(program, folder):
+    """Objects are counted whose own folder has another name than those of its site join to: as that of the identifier's cleaned form has, of which it counts."""
+    faults, names = [], {"xt/12/t3/xt12t3": 0, "xt/12/t4/xt12t": 1, "xt/12/t5/xt12t5x": 1, "ab/c/abc": 0, "ab/d/ABD": 1, "^5/cx/^5cx": 0, "a=/obj": 1, "b=/b=1": 1}
+    for number, (path, count) in enumerate({**names, "": sum(names.values())}.items()):
+        tree = {f"{path}/f": b"" for path in ([path] if path else names)}
+        build(folder, {f"t{number}": DIR})
+        build(f"{folder}/t{number}", store(tree))
+        last = checked(program, folder, source=f"t{number}")[1].splitlines()[-1]
+        faults += differs(**{path: (json.loads(last).get("renamed", 0), count)})
+    return faults
 
 
 def beside_a_run(program, folder):
@@ -507,6 +577,8 @@ CASES = [
         ("deep folders", deep_folders),
         ("what a run gathers", gathering),
         ("what is counted", counting),
+        ("files by their length", by_length),
+        ("names of objects' own folders", own_folders),
         ("files that can't be read", failing_reads),
         ("no lock, and an output that fails", beside_a_run),
         ("many objects", many_objects),

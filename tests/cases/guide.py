@@ -262,8 +262,8 @@ CHECKED = [
     '{"as":"other","path":"pairtree_root/ot/he/obj/link"}',
     '{"as":"split","path":"pairtree_root/sp/li"}',
     '{"as":"desktop","path":"pairtree_root/sp/li/.DS_Store"}',
-    '{"as":"end","bytes":6,"desktop":1,"files":6,"folders":15,"largest":1,"longest":29,"objects":4,'
-    '"other":1,"root":1,"sites":10,"spelling":1,"split":1,"told":5}',
+    '{"as":"end","bytes":6,"bytes_of_01":6,"desktop":1,"files":6,"files_of_01":6,"folders":15,"largest":1,"longest":29,"objects":4,"objects_at_02":4,'
+    '"other":1,"renamed":4,"root":1,"sites":10,"sites_at_00":1,"sites_at_01":4,"sites_at_02":5,"spelling":1,"split":1,"told":5}',
 ]
 
 # Of each block of the guide that the walk runs: a text in it, what `AT` is there, and the lines that it prints, sorted; None for any.

@@ -226,7 +226,7 @@ def one_check(program, folder):
     told = [["pairtree_root", "root", ""], ["pairtree_root/ab", "unreadable", "a name in it is not UTF-8: \\\\xe9"], ["", "unreadable", CHECKED[2]["reason"]]]
     told += [["pairtree_root/ab/c/obj/.DS_Store", "desktop", ""], ["pairtree_root/sp\\u{202e}", "split", ""], ["pairtree_root/^6/1b", "spelling", ""]]
     faults = differs(said=(said, (0, "")), kinds=([row[:2] for row in found.table("troubles")], kinds), told=(found.table("told"), [*told, ["pairtree_root/ab/c/obj/x", "many", ""]]))
-    faults += differs(met=(found.table("checks"), [["check.log", "end line", "7", "4", "2", "7", "4", "40,613", "20,307", "37"]]))
+    faults += differs(met=(found.table("checks"), [["check.log", "end line", "7", "4", "2", "0", "7", "4", "40,613", "20,307", "37"]]))
     faults += differs(tables=(sorted(found.tables), ["checks", "told", "troubles"]), verdict=(verdict_of(found), f"Not done yet: {TOLD}."))
     faults += differs(notes=(found.notes, ["Each log has its end line, and as many lines of each kind as that counts."]))
     made = list(csv.DictReader(io.StringIO(report(folder, "--csv", "check.log")[1].decode())))
@@ -235,7 +235,7 @@ def one_check(program, folder):
     quiet, said = page(folder, *logs(folder, quiet=whole_check()))
     faults += differs(quiet=((said, verdict_of(quiet), list(quiet.tables)), ((0, ""), "Nothing is in the way: the check told nothing.", ["checks"])))
     cut, said = page(folder, *logs(folder, cut=lines(*CHECKED[:2])))
-    row = ["cut.log", "cut short", "2", *[""] * 7]
+    row = ["cut.log", "cut short", "2", *[""] * 8]
     faults += differs(cut=((said, cut.table("checks"), "cut short" in cut.notes[-1]), ((0, ""), [row], True)))
     for name, numbers in {"lines": {"told": 6}, "a kind": {"root": 2}, "a kind that has none": {"width": 1}}.items():
         uneven, _ = page(folder, *logs(folder, uneven=whole_check(*CHECKED, **numbers)))
@@ -245,6 +245,30 @@ def one_check(program, folder):
     both, said = page(folder, "check.log", *logs(folder, run=whole_log(SECOND[2])))
     numbers = [["run.log", "run or rehearsal", "end line", "1", "1", "500", "0"]]
     return faults + differs(both=((said, both.table("numbers"), both.texts["verdict"][0].split(",")[0]), ((0, ""), numbers, "Nothing is missing: the one object stands in the root")))
+
+
+# What a check counts class by class, and what the page says of it.
+SHAPE = {"bytes_of_03": 600, "bytes_of_05": 40013, "files_of_00": 1, "files_of_03": 2, "files_of_05": 1, "objects_at_03": 2, "objects_at_32": 1}
+SHAPE |= {"sites_at_00": 1, "sites_at_01": 36, "sites_at_02": 1299, "sites_at_03": 19, "sites_at_32": 40}
+DEPTHS = [["1", "36", "0", "1"], ["2", "1,299", "0", "64"], ["3", "19", "2", "0"], ["32 or more", "40", "1", "2"]]
+LENGTHS = [["0 B", "1", "0"], ["100 B to 1 kB", "2", "600"], ["10 kB to 100 kB", "1", "40,013"]]
+
+
+def shapes(program, folder):
+    """How many sites and objects a check met at each depth, with how many shares by folders it serves, and files by their length; of several logs each by its own."""
+    found, said = page(folder, *logs(folder, check=whole_check(**SHAPE)))
+    faults = differs(said=(said, (0, "")), depths=(found.table("depths"), DEPTHS), lengths=(found.table("lengths"), LENGTHS))
+    faults += differs(notes=(found.notes, ["Each log has its end line, and as many lines of each kind as that counts."]))
+    renamed, _ = page(folder, *logs(folder, renamed=whole_check(renamed=2)))
+    faults += differs(renamed=(renamed.table("checks")[0][3:6], ["4", "2", "2"]))
+    names = logs(folder, one=whole_check(sites_at_00=1, sites_at_01=20), two=whole_check(files_of_20=3, bytes_of_20=10**19 + 2), cut=lines(*CHECKED[:1]))
+    several, said = page(folder, *names, "check.log")
+    depths = [["one.log", "1", "20", "0", "1"], *(["check.log", *row] for row in DEPTHS)]
+    lengths = [["two.log", "10 EB to 100 EB", "3", f"{10**19 + 2:,}"], *(["check.log", *row] for row in LENGTHS)]
+    faults += differs(said=(said, (0, "")), depths=(several.table("depths"), depths), lengths=(several.table("lengths"), lengths))
+    for number, name in enumerate(("sites_at_33", "objects_at_33", "files_of_21", "bytes_of_21", "sites_at_1", "sites_at", "files_at_01")):
+        faults += differs(**{name: (report(folder, *logs(folder, **{f"bad{number}": whole_check(**{name: 1})}))[::2], (1, f"report.py: bad{number}.log:1: it is no line of a log\n"))})
+    return faults
 
 
 def each_trouble(program, folder):
@@ -268,5 +292,6 @@ CASES = [
     Alone("the report counts one as one", plural),
     Alone("the report's store and dates", dated),
     Alone("the report of a check", one_check),
+    Alone("the report of what a check counts by depth and by length", shapes),
     Alone("the report of each trouble of a check", each_trouble),
 ]

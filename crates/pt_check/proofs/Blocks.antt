@@ -28,10 +28,12 @@ use Rattle.std.proofs.Common.{
   min,
 }
 use Rattle.std.proofs.lemmas.Bool.{le-ltb, lt-ltb, ltb-false, ltb-true}
+use Rattle.std.proofs.lemmas.List.Sums.{sum_by-cons}
 use Rattle.std.proofs.lemmas.List.{length-append, take-append-drop}
 use Rattle.std.specs.Option.{ForSome, option_map}
-use Rattle.std.specs.Prelude.{IsSome, Option, None, Some, unwrap_or}
-use Rattle.pt_check.specs.Counting.{plus, with_bytes}
+use Rattle.std.specs.List.{count_by, list_all}
+use Rattle.std.specs.Prelude.{◌&&◌, IsSome, Option, None, Some, not, slice_index, slice_set, unwrap_or}
+use Rattle.pt_check.specs.Counting.{counted_at, digits, plus, powers_of_ten, with_bytes, with_length, with_opened}
 use Rattle.pt_check.specs.Visits.{GoesAt, Opens, CheckState, TellsIf, counting, size_trouble}
 use Rattle.pt_check.specs.declared.numbers.Numbers.{Numbers}
 use Rattle.pt_check.specs.declared.trouble.Trouble.{Trouble}
@@ -195,28 +197,69 @@ same_bytes (within.Site at) n numbers = ap (λ (k : ℕ). record numbers { bytes
 same_bytes within.Past n numbers = ap (λ (k : ℕ). record numbers { bytes = k }) (same_sum numbers.bytes n)
 same_bytes within.Beside n numbers = ap (λ (k : ℕ). record numbers { bytes = k }) (same_sum numbers.bytes n)
 
+-- a number that can be counted to isn't greater than one, if it isn't greater than what is counted of that
+not_below : (m most n : ℕ) → m ≤ most → nat_lt (min n most) m ≡ nat_lt n m
+not_below m most n few = by (nat_lt n m) refl
+  where
+    by : (t : Bool) → nat_lt n m ≡ t → nat_lt (min n most) m ≡ t
+    by true is = let under = ltb-true n m is in lt-ltb (min n most) m (omega (arith, under))
+    by false is = let over = ltb-false n m is in le-ltb (min n most) m (omega (arith, over, few))
+
+same_powers : (n most : ℕ) (powers : List ℕ) → list_all (λ power. not (nat_lt most power)) powers ≡ true
+    → count_by (λ power. not (nat_lt (min n most) power)) powers ≡ count_by (λ power. not (nat_lt n power)) powers
+same_powers n most [] few = refl
+same_powers n most (power ∷ powers) few = by (nat_lt most power) refl few (λ rest. same_powers n most powers rest)
+  where
+    by : (t : Bool) → nat_lt most power ≡ t → (not t && list_all (λ p. not (nat_lt most p)) powers) ≡ true
+        → (list_all (λ p. not (nat_lt most p)) powers ≡ true
+        → count_by (λ p. not (nat_lt (min n most) p)) powers ≡ count_by (λ p. not (nat_lt n p)) powers)
+        → count_by (λ p. not (nat_lt (min n most) p)) (power ∷ powers) ≡ count_by (λ p. not (nat_lt n p)) (power ∷ powers)
+    by true is few same = absurd (cc)
+    by false is few same =
+        sum_by-cons (λ p. cond (not (nat_lt (min n most) p)) 1 0) power powers
+        ∙ ap (λ (t : Bool). cond (not t) 1 0 + count_by (λ p. not (nat_lt (min n most) p)) powers) (not_below power most n (ltb-false most power is))
+        ∙ ap (λ (k : ℕ). cond (not (nat_lt n power)) 1 0 + k) (same few)
+        ∙ sym (sum_by-cons (λ p. cond (not (nat_lt n p)) 1 0) power powers)
+
+same_digits : (n : ℕ) → digits (min n greatest_count) ≡ digits n
+same_digits n = same_powers n greatest_count powers_of_ten refl
+
+same_length : (n : ℕ) (numbers : Numbers) → with_length (min n greatest_count) numbers ≡ with_length n numbers
+same_length n numbers = λ i. record numbers {
+  files_of = counted_at (same_digits n i) 1 numbers.files_of;
+  bytes_of = counted_as i;
+}
+  where
+    counted_as : counted_at (digits (min n greatest_count)) (min n greatest_count) numbers.bytes_of ≡ counted_at (digits n) n numbers.bytes_of
+    counted_as = ap (λ (d : ℕ). counted_at d (min n greatest_count) numbers.bytes_of) (same_digits n)
+        ∙ ap (slice_set numbers.bytes_of (digits n)) (same_sum (slice_index numbers.bytes_of (digits n)) n)
+
+same_opened : (here : Within) (n : ℕ) (numbers : Numbers) → with_opened true here (min n greatest_count) numbers ≡ with_opened true here n numbers
+same_opened here n numbers = ap (with_length (min n greatest_count)) (same_bytes here n numbers) ∙ same_length n (with_bytes here n numbers)
+
 -- a file was opened, its bytes counted up to the greatest number, and told if they are too many
 pub opens_step : (top : Option Forest) (reads : Bool) (path : Path) (here : Within) (n : ℕ) (told : Option Trouble) (a m b : CheckState)
-    → ForSome top (λ tree. n ≡ cond reads (min (length (bytes_at tree path)) greatest_count) 0) → told ≡ size_trouble n → m ≡ counting (with_bytes here n) a
+    → ForSome top (λ tree. n ≡ cond reads (min (length (bytes_at tree path)) greatest_count) 0) → told ≡ size_trouble n
+    → m ≡ counting (with_opened reads here n) a
     → TellsIf path told m b → (reads ≡ true → n < greatest_count → GoesAt path a) → ForSome top (λ tree. Opens reads path here (bytes_at tree path) a b)
 opens_step top reads path here n told a m b bytes told_is counted tells goes tree is =
-    let start : TellsIf path told (counting (with_bytes here n) a) b = subst (λ (s : CheckState). TellsIf path told s b) counted tells in
-    let named : TellsIf path (size_trouble n) (counting (with_bytes here n) a) b = subst
-    (λ (o : Option Trouble). TellsIf path o (counting (with_bytes here n) a) b) told_is start in
+    let start : TellsIf path told (counting (with_opened reads here n) a) b = subst (λ (s : CheckState). TellsIf path told s b) counted tells in
+    let named : TellsIf path (size_trouble n) (counting (with_opened reads here n) a) b = subst
+    (λ (o : Option Trouble). TellsIf path o (counting (with_opened reads here n) a) b) told_is start in
     by reads goes (bytes tree is) named
   where
     all : ℕ
     all = length (bytes_at tree path)
 
     by : (r : Bool) → (r ≡ true → n < greatest_count → GoesAt path a) → n ≡ cond r (min all greatest_count) 0
-        → TellsIf path (size_trouble n) (counting (with_bytes here n) a) b → Opens r path here (bytes_at tree path) a b
+        → TellsIf path (size_trouble n) (counting (with_opened r here n) a) b → Opens r path here (bytes_at tree path) a b
     by true goes e it =
-        let read : TellsIf path (size_trouble (min all greatest_count)) (counting (with_bytes here (min all greatest_count)) a) b =
-        subst (λ (k : ℕ). TellsIf path (size_trouble k) (counting (with_bytes here k) a) b) e it in
-        let sized : TellsIf path (size_trouble all) (counting (with_bytes here (min all greatest_count)) a) b =
-        subst (λ (o : Option Trouble). TellsIf path o (counting (with_bytes here (min all greatest_count)) a) b) (same_size all) read in
+        let read : TellsIf path (size_trouble (min all greatest_count)) (counting (with_opened true here (min all greatest_count)) a) b =
+        subst (λ (k : ℕ). TellsIf path (size_trouble k) (counting (with_opened true here k) a) b) e it in
+        let sized : TellsIf path (size_trouble all) (counting (with_opened true here (min all greatest_count)) a) b =
+        subst (λ (o : Option Trouble). TellsIf path o (counting (with_opened true here (min all greatest_count)) a) b) (same_size all) read in
         inl (
-          subst (λ (n : Numbers). TellsIf path (size_trouble all) (record a { numbers = n }) b) (same_bytes here all a.numbers) sized,
+          subst (λ (n : Numbers). TellsIf path (size_trouble all) (record a { numbers = n }) b) (same_opened here all a.numbers) sized,
           (λ reads few. goes reads (omega (arith, e, few))),
         )
-    by false goes e it = inl (subst (λ (k : ℕ). TellsIf path (size_trouble k) (counting (with_bytes here k) a) b) e it, (λ reads few. absurd (cc)))
+    by false goes e it = inl (subst (λ (k : ℕ). TellsIf path (size_trouble k) (counting (with_opened false here k) a) b) e it, (λ reads few. absurd (cc)))

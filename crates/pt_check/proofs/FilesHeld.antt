@@ -213,14 +213,14 @@ has_room_for how path prefix (within.Site w) left items inside a m b starts fill
         omega (arith, whole, most, starts, count)
 
 -- a folder that is judged
-pub judged_held : (how : Form) (here : Within) (items : List Item) (a m : CheckState)
-    → m.numbers.held ≡ (with_folder here (finding_of how here items) a.numbers).held → HeldAt (finding_of how here items) a m
-judged_held how (within.Object before) items a m same = same
-judged_held how within.Past items a m same = same
-judged_held how within.Beside items a m same = same
-judged_held how (within.Site w) items a m same = by (found items w how) same
+pub judged_held : (how : Form) (depth : ℕ) (renamed : Bool) (here : Within) (items : List Item) (a m : CheckState)
+    → m.numbers.held ≡ (with_folder depth renamed here (finding_of how here items) a.numbers).held → HeldAt (finding_of how here items) a m
+judged_held how depth renamed (within.Object before) items a m same = same
+judged_held how depth renamed within.Past items a m same = same
+judged_held how depth renamed within.Beside items a m same = same
+judged_held how depth renamed (within.Site w) items a m same = by (found items w how) same
   where
-    by : (seen : Finding) → m.numbers.held ≡ (with_found seen a.numbers).held → HeldAt seen a m
+    by : (seen : Finding) → m.numbers.held ≡ (with_found depth seen a.numbers).held → HeldAt seen a m
     by finding.Interior same = same
     by (finding.Skip why) same = same
     by (finding.Candidate i) same = same

@@ -31,7 +31,7 @@ use Rattle.std.proofs.Common.{
 use Rattle.std.proofs.lemmas.Bool.{ltb-false}
 use Rattle.std.specs.Prelude.{◌⊎◌, nat_lt}
 use Rattle.pt_check.specs.Clean.{AreCleanBytes, IsCleanEntry, IsCleanFolder}
-use Rattle.pt_check.specs.Counting.{with_bytes, with_entry, with_object_begun}
+use Rattle.pt_check.specs.Counting.{with_bytes, with_entry, with_object_begun, with_opened}
 use Rattle.pt_check.specs.Goes.{GoesBy}
 use Rattle.pt_check.specs.Lines.{Told}
 use Rattle.pt_check.specs.Visits.{
@@ -52,11 +52,13 @@ use Rattle.pt_check.specs.Visits.{
   TellsUnlisted,
   count_trouble,
   counting,
+  depth_of,
   ended,
   entry_trouble,
   finding_of,
   folder_trouble,
   holder_in,
+  is_renamed,
   reserved_trouble,
   room_trouble,
   size_trouble,
@@ -168,29 +170,37 @@ bytes_held (within.Site at) bytes n = refl
 bytes_held within.Past bytes n = refl
 bytes_held within.Beside bytes n = refl
 
+opened_told : (reads : Bool) (here : Within) (bytes : ℕ) (n : Numbers) → (with_opened reads here bytes n).told ≡ n.told
+opened_told true here bytes n = bytes_told here bytes n
+opened_told false here bytes n = bytes_told here bytes n
+
+opened_held : (reads : Bool) (here : Within) (bytes : ℕ) (n : Numbers) → (with_opened reads here bytes n).held ≡ n.held
+opened_held true here bytes n = bytes_held here bytes n
+opened_held false here bytes n = bytes_held here bytes n
+
 pub opened : (reads : Bool) (path : Path) (here : Within) (bytes : List ℕ) (a b : CheckState) → Opens reads path here bytes a b → told_by b ≡ 0
     → Opened reads path bytes a b
 opened reads path here bytes a b (inl (tells, goes)) nothing =
     let count = cond reads (length bytes) 0 in
-    let clean = tells_if path (size_trouble count) (counting (with_bytes here count) a) b tells nothing in (
+    let clean = tells_if path (size_trouble count) (counting (with_opened reads here count) a) b tells nothing in (
       clean.0,
-      counted (with_bytes here count) a b (bytes_told here count) clean.1 nothing,
-      ap held_by clean.1 ∙ bytes_held here count a.numbers,
+      counted (with_opened reads here count) a b (opened_told reads here count) clean.1 nothing,
+      ap held_by clean.1 ∙ opened_held reads here count a.numbers,
       (λ is. goes is (few_bytes reads bytes clean.0 is)),
     )
 opened reads path here bytes a b (inr fails) nothing = absurd (fails_told path a b fails nothing)
 
-found_told : (seen : Finding) (n : Numbers) → (with_found seen n).told ≡ n.told
-found_told finding.Interior n = refl
-found_told (finding.Skip why) n = refl
-found_told (finding.Candidate i) n = refl
-found_told finding.Gathered n = refl
+found_told : (depth : ℕ) (seen : Finding) (n : Numbers) → (with_found depth seen n).told ≡ n.told
+found_told depth finding.Interior n = refl
+found_told depth (finding.Skip why) n = refl
+found_told depth (finding.Candidate i) n = refl
+found_told depth finding.Gathered n = refl
 
-folder_told : (here : Within) (seen : Finding) (n : Numbers) → (with_folder here seen n).told ≡ n.told
-folder_told (within.Site at) seen n = found_told seen n
-folder_told within.Past seen n = refl
-folder_told (within.Object before) seen n = refl
-folder_told within.Beside seen n = refl
+folder_told : (depth : ℕ) (renamed : Bool) (here : Within) (seen : Finding) (n : Numbers) → (with_folder depth renamed here seen n).told ≡ n.told
+folder_told depth renamed (within.Site at) seen n = found_told depth seen n
+folder_told depth renamed within.Past seen n = refl
+folder_told depth renamed (within.Object before) seen n = refl
+folder_told depth renamed within.Beside seen n = refl
 
 judged : (wants : Wants) (folder : Folder) (items : List Item) (a m : CheckState) → Judges wants (folder.path, folder.prefix) folder.here items a m
     → told_by m ≡ 0
@@ -200,15 +210,17 @@ judged : (wants : Wants) (folder : Folder) (items : List Item) (a m : CheckState
     × HeldAt (finding_of wants.form folder.here items) a m
 judged wants folder items a m (n, judges, o, places, cuts) nothing =
     let what = finding_of wants.form folder.here items in
+    let depth = depth_of folder.path in
+    let renamed = is_renamed folder.path items what in
     let cut = tells_if folder.path (width_trouble folder.path items) o m cuts nothing in
     let later : told_by o ≡ 0 = ap told_by (sym cut.1) ∙ nothing in
     let free = tells_if folder.path (reserved_trouble wants.layout folder.prefix what folder.path) n o places later in
     let before : told_by n ≡ 0 = ap told_by (sym free.1) ∙ later in
-    let clean = tells_if folder.path (folder_trouble folder.here what folder.path) (counting (with_folder folder.here what) a) n judges before in
+    let clean = tells_if folder.path (folder_trouble folder.here what folder.path) (counting (with_folder depth renamed folder.here what) a) n judges before in
     let same = cut.1 ∙ free.1 ∙ clean.1 in (
       (clean.0, free.0, cut.0),
-      counted (with_folder folder.here what) a m (folder_told folder.here what) same nothing,
-      judged_held wants.form folder.here items a m (ap held_by same),
+      counted (with_folder depth renamed folder.here what) a m (folder_told depth renamed folder.here what) same nothing,
+      judged_held wants.form depth renamed folder.here items a m (ap held_by same),
     )
 
 -- of a folder that was entered

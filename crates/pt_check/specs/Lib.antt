@@ -1,3 +1,4 @@
+pub mod Breakdown
 pub mod Clean
 pub mod Counting
 pub mod EndKey

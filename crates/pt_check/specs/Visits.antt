@@ -17,6 +17,8 @@ use Rattle.std.specs.Prelude.{
   drop,
   length,
   nat_lt,
+  not,
+  slice_get,
   take,
   List,
   [],
@@ -29,7 +31,7 @@ use Rattle.std.specs.Prelude.{
 use Rattle.std.specs.Io.KnownBytes.{Appends}
 use Rattle.std.specs.List.{concat}
 use Rattle.std.specs.Str.{bytes_eq, is_utf8}
-use Rattle.pt_check.specs.Counting.{back_at, plus, with_bytes, with_entry, with_line, with_object_begun, with_site}
+use Rattle.pt_check.specs.Counting.{back_at, plus, with_entry, with_line, with_object_begun, with_opened, with_renamed, with_site}
 use Rattle.pt_check.specs.Goes.{GoesBy}
 use Rattle.pt_check.specs.Lines.{Line, End, Told, Unreadable, line_kind, line_text}
 use Rattle.pt_check.specs.Prefix.{prefix_trouble}
@@ -203,26 +205,41 @@ reserved_trouble tuples prefix (finding.Candidate i) path =
 reserved_trouble tuples prefix finding.Gathered path =
     cond (tuples.count == 0) (reserved_at tuples prefix (drop 1 path)) None
 
--- a site that is found to be this is counted; one that is gathered is where its object begins
-abbrev pub with_found : Finding → Numbers → Numbers
-with_found finding.Interior numbers = with_site false numbers
-with_found (finding.Skip why) numbers = with_site false numbers
-with_found (finding.Candidate i) numbers = with_site true numbers
-with_found finding.Gathered numbers = with_object_begun (with_site true numbers)
+-- how deep below `pairtree_root` a folder at a path from the store's folder on lies
+abbrev pub depth_of : Path → ℕ
+depth_of path = length (drop 1 path)
 
--- a folder that is this, and found to be that, is counted if it is a site
-abbrev pub with_folder : Within → Finding → Numbers → Numbers
-with_folder (within.Site at) what numbers = with_found what numbers
-with_folder within.Past what numbers = numbers
-with_folder (within.Object before) what numbers = numbers
-with_folder within.Beside what numbers = numbers
+-- a site so deep that is found to be this is counted; one that is gathered is where its object begins
+abbrev pub with_found : ℕ → Finding → Numbers → Numbers
+with_found depth finding.Interior numbers = with_site depth false numbers
+with_found depth (finding.Skip why) numbers = with_site depth false numbers
+with_found depth (finding.Candidate i) numbers = with_site depth true numbers
+with_found depth finding.Gathered numbers = with_object_begun (with_site depth true numbers)
+
+-- an entry has another name than this
+abbrev pub has_other_name : List ℕ → Option Item → Bool
+has_other_name text None = false
+has_other_name text (Some item) = not (bytes_eq item.0 text)
+
+-- the own folder of an object, in a site at this path that lists these entries and is found to be that, has another name than those of the
+-- site join to
+abbrev pub is_renamed : Path → List Item → Finding → Bool
+is_renamed path items (finding.Candidate i) = has_other_name (concat (drop 1 path)) (slice_get items i)
+is_renamed path items _ = false
+
+-- a folder so deep that is this, and found to be that, is counted if it is a site, and so is its object's own folder if that is renamed
+abbrev pub with_folder : ℕ → Bool → Within → Finding → Numbers → Numbers
+with_folder depth renamed (within.Site at) what numbers = with_renamed renamed (with_found depth what numbers)
+with_folder depth renamed within.Past what numbers = numbers
+with_folder depth renamed (within.Object before) what numbers = numbers
+with_folder depth renamed within.Beside what numbers = numbers
 
 -- a folder at a path in a store of this prefix, which are a pair, that lists these entries is judged: it is counted, and told if there is trouble
 abbrev pub Judges : Wants → Path × List ℕ → Within → List Item → CheckState → CheckState → Type 0
 Judges wants at here items a b =
     let what = finding_of wants.form here items in
     (m : CheckState)
-    × TellsIf at.0 (folder_trouble here what at.0) (counting (with_folder here what) a) m
+    × TellsIf at.0 (folder_trouble here what at.0) (counting (with_folder (depth_of at.0) (is_renamed at.0 items what) here what) a) m
     × (n : CheckState) × TellsIf at.0 (reserved_trouble wants.layout at.1 what at.0) m n
     × TellsIf at.0 (width_trouble at.0 items) n b
 
@@ -281,7 +298,7 @@ size_trouble bytes = cond (nat_lt greatest_limits.file_bytes bytes) (Some troubl
 abbrev pub Opens : Bool → Path → Within → List ℕ → CheckState → CheckState → Type 0
 Opens reads path here bytes a b =
     let count = cond reads (length bytes) 0 in
-    TellsIf path (size_trouble count) (counting (with_bytes here count) a) b
+    TellsIf path (size_trouble count) (counting (with_opened reads here count) a) b
     × (reads ≡ true → length bytes < greatest_count → GoesAt path a) ⊎ TellsFailure path a b
 
 -- the same of an entry of this kind, if it is a file

@@ -38,8 +38,8 @@ ghost use Rattle.pt_tree.specs.declared.kind.Kind.TheVariants as kind;
 ghost use Rattle.pt_walk.specs.Left.{bytes_at, inside_at};
 
 use crate::judging::{
-    count_trouble, entry_trouble, finding_of, folder_trouble, reserved_trouble, room_trouble,
-    size_trouble, width_trouble,
+    count_trouble, entry_trouble, finding_of, folder_trouble, is_renamed, names_below,
+    reserved_trouble, room_trouble, size_trouble, width_trouble,
 };
 use crate::prefix::open_prefix;
 use crate::reading::open_whole;
@@ -306,17 +306,20 @@ impl<S: Source, L: Log, E: Explains<S> + Drop> Check<S, L, E> {
         }
     }
 
-    // Counts a site. One that is gathered is where its object begins.
-    fn count(&mut self, within: Within, finding: Finding)
-        ensures numbers { self.new.numbers ≡ with_folder within finding self.old.numbers }
+    // Counts a site so deep below pairtree_root, and its object's own folder if that is renamed.
+    // One that is gathered is where its object begins.
+    fn count(&mut self, depth: usize, renamed: bool, within: Within, finding: Finding)
+        ensures numbers { self.new.numbers
+            ≡ with_folder depth renamed within finding self.old.numbers }
         ensures rest { self.new ≡ record self.old { numbers = self.new.numbers } }
     {
         if let Within::Site(_) = within {
-            self.numbers = match finding {
-                Finding::Gathered => self.numbers.with_site(true).with_object_begun(),
-                Finding::Candidate(_) => self.numbers.with_site(true),
-                _ => self.numbers.with_site(false),
+            let numbers = match finding {
+                Finding::Gathered => self.numbers.with_site(depth, true).with_object_begun(),
+                Finding::Candidate(_) => self.numbers.with_site(depth, true),
+                _ => self.numbers.with_site(depth, false),
             };
+            self.numbers = numbers.with_renamed(renamed);
         }
     }
 
@@ -363,7 +366,9 @@ impl<S: Source, L: Log, E: Explains<S> + Drop> Check<S, L, E> {
         ensures fault { LogFailsAs (L.failed self.old.log) (L.failed self.new.log) result }
     {
         let finding = finding_of(self.wants.form, within, listing);
-        self.count(within, finding);
+        let depth = names_below(path).len();
+        let renamed = is_renamed(self.alloc, path, listing, finding)?;
+        self.count(depth, renamed, within, finding);
         let layout = self.wants.layout;
         let trouble = folder_trouble(self.alloc, within, finding, path)?;
         self.tell_if(path, trouble)?;
@@ -465,9 +470,10 @@ impl<S: Source, L: Log, E: Explains<S> + Drop> Check<S, L, E> {
         ensures keeps { Keeps S.told S.keeps L.told self.old self.new }
         ensures fault { LogFailsAs (L.failed self.old.log) (L.failed self.new.log) result }
     {
-        match open_whole(&mut self.source, path, self.wants.reads) {
+        let reads = self.wants.reads;
+        match open_whole(&mut self.source, path, reads) {
             Ok(bytes) => {
-                self.numbers = self.numbers.with_bytes(within, bytes);
+                self.numbers = self.numbers.with_opened(reads, within, bytes);
                 self.tell_if(path, size_trouble(bytes))
             }
             Err(TreeFault::Device) => self.tell_failure(path),

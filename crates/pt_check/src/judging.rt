@@ -20,6 +20,7 @@ ghost use Rattle.pt_check.specs.Visits.{finding_of as finding_of_items};
 ghost use Rattle.pt_check.specs.Visits.{folder_trouble as folder_trouble_of};
 ghost use Rattle.pt_check.specs.Visits.{is_long as is_long_path};
 ghost use Rattle.pt_check.specs.Visits.{is_of_desktop as is_of_desktop_name};
+ghost use Rattle.pt_check.specs.Visits.{is_renamed as is_renamed_of};
 ghost use Rattle.pt_check.specs.Visits.{name_trouble as name_trouble_of};
 ghost use Rattle.pt_check.specs.Visits.{reserved_at as reserved_at_place};
 ghost use Rattle.pt_check.specs.Visits.{reserved_by as reserved_by_answer};
@@ -51,6 +52,26 @@ pub(crate) fn finding_of(form: Form, within: Within, listing: &Listing) -> Findi
         Within::Site(at) => judge(listing, at, form),
         _ => Finding::Interior,
     }
+}
+
+/// Whether the own folder of an object, in a site at a path that lists these entries and is found to
+/// be this, has another name than those of the site join to.
+pub(crate) fn is_renamed(
+    alloc: Global,
+    path: &NamePath,
+    listing: &Listing,
+    finding: Finding,
+) -> Result<bool, MemoryFault>
+    ensures { IfOk result (λ renamed. renamed ≡ is_renamed_of path.now listing.now finding) }
+{
+    let Finding::Candidate(i) = finding else {
+        return Ok(false);
+    };
+    let Some((name, _)) = listing.get(i) else {
+        return Ok(false);
+    };
+    let text = text_below(alloc, path)?;
+    Ok(name.bytes() != text.as_slice())
 }
 
 /// What is told of a folder at a path from the store's folder on, which is found to be this.
@@ -211,8 +232,8 @@ fn has_shorties_alone(listing: &Listing) -> bool
     }
 }
 
-// The names of a path behind the first.
-fn names_below(path: &NamePath) -> &[Name]
+/// The names of a path behind the first.
+pub(crate) fn names_below(path: &NamePath) -> &[Name]
     ensures { result.now ≡ drop 1 path.now }
 {
     match path.names() {

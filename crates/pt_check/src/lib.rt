@@ -32,6 +32,7 @@
 //! No guarantee of README rests on its definitions.
 #![tactic(auto)]
 
+mod breakdown;
 mod checking;
 mod devices;
 mod end_key;
@@ -48,9 +49,10 @@ mod unlisted;
 mod wants;
 mod within;
 
+pub use breakdown::Breakdown;
 pub use checking::Check;
 pub use devices::CheckDevices;
-pub use end_key::EndKey;
+pub use end_key::{EndKey, EndPart};
 pub use line_kind::LineKind;
 pub use numbers::Numbers;
 pub use trouble::Trouble;

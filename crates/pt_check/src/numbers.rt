@@ -1,9 +1,11 @@
 //! The numbers of a check are those of what was visited (`with_site`, `with_entry`,
-//! `with_bytes`); `told` is that of the lines. The last line has them, and they are its answer.
-ghost use Rattle.std.specs.Prelude.{◌≡◌};
-ghost use Rattle.pt_check.specs.Counting.{back_at, no_numbers, with_bytes, with_entry, with_line};
-ghost use Rattle.pt_check.specs.Counting.{stops_run, told_of, with_object_begun, with_site};
+//! `with_opened`); `told` is that of the lines. The last line has them, and they are its answer.
+ghost use Rattle.std.specs.Prelude.{◌≡◌, ◌<◌, length};
+ghost use Rattle.pt_check.specs.Counting.{back_at, counted_at, no_numbers, with_bytes, with_entry};
+ghost use Rattle.pt_check.specs.Counting.{stops_run, told_of, with_length, with_line};
+ghost use Rattle.pt_check.specs.Counting.{with_object_begun, with_opened, with_renamed, with_site};
 
+use crate::breakdown::{DEPTHS, LENGTHS, digits};
 use crate::line_kind::KINDS;
 use crate::{LineKind, Trouble, Within};
 use pt_tree::Kind;
@@ -33,6 +35,26 @@ pub struct Numbers {
     pub held_bytes: u64,
     /// The lines of each kind that told of something, by the kind's number.
     pub kinds: [u64; KINDS],
+    /// The sites by their depth below `pairtree_root`, and at the last place all that are as deep
+    /// or deeper.
+    pub sites_at: [u64; DEPTHS],
+    /// Those that have an object, in the same way.
+    pub objects_at: [u64; DEPTHS],
+    /// The objects whose own folder has another name than those of their site join to.
+    pub renamed: u64,
+    /// The files that were read whole, by the digits of their length; at the first place those that
+    /// are empty.
+    pub files_of: [u64; LENGTHS],
+    /// The bytes of these, in the same way.
+    pub bytes_of: [u64; LENGTHS],
+}
+
+// Counts so many more at a place.
+fn count_at(counts: &mut [u64], place: usize, more: u64)
+    requires { place < length counts.old }
+    ensures { counts.new ≡ counted_at place more counts.old }
+{
+    counts[place] = counts[place].saturating_add(more);
 }
 
 impl Numbers {
@@ -52,6 +74,11 @@ impl Numbers {
             held: 0,
             held_bytes: 0,
             kinds: [0; KINDS],
+            sites_at: [0; DEPTHS],
+            objects_at: [0; DEPTHS],
+            renamed: 0,
+            files_of: [0; LENGTHS],
+            bytes_of: [0; LENGTHS],
         }
     }
 
@@ -86,13 +113,32 @@ impl Numbers {
             || self.told_of(LineKind::Troubled(Trouble::Place)) > 0
     }
 
-    /// With a site more, which has an object or not.
-    pub fn with_site(self, has_object: bool) -> Numbers
-        ensures { result ≡ with_site has_object self }
+    /// With a site more, so deep below `pairtree_root`, which has an object or not.
+    pub fn with_site(self, depth: usize, has_object: bool) -> Numbers
+        ensures { result ≡ with_site depth has_object self }
     {
+        let class = depth.min(DEPTHS - 1);
+        let objects = u64::from(has_object);
+        let mut sites_at = self.sites_at;
+        let mut objects_at = self.objects_at;
+        count_at(&mut sites_at, class, 1);
+        count_at(&mut objects_at, class, objects);
         Numbers {
             sites: self.sites.saturating_add(1),
-            objects: self.objects.saturating_add(u64::from(has_object)),
+            objects: self.objects.saturating_add(objects),
+            sites_at,
+            objects_at,
+            ..self
+        }
+    }
+
+    /// With an object more whose own folder has another name than those of its site join to, where
+    /// that is so.
+    pub fn with_renamed(self, is_renamed: bool) -> Numbers
+        ensures { result ≡ with_renamed is_renamed self }
+    {
+        Numbers {
+            renamed: self.renamed.saturating_add(u64::from(is_renamed)),
             ..self
         }
     }
@@ -118,8 +164,21 @@ impl Numbers {
         }
     }
 
-    /// With a file of so many bytes read, in a folder that is this.
-    pub fn with_bytes(self, within: Within, bytes: u64) -> Numbers
+    /// With a file opened, in a folder that is this, and read whole or not, of which so many bytes
+    /// were read.
+    pub fn with_opened(self, reads: bool, within: Within, bytes: u64) -> Numbers
+        ensures { result ≡ with_opened reads within bytes self }
+    {
+        let numbers = self.with_bytes(within, bytes);
+        if reads {
+            numbers.with_length(bytes)
+        } else {
+            numbers
+        }
+    }
+
+    // With so many bytes read of a file, in a folder that is this.
+    fn with_bytes(self, within: Within, bytes: u64) -> Numbers
         ensures { result ≡ with_bytes within bytes self }
     {
         let total = self.bytes.saturating_add(bytes);
@@ -137,6 +196,22 @@ impl Numbers {
                 bytes: total,
                 ..self
             },
+        }
+    }
+
+    // With a file of this length, which was read whole.
+    fn with_length(self, bytes: u64) -> Numbers
+        ensures { result ≡ with_length bytes self }
+    {
+        let class = digits(bytes);
+        let mut files_of = self.files_of;
+        let mut bytes_of = self.bytes_of;
+        count_at(&mut files_of, class, 1);
+        count_at(&mut bytes_of, class, bytes);
+        Numbers {
+            files_of,
+            bytes_of,
+            ..self
         }
     }
 

@@ -30,7 +30,7 @@ const WHOLE: Row = Row {
     room: None,
     has_tuples: true,
     form: Form::Plain,
-    log: "{\"as\":\"end\",\"bytes\":3,\"files\":1,\"folders\":3,\"largest\":3,\"longest\":24,\"objects\":1,\"sites\":3,\"told\":0}\n",
+    log: "{\"as\":\"end\",\"bytes\":3,\"bytes_of_01\":3,\"files\":1,\"files_of_01\":1,\"folders\":3,\"largest\":3,\"longest\":24,\"objects\":1,\"objects_at_02\":1,\"renamed\":1,\"sites\":3,\"sites_at_00\":1,\"sites_at_01\":1,\"sites_at_02\":1,\"told\":0}\n",
 };
 
 const TWO_OBJECTS: Row = Row {
@@ -41,7 +41,19 @@ const TWO_OBJECTS: Row = Row {
     room: None,
     has_tuples: true,
     form: Form::Plain,
-    log: "{\"as\":\"end\",\"bytes\":9,\"files\":4,\"folders\":6,\"largest\":6,\"longest\":26,\"objects\":2,\"sites\":4,\"told\":0}\n",
+    log: "{\"as\":\"end\",\"bytes\":9,\"bytes_of_01\":9,\"files\":4,\"files_of_01\":4,\"folders\":6,\"largest\":6,\"longest\":26,\"objects\":2,\"objects_at_02\":2,\"renamed\":2,\"sites\":4,\"sites_at_00\":1,\"sites_at_01\":1,\"sites_at_02\":2,\"told\":0}\n",
+};
+
+// Files of no byte, of nine and of ten.
+const LENGTHS: Row = Row {
+    entries: " ab/c/obj/f=abcdefghij ab/c/obj/g=abcdefghi ab/c/obj/h=",
+    spoiled: &[],
+    calls: None,
+    further: &[],
+    room: None,
+    has_tuples: true,
+    form: Form::Plain,
+    log: "{\"as\":\"end\",\"bytes\":19,\"bytes_of_01\":9,\"bytes_of_02\":10,\"files\":3,\"files_of_00\":1,\"files_of_01\":1,\"files_of_02\":1,\"folders\":3,\"largest\":19,\"longest\":24,\"objects\":1,\"objects_at_02\":1,\"renamed\":1,\"sites\":3,\"sites_at_00\":1,\"sites_at_01\":1,\"sites_at_02\":1,\"told\":0}\n",
 };
 
 const STRAY: Row = Row {
@@ -52,7 +64,7 @@ const STRAY: Row = Row {
     room: None,
     has_tuples: true,
     form: Form::Plain,
-    log: "{\"as\":\"split\",\"path\":\"pairtree_root/ab/c\"}\n{\"as\":\"desktop\",\"path\":\"pairtree_root/ab/c/.DS_Store\"}\n{\"as\":\"end\",\"bytes\":4,\"desktop\":1,\"files\":2,\"folders\":3,\"largest\":0,\"longest\":28,\"objects\":0,\"sites\":3,\"split\":1,\"told\":2}\n",
+    log: "{\"as\":\"split\",\"path\":\"pairtree_root/ab/c\"}\n{\"as\":\"desktop\",\"path\":\"pairtree_root/ab/c/.DS_Store\"}\n{\"as\":\"end\",\"bytes\":4,\"bytes_of_01\":4,\"desktop\":1,\"files\":2,\"files_of_01\":2,\"folders\":3,\"largest\":0,\"longest\":28,\"objects\":0,\"sites\":3,\"sites_at_00\":1,\"sites_at_01\":1,\"sites_at_02\":1,\"split\":1,\"told\":2}\n",
 };
 
 const OTHER: Row = Row {
@@ -63,7 +75,7 @@ const OTHER: Row = Row {
     room: None,
     has_tuples: true,
     form: Form::Plain,
-    log: "{\"as\":\"other\",\"path\":\"pairtree_root/ab/c/obj/l\"}\n{\"as\":\"end\",\"bytes\":0,\"files\":0,\"folders\":3,\"largest\":0,\"longest\":24,\"objects\":1,\"other\":1,\"sites\":3,\"told\":1}\n",
+    log: "{\"as\":\"other\",\"path\":\"pairtree_root/ab/c/obj/l\"}\n{\"as\":\"end\",\"bytes\":0,\"files\":0,\"folders\":3,\"largest\":0,\"longest\":24,\"objects\":1,\"objects_at_02\":1,\"other\":1,\"renamed\":1,\"sites\":3,\"sites_at_00\":1,\"sites_at_01\":1,\"sites_at_02\":1,\"told\":1}\n",
 };
 
 const BAD_NAME: Row = Row {
@@ -74,7 +86,7 @@ const BAD_NAME: Row = Row {
     room: None,
     has_tuples: true,
     form: Form::Plain,
-    log: "{\"as\":\"name\",\"path\":\"pairtree_root/^z/c\"}\n{\"as\":\"end\",\"bytes\":0,\"files\":1,\"folders\":3,\"largest\":0,\"longest\":24,\"name\":1,\"objects\":1,\"sites\":3,\"told\":1}\n",
+    log: "{\"as\":\"name\",\"path\":\"pairtree_root/^z/c\"}\n{\"as\":\"end\",\"bytes\":0,\"files\":1,\"files_of_00\":1,\"folders\":3,\"largest\":0,\"longest\":24,\"name\":1,\"objects\":1,\"objects_at_02\":1,\"renamed\":1,\"sites\":3,\"sites_at_00\":1,\"sites_at_01\":1,\"sites_at_02\":1,\"told\":1}\n",
 };
 
 // The site of `ab` is `ab`, and this one is its twin, if that is there.
@@ -86,7 +98,7 @@ const SPELLING: Row = Row {
     room: None,
     has_tuples: true,
     form: Form::Plain,
-    log: "{\"as\":\"spelling\",\"path\":\"pairtree_root/^6/1b\"}\n{\"as\":\"end\",\"bytes\":0,\"files\":1,\"folders\":3,\"largest\":0,\"longest\":25,\"objects\":1,\"sites\":3,\"spelling\":1,\"told\":1}\n",
+    log: "{\"as\":\"spelling\",\"path\":\"pairtree_root/^6/1b\"}\n{\"as\":\"end\",\"bytes\":0,\"files\":1,\"files_of_00\":1,\"folders\":3,\"largest\":0,\"longest\":25,\"objects\":1,\"objects_at_02\":1,\"renamed\":1,\"sites\":3,\"sites_at_00\":1,\"sites_at_01\":1,\"sites_at_02\":1,\"spelling\":1,\"told\":1}\n",
 };
 
 const PAST: Row = Row {
@@ -97,7 +109,7 @@ const PAST: Row = Row {
     room: None,
     has_tuples: true,
     form: Form::Plain,
-    log: "{\"as\":\"past\",\"path\":\"pairtree_root/a/bc\"}\n{\"as\":\"end\",\"bytes\":0,\"files\":1,\"folders\":3,\"largest\":0,\"longest\":24,\"objects\":0,\"past\":1,\"sites\":2,\"told\":1}\n",
+    log: "{\"as\":\"past\",\"path\":\"pairtree_root/a/bc\"}\n{\"as\":\"end\",\"bytes\":0,\"files\":1,\"files_of_00\":1,\"folders\":3,\"largest\":0,\"longest\":24,\"objects\":0,\"past\":1,\"sites\":2,\"sites_at_00\":1,\"sites_at_01\":1,\"told\":1}\n",
 };
 
 // After the top, `pairtree_root` and `ab` no call passes: each folder beside them is still met, and
@@ -110,7 +122,7 @@ const FAILING: Row = Row {
     room: None,
     has_tuples: true,
     form: Form::Plain,
-    log: "{\"as\":\"unreadable\",\"path\":\"pairtree_root/ab/c\",\"reason\":\"it failed\"}\n{\"as\":\"unreadable\",\"path\":\"pairtree_root/de\",\"reason\":\"it failed\"}\n{\"as\":\"end\",\"bytes\":0,\"files\":0,\"folders\":3,\"largest\":0,\"longest\":18,\"objects\":0,\"sites\":2,\"told\":2,\"unreadable\":2}\n",
+    log: "{\"as\":\"unreadable\",\"path\":\"pairtree_root/ab/c\",\"reason\":\"it failed\"}\n{\"as\":\"unreadable\",\"path\":\"pairtree_root/de\",\"reason\":\"it failed\"}\n{\"as\":\"end\",\"bytes\":0,\"files\":0,\"folders\":3,\"largest\":0,\"longest\":18,\"objects\":0,\"sites\":2,\"sites_at_00\":1,\"sites_at_01\":1,\"told\":2,\"unreadable\":2}\n",
 };
 
 // The site of `ab/c` lists its entries, but isn't judged: it counts as none, and has no object. The
@@ -123,7 +135,7 @@ const PART: Row = Row {
     room: None,
     has_tuples: true,
     form: Form::Plain,
-    log: "{\"as\":\"unreadable\",\"path\":\"pairtree_root/ab/c\",\"reason\":\"it failed\"}\n{\"as\":\"unreadable\",\"path\":\"pairtree_root/ab/c\",\"reason\":\"again\"}\n{\"as\":\"unreadable\",\"path\":\"pairtree_root/ab/c\",\"reason\":\"and again\"}\n{\"as\":\"past\",\"path\":\"pairtree_root/ab/c/de\"}\n{\"as\":\"other\",\"path\":\"pairtree_root/ab/c/de/obj/l\"}\n{\"as\":\"end\",\"bytes\":5,\"files\":2,\"folders\":8,\"largest\":2,\"longest\":27,\"objects\":1,\"other\":1,\"past\":1,\"sites\":4,\"told\":5,\"unreadable\":3}\n",
+    log: "{\"as\":\"unreadable\",\"path\":\"pairtree_root/ab/c\",\"reason\":\"it failed\"}\n{\"as\":\"unreadable\",\"path\":\"pairtree_root/ab/c\",\"reason\":\"again\"}\n{\"as\":\"unreadable\",\"path\":\"pairtree_root/ab/c\",\"reason\":\"and again\"}\n{\"as\":\"past\",\"path\":\"pairtree_root/ab/c/de\"}\n{\"as\":\"other\",\"path\":\"pairtree_root/ab/c/de/obj/l\"}\n{\"as\":\"end\",\"bytes\":5,\"bytes_of_01\":5,\"files\":2,\"files_of_01\":2,\"folders\":8,\"largest\":2,\"longest\":27,\"objects\":1,\"objects_at_02\":1,\"other\":1,\"past\":1,\"renamed\":1,\"sites\":4,\"sites_at_00\":1,\"sites_at_01\":2,\"sites_at_02\":1,\"told\":5,\"unreadable\":3}\n",
 };
 
 // So does the top of a store.
@@ -135,7 +147,7 @@ const PART_OF_TOP: Row = Row {
     room: None,
     has_tuples: true,
     form: Form::Plain,
-    log: "{\"as\":\"unreadable\",\"path\":\"\",\"reason\":\"it failed\"}\n{\"as\":\"unreadable\",\"path\":\"\",\"reason\":\"again\"}\n{\"as\":\"end\",\"bytes\":3,\"files\":1,\"folders\":3,\"largest\":3,\"longest\":24,\"objects\":1,\"sites\":3,\"told\":2,\"unreadable\":2}\n",
+    log: "{\"as\":\"unreadable\",\"path\":\"\",\"reason\":\"it failed\"}\n{\"as\":\"unreadable\",\"path\":\"\",\"reason\":\"again\"}\n{\"as\":\"end\",\"bytes\":3,\"bytes_of_01\":3,\"files\":1,\"files_of_01\":1,\"folders\":3,\"largest\":3,\"longest\":24,\"objects\":1,\"objects_at_02\":1,\"renamed\":1,\"sites\":3,\"sites_at_00\":1,\"sites_at_01\":1,\"sites_at_02\":1,\"told\":2,\"unreadable\":2}\n",
 };
 
 // There is room for the two bytes of `ff`, and not for the three of `d/f`; what is no file of an
@@ -148,7 +160,7 @@ const ROOM: Row = Row {
     room: Some(2),
     has_tuples: true,
     form: Form::Plain,
-    log: "{\"as\":\"place\",\"path\":\"pairtree_root/ab/c/obj/d/f\"}\n{\"as\":\"end\",\"bytes\":5,\"files\":2,\"folders\":8,\"largest\":5,\"longest\":29,\"objects\":2,\"place\":1,\"sites\":5,\"told\":1}\n",
+    log: "{\"as\":\"place\",\"path\":\"pairtree_root/ab/c/obj/d/f\"}\n{\"as\":\"end\",\"bytes\":5,\"bytes_of_01\":5,\"files\":2,\"files_of_01\":2,\"folders\":8,\"largest\":5,\"longest\":29,\"objects\":2,\"objects_at_02\":2,\"place\":1,\"renamed\":2,\"sites\":5,\"sites_at_00\":1,\"sites_at_01\":2,\"sites_at_02\":2,\"told\":1}\n",
 };
 
 // What lies beside the shorty `de` is one object: `a` and `far`, and not what is below `de`, which
@@ -161,7 +173,7 @@ const GATHERED: Row = Row {
     room: Some(2),
     has_tuples: true,
     form: Form::Gathering,
-    log: "{\"as\":\"place\",\"path\":\"pairtree_root/ab/cd/far/g\"}\n{\"as\":\"empty\",\"path\":\"pairtree_root/gh/xy\"}\n{\"as\":\"end\",\"bytes\":11,\"empty\":1,\"files\":4,\"folders\":8,\"largest\":6,\"longest\":28,\"objects\":3,\"place\":1,\"sites\":6,\"told\":2}\n",
+    log: "{\"as\":\"place\",\"path\":\"pairtree_root/ab/cd/far/g\"}\n{\"as\":\"empty\",\"path\":\"pairtree_root/gh/xy\"}\n{\"as\":\"end\",\"bytes\":11,\"bytes_of_01\":11,\"empty\":1,\"files\":4,\"files_of_01\":4,\"folders\":8,\"largest\":6,\"longest\":28,\"objects\":3,\"objects_at_01\":1,\"objects_at_02\":1,\"objects_at_03\":1,\"place\":1,\"renamed\":2,\"sites\":6,\"sites_at_00\":1,\"sites_at_01\":2,\"sites_at_02\":2,\"sites_at_03\":1,\"told\":2}\n",
 };
 
 // Longer pieces: `def` and `ghi` hold shorties, `ghi` beside one folder; `xyz` has a file too, and
@@ -174,7 +186,7 @@ const WIDTH: Row = Row {
     room: None,
     has_tuples: true,
     form: Form::Plain,
-    log: "{\"as\":\"width\",\"path\":\"pairtree_root/ab/cd/def\"}\n{\"as\":\"width\",\"path\":\"pairtree_root/ab/ef/ghi\"}\n{\"as\":\"end\",\"bytes\":0,\"files\":5,\"folders\":13,\"largest\":0,\"longest\":31,\"objects\":3,\"sites\":5,\"told\":2,\"width\":2}\n",
+    log: "{\"as\":\"width\",\"path\":\"pairtree_root/ab/cd/def\"}\n{\"as\":\"width\",\"path\":\"pairtree_root/ab/ef/ghi\"}\n{\"as\":\"end\",\"bytes\":0,\"files\":5,\"files_of_00\":5,\"folders\":13,\"largest\":0,\"longest\":31,\"objects\":3,\"objects_at_02\":3,\"renamed\":3,\"sites\":5,\"sites_at_00\":1,\"sites_at_01\":1,\"sites_at_02\":3,\"told\":2,\"width\":2}\n",
 };
 
 // Without tuples the place of `extensions` is the root's own.
@@ -186,7 +198,7 @@ const RESERVED: Row = Row {
     room: None,
     has_tuples: false,
     form: Form::Plain,
-    log: "{\"as\":\"reserved\",\"path\":\"pairtree_root/ex/te/ns/io/ns\"}\n{\"as\":\"end\",\"bytes\":0,\"files\":1,\"folders\":6,\"largest\":0,\"longest\":34,\"objects\":1,\"reserved\":1,\"sites\":6,\"told\":1}\n",
+    log: "{\"as\":\"reserved\",\"path\":\"pairtree_root/ex/te/ns/io/ns\"}\n{\"as\":\"end\",\"bytes\":0,\"files\":1,\"files_of_00\":1,\"folders\":6,\"largest\":0,\"longest\":34,\"objects\":1,\"objects_at_05\":1,\"renamed\":1,\"reserved\":1,\"sites\":6,\"sites_at_00\":1,\"sites_at_01\":1,\"sites_at_02\":1,\"sites_at_03\":1,\"sites_at_04\":1,\"sites_at_05\":1,\"told\":1}\n",
 };
 
 // The store of no entry lacks nothing; a source of nothing lacks the version's file and
@@ -194,9 +206,10 @@ const RESERVED: Row = Row {
 const EMPTY: &str =
     "{\"as\":\"missing\",\"path\":\"pairtree_version0_1\"}\n{\"as\":\"missing\",\"path\":\"pairtree_root\"}\n{\"as\":\"end\",\"bytes\":0,\"files\":0,\"folders\":0,\"largest\":0,\"longest\":0,\"missing\":2,\"objects\":0,\"sites\":0,\"told\":2}\n";
 
-const ROWS: [Row; 14] = [
+const ROWS: [Row; 15] = [
     WHOLE,
     TWO_OBJECTS,
+    LENGTHS,
     STRAY,
     OTHER,
     BAD_NAME,

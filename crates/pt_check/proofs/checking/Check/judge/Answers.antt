@@ -1,6 +1,6 @@
-use Rattle.std.proofs.Common.{ap, subst, ◌≡◌, ◌∙◌}
-use Rattle.std.specs.Prelude.{Option}
-use Rattle.pt_check.specs.Visits.{CheckState, TellsIf, finding_of, folder_trouble, reserved_trouble, check_state, with_folder}
+use Rattle.std.proofs.Common.{ap, subst, ◌≡◌, ◌∙◌, ℕ}
+use Rattle.std.specs.Prelude.{Bool, List, Option, length}
+use Rattle.pt_check.specs.Visits.{CheckState, TellsIf, depth_of, finding_of, folder_trouble, is_renamed, reserved_trouble, check_state, with_folder}
 use Rattle.pt_check.specs.declared.trouble.Trouble.{Trouble}
 use Rattle.pt_name.specs.Tuples.{Tuples}
 use Rattle.pt_walk.specs.declared.site.Finding.{Finding}
@@ -28,8 +28,13 @@ returns-clause-judged g c =
     let m = check_state g.S.Source g.L.Log c.tell_if.new.self in
     let o = check_state g.S.Source g.L.Log c.tell_if-2.new.self in
     let b = check_state g.S.Source g.L.Log c.tell_if-3.new.self in
+    let depth : length c.names_below-depth.result.now ≡ depth_of path = ap length c.names_below-depth.ensures in
+    let renamed : c.in_ok-renamed.renamed ≡ is_renamed path c.args.listing.now what =
+    c.in_ok-renamed.ensures ∙ ap (is_renamed path c.args.listing.now) c.finding_of-finding.ensures in
     let counts = recounted g.S.Source g.L.Log c.args.self.now c.count.new.self _ c.count.ensures.rest (c.count.ensures.numbers
-    ∙ ap (λ (f : Finding). with_folder c.args.within f a.numbers) c.finding_of-finding.ensures) in
+    ∙ ap (λ (f : Finding). with_folder (length c.names_below-depth.result.now) c.in_ok-renamed.renamed c.args.within f a.numbers) c.finding_of-finding.ensures
+    ∙ ap (λ (n : ℕ). with_folder n c.in_ok-renamed.renamed c.args.within what a.numbers) depth
+    ∙ ap (λ (r : Bool). with_folder (depth_of path) r c.args.within what a.numbers) renamed) in
     let layout : c.count.new.self.wants.layout ≡ c.args.self.now.wants.layout = ap (λ s. s.wants.layout) c.count.ensures.rest in
     let first = c.in_ok-trouble.ensures ∙ ap (λ (f : Finding). folder_trouble c.args.within f path) c.finding_of-finding.ensures in
     let second = c.in_ok-trouble-2.ensures ∙ ap (λ (f : Finding). reserved_trouble c.count.new.self.wants.layout c.args.prefix.now f path)
