@@ -16,7 +16,7 @@ from calls import lines_of_trace
 from guide import guide_block
 from running import MEANT
 from sharing import ROOTS, WAYS, audited, joined, ran, random_store, share_number, told
-from stores import DIR, Link, build, differences, read_tree, store
+from stores import ABC, DIR, Link, build, differences, read_tree, root, store, stored
 
 
 def way_of(at, depth):
@@ -153,19 +153,90 @@ def twins_apart(program, folder):
     return faults + list(differences(read_tree(f"{folder}/{first}"), read_tree(f"{folder}/whole")))
 
 
-def first_tells_extras(program, folder):
-    """What a root has more is told by the first share alone, and each share tells of its own objects."""
+# What is planted in a root beside its objects: at its top and deeper, some of it in the same entries.
+STRAYS = {
+    "a": b"",
+    "b": DIR,
+    "c/d": b"",
+    "c/e/f/g/h": b"",
+    "k/0=ocfl_object_1.1": b"",
+    "m/0=ocfl_object_1.1": b"",
+    "m/inventory.json": b'{"id":"aa"}',
+    "m/n": b"",
+    "p/q/0=ocfl_object_1.0": b"",
+    "p/q/inventory.json": b'{"id":"none"}',
+    "p/r": DIR,
+}
+
+
+def entries_tell_extras(program, folder):
+    """What a root has more is told by the share that the name of its entry gives, in the order of the whole, and by no other; and each share tells of its
+    own objects."""
     shutil.rmtree(f"{folder}/s")
-    build(f"{folder}/s", store({f"{x}{y}/obj/f": b"1" for x in "abc" for y in "abc"}))
+    build(f"{folder}/s", store({f"{x}{y}/obj/f": b"1" for x in "abc" for y in "abcdef"}))
     ran(program, folder, "d")
-    shutil.rmtree(f"{folder}/s/pairtree_root/ab")
-    build(f"{folder}/d", {"ocfl/stray": b""})
-    whole = audited(program, folder, "d", "--extra")
-    extras = [line for line in whole if json.loads(line)["as"] in ("extra", "stray")]
-    logs = [audited(program, folder, "d", "--extra", *by_folders(number, 3, 1)) for number in (1, 2, 3)]
-    faults = differs(extras=(len(extras), 2), all=(sorted(sum(logs, [])), sorted(whole)))
-    others = [line for log in logs[1:] for line in log if line in extras]
-    return faults + differs(others=(others, []))
+    for x in "ab":
+        for y in "abcdef":
+            shutil.rmtree(f"{folder}/s/pairtree_root/{x}{y}")
+    build(f"{folder}/d", {f"ocfl/{path}": content for path, content in STRAYS.items()})
+    faults = []
+    for words, wanted in ((), 20), (("--only", "a"), 13):
+        whole = audited(program, folder, "d", "--extra", *words)
+        extras = [entry for entry in map(json.loads, whole) if entry["as"] in ("extra", "stray")]
+        faults += differs(extras=(len(extras), wanted))
+        for count, depth in (1, 1), (2, 1), (3, 2), (7, 1), (7, 3):
+            logs = [audited(program, folder, "d", "--extra", *words, *by_folders(number, count, depth)) for number in range(1, count + 1)]
+            faults += differs(**{f"{count} shares": (sorted(sum(logs, [])), sorted(whole))})
+            for number, log in enumerate(logs, 1):
+                told_here = [entry for entry in map(json.loads, log) if entry["as"] in ("extra", "stray")]
+                own = [entry for entry in extras if share_number(entry["to"].split("/")[0], count) == number]
+                faults += differs(**{f"share {number} of {count}": (told_here, own)})
+    return faults
+
+
+def listed_of_root(lines, folder):
+    """The folders of the root that were listed, by the lines of a trace, the root itself as the empty text."""
+    found = [re.search(rf"getdents64\(\d+<{re.escape(folder)}/d/ocfl(?:/([^>]*))?>", line) for line in lines]
+    return {match.group(1) or "" for match in found if match}
+
+
+def lists_its_own_entries(program, folder):
+    """An audit with extras of a share by folders lists the root, and of its entries and what is below only the share's own. By identifiers it lists all."""
+    shutil.rmtree(f"{folder}/s")
+    objects = {path: content for number in range(24) for path, content in stored(f"n{number}", ABC).items()}
+    build(f"{folder}/s", store({}))
+    build(f"{folder}/d", {**root(objects), **{f"ocfl/{path}": content for path, content in STRAYS.items()}})
+    walked = set()
+    for path, folders, names in os.walk(f"{folder}/d/ocfl"):
+        walked.add(path[len(f"{folder}/d/ocfl/") :])
+        if any(name.startswith("0=ocfl_object") for name in names):
+            folders.clear()
+        if path == f"{folder}/d/ocfl":
+            folders.remove("extensions")
+    faults = []
+    for count, depth, number in ((1, 1, 1), (2, 1, 1), (3, 2, 3), (7, 3, 2), (7, 1, 7)):
+        own = {path for path in walked if not path or share_number(path.split("/")[0], count) == number}
+        command = [program, "audit", "--extra", *by_folders(number, count, depth), "s", "d"]
+        lines = lines_of_trace(folder, "getdents64", command)[1]
+        faults += differs(**{f"share {number} of {count}": (listed_of_root(lines, folder), own)})
+    lines = lines_of_trace(folder, "getdents64", [program, "audit", "--extra", "--share", "2/3", "s", "d"])[1]
+    return faults + differs(identifiers=(listed_of_root(lines, folder), walked))
+
+
+def tells_what_it_misses(program, folder):
+    """That a folder of the root couldn't be listed whole is told of the root itself by each share, and of an entry only by the share that looks there."""
+    cafe = os.fsdecode(b"caf\xe9")
+    build(f"{folder}/d", root())
+    build(f"{folder}/d", {f"ocfl/{cafe}": b"", f"ocfl/x/y/{cafe}": b"", "ocfl/x/y/f": b""})
+    faults = []
+    for count in (1, 2, 3):
+        for number in range(1, count + 1):
+            found = [json.loads(line) for line in audited(program, folder, "d", "--extra", *by_folders(number, count, 1))]
+            own = share_number("x", count) == number
+            wanted = [("", True), *([("x/y", True), ("x/y/f", False)] if own else [])]
+            lines = [(entry["to"], "reason" in entry) for entry in found if entry["as"] == "stray"]
+            faults += differs(**{f"share {number} of {count}": (lines, wanted)})
+    return faults
 
 
 def unmet_of_each(program, folder):
@@ -204,7 +275,9 @@ CASES = [
     Alone("shares by folders of a store of every cause", every_cause),
     Alone("a share by folders lists only its own", lists_its_own),
     Alone("two sites of one identifier in two shares by folders", twins_apart),
-    Alone("extras are told by the first share by folders", first_tells_extras),
+    Alone("extras are told by the share of their entry, by folders", entries_tell_extras),
+    Alone("extras: a share by folders lists only its own entries of the root", lists_its_own_entries),
+    Alone("extras: what a share by folders couldn't list", tells_what_it_misses),
     Alone("a list in shares by folders", unmet_of_each),
     Alone("the folders that are divided are counted", counts_folders),
     Alone("the one share of one by folders", one_share),

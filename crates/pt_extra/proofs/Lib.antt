@@ -1,5 +1,6 @@
 mod BothWays
 mod Converted
+mod Entries
 mod Exits
 mod Fields
 mod Keeping
@@ -10,6 +11,7 @@ mod ReadTexts
 mod Reading
 mod Reasons
 mod Roots
+mod SharedFindings
 mod Telling
 mod Tops
 mod Unlisted

@@ -2,31 +2,42 @@
 use Rattle.std.proofs.Common.{◌≡◌, ℕ, Bool, true, false, List, [], ◌∷◌, sym, ap, ◌∙◌, cond, drop, length}
 use Rattle.std.specs.Prelude.{◌&&◌, Some}
 use Rattle.pt_audit.specs.Twin.{object_stands, proper_site}
-use Rattle.pt_extra.specs.Findings.{Against, is_held, of_object, of_placed}
+use Rattle.pt_extra.specs.Findings.{Against, entry_of, is_held, of_object, of_placed}
 use Rattle.pt_extra.specs.Lines.{Extra, Stray}
 use Rattle.pt_name.specs.Place.{place_of}
-use Rattle.pt_name.specs.Share.{begins_with, holds}
+use Rattle.pt_name.specs.Share.{begins_with, takes}
 use Rattle.pt_tree.specs.Path.{Path, same_path}
 
-chosen_at : (c : Against) (path : Path) (id : List ℕ) (at : Bool) → holds c.job.share id ≡ true → same_path path (place_of c.job.tuples id) ≡ at
+chosen_at : (c : Against) (path : Path) (id : List ℕ) (at : Bool) → takes c.job.share (entry_of path) id ≡ true → same_path path (place_of c.job.tuples id) ≡ at
     → of_object c path (Some id) ≡ cond at (of_placed c path id) (Stray path ∷ [])
 chosen_at c path id at chosen same =
     ap (λ (t : Bool). cond t (cond (same_path path (place_of c.job.tuples id)) (of_placed c path id) (Stray path ∷ [])) []) chosen
     ∙ ap (λ (t : Bool). cond t (of_placed c path id) (Stray path ∷ [])) same
 
+-- nothing where it isn't chosen, or is another share's
+pub of_other : (c : Against) (path : Path) (id : List ℕ) → takes c.job.share (entry_of path) id ≡ false → of_object c path (Some id) ≡ []
+of_other c path id other =
+    ap (λ (t : Bool). cond t (cond (same_path path (place_of c.job.tuples id)) (of_placed c path id) (Stray path ∷ [])) []) other
+
 -- it is stray where its place is another
-pub of_misplaced : (c : Against) (path : Path) (id : List ℕ) → holds c.job.share id ≡ true → same_path path (place_of c.job.tuples id) ≡ false
+pub of_misplaced : (c : Against) (path : Path) (id : List ℕ) → takes c.job.share (entry_of path) id ≡ true → same_path path (place_of c.job.tuples id) ≡ false
     → of_object c path (Some id) ≡ Stray path ∷ []
 of_misplaced c path id chosen other = chosen_at c path id false chosen other
 
-placed_by : (c : Against) (path : Path) (id : List ℕ) (h : Bool) → holds c.job.share id ≡ true → same_path path (place_of c.job.tuples id) ≡ true
+placed_by : (c : Against) (path : Path) (id : List ℕ) (h : Bool) → takes c.job.share (entry_of path) id ≡ true
+    → same_path path (place_of c.job.tuples id) ≡ true
     → h ≡ is_held c id → of_object c path (Some id) ≡ cond h [] (Extra id path ∷ [])
 placed_by c path id h chosen same is = chosen_at c path id true chosen same ∙ ap (λ (t : Bool). cond t [] (Extra id path ∷ [])) (sym is)
 
 -- else it is extra
-pub of_unheld : (c : Against) (path : Path) (id : List ℕ) → holds c.job.share id ≡ true → same_path path (place_of c.job.tuples id) ≡ true
+pub of_unheld : (c : Against) (path : Path) (id : List ℕ) → takes c.job.share (entry_of path) id ≡ true → same_path path (place_of c.job.tuples id) ≡ true
     → false ≡ is_held c id → of_object c path (Some id) ≡ Extra id path ∷ []
 of_unheld c path id chosen same is = placed_by c path id false chosen same is
+
+-- and nothing is found of it where the store has it
+pub of_held : (c : Against) (path : Path) (id : List ℕ) → takes c.job.share (entry_of path) id ≡ true → same_path path (place_of c.job.tuples id) ≡ true
+    → true ≡ is_held c id → of_object c path (Some id) ≡ []
+of_held c path id chosen same is = placed_by c path id true chosen same is
 
 -- an identifier that begins otherwise isn't held
 pub not_begun : (c : Against) (id : List ℕ) → begins_with c.prefix id ≡ false → false ≡ is_held c id

@@ -44,7 +44,7 @@ use Rattle.pt_extra.proofs.Unlisted.{
   wider,
   wider_before,
 }
-use Rattle.pt_extra.specs.Findings.{Against, found_at, is_object, is_part, of_entries, of_folder_by, of_leaf, of_object, of_unnamed}
+use Rattle.pt_extra.specs.Findings.{Against, found_at, is_object, is_passed, of_entries, of_folder_by, of_leaf, of_object, of_unnamed}
 use Rattle.pt_extra.specs.Inventories.{id_of}
 use Rattle.pt_extra.specs.Lines.{ExtraFinding, texts}
 use Rattle.pt_extra.specs.Unlisted.{IsOfEntries, IsToldAt, Listed, of_unlisted}
@@ -116,7 +116,7 @@ OfEntry F c top path left name kind.File e = e ≡ of_leaf c path name kind.File
 OfEntry F c top path left name kind.Other e = e ≡ of_leaf c path name kind.Other
 OfEntry F c top path left name kind.Dir e =
     (here : List ExtraFinding) × IsToldAt F c (path ++ name ∷ []) (left - 1) (inside_at top (in_root (path ++ name ∷ []))) here
-    × (e ≡ cond (is_part path name kind.Dir) [] here)
+    × (e ≡ cond (is_passed c.job.share path name kind.Dir) [] here)
 
 -- what may be told of the rest begins with it
 joins : (F : Type 0) (c : Against) (top : Forest) (path : Path) (left : ℕ) (items : List Item) (place : ℕ) (name : List ℕ) (here : Kind)
@@ -196,12 +196,12 @@ module _ (c : Against) (top : Forest) (path : Path) (left : ℕ) (items : List I
         (joins (HasRisen first last) c top path left items place name here e more proper listed at (may last after) it));
   }
 
-  -- it is the root's own
-  pub found_part : (name : List ℕ) (here : Kind) → slice_get items place ≡ Some (name, here) → is_part path name here ≡ true
+  -- it is passed
+  pub found_passed : (name : List ℕ) (here : Kind) → slice_get items place ≡ Some (name, here) → is_passed c.job.share path name here ≡ true
       → FoundTo first now c path left (inside_at top (in_root path)) (place + 1) a b
-  found_part name here at part = found_more now name here [] b (λ rose. rose) at (λ last after. may (HasRisen first last) here part) (puts_none b)
+  found_passed name here at part = found_more now name here [] b (λ rose. rose) at (λ last after. may (HasRisen first last) here part) (puts_none b)
     where
-      may : (F : Type 0) (here : Kind) → is_part path name here ≡ true → OfEntry F c top path left name here []
+      may : (F : Type 0) (here : Kind) → is_passed c.job.share path name here ≡ true → OfEntry F c top path left name here []
       may F kind.File part = sym (ap (λ (t : Bool). cond t [] (of_unnamed c (path ++ name ∷ []))) part)
       may F kind.Other part = sym (ap (λ (t : Bool). cond t [] (of_unnamed c (path ++ name ∷ []))) part)
       may F kind.Dir part =
@@ -213,7 +213,7 @@ module _ (c : Against) (top : Forest) (path : Path) (left : ℕ) (items : List I
                 (λ (t : Bool). cond t [] (of_folder_by c it (left - 1) (inside_at top (in_root it)) (of_unnamed c it) found)) part),
           )
 
-  of_dir : (F : Type 0) (name : List ℕ) (here : Kind) (entry : Path) (e : List ExtraFinding) → here ≡ kind.Dir → is_part path name here ≡ false
+  of_dir : (F : Type 0) (name : List ℕ) (here : Kind) (entry : Path) (e : List ExtraFinding) → here ≡ kind.Dir → is_passed c.job.share path name here ≡ false
       → entry ≡ path ++ name ∷ [] → IsToldAt F c entry (left - 1) (inside_at top (in_root entry)) e → OfEntry F c top path left name here e
   of_dir F name kind.File entry e is part entry_is may = absurd (cc)
   of_dir F name kind.Other entry e is part entry_is may = absurd (cc)
@@ -232,14 +232,15 @@ module _ (c : Against) (top : Forest) (path : Path) (left : ℕ) (items : List I
 
   -- it is a folder
   pub found_dir : (later : ℕ) (name : List ℕ) (here : Kind) (entry : Path) (d : WalkState) → first ≤ now → Later first now later
-      → slice_get items place ≡ Some (name, here) → here ≡ kind.Dir → is_part path name here ≡ false → entry ≡ path ++ name ∷ []
+      → slice_get items place ≡ Some (name, here) → here ≡ kind.Dir → is_passed c.job.share path name here ≡ false → entry ≡ path ++ name ∷ []
       → IsPut (HasRisen now later) c entry (left - 1) (inside_at top (in_root entry)) b d
       → FoundTo first later c path left (inside_at top (in_root path)) (place + 1) a d
   found_dir later name here entry d from le at is part entry_is put =
       found_more later name here put.told d le at
       (λ last after. of_dir (HasRisen first last) name here entry put.told is part entry_is (widened later last entry put.told from after put.may)) put.puts
 
-  leaf_is : (F : Type 0) (name : List ℕ) (here : Kind) (entry : Path) → (here ≡ kind.Dir → ⊥) → is_part path name here ≡ false → entry ≡ path ++ name ∷ []
+  leaf_is : (F : Type 0) (name : List ℕ) (here : Kind) (entry : Path) → (here ≡ kind.Dir → ⊥)
+      → is_passed c.job.share path name here ≡ false → entry ≡ path ++ name ∷ []
       → OfEntry F c top path left name here (of_unnamed c entry)
   leaf_is F name kind.File entry leaf part entry_is =
       ap (of_unnamed c) entry_is ∙ sym (ap (λ (t : Bool). cond t [] (of_unnamed c (path ++ name ∷ []))) part)
@@ -250,7 +251,7 @@ module _ (c : Against) (top : Forest) (path : Path) (left : ℕ) (items : List I
   -- it is none
   pub found_leaf : (later : ℕ) (name : List ℕ) (here : Kind) (entry : Path) (d : WalkState) → Later first now later
       → slice_get items place ≡ Some (name, here)
-      → (here ≡ kind.Dir → ⊥) → is_part path name here ≡ false → entry ≡ path ++ name ∷ [] → Puts (of_unnamed c entry) b d
+      → (here ≡ kind.Dir → ⊥) → is_passed c.job.share path name here ≡ false → entry ≡ path ++ name ∷ [] → Puts (of_unnamed c entry) b d
       → FoundTo first later c path left (inside_at top (in_root path)) (place + 1) a d
   found_leaf later name here entry d le at leaf part entry_is puts =
       found_more later name here (of_unnamed c entry) d le at (λ last after. leaf_is (HasRisen first last) name here entry leaf part entry_is) puts
@@ -334,7 +335,7 @@ module _ (c : Against) (top : Forest) (path : Path) (left : ℕ) (items : List I
 
   -- which is a folder
   pub stops_dir : (last : ℕ) (name : List ℕ) (here : Kind) (entry : Path) (end : Option (List ℕ)) → first ≤ now → Later first now last
-      → slice_get items place ≡ Some (name, here) → here ≡ kind.Dir → is_part path name here ≡ false → entry ≡ path ++ name ∷ []
+      → slice_get items place ≡ Some (name, here) → here ≡ kind.Dir → is_passed c.job.share path name here ≡ false → entry ≡ path ++ name ∷ []
       → IsFront (HasRisen now last) c entry (left - 1) (inside_at top (in_root entry)) b.held end
       → IsFront (HasRisen first last) c path left (inside_at top (in_root path)) a.held end
   stops_dir last name here entry end from le at is part entry_is front =
@@ -344,7 +345,7 @@ module _ (c : Against) (top : Forest) (path : Path) (left : ℕ) (items : List I
 
   -- or none
   pub stops_leaf : (last : ℕ) (name : List ℕ) (here : Kind) (entry : Path) (end : Option (List ℕ)) → Later first now last
-      → slice_get items place ≡ Some (name, here) → (here ≡ kind.Dir → ⊥) → is_part path name here ≡ false → entry ≡ path ++ name ∷ []
+      → slice_get items place ≡ Some (name, here) → (here ≡ kind.Dir → ⊥) → is_passed c.job.share path name here ≡ false → entry ≡ path ++ name ∷ []
       → AppendsFront b.held end (texts (of_unnamed c entry))
       → IsFront (HasRisen first last) c path left (inside_at top (in_root path)) a.held end
   stops_leaf last name here entry end le at leaf part entry_is put =

@@ -1,11 +1,33 @@
 -- What a root has and its store lacks.
-use Rattle.std.specs.Prelude.{ℕ, ◌-◌, ◌==◌, ◌&&◌, ◌||◌, Bool, false, cond, codes, List, [], ◌∷◌, ◌++◌, drop, length, take, Option, None, Some}
+use Rattle.std.specs.Prelude.{
+  ℕ,
+  ◌-◌,
+  ◌==◌,
+  ◌&&◌,
+  ◌||◌,
+  Bool,
+  true,
+  false,
+  not,
+  cond,
+  codes,
+  List,
+  [],
+  ◌∷◌,
+  ◌++◌,
+  drop,
+  length,
+  take,
+  Option,
+  None,
+  Some,
+}
 use Rattle.std.specs.Str.{bytes_eq}
 use Rattle.pt_audit.specs.Twin.{object_stands, proper_site}
 use Rattle.pt_extra.specs.Inventories.{id_of}
 use Rattle.pt_extra.specs.Lines.{ExtraFinding, Extra, Stray}
 use Rattle.pt_name.specs.Place.{place_of}
-use Rattle.pt_name.specs.Share.{begins_with, holds, is_first}
+use Rattle.pt_name.specs.Share.{Portion, begins_with, by_division, is_on_own_way, takes, tells_at}
 use Rattle.pt_object.specs.WellKnown.{known_text}
 use Rattle.pt_object.specs.declared.well_known.WellKnownName.TheVariants as known
 use Rattle.pt_plan.specs.Job.{Job}
@@ -22,6 +44,19 @@ pub record Against : Type 0 where
   pub prefix : List ℕ
   pub store : Forest
 
+-- ---- whose it is
+
+-- the entry of the root at or below which a path lies, none for the top. Where the store is divided by its folders, its name gives the share of all that
+-- stands there, as the first folder on the way to a site does
+abbrev pub entry_of : Path → Path
+entry_of path = take 1 path
+
+-- what stands at this path of the root is looked at: of its entries a share looks at its own alone, where the store is divided by its folders, and so
+-- no share but one comes to what is below
+abbrev pub looks_at : Portion → Path → Bool
+looks_at share path =
+    not (length path == 1) || by_division share.division true (is_on_own_way share path)
+
 -- ---- an object
 
 -- an object stands in the store where this identifier belongs, as a run judges the site
@@ -29,19 +64,19 @@ abbrev pub is_held : Against → List ℕ → Bool
 is_held c id =
     begins_with c.prefix id && object_stands c.job c.store (proper_site (drop (length c.prefix) id))
 
--- what has no identifier is stray, and is told by the first share alone: the shares together tell it once
+-- what has no identifier is stray, and is told by the first share alone, or by the one whose entry it is: the shares together tell it once
 abbrev pub of_unnamed : Against → Path → List ExtraFinding
-of_unnamed c path = cond (is_first c.job.share) (Stray path ∷ []) []
+of_unnamed c path = cond (tells_at c.job.share (entry_of path)) (Stray path ∷ []) []
 
 -- of an object at its place: nothing where the store has it
 abbrev pub of_placed : Against → Path → List ℕ → List ExtraFinding
 of_placed c path id = cond (is_held c id) [] (Extra id path ∷ [])
 
--- of an object at this path with this identifier, if one could be read: nothing where that isn't chosen
+-- of an object at this path with this identifier, if one could be read: nothing where that isn't chosen, or the object is another share's
 abbrev pub of_object : Against → Path → Option (List ℕ) → List ExtraFinding
 of_object c path None = of_unnamed c path
 of_object c path (Some id) =
-    cond (holds c.job.share id)
+    cond (takes c.job.share (entry_of path) id)
     (cond (same_path path (place_of c.job.tuples id)) (of_placed c path id) (Stray path ∷ [])) []
 
 -- a folder that lists these is an object's root: it has a declaration (OCFL 1.1 and 1.0, "Object Structure")
@@ -70,9 +105,14 @@ abbrev pub is_part : Path → List ℕ → Kind → Bool
 is_part [] name here = is_own name here
 is_part (n ∷ path) name here = false
 
+-- it is passed: it is the root's own, or another share looks at it
+abbrev pub is_passed : Portion → Path → List ℕ → Kind → Bool
+is_passed share path name here = is_part path name here || not (looks_at share (path ++ name ∷ []))
+
 -- what is found of an entry that is no folder
 abbrev pub of_leaf : Against → Path → List ℕ → Kind → List ExtraFinding
-of_leaf c path name here = cond (is_part path name here) [] (of_unnamed c (path ++ name ∷ []))
+of_leaf c path name here =
+    cond (is_passed c.job.share path name here) [] (of_unnamed c (path ++ name ∷ []))
 
 -- what is found of a folder, by what is found of it where it is bare, and what of its entries: it is an object, or is bare where it is empty, or
 -- lies as deep as objects do
@@ -91,7 +131,7 @@ of_entries c path left (file name bytes after) = of_leaf c path name kind.File +
 of_entries c path left (other name after) = of_leaf c path name kind.Other ++ of_entries c path left after
 of_entries c path left (dir name inside after) =
     let it = path ++ name ∷ [] in
-    cond (is_part path name kind.Dir) []
+    cond (is_passed c.job.share path name kind.Dir) []
     (of_folder c it (left - 1) inside (of_entries c it (left - 1) inside))
     ++ of_entries c path left after
 

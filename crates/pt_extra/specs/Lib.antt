@@ -4,6 +4,7 @@ pub mod Findings
 pub mod FolderListing
 pub mod Inventories
 pub mod Lines
+pub mod ShareLaws
 pub mod Unlisted
 pub mod Walk
 pub mod WalkFields

@@ -1,6 +1,6 @@
 -- What is told of a root of which a folder can't be listed.
 use Rattle.std.specs.Prelude.{◌≡◌, ◌+◌, ◌-◌, ℕ, cond, List, [], ◌∷◌, ◌++◌, map}
-use Rattle.pt_extra.specs.Findings.{Against, is_part, of_folder, of_folder_by, of_leaf}
+use Rattle.pt_extra.specs.Findings.{Against, is_passed, of_folder, of_folder_by, of_leaf}
 use Rattle.pt_extra.specs.Lines.{ExtraFinding, Unlisted}
 use Rattle.pt_object.specs.WellKnown.{known_text}
 use Rattle.pt_object.specs.declared.well_known.WellKnownName.TheVariants as known
@@ -38,7 +38,7 @@ IsOfEntries failed c path left (dir name inside after) told =
     (here : List ExtraFinding) × (rest : List ExtraFinding)
     × ((entries : List ExtraFinding) × IsOfEntries failed c it (left - 1) inside entries × IsOfFolder failed c it (left - 1) inside entries here)
     × IsOfEntries failed c path left after rest
-    × (told ≡ cond (is_part path name kind.Dir) [] here ++ rest)
+    × (told ≡ cond (is_passed c.job.share path name kind.Dir) [] here ++ rest)
 
 -- of a folder, and of all that stands in it
 abbrev pub IsToldAt : Type 0 → Against → Path → ℕ → Forest → List ExtraFinding → Type 0

@@ -25,6 +25,8 @@
 //!   A device is blamed only where it failed, and one that failed is, but for a root that couldn't
 //!   list a folder and told so (`FailsPast`); `Dest` is the root's fault, and else `Memory` is
 //!   answered only where a growth was refused.
+//! - Each finding of the whole store is found by just one of its shares by folders, and by these
+//!   nothing else is (`folder_shares_find_the_whole`).
 //! - A walk is its devices, job, prefix and numbers (`IsOnlyWalk`). While it runs it holds beside
 //!   them, which isn't proved, the at most 34 listings on the way, and one inventory, with as much
 //!   room again, the listing of one site, or the names for which one folder couldn't be listed.
@@ -36,10 +38,12 @@ mod auditing;
 mod devices;
 mod identifier;
 mod inventory;
+pub mod laws;
 mod lines;
 mod listing;
 mod numbers;
 mod parts;
+mod shares;
 mod store;
 mod walking;
 

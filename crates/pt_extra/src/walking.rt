@@ -7,6 +7,9 @@
 //! folder that it is stray where it is empty, or lies as deep as objects do; else what is found of
 //! its entries. A file, link or special file is stray, but for the root's own (`is_own`). What is
 //! stray and has no identifier is found by the first share alone (`of_unnamed`).
+//!
+//! Where the store is divided by its folders, the root is by its entries: all at and below an entry
+//! is of the share that its name gives (`entry_of`), and the others don't look at it (`looks_at`).
 ghost use Rattle.std.specs.Prelude.{◌≡◌, ◌<◌, ◌∷◌, [], IfOk, IsSome, OnErr, OnOk, length};
 ghost use Rattle.std.specs.Option.{ForSome};
 ghost use Rattle.pt_tree.specs.Source.{tree_in};
@@ -29,6 +32,7 @@ use crate::identifier::identifier_at;
 use crate::lines::{extra_line, stray_line};
 use crate::listing::FolderListing;
 use crate::parts::{is_object, is_part};
+use crate::shares::{looks_at, takes, tells_of};
 use crate::store::{has_folder, has_object};
 use crate::{ExtraDevices, ExtraNumbers};
 use pt_check::Explains;
@@ -148,6 +152,9 @@ impl<S: Source, R: Source, L: Log, E: Explains<R> + Drop> Extras<S, R, L, E> {
                 continue;
             }
             let entry = path.child(name)?;
+            if !looks_at(&self.job.share, &entry) {
+                continue;
+            }
             if let Kind::Dir = kind {
                 self.visit(&entry, left - 1)?;
                 continue;
@@ -198,7 +205,7 @@ impl<S: Source, R: Source, L: Log, E: Explains<R> + Drop> Extras<S, R, L, E> {
         ensures keeps { Keeps S.Source R.Source L.Log self.old self.new }
         ensures fails { Fails S.Source R.Source L.Log self.old self.new result }
     {
-        if !self.job.share.holds(id.as_bytes()) {
+        if !takes(self.alloc, &self.job.share, path, id)? {
             return Ok(());
         }
         let place = self.job.layout.place(self.alloc, id.as_bytes())?;
@@ -244,7 +251,8 @@ impl<S: Source, R: Source, L: Log, E: Explains<R> + Drop> Extras<S, R, L, E> {
         Ok(())
     }
 
-    // What stands at a path is stray and has no identifier: the first share tells it.
+    // What stands at a path is stray and has no identifier: the first share tells it, or the one
+    // whose entry of the root it stands at or below, where the store is divided by its folders.
     fn meet_stray(&mut self, path: &NamePath) -> Result<(), Fault>
         ensures told { OnOk result (Tells S.Source R.Source L.Log
             (found_unnamed path.now) self.old self.new) }
@@ -253,7 +261,7 @@ impl<S: Source, R: Source, L: Log, E: Explains<R> + Drop> Extras<S, R, L, E> {
         ensures keeps { Keeps S.Source R.Source L.Log self.old self.new }
         ensures fails { Fails S.Source R.Source L.Log self.old self.new result }
     {
-        if !self.job.share.is_first() {
+        if !tells_of(self.alloc, &self.job.share, path)? {
             return Ok(());
         }
         self.tell_stray(path)

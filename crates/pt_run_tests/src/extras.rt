@@ -271,7 +271,63 @@ const SECOND_SPOILED: Row = Row {
     numbers: ExtraNumbers { extra: 1, stray: 5 },
 };
 
-const ROWS: [Row; 13] = [
+// By folders what stands at or below an entry of the root is of the share that its name gives: `a`
+// of the second of two, `ba7` and `x` of the first. The other doesn't list them.
+const OWN_ENTRIES: Row = Row {
+    entries: "",
+    prefix: "",
+    settings: Settings::Folders(1, 2, 3),
+    root: SHARED,
+    spoiled: &["ocfl", "ocfl/x"],
+    further: &["again"],
+    log: r#"{"as":"stray","reason":"it failed","to":""}
+{"as":"stray","reason":"again","to":""}
+{"as":"extra","id":"abc","to":"ba7/816/bf8/abc"}
+{"as":"stray","reason":"it failed","to":"x"}
+{"as":"stray","reason":"again","to":"x"}
+{"as":"stray","to":"x"}
+"#,
+    numbers: ExtraNumbers { extra: 1, stray: 5 },
+};
+
+const OTHER_ENTRIES: Row = Row {
+    entries: "",
+    prefix: "",
+    settings: Settings::Folders(2, 2, 1),
+    root: SHARED,
+    spoiled: &["ocfl", "ocfl/ba7", "ocfl/x"],
+    further: &["again"],
+    log: r#"{"as":"stray","reason":"it failed","to":""}
+{"as":"stray","reason":"again","to":""}
+{"as":"stray","to":"a"}
+"#,
+    numbers: ExtraNumbers { extra: 0, stray: 3 },
+};
+
+// An empty root is of the share of the empty text, the second of two.
+const OWN_EMPTY: Row = Row {
+    entries: "",
+    prefix: "",
+    settings: Settings::Folders(2, 2, 1),
+    root: &[("ocfl/", "")],
+    spoiled: &[],
+    further: &[],
+    log: "{\"as\":\"stray\",\"to\":\"\"}\n",
+    numbers: ExtraNumbers { extra: 0, stray: 1 },
+};
+
+const OTHER_EMPTY: Row = Row {
+    entries: "",
+    prefix: "",
+    settings: Settings::Folders(1, 2, 1),
+    root: &[("ocfl/", "")],
+    spoiled: &[],
+    further: &[],
+    log: "",
+    numbers: NONE,
+};
+
+const ROWS: [Row; 17] = [
     SAME,
     STRAY,
     EXTRA,
@@ -285,6 +341,10 @@ const ROWS: [Row; 13] = [
     IN_PART,
     FIRST_SPOILED,
     SECOND_SPOILED,
+    OWN_ENTRIES,
+    OTHER_ENTRIES,
+    OWN_EMPTY,
+    OTHER_EMPTY,
 ];
 
 // What a walk comes to, and its log.

@@ -1,8 +1,9 @@
-use Rattle.std.proofs.Common.{arith, refl, sym, subst, ◌≡◌, ◌-◌, ◌∙◌, Some, cond, length}
+use Rattle.std.proofs.Common.{ap, arith, false, true, refl, sym, subst, ◌≡◌, ◌-◌, ◌∙◌, Some, cond, length}
 use Rattle.std.proofs.lemmas.Bool.{ne_eqb}
 use Rattle.std.specs.Option.{ForSome}
 use Rattle.std.specs.Prelude.{IsSome}
 use Rattle.pt_tree.specs.Source.{tree_in}
+use Rattle.pt_extra.proofs.Entries.{passed_by, passed_part}
 use Rattle.pt_extra.proofs.Exits.{bare_stops, bare_told, object_stops, object_told}
 use Rattle.pt_extra.proofs.Keeping.{at_err, front_from, keeps_on, told_from}
 use Rattle.pt_extra.proofs.Past.{
@@ -26,7 +27,7 @@ use Rattle.pt_extra.proofs.Visiting.{
   found_folder,
   found_leaf,
   found_none,
-  found_part,
+  found_passed,
   front_still,
   is_walked,
   listed_at,
@@ -96,10 +97,31 @@ loop-i-preserved-then-is_part g t c =
       keeps = c.loop-i.invariant.keeps;
       failed = c.loop-i.invariant.failed;
       found = λ s is r there.
-          found_part (against old s) r path c.args.left items (proper_in here (g.met.R.Source.proper old.root) r there) (listed r there)
+          found_passed (against old s) r path c.args.left items (proper_in here (g.met.R.Source.proper old.root) r there) (listed r there)
           (g.R.Source.failed old.root) (g.R.Source.failed c.loop-i.self.root) c.loop-i.i (walk_state g.L.Log old) (walk_state g.L.Log c.loop-i.self)
           (c.loop-i.invariant.found s is r there)
-          c.in-Some.name.now c.in-Some.kind (sym c.in-Some.ensures) (sym c.if-is_part.ensures);
+          c.in-Some.name.now c.in-Some.kind (sym c.in-Some.ensures)
+          (passed_part old.job.share path c.in-Some.name.now c.in-Some.kind (sym c.if-is_part.ensures));
+    }
+
+pub loop-i-preserved-then-not-looks_at : goal.loop-i-preserved-then-not-looks_at
+loop-i-preserved-then-not-looks_at g t c =
+    let here = g.R.Source.told c.args.self.now.root in
+    let items = c.in-Entries.found.listing in
+    let old = c.args.self.now in
+    let path = c.args.path.now in
+    let in_folder : ForSome (tree_in here) (λ t. listing_at t c.in_ok-folder.folder ≡ Some items) = rw c.in-Entries.is at c.in_ok-found.ensures.listed in
+    let listed = listed_at (tree_in here) c.in_ok-folder.folder path items c.in_ok-folder.ensures in_folder in
+    record {
+      keeps = c.loop-i.invariant.keeps;
+      failed = c.loop-i.invariant.failed;
+      found = λ s is r there.
+          found_passed (against old s) r path c.args.left items (proper_in here (g.met.R.Source.proper old.root) r there) (listed r there)
+          (g.R.Source.failed old.root) (g.R.Source.failed c.loop-i.self.root) c.loop-i.i (walk_state g.L.Log old) (walk_state g.L.Log c.loop-i.self)
+          (c.loop-i.invariant.found s is r there)
+          c.in-Some.name.now c.in-Some.kind (sym c.in-Some.ensures)
+          (passed_by old.job.share c.loop-i.self.job.share path c.in_ok-entry.entry c.in-Some.name.now c.in-Some.kind false
+          (ap (λ j. j.share) c.loop-i.invariant.keeps.job) (sym c.if-is_part.ensures) c.in_ok-entry.ensures c.if-not-looks_at.ensures);
     }
 
 pub visit-requires : goal.visit-requires
@@ -123,6 +145,8 @@ loop-i-preserved-in-Dir g t c =
     let path = c.args.path.now in
     let in_folder : ForSome (tree_in here) (λ t. listing_at t c.in_ok-folder.folder ≡ Some items) = rw c.in-Entries.is at c.in_ok-found.ensures.listed in
     let listed = listed_at (tree_in here) c.in_ok-folder.folder path items c.in_ok-folder.ensures in_folder in
+    let kept = passed_by old.job.share c.loop-i.self.job.share path c.in_ok-entry.entry c.in-Some.name.now c.in-Some.kind true
+    (ap (λ j. j.share) c.loop-i.invariant.keeps.job) (sym c.if-is_part.ensures) c.in_ok-entry.ensures c.if-not-looks_at.ensures in
     let entry = c.in_ok-entry.entry in
     let from = past_le (failures_by g.S.Source g.R.Source g.L.Log old) (failures_by g.S.Source g.R.Source g.L.Log c.loop-i.self) c.loop-i.invariant.failed in
     record {
@@ -140,7 +164,7 @@ loop-i-preserved-in-Dir g t c =
           (g.R.Source.failed c.visit.new.self.root) c.in-Some.name.now c.in-Some.kind entry (walk_state g.L.Log c.visit.new.self) from
           (past_later c.visit.result (g.R.Source.failed old.root) (failures_by g.S.Source g.R.Source g.L.Log c.loop-i.self)
           (failures_by g.S.Source g.R.Source g.L.Log c.visit.new.self) from c.visit.ensures.fails)
-          (sym c.in-Some.ensures) c.in-Dir.is (sym c.if-is_part.ensures) c.in_ok-entry.ensures
+          (sym c.in-Some.ensures) c.in-Dir.is kept c.in_ok-entry.ensures
           (record { told = of_it.0; may = of_it.1; puts = of_it.2 });
     }
 
@@ -152,6 +176,8 @@ loop-i-preserved g t c =
     let path = c.args.path.now in
     let in_folder : ForSome (tree_in here) (λ t. listing_at t c.in_ok-folder.folder ≡ Some items) = rw c.in-Entries.is at c.in_ok-found.ensures.listed in
     let listed = listed_at (tree_in here) c.in_ok-folder.folder path items c.in_ok-folder.ensures in_folder in
+    let kept = passed_by old.job.share c.loop-i.self.job.share path c.in_ok-entry.entry c.in-Some.name.now c.in-Some.kind true
+    (ap (λ j. j.share) c.loop-i.invariant.keeps.job) (sym c.if-is_part.ensures) c.in_ok-entry.ensures c.if-not-looks_at.ensures in
     let entry = c.in_ok-entry.entry in
     let later = c.meet_stray.new.self in
     let from = past_le (failures_by g.S.Source g.R.Source g.L.Log old) (failures_by g.S.Source g.R.Source g.L.Log c.loop-i.self) c.loop-i.invariant.failed in
@@ -170,7 +196,7 @@ loop-i-preserved g t c =
           (g.R.Source.failed later.root) c.in-Some.name.now c.in-Some.kind entry (walk_state g.L.Log later)
           (past_later c.meet_stray.result (g.R.Source.failed old.root) (failures_by g.S.Source g.R.Source g.L.Log c.loop-i.self)
           (failures_by g.S.Source g.R.Source g.L.Log later) from fails)
-          (sym c.in-Some.ensures) c.in_default-kind.not-Dir (sym c.if-is_part.ensures) c.in_ok-entry.ensures
+          (sym c.in-Some.ensures) c.in_default-kind.not-Dir kept c.in_ok-entry.ensures
           (told_from g.S.Source g.R.Source g.L.Log (found_unnamed entry) old c.loop-i.self later c.loop-i.invariant.keeps
           c.in_ok-meet_stray.ensures.told s is r there);
     }
@@ -408,6 +434,8 @@ returns-in_err-visit-clause-stops g t c =
     let path = c.args.path.now in
     let in_folder : ForSome (tree_in here) (λ t. listing_at t c.in_ok-folder.folder ≡ Some items) = rw c.in-Entries.is at c.in_ok-found.ensures.listed in
     let listed = listed_at (tree_in here) c.in_ok-folder.folder path items c.in_ok-folder.ensures in_folder in
+    let kept = passed_by old.job.share c.loop-i.self.job.share path c.in_ok-entry.entry c.in-Some.name.now c.in-Some.kind true
+    (ap (λ j. j.share) c.loop-i.invariant.keeps.job) (sym c.if-is_part.ensures) c.in_ok-entry.ensures c.if-not-looks_at.ensures in
     let walked = is_walked c.args.left items (sym c.if-is_object.ensures) (ne_eqb c.args.left 0 c.if-left-eq0.false) (sym c.if-is_empty.ensures) in
     let from = past_le (failures_by g.S.Source g.R.Source g.L.Log old) (failures_by g.S.Source g.R.Source g.L.Log c.loop-i.self) c.loop-i.invariant.failed in
     let entry = c.in_ok-entry.entry in
@@ -422,7 +450,7 @@ returns-in_err-visit-clause-stops g t c =
     (g.R.Source.failed later.root) c.in-Some.name.now c.in-Some.kind entry (g.L.Log.told later.log) from
     (past_later c.visit.result (g.R.Source.failed old.root) (failures_by g.S.Source g.R.Source g.L.Log c.loop-i.self)
     (failures_by g.S.Source g.R.Source g.L.Log later) from c.visit.ensures.fails)
-    (sym c.in-Some.ensures) c.in-Dir.is (sym c.if-is_part.ensures) c.in_ok-entry.ensures
+    (sym c.in-Some.ensures) c.in-Dir.is kept c.in_ok-entry.ensures
     (record { told = of_it.0; may = of_it.1; part = of_it.2 }) in
     (front.told, front.may, front.part))
 
@@ -434,6 +462,8 @@ returns-in_err-meet_stray-clause-stops g t c =
     let path = c.args.path.now in
     let in_folder : ForSome (tree_in here) (λ t. listing_at t c.in_ok-folder.folder ≡ Some items) = rw c.in-Entries.is at c.in_ok-found.ensures.listed in
     let listed = listed_at (tree_in here) c.in_ok-folder.folder path items c.in_ok-folder.ensures in_folder in
+    let kept = passed_by old.job.share c.loop-i.self.job.share path c.in_ok-entry.entry c.in-Some.name.now c.in-Some.kind true
+    (ap (λ j. j.share) c.loop-i.invariant.keeps.job) (sym c.if-is_part.ensures) c.in_ok-entry.ensures c.if-not-looks_at.ensures in
     let walked = is_walked c.args.left items (sym c.if-is_object.ensures) (ne_eqb c.args.left 0 c.if-left-eq0.false) (sym c.if-is_empty.ensures) in
     let from = past_le (failures_by g.S.Source g.R.Source g.L.Log old) (failures_by g.S.Source g.R.Source g.L.Log c.loop-i.self) c.loop-i.invariant.failed in
     let entry = c.in_ok-entry.entry in
@@ -448,7 +478,7 @@ returns-in_err-meet_stray-clause-stops g t c =
     (past_later it.result (g.R.Source.failed old.root) (failures_by g.S.Source g.R.Source g.L.Log c.loop-i.self)
     (failures_by g.S.Source g.R.Source g.L.Log later) from
     (past_of it.result (failures_by g.S.Source g.R.Source g.L.Log c.loop-i.self) (failures_by g.S.Source g.R.Source g.L.Log later) it.ensures.fails))
-    (sym c.in-Some.ensures) c.in_default-kind.not-Dir (sym c.if-is_part.ensures) c.in_ok-entry.ensures
+    (sym c.in-Some.ensures) c.in_default-kind.not-Dir kept c.in_ok-entry.ensures
     (front_from g.S.Source g.R.Source g.L.Log (found_unnamed entry) old c.loop-i.self later c.loop-i.invariant.keeps
     c.in_err-meet_stray.ensures.stops s is r there) in
     (front.told, front.may, front.part))

@@ -2,18 +2,20 @@ use Rattle.std.proofs.Common.{ap, false, refl, rules, subst, sym, true, List, �
 use Rattle.std.proofs.lemmas.Result.{on_err_weaker, on_ok_weaker}
 use Rattle.std.specs.Prelude.{Option}
 use Rattle.pt_extra.proofs.Keeping.{front_from, stops_still, told_from}
-use Rattle.pt_extra.proofs.Objects.{of_misplaced, of_unheld}
+use Rattle.pt_extra.proofs.Objects.{of_held, of_misplaced, of_other, of_unheld}
+use Rattle.pt_extra.proofs.Telling.{puts_none}
+use Rattle.pt_extra.specs.Findings.{entry_of}
 use Rattle.pt_extra.specs.Lines.{Extra, ExtraFinding, texts}
 use Rattle.pt_extra.specs.Walk.{Puts, WalkState, against, found_named, found_one, walk_state}
 use Rattle.pt_name.specs.Place.{place_of}
-use Rattle.pt_name.specs.Share.{holds}
+use Rattle.pt_name.specs.Share.{takes}
 use Rattle.pt_tree.specs.Log.{AppendsFront}
 use Rattle.pt_tree.specs.Path.{same_path}
 use Rattle.pt_extra.proofs.walking.Extras.judge_named.Goals as goal
 
 pub returns-then-ne-clause-told : goal.returns-then-ne-clause-told
 returns-then-ne-clause-told g c =
-    let chosen : holds c.args.self.now.job.share c.args.id.now ≡ true = search rules in
+    let chosen : takes c.args.self.now.job.share (entry_of c.args.path.now) c.args.id.now ≡ true = sym c.in_ok-takes.ensures ∙ c.if-not-branch.false in
     let apart : same_path c.args.path.now (place_of c.args.self.now.job.layout c.args.id.now) ≡ false = search rules in
     on_ok_weaker c.tell_stray.result
     (λ tells s is r there. subst (λ (fs : List ExtraFinding). Puts fs (walk_state g.L.Log c.args.self.now) (walk_state g.L.Log c.tell_stray.new.self))
@@ -23,7 +25,7 @@ returns-then-ne-clause-told g c =
 pub returns-then-ne-clause-stops : goal.returns-then-ne-clause-stops
 returns-then-ne-clause-stops g c =
     let old = c.args.self.now in
-    let chosen : holds old.job.share c.args.id.now ≡ true = search rules in
+    let chosen : takes old.job.share (entry_of c.args.path.now) c.args.id.now ≡ true = sym c.in_ok-takes.ensures ∙ c.if-not-branch.false in
     let apart : same_path c.args.path.now (place_of old.job.layout c.args.id.now) ≡ false = search rules in
     on_err_weaker c.tell_stray.result
     (λ front s is r there. subst (λ (fs : List ExtraFinding). AppendsFront (g.L.Log.told old.log) (g.L.Log.told c.tell_stray.new.self.log) (texts fs))
@@ -35,7 +37,7 @@ returns-clause-told g c =
     let old = c.args.self.now in
     let id = c.args.id.now in
     let placed : same_path c.args.path.now (place_of old.job.layout id) ≡ true = search rules in
-    let chosen : holds old.job.share id ≡ true = search rules in
+    let chosen : takes old.job.share (entry_of c.args.path.now) id ≡ true = sym c.in_ok-takes.ensures ∙ c.if-not-branch.false in
     let still : walk_state g.L.Log c.store_has.new.self ≡ walk_state g.L.Log old = ap (walk_state g.L.Log) c.store_has.ensures.rest in
     on_ok_weaker c.tell_extra.result
     (λ tells s is r there.
@@ -51,7 +53,7 @@ returns-clause-stops g c =
     let old = c.args.self.now in
     let id = c.args.id.now in
     let placed : same_path c.args.path.now (place_of old.job.layout id) ≡ true = search rules in
-    let chosen : holds old.job.share id ≡ true = search rules in
+    let chosen : takes old.job.share (entry_of c.args.path.now) id ≡ true = sym c.in_ok-takes.ensures ∙ c.if-not-branch.false in
     let still = ap (λ w. g.L.Log.told w.log) c.store_has.ensures.rest in
     on_err_weaker c.tell_extra.result
     (λ front s is r there.
@@ -64,7 +66,29 @@ returns-clause-stops g c =
 
 pub returns-in_err-place-clause-stops : goal.returns-in_err-place-clause-stops
 returns-in_err-place-clause-stops g c =
+    stops_still g.S.Source g.R.Source g.L.Log (found_named c.args.path.now c.args.id.now) c.args.self.now c.args.self.now
+    c.from_residual-in_err-place.result refl
+
+pub returns-in_err-takes-clause-stops : goal.returns-in_err-takes-clause-stops
+returns-in_err-takes-clause-stops g c =
     stops_still g.S.Source g.R.Source g.L.Log (found_named c.args.path.now c.args.id.now) c.args.self.now c.args.self.now c.from_residual.result refl
+
+pub returns-then-not-branch-clause-told : goal.returns-then-not-branch-clause-told
+returns-then-not-branch-clause-told g c = λ s is r there.
+    let old = c.args.self.now in
+    subst (λ (fs : List ExtraFinding). Puts fs (walk_state g.L.Log old) (walk_state g.L.Log old))
+    (sym (of_other (against old s) c.args.path.now c.args.id.now (sym c.in_ok-takes.ensures ∙ c.if-not-branch.true))) (puts_none (walk_state g.L.Log old))
+
+pub returns-then-branch-clause-told : goal.returns-then-branch-clause-told
+returns-then-branch-clause-told g c = λ s is r there.
+    let old = c.args.self.now in
+    let id = c.args.id.now in
+    let placed : same_path c.args.path.now (place_of old.job.layout id) ≡ true = search rules in
+    let chosen : takes old.job.share (entry_of c.args.path.now) id ≡ true = sym c.in_ok-takes.ensures ∙ c.if-not-branch.false in
+    let still : walk_state g.L.Log c.store_has.new.self ≡ walk_state g.L.Log old = ap (walk_state g.L.Log) c.store_has.ensures.rest in
+    subst (λ (fs : List ExtraFinding). Puts fs (walk_state g.L.Log old) (walk_state g.L.Log c.store_has.new.self))
+    (sym (of_held (against old s) c.args.path.now id chosen placed (sym c.if-branch.true ∙ c.in_ok-store_has.ensures.has s is)))
+    (subst (λ (a : WalkState). Puts [] (walk_state g.L.Log old) a) (sym still) (puts_none (walk_state g.L.Log old)))
 
 pub returns-in_err-store_has-clause-stops : goal.returns-in_err-store_has-clause-stops
 returns-in_err-store_has-clause-stops g c =
