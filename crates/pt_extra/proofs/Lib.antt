@@ -1,18 +1,26 @@
+mod AroundIdentifier
 mod BothWays
+mod Contents
 mod Converted
 mod Entries
 mod Exits
 mod Fields
 mod Keeping
+mod Letters
+mod Lexing
 mod Objects
 mod Passed
 mod Past
+mod Placing
 mod ReadTexts
 mod Reading
 mod Reasons
 mod Roots
 mod SharedFindings
+mod Sites
+mod Spelled
 mod Telling
 mod Tops
-mod Unlisted
+pub mod Unlisted
 mod Visiting
+mod Within

@@ -5,7 +5,7 @@ use Rattle.pt_audit.specs.Twin.{object_stands, proper_site}
 use Rattle.pt_extra.specs.Findings.{Against, entry_of, is_held, of_object, of_placed}
 use Rattle.pt_extra.specs.Lines.{Extra, Stray}
 use Rattle.pt_name.specs.Place.{place_of}
-use Rattle.pt_name.specs.Share.{begins_with, takes}
+use Rattle.pt_name.specs.Share.{Portion, begins_with, takes}
 use Rattle.pt_tree.specs.Path.{Path, same_path}
 
 chosen_at : (c : Against) (path : Path) (id : List ℕ) (at : Bool) → takes c.job.share (entry_of path) id ≡ true → same_path path (place_of c.job.tuples id) ≡ at
@@ -13,6 +13,11 @@ chosen_at : (c : Against) (path : Path) (id : List ℕ) (at : Bool) → takes c.
 chosen_at c path id at chosen same =
     ap (λ (t : Bool). cond t (cond (same_path path (place_of c.job.tuples id)) (of_placed c path id) (Stray path ∷ [])) []) chosen
     ∙ ap (λ (t : Bool). cond t (of_placed c path id) (Stray path ∷ [])) same
+
+-- whether it is chosen, as that is asked of its identifier's text
+pub chosen_as : (share : Portion) (entry : Path) (text id : List ℕ) (t b : Bool) → text ≡ id → t ≡ takes share entry text → t ≡ b
+    → takes share entry id ≡ b
+chosen_as share entry text id t b is asked so = ap (takes share entry) (sym is) ∙ sym asked ∙ so
 
 -- nothing where it isn't chosen, or is another share's
 pub of_other : (c : Against) (path : Path) (id : List ℕ) → takes c.job.share (entry_of path) id ≡ false → of_object c path (Some id) ≡ []

@@ -3,10 +3,10 @@ use Rattle.std.proofs.Common.{◌≡◌, ◌∙◌, ap, ℕ, true, false, List, 
 use Rattle.std.specs.Prelude.{OnErr, Result, Ok, Err}
 use Rattle.std.specs.Prelude as prelude
 use Rattle.json.specs.Token as spec
-use Rattle.json.specs.Json.{parse_map, value}
-use Rattle.json.specs.Reads.{token_of}
-use Rattle.json.specs.declared.token.Token.{Token}
-use Rattle.json.specs.declared.token.Token.TheVariants.{BeginObject, EndObject, BeginArray, EndArray, Key, String, Number, Bool, Null, Bad}
+use Rattle.json.specs.Json.{after_end_array, parse_map, value}
+use Rattle.pt_extra.specs.Tokens.{token_of}
+use Rattle.pt_extra.specs.declared.lexemes.Token.{Token}
+use Rattle.pt_extra.specs.declared.lexemes.Token.TheVariants.{BeginObject, EndObject, BeginArray, EndArray, Key, String, Number, Bool, Null, Bad}
 use Rattle.json.proofs.Grammar.{value_is}
 use Rattle.serde_json.specs.Data.{Data, Items, Num, boolean, item, null, number}
 use Rattle.serde_json.specs.Find.{as_str}
@@ -60,3 +60,16 @@ plain depth ts rest Bad first is = absurd (cc)
 -- what is read of a number of this value, if it has one
 abbrev pub in_range : List spec.Token → Option Num → Option (Data × List spec.Token)
 in_range rest n = option_map (λ d. (d, rest)) (option_map number n)
+
+-- a token that closes no array
+pub no_end : (t : Token) (rest : List spec.Token) → (t ≡ EndArray → ⊥) → after_end_array (token_of t ∷ rest) ≡ None
+no_end BeginObject rest other = refl
+no_end EndObject rest other = refl
+no_end BeginArray rest other = refl
+no_end EndArray rest other = absurd (other refl)
+no_end (Key s) rest other = refl
+no_end (String s) rest other = refl
+no_end (Number s) rest other = refl
+no_end (Bool b) rest other = refl
+no_end Null rest other = refl
+no_end Bad rest other = refl

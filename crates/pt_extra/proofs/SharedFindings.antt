@@ -26,25 +26,10 @@ use Rattle.std.proofs.Common.{
 use Rattle.std.specs.Prelude.{◌||◌, None, Option, Some, count_by, not}
 use Rattle.std.proofs.lemmas.Bool.{eqb-true, ne_eqb}
 use Rattle.std.proofs.lemmas.List.Sums.{sum_by-append}
-use Rattle.pt_extra.specs.Findings.{
-  Against,
-  entry_of,
-  found_at,
-  is_object,
-  is_own,
-  is_passed,
-  looks_at,
-  of_entries,
-  of_folder,
-  of_leaf,
-  of_object,
-  of_placed,
-  of_unnamed,
-}
+use Rattle.pt_extra.specs.Findings.{Against, entry_of, found_at, is_object, is_own, is_passed, of_entries, of_folder, of_leaf, of_object, of_placed, of_unnamed}
 use Rattle.pt_extra.specs.Inventories.{id_of}
 use Rattle.pt_extra.specs.Lines.{ExtraFinding, Stray}
 use Rattle.pt_extra.specs.ShareLaws.{FolderSharesFindTheWhole, by_share, folders_of, whole_of}
-use Rattle.pt_extra.specs.Walk.{found_in}
 use Rattle.pt_name.proofs.Shares.{whole_number}
 use Rattle.pt_name.specs.Place.{place_of}
 use Rattle.pt_name.specs.Share.{Portion, by_division, chosen, is_on_own_way, share_number, way_text}

@@ -5,6 +5,7 @@ pub mod FolderListing
 pub mod Inventories
 pub mod Lines
 pub mod ShareLaws
+pub mod Tokens
 pub mod Unlisted
 pub mod Walk
 pub mod WalkFields

@@ -1,16 +1,23 @@
 //! The identifier of an object that stands, as its inventory says it.
-ghost use Rattle.std.specs.Prelude.{◌≡◌, ◌<◌, IfOk, IfSome, Some, length};
-ghost use Rattle.std.specs.Option.{ForSome, option_map};
+ghost use Rattle.std.specs.Prelude.{◌≡◌, ◌<◌, ◌++◌, IfOk, IfSome, OnOk, Some, drop};
+ghost use Rattle.std.specs.Prelude.{length};
+ghost use Rattle.std.specs.Option.{ForSome, option_map, unwrap_or};
+ghost use Rattle.std.specs.Str.{IsCharBoundary};
 ghost use Rattle.std.specs.String.{string_bytes};
 ghost use Rattle.pt_compare.specs.Bytes.{left_in};
 ghost use Rattle.pt_compare.specs.Root.{Reads};
 ghost use Rattle.pt_tree.specs.Source.{tree_in};
-ghost use Rattle.pt_extra.specs.Inventories.{id_in, id_of as id_of_folder, unless_long};
+ghost use Rattle.pt_extra.specs.Inventories.{id_in, id_of as id_of_folder, text_in};
+ghost use Rattle.pt_extra.specs.Inventories.{unless_empty, unless_long};
+ghost use Rattle.pt_extra.specs.Tokens.{text_of};
+ghost use Rattle.serde_json.specs.Data.{null};
+ghost use Rattle.serde_json.specs.Read.{read};
 ghost use Rattle.pt_tree.specs.Failures.{IsCounted};
 ghost use Rattle.pt_tree.specs.Forest.{listing_at};
 ghost use Rattle.pt_walk.specs.Left.{inside_at};
 
-use crate::inventory::identifier_in_text;
+use crate::inventory::find_id;
+use crate::strings::unescape;
 use pt_object::WellKnownName;
 use pt_plan::kinds::{is_file, kind_in};
 use pt_tree::{Block, KnownName, Listing, MemoryFault, Name, NamePath, Source, TreeFault};
@@ -18,6 +25,9 @@ use std::alloc::Global;
 
 // How many bytes an inventory may have that is read.
 const MOST: usize = 1 << 30;
+
+// How many more bytes than it has the room for an inventory may have.
+const MOST_SPARE: usize = 8 << 20;
 
 /// The identifier that the inventory says in the folder of a root at a path, which lists these;
 /// None where it has no file `inventory.json` of at most 1 GiB that is a JSON object with a text at
@@ -46,7 +56,7 @@ pub(crate) fn identifier_at<R: Source>(
     let path = folder.child(&name)?;
     root.open(&path)?;
     match read_whole(alloc, root)? {
-        Some(bytes) => Ok(identifier_in(alloc, bytes)?),
+        Some(bytes) => Ok(identifier_in(bytes)),
         None => Ok(None),
     }
 }
@@ -67,18 +77,62 @@ fn read_whole<R: Source>(alloc: Global, root: &mut R) -> Result<Option<Vec<u8>>,
         if block.is_empty() {
             return Ok(Some(bytes));
         }
-        bytes.extend_from_slice(block.as_slice())?;
+        append(&mut bytes, block.as_slice())?;
     }
     Ok(None)
 }
 
-// The identifier in an inventory of these bytes.
-fn identifier_in(alloc: Global, bytes: Vec<u8>) -> Result<Option<String>, MemoryFault>
-    ensures id { IfOk result (λ id. option_map string_bytes id ≡ id_in bytes.items) }
-    ensures some { IfOk result (λ id. IfSome id (λ text. 0 < length (string_bytes text))) }
+// Puts bytes behind others. Where these have no room, they get room for as many again, but for
+// no more than are spared.
+fn append(bytes: &mut Vec<u8>, more: &[u8]) -> Result<(), MemoryFault>
+    ensures items { OnOk result (bytes.new.items ≡ bytes.old.items ++ more.now) }
+{
+    if bytes.capacity() < bytes.len() + more.len() {
+        bytes.reserve_exact(more.len() + bytes.len().min(MOST_SPARE))?;
+    }
+    bytes.extend_from_slice(more)?;
+    Ok(())
+}
+
+// The identifier in an inventory of these bytes, which are held once: it is made where they stand.
+fn identifier_in(bytes: Vec<u8>) -> Option<String>
+    ensures id { option_map string_bytes result ≡ id_in bytes.items }
+    ensures some { IfSome result (λ id. 0 < length (string_bytes id)) }
 {
     let Ok(text) = String::from_utf8(bytes) else {
-        return Ok(None);
+        return None;
     };
-    identifier_in_text(alloc, text.as_str())
+    match id_start(text.as_str()) {
+        Some(start) => unescaped(text, start),
+        None => None,
+    }
+}
+
+// Where in the text of an inventory the one at `id` begins, behind its opening quote.
+fn id_start(text: &str) -> Option<usize>
+    ensures start { option_map (λ at. text_of (drop at text.now)) result
+        ≡ text_in (unwrap_or (read text.now) null) }
+    ensures boundary { IfSome result (IsCharBoundary text.now) }
+{
+    let id = find_id(text.as_bytes())?;
+    Some(text.len() - id.len())
+}
+
+// What a string stands for whose opening quote stands before a place in a text; None where that is
+// nothing.
+fn unescaped(text: String, start: usize) -> Option<String>
+    requires { IsCharBoundary (string_bytes text) start }
+    ensures id { option_map string_bytes result
+        ≡ unless_empty (text_of (drop start (string_bytes text))) }
+    ensures some { IfSome result (λ id. 0 < length (string_bytes id)) }
+{
+    let mut bytes = text.into_bytes();
+    let Some(len) = unescape(bytes.as_mut_slice(), start) else {
+        return None;
+    };
+    bytes.truncate(len);
+    let Ok(id) = String::from_utf8(bytes) else {
+        return None;
+    };
+    if id.is_empty() { None } else { Some(id) }
 }

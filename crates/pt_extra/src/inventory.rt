@@ -1,65 +1,55 @@
 //! The identifier in the text of an inventory, of which nothing else is kept: the text is read as
 //! `serde_json` reads it into a value, and each value is passed over.
-ghost use Rattle.std.specs.Prelude.{◌≡◌, ◌<◌, ◌==◌, ℕ, IfOk, IfSome, IsTrue, List, OnErr, OnOk};
-ghost use Rattle.std.specs.Prelude.{None, Some, is_some, length, slice_index};
+ghost use Rattle.std.specs.Prelude.{◌≡◌, ◌≤◌, ◌<◌, ◌==◌, ◌∷◌, ℕ, IfOk, IfSome, IsTrue, List, OnErr};
+ghost use Rattle.std.specs.Prelude.{None, OnOk, Some, is_some, length, slice_index};
 ghost use Rattle.std.specs.Option.{option_and_then, option_map, unwrap_or};
-ghost use Rattle.std.specs.String.{string_bytes};
 ghost use Rattle.json.specs.Json.{items, members, value};
-ghost use Rattle.pt_extra.specs.Inventories.{id_by, text_in};
+ghost use Rattle.pt_extra.specs.Inventories.{text_in};
+ghost use Rattle.pt_extra.specs.Tokens.{IsIn, IsStringIn, text_of, token_of};
 ghost use Rattle.serde_json.specs.Data.{Data, Items, Members, no_members, null, object, put};
 ghost use Rattle.serde_json.specs.Find.{as_str};
 ghost use Rattle.serde_json.specs.Read.{converted, max_depth, number_of, number_from, of_items};
 ghost use Rattle.serde_json.specs.Read.{of_json, of_members, read};
 
+use crate::lexemes::Token;
+use crate::strings::is_id;
+use crate::tokens::Reader;
 use fast_float::Numeral;
-use json::{Invalid, Reader, Scratch, Token};
-use pt_tree::MemoryFault;
-use std::alloc::Global;
+use json::Invalid;
 
 // How deep arrays and objects may stand one in another, as serde_json reads them.
 const MOST_DEPTH: usize = 127;
 
-/// The identifier in an inventory of this text; None where it is no JSON object with a text at `id`
-/// that isn't empty.
-pub(crate) fn identifier_in_text(alloc: Global, text: &str) -> Result<Option<String>, MemoryFault>
-    ensures id { IfOk result (λ id. option_map string_bytes id
-        ≡ id_by (unwrap_or (read text.now) null)) }
-    ensures some { IfOk result (λ id. IfSome id (λ text. 0 < length (string_bytes text))) }
+/// The text at `id` in an inventory of this text, seen from behind its opening quote on; None where
+/// it is no JSON object with one.
+pub(crate) fn find_id(text: &[u8]) -> Option<&[u8]>
+    ensures id { option_map (λ id. text_of id.now) result
+        ≡ text_in (unwrap_or (read text.now) null) }
+    ensures within { IsStringIn text.now result }
+    ensures bound { IfSome result (λ id. length id.now ≤ length text.now) }
 {
-    let mut scratch = Scratch::new(alloc);
-    let mut reader = Reader::new(text, &mut scratch)?;
+    let mut reader = Reader::new(text);
     let Ok(id) = read_inventory(&mut reader) else {
-        return Ok(None);
+        return None;
     };
     if reader.next().is_some() {
-        return Ok(None);
+        return None;
     }
-    copy_unless_empty(alloc, id)
-}
-
-// A copy of a text that isn't empty, if there is one.
-fn copy_unless_empty(alloc: Global, text: Option<&str>) -> Result<Option<String>, MemoryFault>
-    ensures id { (inventory : Data) → option_map (λ t. t.now) text.entry ≡ text_in inventory
-        → IfOk result (λ id. option_map string_bytes id ≡ id_by inventory) }
-    ensures some { IfOk result (λ id. IfSome id (λ text. 0 < length (string_bytes text))) }
-{
-    match text {
-        Some(id) if !id.is_empty() => Ok(Some(String::from_str(alloc, id)?)),
-        _ => Ok(None),
-    }
+    id
 }
 
 // The text at `id` in the object that comes, of which the rest is passed over; None where it has
 // none.
 //
 // `Invalid` where no JSON object comes.
-fn read_inventory<'a>(reader: &mut Reader<'a>) -> Result<Option<&'a str>, Invalid>
+fn read_inventory<'a>(reader: &mut Reader<'a>) -> Result<Option<&'a [u8]>, Invalid>
     ensures read { IfOk result (λ id. (inventory : Members)
-        × (converted of_json (value max_depth reader.old)
-        ≡ Some (object inventory, reader.new))
-        × (option_map (λ text. text.now) id ≡ text_in (object inventory))) }
+        × (converted of_json (value max_depth reader.old.tokens)
+        ≡ Some (object inventory, reader.new.tokens))
+        × (option_map (λ text. text_of text.now) id ≡ text_in (object inventory))) }
+    ensures within { IfOk result (IsStringIn reader.old.text) }
     ensures refused { OnErr result (option_and_then (λ p. text_in p.0)
-        (converted of_json (value max_depth reader.old)) ≡ None) }
+        (converted of_json (value max_depth reader.old.tokens)) ≡ None) }
 {
     let token = reader.next().ok_or(Invalid)?;
     match token {
@@ -68,20 +58,28 @@ fn read_inventory<'a>(reader: &mut Reader<'a>) -> Result<Option<&'a str>, Invali
     }
 }
 
-// Passes over the value that comes, in which arrays and objects may stand one in another so deep.
-// Gives its text, if it is one.
+// Passes over the value that begins with this token, in which arrays and objects may stand one in
+// another so deep. Gives its text, if it is one.
 //
-// `Invalid` where none comes, where it is deeper, and where a number in it is too large for a
+// `Invalid` where none begins so, where it is deeper, and where a number in it is too large for a
 // float.
 #[cycle(read)]
-fn read_value<'a>(reader: &mut Reader<'a>, depth: usize) -> Result<Option<&'a str>, Invalid>
+fn read_value<'a>(
+    reader: &mut Reader<'a>,
+    token: Token<'a>,
+    depth: usize,
+) -> Result<Option<&'a [u8]>, Invalid>
     ensures read { IfOk result (λ text. (it : Data)
-        × (converted of_json (value depth reader.old) ≡ Some (it, reader.new))
-        × (option_map (λ text. text.now) text ≡ as_str it)) }
-    ensures shorter { OnOk result (length reader.new < length reader.old) }
-    ensures refused { OnErr result (converted of_json (value depth reader.old) ≡ None) }
+        × (converted of_json (value depth (token_of token.entry ∷ reader.old.tokens))
+        ≡ Some (it, reader.new.tokens))
+        × (option_map (λ text. text_of text.now) text ≡ as_str it)) }
+    ensures shorter { OnOk result (length reader.new.tokens ≤ length reader.old.tokens) }
+    ensures text { OnOk result (reader.new.text ≡ reader.old.text) }
+    ensures within { (text : List ℕ) → IsIn text token.entry
+        → IfOk result (IsStringIn text) }
+    ensures refused { OnErr result
+        (converted of_json (value depth (token_of token.entry ∷ reader.old.tokens)) ≡ None) }
 {
-    let token = reader.next().ok_or(Invalid)?;
     match token {
         Token::String(text) => Ok(Some(text)),
         Token::Bool(_) | Token::Null => Ok(None),
@@ -112,56 +110,64 @@ fn read_value<'a>(reader: &mut Reader<'a>, depth: usize) -> Result<Option<&'a st
 #[cycle(read)]
 fn read_items(reader: &mut Reader<'_>, depth: usize) -> Result<(), Invalid>
     ensures read { OnOk result ((them : Items)
-        × (converted of_items (items (value depth) (length reader.old) reader.old)
-        ≡ Some (them, reader.new))) }
-    ensures shorter { OnOk result (length reader.new < length reader.old) }
+        × (converted of_items (items (value depth) (length reader.old.tokens) reader.old.tokens)
+        ≡ Some (them, reader.new.tokens))) }
+    ensures shorter { OnOk result (length reader.new.tokens < length reader.old.tokens) }
+    ensures text { OnOk result (reader.new.text ≡ reader.old.text) }
     ensures refused { OnErr result
-        (converted of_items (items (value depth) (length reader.old) reader.old) ≡ None) }
+        (converted of_items (items (value depth) (length reader.old.tokens) reader.old.tokens)
+        ≡ None) }
 {
-    'items: while !reader.take_end_array() {
-        read_value(reader, depth)?;
+    'items: while let Some(token) = reader.next_item()? {
+        read_value(reader, token, depth)?;
     }
     Ok(())
 }
 
 // Passes over what is left of an object, and gives the text at `id` in it, the last of several.
 #[cycle(read)]
-fn read_members<'a>(reader: &mut Reader<'a>, depth: usize) -> Result<Option<&'a str>, Invalid>
+fn read_members<'a>(reader: &mut Reader<'a>, depth: usize) -> Result<Option<&'a [u8]>, Invalid>
     ensures read { IfOk result (λ id. (them : Members)
         × (converted (λ ms. of_members ms no_members)
-        (members (value depth) (length reader.old) reader.old) ≡ Some (them, reader.new))
-        × (option_map (λ text. text.now) id ≡ text_in (object them))) }
-    ensures shorter { OnOk result (length reader.new < length reader.old) }
+        (members (value depth) (length reader.old.tokens) reader.old.tokens)
+        ≡ Some (them, reader.new.tokens))
+        × (option_map (λ text. text_of text.now) id ≡ text_in (object them))) }
+    ensures shorter { OnOk result (length reader.new.tokens < length reader.old.tokens) }
+    ensures text { OnOk result (reader.new.text ≡ reader.old.text) }
+    ensures within { IfOk result (IsStringIn reader.old.text) }
     ensures refused { OnErr result (converted (λ ms. of_members ms no_members)
-        (members (value depth) (length reader.old) reader.old) ≡ None) }
+        (members (value depth) (length reader.old.tokens) reader.old.tokens) ≡ None) }
 {
     let mut id = None;
     'members: while let Some(name) = reader.next_key()? {
-        let text = read_value(reader, depth)?;
+        let token = reader.next().ok_or(Invalid)?;
+        let text = read_value(reader, token, depth)?;
         id = text_at_id(id, name, text);
     }
     Ok(id)
 }
 
 // The text at `id`, of that before, once a value of this text, if it is one, stands at a name.
-fn text_at_id<'a>(id: Option<&'a str>, name: &str, text: Option<&'a str>) -> Option<&'a str>
-    ensures { (them : Members) → (it : Data)
-        → option_map (λ t. t.now) id.entry ≡ text_in (object them)
-        → option_map (λ t. t.now) text.entry ≡ as_str it
-        → option_map (λ t. t.now) result ≡ text_in (object (put name.now it them)) }
+fn text_at_id<'a>(id: Option<&'a [u8]>, name: &[u8], text: Option<&'a [u8]>) -> Option<&'a [u8]>
+    ensures text { (them : Members) → (it : Data)
+        → option_map (λ t. text_of t.now) id.entry ≡ text_in (object them)
+        → option_map (λ t. text_of t.now) text.entry ≡ as_str it
+        → option_map (λ t. text_of t.now) result
+        ≡ text_in (object (put (text_of name.now) it them)) }
+    ensures within { (whole : List ℕ) → IsStringIn whole id.entry
+        → IsStringIn whole text.entry → IsStringIn whole result }
 {
-    if name == "id" { text } else { id }
+    if is_id(name) { text } else { id }
 }
 
 // Whether the number that this text writes is one of 64 bits, or a float that isn't infinite.
-fn is_in_range(text: &str) -> bool
+fn is_in_range(text: &[u8]) -> bool
     ensures { result ≡ is_some (number_of text.now) }
 {
-    let bytes = text.as_bytes();
-    if begins_with_minus(bytes) {
-        fits(true, &Numeral::scan(&bytes[1..]))
+    if begins_with_minus(text) {
+        fits(true, &Numeral::scan(&text[1..]))
     } else {
-        fits(false, &Numeral::scan(bytes))
+        fits(false, &Numeral::scan(text))
     }
 }
 

@@ -28,8 +28,8 @@
 //! - Each finding of the whole store is found by just one of its shares by folders, and by these
 //!   nothing else is (`folder_shares_find_the_whole`).
 //! - A walk is its devices, job, prefix and numbers (`IsOnlyWalk`). While it runs it holds beside
-//!   them, which isn't proved, the at most 34 listings on the way, and one inventory, with as much
-//!   room again, the listing of one site, or the names for which one folder couldn't be listed.
+//!   them, which isn't proved, the at most 34 listings on the way, and an inventory, with room for
+//!   8 MiB more, in whose place its identifier or line is made; or the names of one folder.
 //!
 //! Guarantees of README that rest on its definitions: An audit is exact.
 #![tactic(auto, using(pt_compare::proofs::Reading::calls))]
@@ -39,13 +39,18 @@ mod devices;
 mod identifier;
 mod inventory;
 pub mod laws;
+mod lexemes;
 mod lines;
 mod listing;
 mod numbers;
 mod parts;
 mod shares;
+mod spelling;
 mod store;
+mod strings;
+mod tokens;
 mod walking;
+mod words;
 
 pub use auditing::{AuditCounts, AuditEnd, audit};
 pub use devices::ExtraDevices;

@@ -5,11 +5,15 @@ ghost use Rattle.std.specs.String.{string_bytes};
 ghost use Rattle.pt_extra.specs.Lines.{Extra, Stray, Unlisted, last_text, line_text};
 
 use crate::AuditCounts;
+use crate::spelling::spell_between;
 use pt_plan::lines::text_of;
 use pt_plan::members::Member::{Number, Path, Text};
 use pt_plan::members::line_with;
 use pt_tree::{MemoryFault, NamePath};
 use std::alloc::Global;
+
+// What the line of an object that the store doesn't have begins with, as far as its identifier.
+const BEFORE_ID: &str = "{\"as\":\"extra\",\"id\":\"";
 
 /// The line of what is stray at a path.
 pub(crate) fn stray_line(alloc: Global, to: &NamePath) -> Result<String, MemoryFault>
@@ -36,16 +40,19 @@ pub(crate) fn unlisted_line(
     line_with(alloc, &members)
 }
 
-/// The line of an object at its place that the store doesn't have.
-pub(crate) fn extra_line(alloc: Global, id: &str, to: &NamePath) -> Result<String, MemoryFault>
-    ensures { IfOk result (λ text. string_bytes text ≡ line_text (Extra id.now to.now)) }
+/// The line of an object at its place that the store doesn't have. It is made where the identifier
+/// stands, which may be as long as an inventory: a second copy isn't held.
+pub(crate) fn extra_line(alloc: Global, id: String, to: &NamePath) -> Result<Vec<u8>, MemoryFault>
+    ensures { IfOk result (λ line. line.items ≡ line_text (Extra (string_bytes id) to.now)) }
 {
     let members = [
         Text("as", "extra"),
-        Text("id", id),
+        Text("id", ""),
         Path("to", text_of(to)?),
     ];
-    line_with(alloc, &members)
+    let around = line_with(alloc, &members)?;
+    let (before, behind) = around.as_bytes().split_at(BEFORE_ID.len());
+    spell_between(before, id, behind)
 }
 
 /// The end line, with these counts.

@@ -144,6 +144,6 @@ impl<S: Source, R: Source, L: Log, E: Explains<R> + Drop> Extras<S, R, L, E> {
         ensures fails { Fails S.Source R.Source L.Log self.old self.new result }
     {
         let line = unlisted_line(self.alloc, reason, path)?;
-        self.put(line.as_str(), self.numbers.with_stray())
+        self.put(line.as_bytes(), self.numbers.with_stray())
     }
 }

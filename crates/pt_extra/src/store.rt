@@ -1,5 +1,5 @@
 //! Whether the store has an object where an identifier belongs.
-ghost use Rattle.std.specs.Prelude.{◌≡◌, IfOk};
+ghost use Rattle.std.specs.Prelude.{◌≡◌, ◌/◌, IfOk, length, nat_lt};
 ghost use Rattle.std.specs.Option.{ForSome};
 ghost use Rattle.pt_tree.specs.Source.{tree_in};
 ghost use Rattle.pt_extra.specs.Findings.{is_held};
@@ -19,8 +19,8 @@ use std::alloc::Global;
 /// Whether an object stands in a store, each of whose identifiers begins with this prefix, where
 /// this identifier belongs.
 ///
-/// Each folder on the way is looked at, and its site alone is listed. `Device` where one of these
-/// calls fails, `Memory` where a growth was refused.
+/// Each folder on the way is looked at, and its site alone is listed; none of a site that is too
+/// deep to be listed. `Device` where one of these calls fails, `Memory` where a growth was refused.
 pub(crate) fn has_object<S: Source>(
     alloc: Global,
     store: &mut S,
@@ -41,8 +41,20 @@ pub(crate) fn has_object<S: Source>(
     if !has_folder(alloc, store, WellKnownName::PairtreeRoot)? {
         return Ok(false);
     }
-    let site = proper_site(alloc, skip_prefix(id.as_bytes(), prefix.as_bytes()))?;
+    let own = skip_prefix(id.as_bytes(), prefix.as_bytes());
+    if is_too_long(own, job.limits.depth()) {
+        return Ok(false);
+    }
+    let site = proper_site(alloc, own)?;
     object_stands(store, job, &NamePath::new(alloc), site)
+}
+
+// Whether an identifier is so long that its site is deeper than so many names: each of these has
+// at most two of its bytes. So of one that is as long as an inventory no path is made.
+fn is_too_long(id: &[u8], depth: u64) -> bool
+    ensures { result ≡ nat_lt depth (length id.now / 2) }
+{
+    id.len() as u64 / 2 > depth
 }
 
 /// Whether the top of a tree has a folder of this name: one look, and nothing is listed.

@@ -12,6 +12,7 @@
 //! is of the share that its name gives (`entry_of`), and the others don't look at it (`looks_at`).
 ghost use Rattle.std.specs.Prelude.{◌≡◌, ◌<◌, ◌∷◌, [], IfOk, IsSome, OnErr, OnOk, length};
 ghost use Rattle.std.specs.Option.{ForSome};
+ghost use Rattle.std.specs.String.{string_bytes};
 ghost use Rattle.pt_tree.specs.Source.{tree_in};
 ghost use Rattle.pt_extra.specs.Counting.{no_numbers, with_finding};
 ghost use Rattle.pt_extra.specs.Findings.{is_held};
@@ -190,29 +191,29 @@ impl<S: Source, R: Source, L: Log, E: Explains<R> + Drop> Extras<S, R, L, E> {
             Fault::of_dest,
         )?;
         match id {
-            Some(id) => self.judge_named(path, id.as_str()),
+            Some(id) => self.judge_named(path, id),
             None => self.meet_stray(path),
         }
     }
 
     // Judges the object at a path, which has this identifier.
-    fn judge_named(&mut self, path: &NamePath, id: &str) -> Result<(), Fault>
-        requires { 0 < length id.now }
+    fn judge_named(&mut self, path: &NamePath, id: String) -> Result<(), Fault>
+        requires { 0 < length (string_bytes id) }
         ensures told { OnOk result (Tells S.Source R.Source L.Log
-            (found_named path.now id.now) self.old self.new) }
+            (found_named path.now (string_bytes id)) self.old self.new) }
         ensures stops { OnErr result (TellsFront S.Source R.Source L.Log
-            (found_named path.now id.now) self.old self.new) }
+            (found_named path.now (string_bytes id)) self.old self.new) }
         ensures keeps { Keeps S.Source R.Source L.Log self.old self.new }
         ensures fails { Fails S.Source R.Source L.Log self.old self.new result }
     {
-        if !takes(self.alloc, &self.job.share, path, id)? {
+        if !takes(self.alloc, &self.job.share, path, id.as_str())? {
             return Ok(());
         }
         let place = self.job.layout.place(self.alloc, id.as_bytes())?;
         if *path != place {
             return self.tell_stray(path);
         }
-        if self.store_has(id)? {
+        if self.store_has(id.as_str())? {
             return Ok(());
         }
         self.tell_extra(path, id)
@@ -277,24 +278,24 @@ impl<S: Source, R: Source, L: Log, E: Explains<R> + Drop> Extras<S, R, L, E> {
         ensures fails { Fails S.Source R.Source L.Log self.old self.new result }
     {
         let line = stray_line(self.alloc, path)?;
-        self.put(line.as_str(), self.numbers.with_stray())
+        self.put(line.as_bytes(), self.numbers.with_stray())
     }
 
     // Tells that the store doesn't have the object at a path, which has this identifier.
-    fn tell_extra(&mut self, path: &NamePath, id: &str) -> Result<(), Fault>
+    fn tell_extra(&mut self, path: &NamePath, id: String) -> Result<(), Fault>
         ensures told { OnOk result (Tells S.Source R.Source L.Log
-            (found_one (Extra id.now path.now)) self.old self.new) }
+            (found_one (Extra (string_bytes id) path.now)) self.old self.new) }
         ensures stops { OnErr result (TellsFront S.Source R.Source L.Log
-            (found_one (Extra id.now path.now)) self.old self.new) }
+            (found_one (Extra (string_bytes id) path.now)) self.old self.new) }
         ensures keeps { Keeps S.Source R.Source L.Log self.old self.new }
         ensures fails { Fails S.Source R.Source L.Log self.old self.new result }
     {
         let line = extra_line(self.alloc, id, path)?;
-        self.put(line.as_str(), self.numbers.with_extra())
+        self.put(line.as_slice(), self.numbers.with_extra())
     }
 
     // Puts the line of a finding, with which these are the numbers.
-    pub(crate) fn put(&mut self, line: &str, numbers: ExtraNumbers) -> Result<(), Fault>
+    pub(crate) fn put(&mut self, line: &[u8], numbers: ExtraNumbers) -> Result<(), Fault>
         ensures put { (finding : ExtraFinding) → line.now ≡ line_text finding
             → numbers ≡ with_finding finding self.old.numbers → OnOk result
             (Puts (finding ∷ []) (walk_state L.Log self.old) (walk_state L.Log self.new)) }
@@ -303,7 +304,7 @@ impl<S: Source, R: Source, L: Log, E: Explains<R> + Drop> Extras<S, R, L, E> {
         ensures keeps { Keeps S.Source R.Source L.Log self.old self.new }
         ensures fails { Fails S.Source R.Source L.Log self.old self.new result }
     {
-        self.log.put(line.as_bytes()).map_err(Fault::of_log)?;
+        self.log.put(line).map_err(Fault::of_log)?;
         self.numbers = numbers;
         Ok(())
     }

@@ -9,16 +9,7 @@ use Rattle.std.proofs.lemmas.List.{length-append}
 use Rattle.std.proofs.lemmas.Str.{IsUtf8-from_is_utf8, IsUtf8-string_bytes, is_utf8-from_IsUtf8}
 use Rattle.pt_tree.specs.Name.{is_name}
 use Rattle.pt_tree.specs.Path.{Path, same_path}
-use Rattle.pt_name.specs.Identifying.{
-  identification_by,
-  identification_of,
-  identifier_at,
-  identifier_by,
-  identifier_read,
-  identifier_read_by,
-  is_own_place,
-  unless_reserved,
-}
+use Rattle.pt_name.specs.Identifying.{identification_by, identification_of, identifier_by, identifier_read, identifier_read_by, is_own_place, unless_reserved}
 use Rattle.pt_name.specs.Place.{place_of}
 use Rattle.pt_name.specs.Reading.{GivesReading, before, hex_value, read_character, reading_of}
 use Rattle.pt_name.specs.Share.{Portion, takes}

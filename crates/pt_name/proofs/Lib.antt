@@ -1,6 +1,7 @@
 pub mod Answering
 pub mod ByteByByte
 pub mod Digits
+pub mod Fronts
 pub mod Identified
 pub mod NamesJoined
 pub mod LineEnds

@@ -97,7 +97,7 @@ All-encoded (b ∷ id) h =
     (All-encoded id (All-tail (λ x. x < 256) b id h))
 
 -- which isn't empty
-some_spelled : (byte : ℕ) → 0 < length (encoded_spelling byte)
+pub some_spelled : (byte : ℕ) → 0 < length (encoded_spelling byte)
 some_spelled byte = go (is_safe byte)
   where
     go : (t : Bool) → 0 < length (cond t (byte ∷ []) (37 ∷ hex_pair byte))

@@ -1,5 +1,5 @@
-ghost use Rattle.std.specs.Prelude.{◌≡◌, ◌++◌, ◌<◌, length, IfOk, OnOk};
-ghost use Rattle.pt_name.specs.Place.{encoded_spelling, encoded_of, last_name_of, digest_text};
+ghost use Rattle.std.specs.Prelude.{◌≡◌, ◌++◌, ◌<◌, length, take, IfOk, OnOk};
+ghost use Rattle.pt_name.specs.Place.{encoded_spelling, encoded_of, last_name_of, digest_text, shortened};
 
 use crate::hex_pair::hex_digits;
 use pt_tree::MemoryFault;
@@ -58,13 +58,29 @@ pub(crate) fn last_name_with(
     requires { digits.now ≡ digest_text id.now }
     ensures { IfOk result (λ name. name.items ≡ last_name_of id.now) }
 {
-    let mut name = encoded(alloc, id)?;
-    if name.len() > LONGEST {
-        name.truncate(LONGEST);
-        name.push(b'-')?;
-        name.extend_from_slice(digits)?;
-    }
+    let mut name = encoded(alloc, front(id))?;
+    shorten(&mut name, digits)?;
     Ok(name)
+}
+
+// Cuts an encoding that is too long, and puts the digits of its identifier behind it.
+fn shorten(encoding: &mut Vec<u8>, digits: &[u8; 64]) -> Result<(), MemoryFault>
+    ensures { OnOk result (encoding.new.items ≡ shortened encoding.old.items digits.now) }
+{
+    if encoding.len() > LONGEST {
+        encoding.truncate(LONGEST);
+        encoding.push(b'-')?;
+        encoding.extend_from_slice(digits)?;
+    }
+    Ok(())
+}
+
+// The front of an identifier that is enough for its last name: each byte is spelled by one at
+// least, so what follows changes nothing of the first 100. So no more is held, however long it is.
+fn front(id: &[u8]) -> &[u8]
+    ensures { result.now ≡ take 101 id.now }
+{
+    &id[..id.len().min(LONGEST + 1)]
 }
 
 // The SHA-256 of an identifier, as hex digits in lower case.

@@ -37,7 +37,7 @@ returns-in-Some-clause-id g c = λ tree told.
     c.in_ok-path.ensures ∙ ap (λ (n : List ℕ). c.args.folder.now ++ n ∷ []) c.in_ok-name.ensures in
     let is : c.is_file.result ≡ is_file_kind (kind_in c.args.listing.now (known_text known.Inventory)) =
     c.is_file.ensures ∙ ap is_file_kind (c.kind_in.ensures ∙ ap (λ (n : List ℕ). kind_in c.args.listing.now n) (c.as_bytes.ensures.value ∙ c.text.ensures)) in
-    c.in_ok-identifier_in-in-Some.ensures.id
+    c.identifier_in.ensures.id
     ∙ id_read (g.R.Source.told c.args.root.now) (g.R.Source.told c.open.new.self) c.args.folder.now c.in_ok-path.path c.args.listing.now
     (Some c.in-Some.bytes.items) c.requires path_is (sym is ∙ c.if-not-is_file.false)
     c.in_ok-open.ensures.opened (λ left l. ap (option_map (λ (b : Vec ℕ). b.items)) (sym c.in-Some.is) ∙ c.in_ok-bytes.ensures.bytes left l) tree told

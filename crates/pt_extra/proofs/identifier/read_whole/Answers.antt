@@ -10,13 +10,13 @@ use Rattle.pt_extra.proofs.identifier.read_whole.Goals as goal
 pub loop-block-preserved : goal.loop-block-preserved
 loop-block-preserved g c =
     let told = g.R.Source.told in
-    let longer : c.extend_from_slice.new.self.items ≡ c.loop-block.bytes.items ++ c.next.new.block.items = c.in_ok-extend_from_slice.ensures.items
+    let longer : c.append.new.bytes.items ≡ c.loop-block.bytes.items ++ c.next.new.block.items = c.in_ok-append.ensures.items
     ∙ ap (λ b. c.loop-block.bytes.items ++ b) c.as_slice.ensures.value in
     let moved = c.in_ok-next.ensures.moved in
     record {
       tree = ap tree_in moved ∙ next_tree (told c.loop-block.root) ∙ c.loop-block.invariant.tree;
       reads = ap is_reading moved ∙ next_reads (told c.loop-block.root) c.loop-block.invariant.reads;
-      came = more_came c.loop-block.bytes.items c.next.new.block.items c.extend_from_slice.new.self.items (told c.args.root.now) (told c.loop-block.root)
+      came = more_came c.loop-block.bytes.items c.next.new.block.items c.append.new.bytes.items (told c.args.root.now) (told c.loop-block.root)
           (told c.next.new.self) c.loop-block.invariant.came c.in_ok-next.ensures.block moved longer;
       keeps = g.met.R.Source.keeps_on _ _ _ c.loop-block.invariant.keeps c.next.ensures.keeps;
       failed = c.in_ok-next.ensures.failures ∙ c.loop-block.invariant.failed;

@@ -2,6 +2,7 @@ use Rattle.std.proofs.Common.{◌≡◌, ℕ, ◌+◌, ◌*◌, ◌≤◌, lengt
 use Rattle.std.specs.Option.{option_map}
 use Rattle.json.specs.Json.{items, members, value, parse_map}
 use Rattle.pt_extra.specs.Inventories.{text_in}
+use Rattle.pt_extra.specs.Tokens.{IsStringIn, text_of}
 use Rattle.serde_json.specs.Data.{Items, Members, no_members, object}
 use Rattle.serde_json.specs.Read.{of_items, of_members, converted}
 use Rattle.pt_extra.proofs.inventory.+read.Given as goal
@@ -17,23 +18,26 @@ decreases-read_members l = 2 * l.depth + 1
 
 abbrev pub invariant-read_items-items : goal.invariant-read_items-items
 invariant-read_items-items l =
-    (n : ℕ) × (length l.reader ≤ n)
+    (n : ℕ) × (length l.reader.tokens ≤ n)
     × (before : Items → Items)
-    × (converted of_items (items (value l.depth) (length l.initial.reader) l.initial.reader)
-    ≡ parse_map before (converted of_items (items (value l.depth) n l.reader)))
-    × (length l.reader ≤ length l.initial.reader)
+    × (converted of_items (items (value l.depth) (length l.initial.reader.tokens) l.initial.reader.tokens)
+    ≡ parse_map before (converted of_items (items (value l.depth) n l.reader.tokens)))
+    × (length l.reader.tokens ≤ length l.initial.reader.tokens)
+    × (l.reader.text ≡ l.initial.reader.text)
 
 abbrev pub decreases-read_items-items : goal.decreases-read_items-items
-decreases-read_items-items l = length l.reader
+decreases-read_items-items l = length l.reader.tokens
 
 abbrev pub invariant-read_members-members : goal.invariant-read_members-members
 invariant-read_members-members l =
-    (n : ℕ) × (length l.reader ≤ n)
+    (n : ℕ) × (length l.reader.tokens ≤ n)
     × (found : Members)
-    × (converted (λ ms. of_members ms no_members) (members (value l.depth) (length l.initial.reader) l.initial.reader)
-    ≡ converted (λ ms. of_members ms found) (members (value l.depth) n l.reader))
-    × (length l.reader ≤ length l.initial.reader)
-    × (option_map (λ text. text.now) l.id ≡ text_in (object found))
+    × (converted (λ ms. of_members ms no_members) (members (value l.depth) (length l.initial.reader.tokens) l.initial.reader.tokens)
+    ≡ converted (λ ms. of_members ms found) (members (value l.depth) n l.reader.tokens))
+    × (length l.reader.tokens ≤ length l.initial.reader.tokens)
+    × (option_map (λ text. text_of text.now) l.id ≡ text_in (object found))
+    × (l.reader.text ≡ l.initial.reader.text)
+    × IsStringIn l.initial.reader.text l.id
 
 abbrev pub decreases-read_members-members : goal.decreases-read_members-members
-decreases-read_members-members l = length l.reader
+decreases-read_members-members l = length l.reader.tokens

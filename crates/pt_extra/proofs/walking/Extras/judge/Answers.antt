@@ -24,11 +24,11 @@ returns-in-Some-clause-told g c =
     ≡ id_of (inside_at tree c.args.folder.now)) = search rules in
     on_ok_weaker c.judge_named.result
     (λ tells s is r there.
-    let id_is : Some c.as_str.result.now ≡ id_of (inside_at r c.args.folder.now) =
-    ap (λ (b : List ℕ). Some b) c.as_str.ensures.value ∙ ap (option_map string_bytes) (sym c.in-Some.is) ∙ id_all r there in
+    let id_is : Some (string_bytes c.in-Some.id) ≡ id_of (inside_at r c.args.folder.now) =
+    ap (option_map string_bytes) (sym c.in-Some.is) ∙ id_all r there in
     subst (λ (o : Option (List ℕ)). Puts (of_object (against old s) path o) (walk_state g.L.Log old) (walk_state g.L.Log c.judge_named.new.self)) id_is
-    (told_from g.S.Source g.R.Source g.L.Log (λ x t. of_object x path (Some c.as_str.result.now)) old (record old { root = root }) c.judge_named.new.self kept
-    tells s is r there))
+    (told_from g.S.Source g.R.Source g.L.Log (λ x t. of_object x path (Some (string_bytes c.in-Some.id))) old (record old { root = root })
+    c.judge_named.new.self kept tells s is r there))
     c.judge_named.ensures.told
 
 pub returns-in-None-clause-told : goal.returns-in-None-clause-told
@@ -63,12 +63,12 @@ returns-in-Some-clause-stops g c =
     ≡ id_of (inside_at tree c.args.folder.now)) = search rules in
     on_err_weaker c.judge_named.result
     (λ front s is r there.
-    let id_is : Some c.as_str.result.now ≡ id_of (inside_at r c.args.folder.now) =
-    ap (λ (b : List ℕ). Some b) c.as_str.ensures.value ∙ ap (option_map string_bytes) (sym c.in-Some.is) ∙ id_all r there in
+    let id_is : Some (string_bytes c.in-Some.id) ≡ id_of (inside_at r c.args.folder.now) =
+    ap (option_map string_bytes) (sym c.in-Some.is) ∙ id_all r there in
     subst (λ (o : Option (List ℕ)). AppendsFront (g.L.Log.told old.log) (g.L.Log.told c.judge_named.new.self.log) (texts (of_object (against old s) path o)))
     id_is
-    (front_from g.S.Source g.R.Source g.L.Log (found_named path c.as_str.result.now) old (record old { root = root }) c.judge_named.new.self kept front s is r
-    there))
+    (front_from g.S.Source g.R.Source g.L.Log (found_named path (string_bytes c.in-Some.id)) old (record old { root = root })
+    c.judge_named.new.self kept front s is r there))
     c.judge_named.ensures.stops
 
 pub returns-in-None-clause-stops : goal.returns-in-None-clause-stops

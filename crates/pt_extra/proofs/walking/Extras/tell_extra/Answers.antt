@@ -1,5 +1,6 @@
 use Rattle.std.proofs.Common.{refl, ◌∙◌}
 use Rattle.std.proofs.lemmas.Result.{on_err_weaker, on_ok_weaker}
+use Rattle.std.specs.String.{string_bytes}
 use Rattle.pt_extra.proofs.Keeping.{stops_still}
 use Rattle.pt_extra.specs.Lines.{Extra}
 use Rattle.pt_extra.specs.Walk.{found_one}
@@ -7,12 +8,13 @@ use Rattle.pt_extra.proofs.walking.Extras.tell_extra.Goals as goal
 
 pub returns-clause-told : goal.returns-clause-told
 returns-clause-told g c = on_ok_weaker c.put.result (λ puts s is r there. puts)
-    (c.put.ensures.put (Extra c.args.id.now c.args.path.now) (c.as_str.ensures.value ∙ c.in_ok-line.ensures) c.with_extra.ensures)
+    (c.put.ensures.put (Extra (string_bytes c.args.id) c.args.path.now) (c.as_slice.ensures.value ∙ c.in_ok-line.ensures) c.with_extra.ensures)
 
 pub returns-clause-stops : goal.returns-clause-stops
 returns-clause-stops g c = on_err_weaker c.put.result (λ part s is r there. part)
-    (c.put.ensures.part (Extra c.args.id.now c.args.path.now) (c.as_str.ensures.value ∙ c.in_ok-line.ensures))
+    (c.put.ensures.part (Extra (string_bytes c.args.id) c.args.path.now) (c.as_slice.ensures.value ∙ c.in_ok-line.ensures))
 
 pub returns-in_err-line-clause-stops : goal.returns-in_err-line-clause-stops
 returns-in_err-line-clause-stops g c =
-    stops_still g.S.Source g.R.Source g.L.Log (found_one (Extra c.args.id.now c.args.path.now)) c.args.self.now c.args.self.now c.from_residual.result refl
+    stops_still g.S.Source g.R.Source g.L.Log (found_one (Extra (string_bytes c.args.id) c.args.path.now)) c.args.self.now c.args.self.now
+    c.from_residual.result refl

@@ -7,11 +7,11 @@ use Rattle.pt_extra.proofs.walking.Extras.tell_unlisted.Goals as goal
 
 pub returns-clause-told : goal.returns-clause-told
 returns-clause-told g c = on_ok_weaker c.put.result (λ puts s is r there. puts)
-    (c.put.ensures.put (Unlisted c.args.reason.now c.args.path.now) (c.as_str.ensures.value ∙ c.in_ok-line.ensures) c.with_stray.ensures)
+    (c.put.ensures.put (Unlisted c.args.reason.now c.args.path.now) (c.as_bytes.ensures.value ∙ c.in_ok-line.ensures) c.with_stray.ensures)
 
 pub returns-clause-stops : goal.returns-clause-stops
 returns-clause-stops g c = on_err_weaker c.put.result (λ part s is r there. part)
-    (c.put.ensures.part (Unlisted c.args.reason.now c.args.path.now) (c.as_str.ensures.value ∙ c.in_ok-line.ensures))
+    (c.put.ensures.part (Unlisted c.args.reason.now c.args.path.now) (c.as_bytes.ensures.value ∙ c.in_ok-line.ensures))
 
 pub returns-in_err-line-clause-stops : goal.returns-in_err-line-clause-stops
 returns-in_err-line-clause-stops g c =

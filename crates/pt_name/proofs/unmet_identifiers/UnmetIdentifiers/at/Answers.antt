@@ -1,7 +1,7 @@
-use Rattle.std.proofs.Common.{◌≡◌, List, ℕ, ◌∙◌, ap, length, refl, sym, false, true}
+use Rattle.std.proofs.Common.{◌≡◌, List, ℕ, ◌∙◌, ap, sym, false, true}
 use Rattle.std.specs.Option.{option_map}
 use Rattle.std.specs.Borrow.{Bor}
-use Rattle.std.specs.Prelude.{Bool, None, Option, Some, slice_get}
+use Rattle.std.specs.Prelude.{Bool, None, Some, slice_get}
 use Rattle.pt_name.specs.Unmet.{ids_of, unmet_flagged, unmet_there}
 use Rattle.pt_name.proofs.StillUnmet.{is_unmet, is_met, lent_there, none_listed}
 use Rattle.pt_name.proofs.unmet_identifiers.UnmetIdentifiers.at.Goals as goal

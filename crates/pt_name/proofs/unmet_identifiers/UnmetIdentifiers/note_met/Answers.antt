@@ -1,7 +1,7 @@
-use Rattle.std.proofs.Common.{◌≡◌, List, ℕ, ◌∙◌, ap, false, length, set, subst, sym}
+use Rattle.std.proofs.Common.{◌≡◌, List, ℕ, ◌∙◌, ap, length, subst, sym}
 use Rattle.std.specs.Prelude.{is_ok}
 use Rattle.pt_name.specs.Share.{is_listed}
-use Rattle.pt_name.specs.Unmet.{StandsOnlyAt, ids_of, unmet_flagged, unmet_there, without}
+use Rattle.pt_name.specs.Unmet.{StandsOnlyAt, ids_of, unmet_flagged, without}
 use Rattle.pt_name.proofs.StillUnmet.{beyond, none_within, noted, unlisted}
 use Rattle.pt_name.proofs.unmet_identifiers.UnmetIdentifiers.note_met.Goals as goal
 use Rattle.pt_name.proofs.unmet_identifiers.UnmetIdentifiers.note_met.Goals.{in-Some-get_mut, in_default-get_mut}

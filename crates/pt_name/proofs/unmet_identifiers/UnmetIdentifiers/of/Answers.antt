@@ -1,6 +1,5 @@
 use Rattle.std.proofs.Common.{◌≡◌, List, ℕ, ◌∙◌, ap, map, sym}
-use Rattle.std.specs.Prelude.{Option, Some}
-use Rattle.std.specs.String.{string_bytes}
+use Rattle.std.specs.Prelude.{Option}
 use Rattle.pt_name.specs.Unmet.{may_meet, unmet_flagged, unmet_in}
 use Rattle.pt_name.proofs.StillUnmet.{all_flags, mapped_flags}
 use Rattle.pt_name.proofs.unmet_identifiers.UnmetIdentifiers.of.Goals as goal

@@ -1,0 +1,27 @@
+use Rattle.std.proofs.Common.{rules}
+use Rattle.json.specs.Print.{escape_byte}
+use Rattle.pt_extra.proofs.spelling.spelling.Goals as goal
+
+pub returns-then-letter-gt0-clause-value : goal.returns-then-letter-gt0-clause-value
+unfolding escape_byte
+returns-then-letter-gt0-clause-value c = search rules
+
+pub returns-then-letter-gt0-clause-len : goal.returns-then-letter-gt0-clause-len
+unfolding escape_byte
+returns-then-letter-gt0-clause-len c = search rules
+
+pub returns-then-byte-lt32-clause-value : goal.returns-then-byte-lt32-clause-value
+unfolding escape_byte
+returns-then-byte-lt32-clause-value c = search rules
+
+pub returns-then-byte-lt32-clause-len : goal.returns-then-byte-lt32-clause-len
+unfolding escape_byte
+returns-then-byte-lt32-clause-len c = search rules
+
+pub returns-clause-value : goal.returns-clause-value
+unfolding escape_byte
+returns-clause-value c = search rules
+
+pub returns-clause-len : goal.returns-clause-len
+unfolding escape_byte
+returns-clause-len c = search rules
