@@ -1,31 +1,6 @@
 -- Entries of an object that a run with the limits of a check doesn't pass it over for, and the length of a path.
-use Rattle.std.proofs.Common.{
-  ◌≡◌,
-  ◌≤◌,
-  ◌+◌,
-  ◌-◌,
-  ◌||◌,
-  ◌^◌,
-  ℕ,
-  suc,
-  Bool,
-  true,
-  false,
-  cond,
-  length,
-  List,
-  [],
-  ◌∷◌,
-  ◌++◌,
-  Option,
-  None,
-  Some,
-  refl,
-  ap,
-  arith,
-  nat_le,
-  nat_lt,
-}
+use Rattle.std.proofs.Common.{◌≡◌, ◌≤◌, ◌+◌, ◌||◌, ◌^◌, ℕ, suc, Bool, true, false, cond, length}
+use Rattle.std.proofs.Common.{List, [], ◌∷◌, ◌++◌, Option, None, Some, refl, ap, arith, nat_le, nat_lt}
 use Rattle.std.specs.Prelude.{◌≢◌, ⊤, option_map}
 use Rattle.std.proofs.lemmas.Bool.{le-ltb, lt-leb, ltb-false, or_from}
 use Rattle.std.proofs.lemmas.List.{length-append}

@@ -1,5 +1,6 @@
 mod EndLine
 mod FineEntries
+mod Found
 mod Goes
 mod FilesHeld
 mod Keeping
@@ -7,12 +8,21 @@ mod Kept
 mod NamesRead
 mod Blocks
 mod Stepping
+mod SharedNumbers
+mod StepAmounts
+mod StepsDone
+mod StepsOfStore
+mod StepsWalked
+mod OwnAsRun
 mod PartListed
 mod Parts
 mod Others
 mod Quiet
 mod QuietSteps
 pub mod Readable
+mod SharedFolders
+mod SharedOwn
+mod SharedSteps
 mod SameFound
 mod Visiting
 mod WithinLimits

@@ -2,7 +2,7 @@
 use Rattle.std.proofs.Common.{◌≡◌, Bool, false, Result, Ok, Err, subst, sym}
 use Rattle.std.specs.Prelude.{IfOk}
 use Rattle.pt_check.specs.FolderListing.{IfEntries, MatchListing, has_entries}
-use Rattle.pt_check.specs.Visits.{CheckState, Finds, Says, TellsReasons, TellsUnlisted}
+use Rattle.pt_check.specs.Visits.{CheckState, Finds, Says, TellsReasons, TellsUnlisted, noted_by}
 use Rattle.pt_check.specs.declared.checking.FolderListing.{FolderListing}
 use Rattle.pt_check.specs.declared.checking.FolderListing.TheVariants as listing
 use Rattle.pt_check.specs.declared.checking.ListedEntries.{ListedEntries}
@@ -12,9 +12,10 @@ use Rattle.pt_tree.specs.Path.{Path}
 
 -- after a call that failed nothing else is other than it was
 abbrev pub OnlyFailed : CheckState → CheckState → Type 0
-OnlyFailed a m = (m.failing ≡ a.failing) × HasRisen a.failed m.failed × (m.held ≡ a.held) × (m.numbers ≡ a.numbers)
+OnlyFailed a m = (m.failing ≡ a.failing) × HasRisen a.failed m.failed × (m.held ≡ a.held) × (noted_by m ≡ noted_by a)
 
-unlisted : (says : Says) (path : Path) (part : Bool) (a m b : CheckState) → OnlyFailed a m → TellsReasons says path part m b → TellsUnlisted says path part a b
+unlisted : (says : Says) (path : Path) (part : Bool) (a m b : CheckState) → OnlyFailed a m → TellsReasons says path part m b
+    → TellsUnlisted says path part a b
 unlisted says path part a m b (failing, rose, held, numbers) tells = (m, failing, rose, held, numbers, tells)
 
 -- nothing of it could be listed, or these entries

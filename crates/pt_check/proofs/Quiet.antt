@@ -58,12 +58,14 @@ use Rattle.pt_check.specs.Visits.{
   missing,
   prefix_path,
   root_folder,
+  starting,
 }
 use Rattle.pt_check.specs.Within.{starts_object}
 use Rattle.pt_check.specs.declared.numbers.Numbers.{Numbers}
 use Rattle.pt_check.specs.declared.trouble.Trouble.TheVariants as trouble
 use Rattle.pt_check.specs.declared.wants.Wants.{Wants}
 use Rattle.pt_name.specs.Prefix.{prefix_refusal, without_line_ends}
+use Rattle.pt_name.specs.Share.{whole}
 use Rattle.pt_name.specs.declared.prefix.PrefixFault.{PrefixFault}
 use Rattle.pt_name.specs.declared.prefix.PrefixFault.TheVariants as fault
 use Rattle.pt_plan.specs.Store.{pairtree_root, prefix_file, prefix_in, prefix_of, version_file}
@@ -116,7 +118,7 @@ abbrev Visited : Wants → Folder → Finding → Forest → CheckState → Chec
 Visited wants folder seen tree a b = Quiet a b × IsClean wants folder seen tree × Fills (holder_in folder seen) (count_in folder seen tree) a b
     × Goes wants folder.path tree b
 
-quiet : (says : Says) (wants : Wants) (folder : Folder) (seen : Finding) (tree : Forest) (a b : CheckState) → Visits says wants folder seen tree a b
+quiet : (says : Says) (wants : Wants) (folder : Folder) (seen : Finding) (tree : Forest) (a b : CheckState) → Visits says whole wants true folder seen tree a b
     → told_by b ≡ 0
     → Visited wants folder seen tree a b
 quiet says wants folder seen none a b same nothing =
@@ -151,7 +153,7 @@ quiet says wants folder seen (dir name inside after) a b (m, meets, n, enters, r
     let start = counting (begun it.here above) m in
     let later = quiet says wants folder seen after (counting (ended it.here m.numbers) n) b rest nothing in
     let ends : told_by n ≡ 0 = sym (ended_told it.here m.numbers n.numbers) ∙ later.0.0 in
-    let entering = entered says wants it items (λ f. Visits says wants it f inside) (λ f s. IsClean wants it f inside
+    let entering = entered says wants it items (λ f. Visits says whole wants true it f inside) (λ f s. IsClean wants it f inside
     × Fills (holder_in it f) (count_in it f inside) s n × Goes wants it.path inside n) start n
     (λ f s visited. let all = quiet says wants it f inside s n visited ends in (all.0, (all.1, all.2, all.3))) enters
     ends in
@@ -203,7 +205,7 @@ ReadPrefix o k bytes prefix a b = IsCleanPrefix k bytes × Quiet a b × (prefix 
 -- the prefix that is known is that of a run
 prefix_read : (o : Option Node) (k : Option Kind) (bytes prefix : List ℕ) (a b : CheckState) → k ≡ option_map kind_of o
     → bytes ≡ unwrap_or (option_and_then as_file o) []
-    → ReadsPrefix k bytes prefix a b → told_by b ≡ 0 → ReadPrefix o k bytes prefix a b
+    → ReadsPrefix true k bytes prefix a b → told_by b ≡ 0 → ReadPrefix o k bytes prefix a b
 prefix_read None None bytes prefix a b is all (same, none_is) nothing = (tt, (ap told_by (sym same) ∙ nothing, ap source_of same), none_is, (λ e. absurd (cc)))
 prefix_read (Some node) None bytes prefix a b is all reads nothing = absurd (cc)
 prefix_read (Some (File held)) (Some kind.File) bytes prefix a b is all (inl (tells, known, goes)) nothing =
@@ -241,8 +243,17 @@ pub record GoesInStore (wants : Wants) (tree : Forest) (s : CheckState) : Type 0
 -- what such a check has met
 pub store_met : (says : Says) (wants : Wants) (tree : Forest) (numbers : Numbers) (a b : CheckState) → Checks says wants tree numbers a b → numbers.told ≡ 0
     → IsCleanStore wants tree × (b.failed ≡ a.failed) × GoesInStore wants tree a
-store_met says wants tree numbers a b checks nothing = by checks.whole checks.first checks.looks
+store_met says wants tree numbers a b checks nothing =
+    let it = by checks.whole checks.first checks.looks in
+    let goes = it.2 in (
+      it.0,
+      it.1,
+      record { top = goes.top; prefix = goes.prefix; root = goes.root; inside = still_goes_in wants root_path inside start a refl goes.inside },
+    )
   where
+    start : CheckState
+    start = starting whole a
+
     last : CheckState
     last = checks.last
 
@@ -261,18 +272,18 @@ store_met says wants tree numbers a b checks nothing = by checks.whole checks.fi
     root_path : Path
     root_path = pairtree_root ∷ []
 
-    visited : (prefix : List ℕ) (m : CheckState) (t : Bool) → cond t (VisitsFolder says wants (root_folder prefix) inside m last)
+    visited : (prefix : List ℕ) (m : CheckState) (t : Bool) → cond t (VisitsFolder says whole wants true (root_folder prefix) inside m last)
         (Tells (Told root_path trouble.Missing) m last)
         → (t ≡ true) × AreClean prefix × Quiet m last × GoesAt root_path m × Goes wants root_path inside last
     visited prefix m true enters =
         let root = root_folder prefix in
-        let all = entered says wants root (listing_of inside) (λ h. Visits says wants root h inside) (λ h s. IsClean wants root h inside
+        let all = entered says wants root (listing_of inside) (λ h. Visits says whole wants true root h inside) (λ h s. IsClean wants root h inside
         × Goes wants root_path inside last) m last
         (λ h s visits. let it = quiet says wants root h inside s last visits quiet_last in (it.0, (it.1, it.3))) enters quiet_last in
         (refl, (all.0, all.2.2.0), all.1, all.3, all.2.2.1)
     visited prefix m false tells = absurd (puts_told _ m last tells quiet_last)
 
-    looked : (first : CheckState) → LooksAll says wants tree first last → IsCleanStore wants tree × Quiet first last × (GoesAt [] first
+    looked : (first : CheckState) → LooksAll says whole wants true tree first last → IsCleanStore wants tree × Quiet first last × (GoesAt [] first
         → GoesInStore wants tree first)
     looked first (n, prefix, reads, (m, version, rest)) =
         let root = visited prefix m (is_dir_kind (kind_in (listing_of tree) pairtree_root)) rest in
@@ -299,13 +310,14 @@ store_met says wants tree numbers a b checks nothing = by checks.whole checks.fi
           }),
         )
 
-    by : (whole : Bool) (first : CheckState) → (Finds says [] whole a first × LooksAll says wants tree first last) ⊎ TellsUnlisted says [] false a last
-        → IsCleanStore wants tree × (b.failed ≡ a.failed) × GoesInStore wants tree a
-    by whole first (inr fails) = absurd (unlisted_told says [] false a last fails quiet_last)
+    by : (part : Bool) (first : CheckState) → (Finds says [] part start first × LooksAll says whole wants true tree first last)
+        ⊎ TellsUnlisted says [] false start last
+        → IsCleanStore wants tree × (b.failed ≡ a.failed) × GoesInStore wants tree start
+    by part first (inr fails) = absurd (unlisted_told says [] false start last fails quiet_last)
     by true first (inl ((same, goes), looks)) =
         let it = looked first looks in
         let failed = ap (λ (x : Option (Path → Bool) × ℕ). x.1) it.1.1 in
         (it.0, checks.failed ∙ failed ∙ ap (λ (s : CheckState). s.failed) same, subst (GoesInStore wants tree) same (it.2 (subst (GoesAt []) (sym same) goes)))
     by false first (inl (tells, looks)) =
         let it = looked first looks in
-        absurd (unlisted_told says [] true a first tells it.1.0)
+        absurd (unlisted_told says [] true start first tells it.1.0)

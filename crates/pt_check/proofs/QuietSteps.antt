@@ -59,6 +59,7 @@ use Rattle.pt_check.specs.Visits.{
   folder_trouble,
   holder_in,
   is_renamed,
+  meeting,
   reserved_trouble,
   room_trouble,
   size_trouble,
@@ -73,6 +74,7 @@ use Rattle.pt_check.specs.declared.trouble.Trouble.TheVariants as trouble
 use Rattle.pt_check.specs.declared.wants.Wants.{Wants}
 use Rattle.pt_check.specs.declared.within.Within.{Within}
 use Rattle.pt_check.specs.declared.within.Within.TheVariants as within
+use Rattle.pt_name.specs.Share.{whole}
 use Rattle.pt_tree.specs.Failures.{greatest_count}
 use Rattle.pt_tree.specs.Listing.{Item}
 use Rattle.pt_tree.specs.Path.{Path, joined}
@@ -223,6 +225,13 @@ judged wants folder items a m (n, judges, o, places, cuts) nothing =
       judged_held wants.form depth renamed folder.here items a m (ap held_by same),
     )
 
+-- of all there is no list
+meets_all : (at : Path × List ℕ) (what : Finding) (a : CheckState) → meeting whole at what a ≡ a
+meets_all at finding.Interior a = refl
+meets_all at (finding.Skip why) a = refl
+meets_all at (finding.Candidate i) a = refl
+meets_all at finding.Gathered a = refl
+
 -- of a folder that was entered
 abbrev Entered : Wants → Folder → List Item → (CheckState → Type 0) → CheckState → CheckState → Type 0
 Entered wants folder items P a b = IsCleanFolder wants folder items × Quiet a b
@@ -231,17 +240,21 @@ Entered wants folder items P a b = IsCleanFolder wants folder items × Quiet a b
 pub entered : (says : Says) (wants : Wants) (folder : Folder) (items : List Item) (visits : Finding → CheckState → CheckState → Type 0)
     (P : Finding → CheckState → Type 0) (a b : CheckState)
     → ((seen : Finding) (m : CheckState) → visits seen m b → Quiet m b × P seen m)
-    → Enters says wants folder items visits a b → told_by b ≡ 0 → Entered wants folder items (P (finding_of wants.form folder.here items)) a b
+    → Enters says whole wants true folder items visits a b → told_by b ≡ 0 → Entered wants folder items (P (finding_of wants.form folder.here items)) a b
 entered says wants folder items visits P a b on enters nothing = by (folder.left == 0) refl enters
   where
     by : (t : Bool) → (folder.left == 0) ≡ t → cond t (Tells (Told folder.path trouble.Deep) a b)
-        (TellsUnlisted says folder.path false a b ⊎ ((seen : Finding) × (m : CheckState) × Begins says wants folder items seen a m × visits seen m b))
+        (TellsUnlisted says folder.path false a b
+        ⊎ ((seen : Finding) × (m : CheckState) × Begins says whole wants true folder items seen a m × visits seen m b))
         → Entered wants folder items (P (finding_of wants.form folder.here items)) a b
     by true is tells = absurd (puts_told _ a b tells nothing)
     by false is (inl fails) = absurd (unlisted_told says folder.path false a b fails nothing)
     by false is (inr (seen, m, inl (judges, seen_is, goes), visited)) =
         let rest = on seen m visited in
-        let first = judged wants folder items a m judges rest.0.0 in
+        let what = finding_of wants.form folder.here items in
+        let met : Judges wants (folder.path, folder.prefix) folder.here items a m =
+        subst (λ (s : CheckState). Judges wants (folder.path, folder.prefix) folder.here items s m) (meets_all (folder.path, folder.prefix) what a) judges in
+        let first = judged wants folder items a m met rest.0.0 in
         ((is, first.0.0, first.0.1, first.0.2), (first.1.0, rest.0.1 ∙ first.1.1), (m, first.2, subst (λ (f : Finding). P f m) seen_is rest.1), goes)
     by false is (inr (seen, m, inr (tells, seen_is), visited)) =
         let rest = on seen m visited in

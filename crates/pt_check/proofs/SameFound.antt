@@ -1,5 +1,5 @@
 -- What is found of a site of which there is nothing to tell is the same to a run that gathers and to one that doesn't.
-use Rattle.std.proofs.Common.{◌≡◌, ◌∙◌, ◌-◌, ◌==◌, ℕ, false, cond, length, List, [], ◌∷◌, Option, None, inl, inr, refl, sym, ap, subst}
+use Rattle.std.proofs.Common.{◌≡◌, ◌∙◌, ◌==◌, ℕ, false, cond, length, List, [], ◌∷◌, Option, None, inl, inr, refl, sym, ap, subst}
 use Rattle.std.specs.Prelude.{◌⊎◌}
 use Rattle.pt_check.specs.Visits.{folder_trouble}
 use Rattle.pt_check.specs.Within.{below_site}

@@ -79,7 +79,7 @@ use Rattle.pt_tree.specs.declared.kind.Kind.TheVariants as kind
 use Rattle.pt_walk.proofs.Findings.{candidate, last_name_says}
 use Rattle.pt_walk.specs.Left.{entries_from}
 use Rattle.pt_walk.specs.Limits.{Bounds, greatest_limits}
-use Rattle.pt_walk.specs.Object.{entries_in, files, first_bad, without_shorties}
+use Rattle.pt_walk.specs.Object.{entries_in, first_bad, without_shorties}
 use Rattle.pt_walk.specs.Site.{found, found_at_top, is_short, non_shorties}
 use Rattle.pt_walk.specs.Sites.{Reach, Site, Visit, Listed, Past, Deep, Elsewhere, at_of, is_last, sites_in, visit_of, walked}
 use Rattle.pt_walk.specs.declared.cause.Cause.TheVariants as cause

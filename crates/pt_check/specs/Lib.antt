@@ -4,10 +4,14 @@ pub mod Counting
 pub mod EndKey
 pub mod Faults
 pub mod FolderListing
+pub mod Found
 pub mod Goes
 pub mod LineKind
 pub mod Lines
 pub mod Prefix
+pub mod ShareLaws
+pub mod Shares
+pub mod Steps
 pub mod Trouble
 pub mod Visits
 pub mod Width

@@ -1,33 +1,6 @@
 -- What a check does at the folders and entries of a store, one after another.
-use Rattle.std.specs.Prelude.{
-  ◌≡◌,
-  ◌<◌,
-  ◌≤◌,
-  ◌+◌,
-  ◌-◌,
-  ◌==◌,
-  ◌||◌,
-  ◌⊎◌,
-  ℕ,
-  Bool,
-  true,
-  false,
-  cond,
-  codes,
-  drop,
-  length,
-  nat_lt,
-  not,
-  slice_get,
-  take,
-  List,
-  [],
-  ◌∷◌,
-  ◌++◌,
-  Option,
-  None,
-  Some,
-}
+use Rattle.std.specs.Prelude.{◌≡◌, ◌<◌, ◌≤◌, ◌+◌, ◌-◌, ◌==◌, ◌||◌, ◌⊎◌, ℕ, Bool, true, false, cond}
+use Rattle.std.specs.Prelude.{codes, drop, length, nat_lt, not, slice_get, take, List, [], ◌∷◌, ◌++◌, Option, None, Some}
 use Rattle.std.specs.Io.KnownBytes.{Appends}
 use Rattle.std.specs.List.{concat}
 use Rattle.std.specs.Str.{bytes_eq, is_utf8}
@@ -35,6 +8,7 @@ use Rattle.pt_check.specs.Counting.{back_at, plus, with_entry, with_line, with_o
 use Rattle.pt_check.specs.Goes.{GoesBy}
 use Rattle.pt_check.specs.Lines.{Line, End, Told, Unreadable, line_kind, line_text}
 use Rattle.pt_check.specs.Prefix.{prefix_trouble}
+use Rattle.pt_check.specs.Shares.{is_own_entry, is_own_in, is_own_way, is_walked, unmet_behind}
 use Rattle.pt_check.specs.Width.{width_trouble}
 use Rattle.pt_check.specs.Within.{below, holder, starts_object}
 use Rattle.pt_check.specs.declared.checking.Check.{Check}
@@ -48,8 +22,9 @@ use Rattle.pt_check.specs.declared.within.Within.TheVariants as within
 use Rattle.pt_name.specs.Clean.{cleaned}
 use Rattle.pt_name.specs.Identifying.{identification_of}
 use Rattle.pt_name.specs.Reading.{reading_of}
-use Rattle.pt_name.specs.Share.{whole}
+use Rattle.pt_name.specs.Share.{Portion, whole}
 use Rattle.pt_name.specs.Tuples.{Tuples}
+use Rattle.pt_name.specs.Unmet.{unmet_by}
 use Rattle.pt_name.specs.declared.identifying.Identification.{Identification}
 use Rattle.pt_name.specs.declared.identifying.Identification.TheVariants as answer
 use Rattle.pt_name.specs.declared.identifying.Refusal.TheVariants as refusal
@@ -75,13 +50,14 @@ use Rattle.pt_walk.specs.declared.site.Finding.{Finding}
 use Rattle.pt_walk.specs.declared.site.Finding.TheVariants as finding
 use Rattle.pt_walk.specs.declared.site.Form.{Form}
 
--- how far a check is: at which paths its source fails, if it tells that, and how often it failed; what its log holds, and what it
--- has counted
+-- how far a check is: at which paths its source fails, if it tells that, and how often it failed; what its log holds; what it has counted;
+-- and of which identifiers of its list it met no object
 pub record CheckState : Type 0 where
   pub failing : Option (Path → Bool)
   pub failed : ℕ
   pub held : Option (List ℕ)
   pub numbers : Numbers
+  pub unmet : List (Option (List ℕ))
 
 -- how far this one is, by the words of its source and its log
 abbrev pub check_state : {S L E : Type 0} → OfSource S → OfLog L → Check S L E → CheckState
@@ -91,7 +67,12 @@ check_state source log check =
       failed = source.failed check.source;
       held = log.told check.log;
       numbers = check.numbers;
+      unmet = check.unmet;
     }
+
+-- what it has counted, and of which identifiers it met no object
+abbrev pub noted_by : CheckState → Numbers × List (Option (List ℕ))
+noted_by a = (a.numbers, a.unmet)
 
 -- its source doesn't fail at this path, if it tells where it does
 abbrev pub GoesAt : Path → CheckState → Type 0
@@ -101,13 +82,16 @@ GoesAt path a = GoesBy a.failing path
 abbrev pub tree_by : {S L E : Type 0} → (S → Option Reading) → Check S L E → Option Forest
 tree_by told check = tree_in (told check.source)
 
--- its source is the same one still, with its tree; as much is wanted of it as before; and its log has only grown
-pub record Keeps {S L E : Type 0} (told : S → Option Reading) (keeps : S → S → Type 0)
-    (held : L → Option (List ℕ)) (old new : Check S L E) : Type 0 where
-  pub tree : tree_by told new ≡ tree_by told old
-  pub source : keeps old.source new.source
+-- its source is the same one still, with its tree; as much is wanted of it as before, and of the same share; and its log is the same one,
+-- and has only grown
+pub record Keeps {S L E : Type 0} (of_source : OfSource S) (of_log : OfLog L) (old new : Check S L E)
+    : Type 0 where
+  pub tree : tree_by of_source.told new ≡ tree_by of_source.told old
+  pub source : of_source.keeps old.source new.source
   pub wants : new.wants ≡ old.wants
-  pub log : Grows (held old.log) (held new.log)
+  pub share : new.share ≡ old.share
+  pub log_stays : of_log.keeps old.log new.log
+  pub log : Grows (of_log.told old.log) (of_log.told new.log)
 
 -- ---- what is told
 
@@ -116,6 +100,7 @@ pub record Puts (kind : LineKind) (text : List ℕ) (a b : CheckState) : Type 0 
   pub failing : b.failing ≡ a.failing
   pub failed : b.failed ≡ a.failed
   pub numbers : b.numbers ≡ with_line kind a.numbers
+  pub unmet : b.unmet ≡ a.unmet
   pub held : Appends a.held b.held text
 
 -- a line is told
@@ -131,11 +116,15 @@ abbrev pub TellsIf : Path → Option Trouble → CheckState → CheckState → T
 TellsIf path None a b = b ≡ a
 TellsIf path (Some trouble) a b = Tells (Told path trouble) a b
 
+-- this is done where something is the share's own, and else nothing
+abbrev pub Where : Bool → (CheckState → CheckState → Type 0) → CheckState → CheckState → Type 0
+Where own Does a b = cond own (Does a b) (b ≡ a)
+
 -- the source failed, and that is told of this path with a reason
 abbrev pub TellsFailure : Path → CheckState → CheckState → Type 0
 TellsFailure path a b =
     (m : CheckState) × (m.failing ≡ a.failing) × HasRisen a.failed m.failed × (m.held ≡ a.held)
-    × (m.numbers ≡ a.numbers) × TellsUnread path m b
+    × (noted_by m ≡ noted_by a) × TellsUnread path m b
 
 -- it is told of this path once more for each of these reasons
 abbrev pub TellsEach : Path → List (List ℕ) → CheckState → CheckState → Type 0
@@ -309,6 +298,10 @@ OpensIf reads path (here, kind.Other) bytes a b = b ≡ a
 
 -- ---- the walk
 
+-- a site that is found to have an object, at a path in a store of this prefix, which are a pair, meets the identifier that its names read
+abbrev pub meeting : Portion → Path × List ℕ → Finding → CheckState → CheckState
+meeting share at what a = record a { unmet = unmet_behind share at what a.unmet }
+
 -- a folder of a store as a check comes to it: its path, the prefix of the store as it is known, what the folder is, and how many
 -- folders may stand one in another from it on
 pub record Folder : Type 0 where
@@ -346,62 +339,74 @@ abbrev pub Says : Type 0
 Says = Path → List (List ℕ) → Bool → Bool
 
 module _ (says : Says) where
-  -- however often the source fails in it, what is at this path is told with a reason or more: all that is said of it. What has names
-  -- can be listed, or not.
+  -- however often the source fails in it, what is at this path is told with a reason or more: all that is said of it. What has names can be
+  -- listed, or not. Each share that lists it tells that, as what is missed there may be of any.
   abbrev pub TellsReasons : Path → Bool → CheckState → CheckState → Type 0
   TellsReasons path part a b =
-      (m : CheckState) × (m.failing ≡ a.failing) × (a.failed ≤ m.failed) × (m.held ≡ a.held) × (m.numbers ≡ a.numbers)
+      (m : CheckState) × (m.failing ≡ a.failing) × (a.failed ≤ m.failed) × (m.held ≡ a.held) × (noted_by m ≡ noted_by a)
       × (reason : List ℕ) × (further : List (List ℕ)) × TellsEach path (reason ∷ further) m b
       × (says path (reason ∷ further) part ≡ true)
 
   -- the source failed to list what is at this path, and that is told so
   abbrev pub TellsUnlisted : Path → Bool → CheckState → CheckState → Type 0
   TellsUnlisted path part a b =
-      (m : CheckState) × (m.failing ≡ a.failing) × HasRisen a.failed m.failed × (m.held ≡ a.held) × (m.numbers ≡ a.numbers)
+      (m : CheckState) × (m.failing ≡ a.failing) × HasRisen a.failed m.failed × (m.held ≡ a.held) × (noted_by m ≡ noted_by a)
       × TellsReasons path part m b
 
   -- a folder was listed whole, or what has names in it was, and that is told
   abbrev pub Finds : Path → Bool → CheckState → CheckState → Type 0
   Finds path whole a b = cond whole ((b ≡ a) × GoesAt path a) (TellsUnlisted path true a b)
 
-  -- a folder that was listed whole, with these entries, is judged, and found to be this; or it can't be listed whole, and that is
-  -- told in its place: it counts as no site, and is taken for one that only leads on
-  abbrev pub Begins : Wants → Folder → List Item → Finding → CheckState → CheckState → Type 0
-  Begins wants folder items what a b = (Judges wants (folder.path, folder.prefix) folder.here items a b
+module _ (says : Says) (share : Portion) where
+  -- a folder, which is the share's own or not, was listed whole, with these entries, and is found to be this: the identifier that its names read
+  -- is met, where it has an object, and it is judged where what lies in it is the share's own; or it can't be listed whole, and that is told in
+  -- its place: it counts as no site, and is taken for one that only leads on
+  abbrev pub Begins : Wants → Bool → Folder → List Item → Finding → CheckState → CheckState → Type 0
+  Begins wants own folder items what a b =
+      (Where (is_own_in wants.layout share (folder.path, folder.prefix) (finding_of wants.form folder.here items) own)
+      (Judges wants (folder.path, folder.prefix) folder.here items)
+      (meeting share (folder.path, folder.prefix) (finding_of wants.form folder.here items) a) b
       × (what ≡ finding_of wants.form folder.here items) × GoesAt folder.path a)
-      ⊎ (TellsUnlisted folder.path true a b × (what ≡ finding.Interior))
+      ⊎ (TellsUnlisted says folder.path true a b × (what ≡ finding.Interior))
 
   -- a folder is met that lists these entries, by what is then done with them: it is too deep and told so, nothing of it can be listed
   -- and that is told, or it is begun and its entries are visited. Where it can't be listed whole these are those that have names, and
   -- in a tree that is told each has one.
-  abbrev pub Enters : Wants → Folder → List Item → (Finding → CheckState → CheckState → Type 0) → CheckState → CheckState → Type 0
-  Enters wants folder items visits a b = cond (folder.left == 0) (Tells (Told folder.path trouble.Deep) a b)
-      (TellsUnlisted folder.path false a b
-      ⊎ ((what : Finding) × (m : CheckState) × Begins wants folder items what a m × visits what m b))
+  abbrev pub Enters : Wants → Bool → Folder → List Item → (Finding → CheckState → CheckState → Type 0) → CheckState → CheckState
+      → Type 0
+  Enters wants own folder items visits a b = cond (folder.left == 0) (Where own (Tells (Told folder.path trouble.Deep)) a b)
+      (TellsUnlisted says folder.path false a b
+      ⊎ ((what : Finding) × (m : CheckState) × Begins wants own folder items what a m × visits what m b))
 
-  -- the entries of a folder, which is found to be this, are visited one after another, each once, and all that stands in them
-  abbrev pub Visits : Wants → Folder → Finding → Forest → CheckState → CheckState → Type 0
-  Visits wants folder what none a b = b ≡ a
-  Visits wants folder what (file name bytes after) a b =
+  -- the entries of a folder, which is the share's own or not, and found to be this, are visited one after another, each once, and all that
+  -- stands in them. What isn't the share's own isn't met, and of folders those alone are entered that the share walks.
+  abbrev pub Visits : Wants → Bool → Folder → Finding → Forest → CheckState → CheckState → Type 0
+  Visits wants own folder what none a b = b ≡ a
+  Visits wants own folder what (file name bytes after) a b =
       let path = folder.path ++ name ∷ [] in
       let here = holder_in folder what in
-      (m : CheckState) × Meets wants path here (name, kind.File) a m
-      × (n : CheckState) × Opens wants.reads path here bytes m n
-      × Visits wants folder what after n b
-  Visits wants folder what (other name after) a b =
-      (m : CheckState) × Meets wants (folder.path ++ name ∷ []) (holder_in folder what) (name, kind.Other) a m
-      × Visits wants folder what after m b
-  Visits wants folder what (dir name inside after) a b =
+      let mine = is_own_in wants.layout share (folder.path, folder.prefix) what own in
+      (m : CheckState) × Where mine (Meets wants path here (name, kind.File)) a m
+      × (n : CheckState) × Where mine (Opens wants.reads path here bytes) m n
+      × Visits wants own folder what after n b
+  Visits wants own folder what (other name after) a b =
+      let mine = is_own_in wants.layout share (folder.path, folder.prefix) what own in
+      (m : CheckState) × Where mine (Meets wants (folder.path ++ name ∷ []) (holder_in folder what) (name, kind.Other)) a m
+      × Visits wants own folder what after m b
+  Visits wants own folder what (dir name inside after) a b =
       let it = folder_in folder what name in
-      (m : CheckState) × Meets wants it.path (holder_in folder what) (name, kind.Dir) a m
-      × (n : CheckState) × Enters wants it (listing_of inside) (λ seen. Visits wants it seen inside)
+      let mine = is_own_entry share it.path folder.here (name, kind.Dir)
+      (is_own_in wants.layout share (folder.path, folder.prefix) what own) in
+      (m : CheckState) × Where mine (Meets wants it.path (holder_in folder what) (name, kind.Dir)) a m
+      × (n : CheckState) × Where (is_walked share it.path it.here mine)
+      (Enters wants mine it (listing_of inside) (λ seen. Visits wants mine it seen inside))
       (counting (begun it.here (holder_in folder what)) m) n
-      × Visits wants folder what after (counting (ended it.here m.numbers) n) b
+      × Visits wants own folder what after (counting (ended it.here m.numbers) n) b
 
-  -- a folder of the store and all that stands in it are visited
-  abbrev pub VisitsFolder : Wants → Folder → Forest → CheckState → CheckState → Type 0
-  VisitsFolder wants folder inside =
-      Enters wants folder (listing_of inside) (λ what. Visits wants folder what inside)
+  -- a folder of the store, which is the share's own or not, and all that stands in it are visited
+  abbrev pub VisitsFolder : Wants → Bool → Folder → Forest → CheckState → CheckState → Type 0
+  VisitsFolder wants own folder inside =
+      Enters wants own folder (listing_of inside) (λ what. Visits wants own folder what inside)
 
 -- ---- a store
 
@@ -419,49 +424,66 @@ root_folder prefix = record {
   left = greatest_limits.depth + 1;
 }
 
--- at the top of a store stand the version's file and `pairtree_root` (Pairtree 0.1): it is told where one doesn't, and the second is visited
-abbrev pub Looks : Says → Wants → List ℕ → Forest → CheckState → CheckState → Type 0
-Looks says wants prefix tree a b =
-    (m : CheckState) × TellsIf (version_file ∷ []) (missing (is_file_kind (kind_in (listing_of tree) version_file))) a m
+-- at the top of a store, which is the share's own or not, stand the version's file and `pairtree_root` (Pairtree 0.1): it is told where one
+-- doesn't, and the second is visited
+abbrev pub Looks : Says → Portion → Wants → Bool → List ℕ → Forest → CheckState → CheckState → Type 0
+Looks says share wants own prefix tree a b =
+    (m : CheckState)
+    × Where own (TellsIf (version_file ∷ []) (missing (is_file_kind (kind_in (listing_of tree) version_file)))) a m
     × cond (is_dir_kind (kind_in (listing_of tree) pairtree_root))
-    (VisitsFolder says wants (root_folder prefix) (inside_at tree (pairtree_root ∷ [])) m b)
-    (Tells (Told (pairtree_root ∷ []) trouble.Missing) m b)
+    (VisitsFolder says share wants own (root_folder prefix) (inside_at tree (pairtree_root ∷ [])) m b)
+    (Where own (Tells (Told (pairtree_root ∷ []) trouble.Missing)) m b)
 
 -- the path of the prefix file
 abbrev pub prefix_path : Path
 prefix_path = prefix_file ∷ []
 
--- the front of a file of a prefix is read, and told by what it is; or it is told that it can't be. The prefix that is then known is empty
--- where the front is none. Where the front doesn't fill a block, the source doesn't fail there.
-abbrev pub ReadsFront : Path → List ℕ → List ℕ → CheckState → CheckState → Type 0
-ReadsFront path front prefix a b =
-    TellsIf path (prefix_trouble front) a b × (prefix ≡ prefix_in (Some (File front)))
+-- the front of a file of a prefix is read, and told by what it is, if the top is the share's own; or it is told that it can't be. The prefix
+-- that is then known is empty where the front is none. Where the front doesn't fill a block, the source doesn't fail there.
+abbrev pub ReadsFront : Bool → Path → List ℕ → List ℕ → CheckState → CheckState → Type 0
+ReadsFront own path front prefix a b =
+    Where own (TellsIf path (prefix_trouble front)) a b × (prefix ≡ prefix_in (Some (File front)))
     × (length front < 8192 → GoesAt path a)
     ⊎ TellsFailure path a b × (prefix ≡ [])
 
 -- where a file stands at the name of the prefix, its front is read. What is no file there is told, and no prefix.
-abbrev pub ReadsPrefix : Option Kind → List ℕ → List ℕ → CheckState → CheckState → Type 0
-ReadsPrefix None bytes prefix a b = (b ≡ a) × (prefix ≡ [])
-ReadsPrefix (Some kind.File) bytes prefix a b = ReadsFront prefix_path (take 8192 bytes) prefix a b
-ReadsPrefix (Some kind.Dir) bytes prefix a b = Tells (Told prefix_path trouble.Prefix) a b × (prefix ≡ [])
-ReadsPrefix (Some kind.Other) bytes prefix a b = Tells (Told prefix_path trouble.Prefix) a b × (prefix ≡ [])
+abbrev pub ReadsPrefix : Bool → Option Kind → List ℕ → List ℕ → CheckState → CheckState → Type 0
+ReadsPrefix own None bytes prefix a b = (b ≡ a) × (prefix ≡ [])
+ReadsPrefix own (Some kind.File) bytes prefix a b = ReadsFront own prefix_path (take 8192 bytes) prefix a b
+ReadsPrefix own (Some kind.Dir) bytes prefix a b = Where own (Tells (Told prefix_path trouble.Prefix)) a b × (prefix ≡ [])
+ReadsPrefix own (Some kind.Other) bytes prefix a b = Where own (Tells (Told prefix_path trouble.Prefix)) a b × (prefix ≡ [])
 
 -- what the top lists is looked at: the prefix, and then what a store must have
-abbrev pub LooksAll : Says → Wants → Forest → CheckState → CheckState → Type 0
-LooksAll says wants tree a b =
+abbrev pub LooksAll : Says → Portion → Wants → Bool → Forest → CheckState → CheckState → Type 0
+LooksAll says share wants own tree a b =
     (m : CheckState) × (prefix : List ℕ)
-    × ReadsPrefix (kind_in (listing_of tree) prefix_file) (bytes_at tree prefix_path) prefix a m
-    × Looks says wants prefix tree m b
+    × ReadsPrefix own (kind_in (listing_of tree) prefix_file) (bytes_at tree prefix_path) prefix a m
+    × Looks says share wants own prefix tree m b
 
--- a store is checked whole: what its top lists is looked at, if it lists all or what has names, or that can't be listed and is told; and
--- at the end stands the line of these numbers
-pub record Checks (says : Says) (wants : Wants) (tree : Forest) (numbers : Numbers) (a b : CheckState) : Type 0 where
+-- what a top lists is looked at, if it lists all or what has names, or that can't be listed and is told;
+-- and at the end stands the line of these numbers
+pub record ChecksAll (says : Says) (share : Portion) (wants : Wants) (tree : Forest) (numbers : Numbers) (a b : CheckState)
+    : Type 0 where
   pub last : CheckState
   pub first : CheckState
   pub whole : Bool
-  pub looks : (Finds says [] whole a first × LooksAll says wants tree first last) ⊎ TellsUnlisted says [] false a last
+  pub looks : (Finds says [] whole a first × LooksAll says share wants (is_own_way share []) tree first last)
+      ⊎ TellsUnlisted says [] false a last
   pub numbers_are : numbers ≡ last.numbers
   pub failing : b.failing ≡ last.failing
   pub failed : b.failed ≡ last.failed
   pub counted : b.numbers ≡ last.numbers
+  pub unmet : b.unmet ≡ last.unmet
   pub held : Appends last.held b.held (line_text (End last.numbers))
+
+-- none of a share's list was met
+abbrev pub starting : Portion → CheckState → CheckState
+starting share a = record a { unmet = unmet_by share }
+
+-- a share of a store is checked whole, when none of its list was met
+abbrev pub ChecksShare : Says → Portion → Wants → Forest → Numbers → CheckState → CheckState → Type 0
+ChecksShare says share wants tree numbers a b = ChecksAll says share wants tree numbers (starting share a) b
+
+-- and so is the whole store: all of it is the one share's own
+abbrev pub Checks : Says → Wants → Forest → Numbers → CheckState → CheckState → Type 0
+Checks says = ChecksShare says whole

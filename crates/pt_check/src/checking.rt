@@ -19,21 +19,21 @@
 //! names than its own, and is told, since a site's names follow from the text that they join to.
 //! And between two entries a check holds the listings on the way to where it stands, and numbers:
 //! nothing grows with the objects.
-ghost use Rattle.std.specs.Prelude.{◌≡◌, [], cond, false, length, string_bytes, take};
+ghost use Rattle.std.specs.Prelude.{◌≡◌, [], cond, false, length};
 ghost use Rattle.std.specs.Prelude.{IfOk, IsSome, OnOk, Some};
 ghost use Rattle.std.specs.Option.{ForSome};
 ghost use Rattle.pt_check.specs.Counting.{no_numbers};
 ghost use Rattle.pt_check.specs.Faults.{LogFailsAs};
 ghost use Rattle.pt_check.specs.FolderListing.{IfEntries, MatchListing, has_entries};
-ghost use Rattle.pt_plan.specs.Store.{prefix_file};
-ghost use Rattle.pt_plan.specs.TurnStart.{kind_in as kind_in_items};
-ghost use Rattle.pt_tree.specs.Path.{joined};
-ghost use Rattle.pt_check.specs.Visits.{Checks, Finds, Judges, Keeps, Looks, Meets, Opens, OpensIf};
-ghost use Rattle.pt_check.specs.Visits.{ReadsFront, ReadsPrefix, TellsReasons, TellsUnlisted};
-ghost use Rattle.pt_check.specs.Visits.{VisitsFolder, begun, ended, finding_of as finding_of_items};
-ghost use Rattle.pt_check.specs.Visits.{found_by, missing as missing_by};
-ghost use Rattle.pt_check.specs.Visits.{prefix_path, check_state, tree_by, with_folder};
+ghost use Rattle.pt_check.specs.Found.{found_folder};
+ghost use Rattle.pt_check.specs.Shares.{is_own_in as is_own_in_folder, unmet_behind};
+ghost use Rattle.pt_check.specs.Visits.{ChecksAll, ChecksShare, Finds, Judges, Keeps, Meets, Opens, OpensIf};
+ghost use Rattle.pt_check.specs.Visits.{TellsReasons, TellsUnlisted, VisitsFolder, Where, begun};
+ghost use Rattle.pt_check.specs.Visits.{check_state, ended, finding_of as finding_of_items};
+ghost use Rattle.pt_check.specs.Visits.{found_by, tree_by, with_folder};
+ghost use Rattle.pt_name.specs.Share.{whole};
 ghost use Rattle.pt_tree.specs.Forest.{dir_at, file_at, listing_at};
+ghost use Rattle.pt_tree.specs.Path.{joined};
 ghost use Rattle.pt_tree.specs.declared.kind.Kind.TheVariants as kind;
 ghost use Rattle.pt_walk.specs.Left.{bytes_at, inside_at};
 
@@ -41,15 +41,14 @@ use crate::judging::{
     count_trouble, entry_trouble, finding_of, folder_trouble, is_renamed, names_below,
     reserved_trouble, room_trouble, size_trouble, width_trouble,
 };
-use crate::prefix::open_prefix;
 use crate::reading::open_whole;
+use crate::shares::{is_all, is_own_object, is_own_way, is_walked};
 use crate::unlisted::{Explains, UnlistedFolder};
-use crate::{CheckDevices, FoundFolder, Numbers, Trouble, Wants, Within};
-use pt_object::WellKnownName;
+use crate::{CheckDevices, FoundFolder, Numbers, Part, Trouble, Wants, Within};
+use pt_name::{Share, UnmetIdentifiers};
 use pt_plan::Fault;
-use pt_plan::kinds::{is_dir, is_file, kind_in};
-use pt_tree::{Kind, KnownName, Listing, Log, Name, NamePath, Source, TreeFault};
-use pt_walk::{At, Finding, Limits};
+use pt_tree::{Kind, Listing, Log, MemoryFault, Name, NamePath, Source, TreeFault};
+use pt_walk::Finding;
 use std::alloc::Global;
 
 /// A check under way: what it goes over, and what it has counted.
@@ -59,6 +58,8 @@ pub struct Check<S, L, E> {
     pub(crate) log: L,
     pub(crate) explains: E,
     pub(crate) wants: Wants,
+    pub(crate) share: Share,
+    pub(crate) unmet: UnmetIdentifiers,
     pub(crate) numbers: Numbers,
     pub(crate) alloc: Global,
 }
@@ -79,23 +80,15 @@ struct ListedEntries {
     is_whole: bool,
 }
 
-// What is told of an entry that a store must have, by whether it is there.
-fn missing(is_there: bool) -> Option<Trouble>
-    ensures { result ≡ missing_by is_there }
-{
-    if is_there {
-        None
-    } else {
-        Some(Trouble::Missing)
-    }
-}
-
 impl<S: Source, L: Log, E: Explains<S> + Drop> Check<S, L, E> {
-    /// A check of the store whose folder a source is, which tells a log. Nothing is counted yet.
+    /// A check of the whole store whose folder a source is, which tells a log. Nothing is counted
+    /// yet.
     pub fn new(alloc: Global, devices: CheckDevices<S, L, E>, wants: Wants) -> Check<S, L, E>
         ensures source { result.source ≡ devices.source }
         ensures log { result.log ≡ devices.log }
         ensures wants { result.wants ≡ wants }
+        ensures share { result.share ≡ whole }
+        ensures unmet { result.unmet ≡ [] }
         ensures numbers { result.numbers ≡ no_numbers }
     {
         let CheckDevices {
@@ -108,177 +101,189 @@ impl<S: Source, L: Log, E: Explains<S> + Drop> Check<S, L, E> {
             log,
             explains,
             wants,
+            share: Share::whole(),
+            unmet: UnmetIdentifiers::none(alloc),
             numbers: Numbers::none(),
             alloc,
         }
     }
 
+    /// The same check of this share of the store: it tells and counts what is the share's own, and
+    /// walks no folder that the share doesn't.
+    pub fn of_share(self, share: Share) -> Check<S, L, E>
+        ensures { result ≡ record self { share = share } }
+    {
+        Check { share, ..self }
+    }
+
     /// Checks the store, and gives the numbers of its last line. What the source fails at is told,
-    /// and passed.
+    /// and passed. The identifiers that are read count as met, where the share has a list.
     ///
     /// `Log` where a line couldn't be put, and `Memory` where a growth was refused.
     pub fn run(&mut self) -> Result<Numbers, Fault>
         ensures checked { IfOk result (λ numbers. ForSome (tree_by S.told self.old)
-            (λ tree. Checks E.says self.old.wants tree numbers
+            (λ tree. ChecksShare E.says self.old.share self.old.wants tree numbers
             (check_state S.Source L.Log self.old) (check_state S.Source L.Log self.new))) }
-        ensures keeps { Keeps S.told S.keeps L.told self.old self.new }
+        ensures keeps { Keeps S.Source L.Log self.old self.new }
+        ensures fault { LogFailsAs (L.failed self.old.log) (L.failed self.new.log) result }
+    {
+        self.unmet = UnmetIdentifiers::of(self.alloc, &self.share)?;
+        self.check_all()
+    }
+
+    // Looks at the top of the store, visits what is below, and tells the numbers.
+    fn check_all(&mut self) -> Result<Numbers, Fault>
+        ensures checked { IfOk result (λ numbers. ForSome (tree_by S.told self.old)
+            (λ tree. ChecksAll E.says self.old.share self.old.wants tree numbers
+            (check_state S.Source L.Log self.old) (check_state S.Source L.Log self.new))) }
+        ensures keeps { Keeps S.Source L.Log self.old self.new }
         ensures fault { LogFailsAs (L.failed self.old.log) (L.failed self.new.log) result }
     {
         let top = NamePath::new(self.alloc);
+        let own = is_own_way(&self.share, &top)?;
         match self.list(&top)? {
             FolderListing::Entries(found) => {
-                let prefix = self.look_at_prefix(&found.listing)?;
-                self.look(&found.listing, prefix.as_str())?;
+                let prefix = self.look_at_prefix(&found.listing, own)?;
+                self.look(&found.listing, prefix.as_str(), own)?;
                 self.tell_numbers()
             }
             FolderListing::Nothing => self.tell_numbers(),
         }
     }
 
-    /// The source and the log, as the check left them.
-    pub fn into_devices(self) -> (S, L)
-        ensures source { result.0 ≡ self.source }
-        ensures log { result.1 ≡ self.log }
+    /// The source and the log, as the check left them, and the identifiers of its share's list of
+    /// which it met no object.
+    pub fn into_parts(self) -> ((S, L), UnmetIdentifiers)
+        ensures source { result.0.0 ≡ self.source }
+        ensures log { result.0.1 ≡ self.log }
+        ensures unmet { result.1 ≡ self.unmet }
     {
-        (self.source, self.log)
+        ((self.source, self.log), self.unmet)
     }
 
-    // Looks at the file of the prefix, where the top of a store lists one. Gives the prefix, empty
-    // where none is known.
-    fn look_at_prefix(&mut self, listing: &Listing) -> Result<String, Fault>
-        requires { ForSome (tree_by S.told self.old)
-            (λ tree. listing_at tree [] ≡ Some listing.now) }
-        ensures looked { IfOk result (λ prefix. ForSome (tree_by S.told self.old)
-            (λ tree. ReadsPrefix (kind_in_items listing.now prefix_file) (bytes_at tree prefix_path)
-            (string_bytes prefix)
-            (check_state S.Source L.Log self.old) (check_state S.Source L.Log self.new))) }
-        ensures keeps { Keeps S.told S.keeps L.told self.old self.new }
-        ensures fault { LogFailsAs (L.failed self.old.log) (L.failed self.new.log) result }
-    {
-        let path = NamePath::of_known(self.alloc, &[WellKnownName::PrefixFile])?;
-        match kind_in(listing, WellKnownName::PrefixFile.text().as_bytes()) {
-            None => Ok(String::new(self.alloc)),
-            Some(Kind::File) => self.read_prefix(&path),
-            Some(_) => {
-                self.tell(&path, Trouble::Prefix)?;
-                Ok(String::new(self.alloc))
-            }
-        }
-    }
-
-    // Reads the front of the prefix file, and tells what there is to tell of it, or that it can't
-    // be read. Gives the prefix, as above.
-    fn read_prefix(&mut self, file: &NamePath) -> Result<String, Fault>
-        requires { ForSome (tree_by S.told self.old) (λ tree. IsSome (file_at tree file.now)) }
-        ensures read { IfOk result (λ prefix. ForSome (tree_by S.told self.old)
-            (λ tree. ReadsFront file.now (take 8192 (bytes_at tree file.now)) (string_bytes prefix)
-            (check_state S.Source L.Log self.old) (check_state S.Source L.Log self.new))) }
-        ensures keeps { Keeps S.told S.keeps L.told self.old self.new }
-        ensures fault { LogFailsAs (L.failed self.old.log) (L.failed self.new.log) result }
-    {
-        match open_prefix(self.alloc, &mut self.source, file) {
-            Ok(front) => {
-                self.tell_if(file, front.trouble)?;
-                Ok(front.prefix)
-            }
-            Err(TreeFault::Device) => {
-                self.tell_failure(file)?;
-                Ok(String::new(self.alloc))
-            }
-            Err(TreeFault::Memory) => Err(Fault::Memory),
-        }
-    }
-
-    // Looks at what the top of a store of this prefix lists, and visits `pairtree_root`.
-    fn look(&mut self, listing: &Listing, prefix: &str) -> Result<(), Fault>
-        requires { ForSome (tree_by S.told self.old)
-            (λ tree. listing_at tree [] ≡ Some listing.now) }
-        ensures looked { OnOk result (ForSome (tree_by S.told self.old)
-            (λ tree. Looks E.says self.old.wants prefix.now tree
-            (check_state S.Source L.Log self.old) (check_state S.Source L.Log self.new))) }
-        ensures keeps { Keeps S.told S.keeps L.told self.old self.new }
-        ensures fault { LogFailsAs (L.failed self.old.log) (L.failed self.new.log) result }
-    {
-        let version = NamePath::of_known(self.alloc, &[WellKnownName::VersionFile])?;
-        let root = NamePath::of_known(self.alloc, &[WellKnownName::PairtreeRoot])?;
-        let marked = is_file(kind_in(listing, WellKnownName::VersionFile.text().as_bytes()));
-        self.tell_if(&version, missing(marked))?;
-        if is_dir(kind_in(listing, WellKnownName::PairtreeRoot.text().as_bytes())) {
-            self.visit(
-                &root,
-                prefix,
-                Within::Site(At::Root),
-                Limits::greatest().depth() + 1,
-            )
-        } else {
-            self.tell(&root, Trouble::Missing)
-        }
-    }
-
-    // A folder at a path in a store of this prefix, which is this, and below which folders may
-    // stand so deep, and all that lies in it. What can't be read is told, and passed. `Log` where a
-    // line couldn't be put, `Memory` where a growth was refused.
-    fn visit(
+    // A folder at a path in a store of this prefix, which is this part of it, and below which
+    // folders may stand so deep, and all that lies in it. What can't be read is told, and passed.
+    // `Log` where a line couldn't be put, `Memory` where a growth was refused.
+    pub(crate) fn visit(
         &mut self,
         path: &NamePath,
         prefix: &str,
-        within: Within,
+        part: Part,
         left: u64,
     ) -> Result<(), Fault>
         requires { ForSome (tree_by S.told self.old) (λ tree. IsSome (dir_at tree path.now)) }
         ensures visited { OnOk result (ForSome (tree_by S.told self.old)
-            (λ tree. VisitsFolder E.says self.old.wants
-            (record { path = path.now; prefix = prefix.now; here = within; left = left })
+            (λ tree. VisitsFolder E.says self.old.share self.old.wants part.own
+            (record { path = path.now; prefix = prefix.now; here = part.within; left = left })
             (inside_at tree path.now)
             (check_state S.Source L.Log self.old) (check_state S.Source L.Log self.new))) }
-        ensures keeps { Keeps S.told S.keeps L.told self.old self.new }
+        ensures keeps { Keeps S.Source L.Log self.old self.new }
         ensures fault { LogFailsAs (L.failed self.old.log) (L.failed self.new.log) result }
     {
         if left == 0 {
-            return self.tell(path, Trouble::Deep);
+            return self.tell_own(part.own, path, Some(Trouble::Deep));
         }
         let FolderListing::Entries(found) = self.list(path)? else {
             return Ok(());
         };
-        let finding = self.judge_found(path, prefix, within, &found)?;
-        let length = path.join()?.len() as u64;
-        let folder = FoundFolder {
-            within,
-            finding,
-            length,
-        };
-        let holder = folder.holder();
+        let folder = self.find(path, prefix, part, &found)?;
+        self.judge_found(path, prefix, folder, &found)?;
         for i in 0..found.listing.len() {
             let Some((name, kind)) = found.listing.get(i) else {
                 unreachable!()
             };
             let entry = path.child(name)?;
-            let bytes = self.meet(&entry, holder, name, kind)?;
+            let held = folder.entry(&self.share, &entry, name, kind)?;
+            let bytes = self.meet(&entry, held, name, kind)?;
             if let Kind::Dir = kind {
-                let inside = folder.child(name, bytes);
-                let before = self.begin(inside, holder);
-                self.visit(&entry, prefix, inside, left - 1)?;
-                self.end(inside, before);
+                let inside = folder.child(name, bytes, held.own);
+                let before = self.begin(inside.within, held.within);
+                if is_walked(&self.share, &entry, inside)? {
+                    self.visit(&entry, prefix, inside, left - 1)?;
+                }
+                self.end(inside.within, before);
                 continue;
             }
-            self.visit_leaf(&entry, holder, kind)?;
+            self.visit_leaf(&entry, held, kind)?;
         }
         Ok(())
     }
 
-    // Opens an entry that is no folder, in a folder that is this, if it is a file.
-    fn visit_leaf(&mut self, path: &NamePath, within: Within, here: Kind) -> Result<(), Fault>
+    // What a folder at a path is found to be, which is this part of a store of this prefix, and
+    // whether what lies in it is the share's own; the identifier that the names of a site with an
+    // object read is met. What a folder is that wasn't listed whole can't be said: it is taken for
+    // one that only leads on.
+    fn find(
+        &mut self,
+        path: &NamePath,
+        prefix: &str,
+        part: Part,
+        found: &ListedEntries,
+    ) -> Result<FoundFolder, MemoryFault>
+        ensures found { IfOk result (λ folder. folder ≡ found_folder self.old.wants self.old.share
+            (path.now, prefix.now) part found.now.is_whole found.now.listing) }
+        ensures met { OnOk result (self.new.unmet ≡ unmet_behind self.old.share
+            (path.now, prefix.now) (found_by found.now.is_whole self.old.wants.form part.within
+            found.now.listing) self.old.unmet) }
+        ensures rest { self.new ≡ record self.old { unmet = self.new.unmet } }
+    {
+        let finding = if found.is_whole {
+            finding_of(self.wants.form, part.within, &found.listing)
+        } else {
+            Finding::Interior
+        };
+        let own = self.is_own_in(path, prefix, finding, part.own)?;
+        Ok(FoundFolder {
+            part: Part { own, ..part },
+            finding,
+            length: path.join()?.len() as u64,
+        })
+    }
+
+    // Whether what lies in a folder, which is found to be this, and is the share's own or not, is
+    // the share's own. The identifier that the names of a site with an object read is met.
+    fn is_own_in(
+        &mut self,
+        path: &NamePath,
+        prefix: &str,
+        finding: Finding,
+        own: bool,
+    ) -> Result<bool, MemoryFault>
+        ensures own { IfOk result (λ is. is ≡ is_own_in_folder self.old.wants.layout self.old.share
+            (path.now, prefix.now) finding own) }
+        ensures met { OnOk result (self.new.unmet ≡ unmet_behind self.old.share
+            (path.now, prefix.now) finding self.old.unmet) }
+        ensures rest { self.new ≡ record self.old { unmet = self.new.unmet } }
+    {
+        match finding {
+            Finding::Candidate(_) | Finding::Gathered if !is_all(&self.share) => {
+                is_own_object(
+                    &self.share,
+                    self.wants.layout,
+                    prefix,
+                    path,
+                    &mut self.unmet,
+                )
+            }
+            _ => Ok(own),
+        }
+    }
+
+    // Opens an entry that is no folder, in this part of a store, if it is a file and the share's
+    // own.
+    fn visit_leaf(&mut self, path: &NamePath, part: Part, here: Kind) -> Result<(), Fault>
         requires { ForSome (tree_by S.told self.old)
             (λ tree. here ≡ kind.File → IsSome (file_at tree path.now)) }
         ensures opened { OnOk result (ForSome (tree_by S.told self.old)
-            (λ tree. OpensIf self.old.wants.reads path.now (within, here) (bytes_at tree path.now)
+            (λ tree. Where part.own (OpensIf self.old.wants.reads path.now (part.within, here)
+            (bytes_at tree path.now))
             (check_state S.Source L.Log self.old) (check_state S.Source L.Log self.new))) }
-        ensures keeps { Keeps S.told S.keeps L.told self.old self.new }
+        ensures keeps { Keeps S.Source L.Log self.old self.new }
         ensures fault { LogFailsAs (L.failed self.old.log) (L.failed self.new.log) result }
     {
         match here {
-            Kind::File => self.open(path, within),
-            Kind::Dir | Kind::Other => Ok(()),
+            Kind::File if part.own => self.open(path, part.within),
+            _ => Ok(()),
         }
     }
 
@@ -323,49 +328,51 @@ impl<S: Source, L: Log, E: Explains<S> + Drop> Check<S, L, E> {
         }
     }
 
-    // Judges a folder that was listed whole, as below. What another one is can't be said: it isn't
-    // judged, counts as no site, and is taken for one that only leads on.
+    // Judges a folder that was listed whole, as below, where what lies in it is the share's own.
+    // What another one is can't be said: it isn't judged, and counts as no site.
     fn judge_found(
         &mut self,
         path: &NamePath,
         prefix: &str,
-        within: Within,
+        folder: FoundFolder,
         found: &ListedEntries,
-    ) -> Result<Finding, Fault>
+    ) -> Result<(), Fault>
+        requires { folder.finding ≡ found_by found.now.is_whole self.old.wants.form
+            folder.part.within found.now.listing }
         ensures judged { OnOk result (cond found.now.is_whole
-            (Judges self.old.wants (path.now, prefix.now) within found.now.listing
+            (Where folder.part.own
+            (Judges self.old.wants (path.now, prefix.now) folder.part.within found.now.listing)
             (check_state S.Source L.Log self.old) (check_state S.Source L.Log self.new))
             (check_state S.Source L.Log self.new ≡ check_state S.Source L.Log self.old)) }
-        ensures finding { IfOk result (λ finding. finding
-            ≡ found_by found.now.is_whole self.old.wants.form within found.now.listing) }
-        ensures keeps { Keeps S.told S.keeps L.told self.old self.new }
+        ensures keeps { Keeps S.Source L.Log self.old self.new }
         ensures fault { LogFailsAs (L.failed self.old.log) (L.failed self.new.log) result }
     {
-        if found.is_whole {
-            self.judge(path, prefix, within, &found.listing)
+        if found.is_whole && folder.part.own {
+            self.judge(path, prefix, folder, &found.listing)
         } else {
-            Ok(Finding::Interior)
+            Ok(())
         }
     }
 
-    // Judges a folder of a store of this prefix by what it lists: it is counted, and told if there
-    // is trouble. Gives what it is found to be.
+    // Judges a folder of a store of this prefix by what it lists, and is found to be: it is
+    // counted, and told if there is trouble.
     fn judge(
         &mut self,
         path: &NamePath,
         prefix: &str,
-        within: Within,
+        folder: FoundFolder,
         listing: &Listing,
-    ) -> Result<Finding, Fault>
+    ) -> Result<(), Fault>
+        requires { folder.finding ≡ finding_of_items self.old.wants.form folder.part.within
+            listing.now }
         ensures judged { OnOk result (Judges self.old.wants
-            (path.now, prefix.now) within listing.now
+            (path.now, prefix.now) folder.part.within listing.now
             (check_state S.Source L.Log self.old) (check_state S.Source L.Log self.new)) }
-        ensures finding { IfOk result (λ finding. finding
-            ≡ finding_of_items self.old.wants.form within listing.now) }
-        ensures keeps { Keeps S.told S.keeps L.told self.old self.new }
+        ensures keeps { Keeps S.Source L.Log self.old self.new }
         ensures fault { LogFailsAs (L.failed self.old.log) (L.failed self.new.log) result }
     {
-        let finding = finding_of(self.wants.form, within, listing);
+        let within = folder.part.within;
+        let finding = folder.finding;
         let depth = names_below(path).len();
         let renamed = is_renamed(self.alloc, path, listing, finding)?;
         self.count(depth, renamed, within, finding);
@@ -374,26 +381,24 @@ impl<S: Source, L: Log, E: Explains<S> + Drop> Check<S, L, E> {
         self.tell_if(path, trouble)?;
         let trouble = reserved_trouble(layout, prefix, finding, path)?;
         self.tell_if(path, trouble)?;
-        self.tell_if(path, width_trouble(path, listing))?;
-        Ok(finding)
+        self.tell_if(path, width_trouble(path, listing))
     }
 
-    // Meets an entry of a folder that is this: it is counted, and told if there is trouble. Gives
-    // how many bytes its path has.
-    fn meet(
-        &mut self,
-        path: &NamePath,
-        within: Within,
-        name: &Name,
-        kind: Kind,
-    ) -> Result<u64, Fault>
-        ensures met { OnOk result (Meets self.old.wants path.now within (name.now, kind)
+    // Meets an entry of this part of a store: it is counted, and told if there is trouble, where it
+    // is the share's own. Gives how many bytes its path has.
+    fn meet(&mut self, path: &NamePath, part: Part, name: &Name, kind: Kind) -> Result<u64, Fault>
+        ensures met { OnOk result (Where part.own
+            (Meets self.old.wants path.now part.within (name.now, kind))
             (check_state S.Source L.Log self.old) (check_state S.Source L.Log self.new)) }
         ensures length { IfOk result (λ bytes. bytes ≡ length (joined path.now)) }
-        ensures keeps { Keeps S.told S.keeps L.told self.old self.new }
+        ensures keeps { Keeps S.Source L.Log self.old self.new }
         ensures fault { LogFailsAs (L.failed self.old.log) (L.failed self.new.log) result }
     {
         let bytes = path.join()?.len() as u64;
+        if !part.own {
+            return Ok(bytes);
+        }
+        let within = part.within;
         let held = self.numbers.held;
         let room = self.wants.room;
         self.numbers = self.numbers.with_entry(kind, bytes);
@@ -403,7 +408,8 @@ impl<S: Source, L: Log, E: Explains<S> + Drop> Check<S, L, E> {
         Ok(bytes)
     }
 
-    // What of a folder can be listed. That not all of it can is told.
+    // What of a folder can be listed. That not all of it can is told, whosever the folder is: what is
+    // missed there may be the share's own.
     #[tactic(auto, using(pt_tree::proofs::Told::listed_in))]
     fn list(&mut self, path: &NamePath) -> Result<FolderListing, Fault>
         requires { ForSome (tree_by S.told self.old) (λ tree. IsSome (dir_at tree path.now)) }
@@ -415,7 +421,7 @@ impl<S: Source, L: Log, E: Explains<S> + Drop> Check<S, L, E> {
         ensures found { IfOk result (λ found. IfEntries found
             (λ found. Finds E.says path.now found.is_whole
             (check_state S.Source L.Log self.old) (check_state S.Source L.Log self.new))) }
-        ensures keeps { Keeps S.told S.keeps L.told self.old self.new }
+        ensures keeps { Keeps S.Source L.Log self.old self.new }
         ensures fault { LogFailsAs (L.failed self.old.log) (L.failed self.new.log) result }
     {
         match self.source.list(path) {
@@ -428,8 +434,8 @@ impl<S: Source, L: Log, E: Explains<S> + Drop> Check<S, L, E> {
         }
     }
 
-    // Tells that the source failed to list a folder, by a line for each reason. Gives what of it
-    // can be listed all the same.
+    // Tells that the source failed to list a folder, by a line for each reason. Gives what of it can
+    // be listed all the same.
     #[tactic(auto, using(pt_tree::proofs::Told::listed_in))]
     fn list_part(&mut self, path: &NamePath) -> Result<FolderListing, Fault>
         requires { ForSome (tree_by S.told self.old) (λ tree. IsSome (dir_at tree path.now)) }
@@ -439,7 +445,7 @@ impl<S: Source, L: Log, E: Explains<S> + Drop> Check<S, L, E> {
         ensures part { IfOk result (λ found. IfEntries found (λ found. found.is_whole ≡ false)) }
         ensures told { IfOk result (λ found. TellsReasons E.says path.now (has_entries found)
             (check_state S.Source L.Log self.old) (check_state S.Source L.Log self.new)) }
-        ensures keeps { Keeps S.told S.keeps L.told self.old self.new }
+        ensures keeps { Keeps S.Source L.Log self.old self.new }
         ensures fault { LogFailsAs (L.failed self.old.log) (L.failed self.new.log) result }
     {
         let UnlistedFolder {
@@ -449,8 +455,7 @@ impl<S: Source, L: Log, E: Explains<S> + Drop> Check<S, L, E> {
         } = self
             .explains
             .explain_listing(self.alloc, &mut self.source, path)?;
-        self.tell_reason(path, reason.as_str())?;
-        self.tell_each(path, &further)?;
+        self.tell_reasons(path, reason.as_str(), &further)?;
         match listing {
             Some(listing) => Ok(FolderListing::Entries(ListedEntries {
                 listing,
@@ -467,7 +472,7 @@ impl<S: Source, L: Log, E: Explains<S> + Drop> Check<S, L, E> {
         ensures opened { OnOk result (ForSome (tree_by S.told self.old)
             (λ tree. Opens self.old.wants.reads path.now within (bytes_at tree path.now)
             (check_state S.Source L.Log self.old) (check_state S.Source L.Log self.new))) }
-        ensures keeps { Keeps S.told S.keeps L.told self.old self.new }
+        ensures keeps { Keeps S.Source L.Log self.old self.new }
         ensures fault { LogFailsAs (L.failed self.old.log) (L.failed self.new.log) result }
     {
         let reads = self.wants.reads;

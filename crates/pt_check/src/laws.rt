@@ -3,6 +3,8 @@
 ghost use Rattle.pt_check.specs.Clean.{NoRunFailsForSource, NoRunSkipsForLimit, NoRunSkipsForOther};
 ghost use Rattle.pt_check.specs.Clean.{NoRunSkipsForReserved};
 ghost use Rattle.pt_check.specs.Clean.{QuietCheckMeansCleanStore, QuietCheckMeansReadableStore};
+ghost use Rattle.pt_check.specs.ShareLaws.{CheckDoesItsSteps, CheckSharesAddUp};
+ghost use Rattle.pt_check.specs.ShareLaws.{CheckOwnsAsRun, CheckSharesDoTheWhole};
 
 /// Where a check ended well and told nothing there is nothing to tell of its store, as its source
 /// told it; and no call of that failed.
@@ -37,4 +39,27 @@ pub fn no_run_skips_for_limit()
 /// is nothing to tell.
 pub fn no_run_skips_for_reserved()
     ensures { NoRunSkipsForReserved }
+{}
+
+/// Where the check of a share ended well, and its source failed at nothing, its log has the lines
+/// of its steps (`steps_of`), and its numbers count them.
+pub fn check_does_its_steps()
+    ensures { CheckDoesItsSteps }
+{}
+
+/// Over any number of shares, by identifiers or by folders so deep, of whatever is chosen, each
+/// step of a check of the whole is one of the check of just one share, and there is no other.
+pub fn check_shares_do_the_whole()
+    ensures { CheckSharesDoTheWhole }
+{}
+
+/// So each number of its last line is the sum of those of the shares, up to the greatest count; the
+/// largest object and the longest path are the greatest of those.
+pub fn check_shares_add_up()
+    ensures { CheckSharesAddUp }
+{}
+
+/// The object of a site is a share's own to its check where a run of the share tells of it.
+pub fn check_owns_as_run()
+    ensures { CheckOwnsAsRun }
 {}

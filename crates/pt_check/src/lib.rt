@@ -4,29 +4,32 @@
 //! Read `Check::run` first (checking.rt), and `Trouble`, which lists what it tells:
 //!
 //! ```rust
-//! let mut check = Check::new(alloc, CheckDevices { source, log, explains }, wants);
+//! let mut check = Check::new(alloc, CheckDevices { source, log, explains }, wants); // Of all.
+//! let mut check = check.of_share(share); // Of a share, where that is wanted.
 //! let numbers = check.run()?; // What the last line of the log has.
 //! ```
 //!
 //! What it promises, over any source and any log:
 //!
-//! - Where it ends well and the source tells (`Checks`), pairtree_root and each entry of each
-//!   folder in it that could be listed was visited once (`Visits`), and at each exactly what there
-//!   is to tell of it was told (`Tells`). What can't be listed, opened or read is told with a
-//!   reason, and the walk goes on with the next entry.
-//! - Where it told nothing there is nothing to tell of the store, and no call of the source failed
-//!   (`QuietCheckMeansCleanStore`). No run over such a store passes an object over for `other`
-//!   (`NoRunSkipsForOther`). None with the greatest limits of pt_walk, which the check holds things
-//!   against, passes anything over for `limit` where the files were read whole
-//!   (`NoRunSkipsForLimit`), and none with the tuples of the check's layout anything for `reserved`
-//!   (`NoRunSkipsForReserved`). A check for runs that gather says both of these alone.
-//! - Where it told nothing and read the files whole, a source that tells where it fails fails at
-//!   nothing that a run asks it for (`QuietCheckMeansReadableStore`). So no run over that store
-//!   that fails at nothing else raises its count of failures (`NoRunFailsForSource`).
+//! - Where it ends well and the source tells (`ChecksShare`), each entry of each folder at or below
+//!   pairtree_root that could be listed was visited once (`Visits`), and exactly what there is to
+//!   tell of it was told (`Tells`). What can't be listed, opened or read is told with a reason, and
+//!   the walk goes on. Of a share only its own is told and counted (`is_own_in`, `is_own_entry`),
+//!   and no folder walked that the share doesn't walk (`is_walked`); `Checks` is of the whole.
+//! - Where the source fails at nothing it does its steps (`CheckDoesItsSteps`), and all shares do,
+//!   and count, together those of the whole (`CheckSharesDoTheWhole`, `CheckSharesAddUp`).
+//! - Where a check of the whole told nothing there is nothing to tell of the store, and no call of
+//!   the source failed (`QuietCheckMeansCleanStore`). No run passes an object of it over for
+//!   `other` (`NoRunSkipsForOther`), nor, with the limits that it is held against (the greatest of
+//!   pt_walk) and its files read whole, anything for `limit` (`NoRunSkipsForLimit`), nor, with its
+//!   tuples, for `reserved` (`NoRunSkipsForReserved`). A check for runs that gather says both of
+//!   these alone.
+//! - Where it read the files whole, a source that tells where it fails fails at nothing that a run
+//!   asks it for (`QuietCheckMeansReadableStore`), so a run over that store that fails at nothing
+//!   else raises no count of failures of it (`NoRunFailsForSource`).
 //! - It answers `Log` only where the log's count of failures rose, `Memory` only where it stayed,
-//!   and no other fault (`LogFailsAs`).
-//! - Whatever it answers, the source tells the same tree as before, and what stood in the log
-//!   stands (`Keeps`).
+//!   and no other fault (`LogFailsAs`). Whatever it answers, the source tells the same tree as
+//!   before, and the log is the same one, in which stands what stood (`Keeps`).
 //! - Not told is, without reading whole, the length of a file.
 //!
 //! No guarantee of README rests on its definitions.
@@ -43,7 +46,9 @@ mod lines;
 mod numbers;
 mod prefix;
 mod reading;
+mod shares;
 mod telling;
+mod top;
 mod trouble;
 mod unlisted;
 mod wants;
@@ -58,4 +63,4 @@ pub use numbers::Numbers;
 pub use trouble::Trouble;
 pub use unlisted::{Explains, UnlistedFolder};
 pub use wants::Wants;
-pub use within::{FoundFolder, Within};
+pub use within::{FoundFolder, Part, Within};

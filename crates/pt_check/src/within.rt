@@ -18,11 +18,21 @@ pub enum Within {
     Beside,
 }
 
+/// What a folder is, or what holds an entry, and whether what lies in it, or the entry, is the own
+/// of the share that is checked.
+#[derive(Clone, Copy, Debug, PartialEq, Eq)]
+pub struct Part {
+    /// What it is to a run.
+    pub within: Within,
+    /// Whether the share tells of it.
+    pub own: bool,
+}
+
 /// A folder, what it is found to be, and how many bytes its path has from the store's folder on.
 #[derive(Clone, Copy, Debug, PartialEq, Eq)]
 pub struct FoundFolder {
-    /// What it is to a run.
-    pub within: Within,
+    /// What it is to a run, and whether what lies in it is the share's own.
+    pub part: Part,
     /// What it is found to be; what is no site only leads on.
     pub finding: Finding,
     /// The length of its path.
@@ -41,19 +51,33 @@ impl Within {
 impl FoundFolder {
     /// What holds its entries that are no folders: itself, or the object that a site is.
     pub fn holder(self) -> Within
-        ensures { result ≡ holder self.within self.finding self.length }
+        ensures { result ≡ holder self.part.within self.finding self.length }
     {
         match self.finding {
             Finding::Gathered => Within::Object(self.length.saturating_add(1)),
-            _ => self.within,
+            _ => self.part.within,
         }
     }
 
-    /// What a folder in it is that has this name, and whose path has so many bytes.
-    pub fn child(self, name: &Name, length: u64) -> Within
-        ensures { result ≡ below self.within self.finding name.now self.length length }
+    /// What a folder in it is that has this name, and whose path has so many bytes, and is the
+    /// share's own or not.
+    pub fn child(self, name: &Name, length: u64, own: bool) -> Part
+        ensures { result ≡ record {
+          within = below self.part.within self.finding name.now self.length length;
+          own = own;
+        } }
     {
-        match (self.within, self.finding) {
+        Part {
+            within: self.below(name, length),
+            own,
+        }
+    }
+
+    // What it is to a run.
+    fn below(self, name: &Name, length: u64) -> Within
+        ensures { result ≡ below self.part.within self.finding name.now self.length length }
+    {
+        match (self.part.within, self.finding) {
             (Within::Site(at), _) if is_shorty(name, Kind::Dir) => below_site(at, name),
             (Within::Site(_), Finding::Candidate(_)) => Within::Object(length.saturating_add(1)),
             (Within::Site(_), Finding::Gathered) => self.holder(),

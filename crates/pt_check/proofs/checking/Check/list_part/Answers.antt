@@ -6,26 +6,19 @@ use Rattle.pt_check.proofs.checking.Check.list_part.Goals as goal
 pub explain_listing-requires : goal.explain_listing-requires
 explain_listing-requires g c = may_list (g.S.Source.told c.args.self.now.source) c.args.path.now c.requires
 
-pub returns-in_err-tell_each-clause-keeps : goal.returns-in_err-tell_each-clause-keeps
-returns-in_err-tell_each-clause-keeps g c =
-    let first = sources_on g.S.Source.told g.S.Source.keeps g.L.Log.told c.args.self.now c.explain_listing.new.source c.explain_listing.ensures.same
-    c.explain_listing.ensures.keeps in
-    let on = keeps_on g.S.Source.told g.S.Source.keeps g.L.Log.told g.met.S.Source.keeps_on in
-    on _ _ _ (on _ _ _ first c.tell_reason.ensures.keeps) c.tell_each.ensures.keeps
-
 pub returns-in-Some-clause-keeps : goal.returns-in-Some-clause-keeps
 returns-in-Some-clause-keeps g c =
-    let first = sources_on g.S.Source.told g.S.Source.keeps g.L.Log.told c.args.self.now c.explain_listing.new.source c.explain_listing.ensures.same
+    let first = sources_on g.S.Source g.L.Log g.met.L.Log.is_kept c.args.self.now c.explain_listing.new.source c.explain_listing.ensures.same
     c.explain_listing.ensures.keeps in
-    let on = keeps_on g.S.Source.told g.S.Source.keeps g.L.Log.told g.met.S.Source.keeps_on in
-    on _ _ _ (on _ _ _ first c.tell_reason.ensures.keeps) c.tell_each.ensures.keeps
+    let on = keeps_on g.S.Source g.L.Log g.met.S.Source.keeps_on g.met.L.Log.keeps_on in
+    on _ _ _ first c.tell_reasons.ensures.keeps
 
 pub returns-clause-keeps : goal.returns-clause-keeps
 returns-clause-keeps g c =
-    let first = sources_on g.S.Source.told g.S.Source.keeps g.L.Log.told c.args.self.now c.explain_listing.new.source c.explain_listing.ensures.same
+    let first = sources_on g.S.Source g.L.Log g.met.L.Log.is_kept c.args.self.now c.explain_listing.new.source c.explain_listing.ensures.same
     c.explain_listing.ensures.keeps in
-    let on = keeps_on g.S.Source.told g.S.Source.keeps g.L.Log.told g.met.S.Source.keeps_on in
-    on _ _ _ (on _ _ _ first c.tell_reason.ensures.keeps) c.tell_each.ensures.keeps
+    let on = keeps_on g.S.Source g.L.Log g.met.S.Source.keeps_on g.met.L.Log.keeps_on in
+    on _ _ _ first c.tell_reasons.ensures.keeps
 
 pub returns-in-Some-clause-told : goal.returns-in-Some-clause-told
 returns-in-Some-clause-told g c = let same = g.met.S.Source.keeps_failing _ _ c.explain_listing.ensures.keeps in search rules

@@ -26,6 +26,6 @@ returns-in-Some-File-clause-looked g c =
     c.kind_in.ensures ∙ ap (λ (n : List ℕ). kind_in c.args.listing.now n) (c.as_bytes.ensures.value ∙ c.text.ensures) in
     let here : kind_in c.args.listing.now prefix_file ≡ Some kind.File = sym named ∙ c.in-Some-File.is ∙ ap Some c.in-Some-File.field-0-is in
     IfOk-weaker c.read_prefix.result _ _
-    (λ prefix. prefix_step (tree_by g.S.Source.told c.args.self.now) (kind_in c.args.listing.now prefix_file) c.in_ok-path.path (string_bytes prefix)
+    (λ prefix. prefix_step c.args.own (tree_by g.S.Source.told c.args.self.now) (kind_in c.args.listing.now prefix_file) c.in_ok-path.path (string_bytes prefix)
     (check_state g.S.Source g.L.Log c.args.self.now) (check_state g.S.Source g.L.Log c.read_prefix.new.self) here c.in_ok-path.ensures)
     c.read_prefix.ensures.read

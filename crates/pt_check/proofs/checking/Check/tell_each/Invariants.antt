@@ -5,7 +5,7 @@ use Rattle.pt_check.proofs.checking.Check.tell_each.Given as goal
 -- the reasons so far were told
 abbrev pub invariant-loop-reason : goal.invariant-loop-reason
 invariant-loop-reason g l = record {
-  keeps : Keeps g.S.Source.told g.S.Source.keeps g.L.Log.told l.fn.self l.self;
+  keeps : Keeps g.S.Source g.L.Log l.fn.self l.self;
   source : l.self.source ≡ l.fn.self.source;
   unfailed : g.L.Log.failed l.self.log ≡ g.L.Log.failed l.fn.self.log;
   told : TellsEach l.path (map (λ reason. string_bytes reason) (take l.reason-index l.reasons))
