@@ -19,7 +19,7 @@ use Rattle.clap.specs.Simple.{
   with_leaf_noted,
 }
 use Rattle.clap.specs.Faults.{built_fault, check_fault, entered_fault, level_fault}
-use Rattle.pt_cli.specs.Grammar.{Spelled, audit_app, check_app, migrate_app, names_app, program}
+use Rattle.pt_cli.specs.Grammar.{Spellings, audit_app, check_app, migrate_app, names_app, program}
 use Rattle.pt_cli.specs.Arguments.{IsThere}
 use Rattle.pt_cli.specs.Options.{answer_to, command_in}
 use Rattle.pt_cli.proofs.Passing.{Every, Fits}
@@ -92,27 +92,27 @@ module _ (top x y w v z : Shape) (names_answered : Answered x) (migrate_answered
       dispatched stop (walk_goes top helps names (walk_from nothing_held) words tt walks.0) walks.1
       (some_command _ (rows_after top.rules names words) quiet wants checks)
 
-module _ (spelled others : Spelled) where
+module _ (spelled : Spellings) where
   -- the commands as the parser builds them
   abbrev above : Shape
-  above = with_leaf_noted (marked_built (program spelled others).top)
+  above = with_leaf_noted (marked_built (program spelled).top)
 
   abbrev built_names : Shape
   built_names = built_leaf (inherited above names_app.top)
 
   abbrev built_migrate : Shape
-  built_migrate = built_leaf (inherited above (migrate_app spelled).top)
+  built_migrate = built_leaf (inherited above (migrate_app spelled.migrate).top)
 
   abbrev built_audit : Shape
-  built_audit = built_leaf (inherited above (audit_app others).top)
+  built_audit = built_leaf (inherited above (audit_app spelled.audit).top)
 
   abbrev built_check : Shape
-  built_check = built_leaf (inherited above check_app.top)
+  built_check = built_leaf (inherited above (check_app spelled.check).top)
 
   abbrev built_help : Shape
   built_help = built_leaf help_shape
 
-  fit_top : Every (Fits (built (program spelled others)).top.rules) (built (program spelled others)).top.rules
+  fit_top : Every (Fits (built (program spelled)).top.rules) (built (program spelled)).top.rules
   fit_top = ((refl, refl, refl), ((refl, refl, refl), tt))
 
   fit_names : Every (Fits built_names.rules) built_names.rules
@@ -239,7 +239,52 @@ module _ (spelled others : Spelled) where
       (refl, refl, refl),
       (
         (refl, refl, refl),
-        ((refl, refl, refl), ((refl, refl, refl), ((refl, refl, refl), ((refl, refl, refl), ((refl, refl, refl), tt))))),
+        (
+          (refl, refl, refl),
+          (
+            (refl, refl, refl),
+            (
+              (refl, refl, refl),
+              (
+                (refl, refl, refl),
+                (
+                  (refl, refl, refl),
+                  (
+                    (refl, refl, refl),
+                    (
+                      (refl, refl, refl),
+                      (
+                        (refl, refl, refl),
+                        (
+                          (refl, refl, refl),
+                          (
+                            (refl, refl, refl),
+                            (
+                              (refl, refl, refl),
+                              (
+                                (refl, refl, refl),
+                                (
+                                  (refl, refl, refl),
+                                  (
+                                    (refl, refl, refl),
+                                    (
+                                      (refl, refl, refl),
+                                      tt,
+                                    ),
+                                  ),
+                                ),
+                              ),
+                            ),
+                          ),
+                        ),
+                      ),
+                    ),
+                  ),
+                ),
+              ),
+            ),
+          ),
+        ),
       ),
     ),
   )
@@ -248,11 +293,16 @@ module _ (spelled others : Spelled) where
   check_is_answered words e =
       let size = default_value built_check refl fit_check [] words false [] e (codes "tuple-size") _ refl refl in
       let count = default_value built_check refl fit_check [] words false [] e (codes "tuples") _ refl refl in
+      let when = default_value built_check refl fit_check [] words false [] e (codes "progress") _ refl refl in
+      let interval = default_value built_check refl fit_check [] words false [] e (codes "interval") _ refl refl in
       let source = required_value built_check refl fit_check [] words false [] e (codes "SOURCE") _ refl refl refl in
+      let progress = time_there spelled.check spelled.spells_check when.0 when.3 in
       let digits = number_there size.0 size.3 in
       let number = number_there count.0 count.3 in
+      let seconds = number_there interval.0 interval.3 in
       let rows = rows_after built_check.rules [] words in
       check_there rows source.0 source.1 (layout_there rows _ _ digits.0 number.0 size.2 digits.1 count.2 number.1)
+      (feedback_there rows when.0 _ progress.0 seconds.0 when.1 progress.1 interval.2 seconds.1)
 
   audit_is_answered : Answered built_audit
   audit_is_answered words e =
@@ -263,8 +313,8 @@ module _ (spelled others : Spelled) where
       let interval = default_value built_audit refl fit_audit [] words false [] e (codes "interval") _ refl refl in
       let source = required_value built_audit refl fit_audit [] words false [] e (codes "SOURCE") _ refl refl refl in
       let dest = required_value built_audit refl fit_audit [] words false [] e (codes "DEST") _ refl refl refl in
-      let algorithm = algorithm_there others.algorithms others.spells_algorithms digest.0 digest.3 in
-      let progress = time_there others.times others.spells_times when.0 when.3 in
+      let algorithm = algorithm_there spelled.audit.algorithms spelled.audit.spells_algorithms digest.0 digest.3 in
+      let progress = time_there spelled.audit.times spelled.audit.spells_times when.0 when.3 in
       let digits = number_there size.0 size.3 in
       let number = number_there count.0 count.3 in
       let seconds = number_there interval.0 interval.3 in
@@ -295,8 +345,8 @@ module _ (spelled others : Spelled) where
       let interval = default_value built_migrate refl fit_migrate [] words false [] e (codes "interval") _ refl refl in
       let source = required_value built_migrate refl fit_migrate [] words false [] e (codes "SOURCE") _ refl refl refl in
       let dest = required_value built_migrate refl fit_migrate [] words false [] e (codes "DEST") _ refl refl refl in
-      let algorithm = algorithm_there spelled.algorithms spelled.spells_algorithms digest.0 digest.3 in
-      let progress = time_there spelled.times spelled.spells_times when.0 when.3 in
+      let algorithm = algorithm_there spelled.migrate.algorithms spelled.migrate.spells_algorithms digest.0 digest.3 in
+      let progress = time_there spelled.migrate.times spelled.migrate.spells_times when.0 when.3 in
       let digits = number_there size.0 size.3 in
       let number = number_there count.0 count.3 in
       let seconds = number_there interval.0 interval.3 in
@@ -315,9 +365,9 @@ module _ (spelled others : Spelled) where
       go false is h = absurd (cc)
 
   -- where the parser accepts, nothing is missing
-  pub program_answered : (words : List Text) → fault_of (program spelled others) words ≡ []
-      → IsThere (answer_to (subcommand_of (program spelled others) words))
+  pub program_answered : (words : List Text) → fault_of (program spelled) words ≡ []
+      → IsThere (answer_to (subcommand_of (program spelled) words))
   program_answered words e =
-      answered (built (program spelled others)).top built_names built_migrate built_audit built_check built_help names_is_answered migrate_is_answered
+      answered (built (program spelled)).top built_names built_migrate built_audit built_check built_help names_is_answered migrate_is_answered
       audit_is_answered check_is_answered help_is_help refl fit_top refl refl refl
-      (argument_words (program spelled others) words) e
+      (argument_words (program spelled) words) e

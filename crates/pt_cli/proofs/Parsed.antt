@@ -30,33 +30,37 @@ use Rattle.clap.specs.Words.{Kinds, IsAmong, HasKind, Row, Text, kind_of, is_sim
 use Rattle.clap.specs.declared.error.Error.{Error}
 use Rattle.clap.specs.declared.error.kind.ErrorKind.{ErrorKind}
 use Rattle.clap.proofs.OnLiterals.{clap_on_literals}
-use Rattle.pt_cli.specs.Grammar.{Spelled, program}
+use Rattle.pt_cli.specs.Grammar.{Spelled, Spellings, program}
 use Rattle.pt_cli.specs.Words.{Answers, HasRefusal, IsRefusal, RefusedAs}
 use Rattle.pt_cli.specs.declared.command.Command.{Command}
 use Rattle.pt_cli.specs.declared.faults.WordsFault.{WordsFault}
 use Rattle.pt_cli.specs.declared.faults.WordsFault.TheVariants as fault
 
 -- the parser's answers are known from the words alone
-pub program-simple : (words others : Spelled) → is_simple (program words others) ≡ true
+pub program-simple : (words : Spellings) → is_simple (program words) ≡ true
 unfolding clap_on_literals
-program-simple words others = refl
+program-simple words = refl
 
-pub program-free : (words others : Spelled) → is_simple_and_free (program words others) ≡ true
+pub program-free : (words : Spellings) → is_simple_and_free (program words) ≡ true
 unfolding clap_on_literals
-program-free words others = refl
+program-free words = refl
 
 -- a word, at some place
 abbrev at_some : Text → Bor Text
 at_some word = record { ref_ptr = (0, 0); now = word }
 
 -- the words of values, at some places
-abbrev pub some_words : Spelled
-some_words = record {
+abbrev some_spelled : Spelled
+some_spelled = record {
   algorithms = record { ref_ptr = (0, 0); now = at_some (codes "sha512") ∷ at_some (codes "sha256") ∷ [] };
   times = record { ref_ptr = (0, 0); now = at_some (codes "auto") ∷ at_some (codes "always") ∷ at_some (codes "never") ∷ [] };
   spells_algorithms = refl;
   spells_times = refl;
 }
+
+-- and of each command
+abbrev pub some_words : Spellings
+some_words = record { migrate = some_spelled; audit = some_spelled; check = some_spelled.times; spells_check = refl }
 
 -- a kind that is a refusal is one among them
 refusal_among : (k : ErrorKind) (kinds : Kinds) → IsAmong k kinds → IsRefusal k → HasRefusal kinds

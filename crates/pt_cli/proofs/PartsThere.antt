@@ -42,6 +42,7 @@ use Rattle.pt_cli.specs.Options.{
   meta_in,
   migration_in,
   names_in,
+  portion_in,
   run_options_in,
 }
 use Rattle.pt_cli.specs.Share.{divided, share_asked}
@@ -173,6 +174,12 @@ module _ (rows : List Row) where
       → IsThere (layout_in rows)
   layout_there size_text count_text size count e1 e2 e3 e4 = rw (e1, e2, e3, e4) (cut_there (layout_of size count))
 
+  portion_there : IsThere (portion_in rows)
+  portion_there =
+      then_there (judged unread.Share (share_asked (first_of (codes "share") rows))) _ (share_there _)
+      (λ numbered. then_there (judged unread.Folders (divided (first_of (codes "share") rows) (first_of (codes "by-folders") rows) numbered)) _
+      (folders_judged _) (λ share. tt))
+
   pub meta_there : (created name message : Text) → first_of (codes "created") rows ≡ Some created → first_of (codes "name") rows ≡ Some name
       → first_of (codes "message") rows ≡ Some message → IsThere (meta_in rows)
   meta_there created name message e1 e2 e3 = rw (e1, e2, e3) (described_there _ (meta_refusal created name))
@@ -181,9 +188,7 @@ module _ (rows : List Row) where
       → algorithm_of digest ≡ Some algorithm
       → IsThere (layout_in rows) → IsThere (job_in meta rows)
   job_there meta digest algorithm e1 e2 cuts =
-      rw (e1, e2) (then_there (layout_in rows) _ cuts (λ tuples. then_there (judged unread.Share (share_asked (first_of (codes "share") rows))) _
-      (share_there _) (λ numbered. then_there (judged unread.Folders (divided (first_of (codes "share") rows) (first_of (codes "by-folders") rows) numbered)) _
-      (folders_judged _) (λ share. tt))))
+      rw (e1, e2) (then_there (layout_in rows) _ cuts (λ tuples. then_there (portion_in rows) _ portion_there (λ share. tt)))
 
   pub feedback_there : (when interval_text : Text) (progress : Progress) (interval : ℕ) → first_of (codes "progress") rows ≡ Some when
       → progress_of when ≡ Some progress
@@ -210,10 +215,14 @@ module _ (rows : List Row) where
       (λ j. then_there (ignored_in rows) _ (ignored_there (all_of (codes "ignore") rows)) (λ i. then_there (feedback_in rows) _ feedback (λ f. tt)))))
       (λ o. then_there (folders_in rows) _ folders (λ f. then_there (path_only unread.EmptyList (first_of (codes "list") rows)) _ (list_there _) (λ l. tt)))
 
-  pub check_there : (source : Text) → first_of (codes "SOURCE") rows ≡ Some source → IsThere (layout_in rows) → IsThere (check_in rows)
-  check_there source e1 cuts =
-      then_there (layout_in rows) _ cuts (λ l. then_there (ignored_in rows) _ (ignored_there (all_of (codes "ignore") rows))
-      (λ i. then_there (path_only unread.EmptyDest (first_of (codes "dest") rows)) _ (dest_there _) (λ d. rw e1 tt)))
+  pub check_there : (source : Text) → first_of (codes "SOURCE") rows ≡ Some source → IsThere (layout_in rows) → IsThere (feedback_in rows)
+      → IsThere (check_in rows)
+  check_there source e1 cuts feedback =
+      then_there (layout_in rows) _ cuts (λ l. then_there (portion_in rows) _ portion_there
+      (λ s. then_there (ignored_in rows) _ (ignored_there (all_of (codes "ignore") rows))
+      (λ i. then_there (path_only unread.EmptyDest (first_of (codes "dest") rows)) _ (dest_there _)
+      (λ d. then_there (feedback_in rows) _ feedback
+      (λ f. then_there (path_only unread.EmptyList (first_of (codes "list") rows)) _ (list_there _) (λ p. rw e1 tt))))))
 
   pub names_there : (id : Text) → first_of (codes "ID") rows ≡ Some id → IsThere (layout_in rows) → IsThere (names_in rows)
   names_there id e1 cuts = rw e1 (then_there (id_only id) _ (id_there id) (λ x. then_there (layout_in rows) _ cuts (λ l. tt)))

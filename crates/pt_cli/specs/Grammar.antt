@@ -201,23 +201,38 @@ audit_app words = on_top (λ s. record s { rules = audit_rules words }) (new_app
 abbrev pub IsAuditApp : App → Type 0
 IsAuditApp app = (words : Spelled) × (app ≡ audit_app words)
 
+-- the options of `check` and its path
+abbrev pub check_rules : Bor (List (Bor Text)) → List Rule
+check_rules times =
+    read_rule ∷ gather_rule ∷ into_rule ∷ size_rule ∷ count_rule ∷ share_rule ∷ by_folders_rule ∷ only_rule
+    ∷ list_rule ∷ ignore_rule ∷ verbose_rule ∷ quiet_rule ∷ progress_rule times ∷ interval_rule ∷ expect_rule ∷ event_rule ∷ source_rule ∷ []
+
 -- `check [OPTIONS] SOURCE`
-abbrev pub check_app : App
-check_app = on_top
-    (λ s. record s { rules = read_rule ∷ gather_rule ∷ into_rule ∷ size_rule ∷ count_rule ∷ ignore_rule ∷ source_rule ∷ [] })
-    (new_app (codes "check"))
+abbrev pub check_app : Bor (List (Bor Text)) → App
+check_app times = on_top (λ s. record s { rules = check_rules times }) (new_app (codes "check"))
+
+-- the command `check`, whose values are spelled somewhere
+abbrev pub IsCheckApp : App → Type 0
+IsCheckApp app = (times : Bor (List (Bor Text))) × SpellsTimes times × (app ≡ check_app times)
 
 -- `pairtree2ocfl` with a command behind it, or `--version`
 abbrev pub top_app : App
 top_app = on_top (λ s. record s { has_version = true; subcommand_required = true })
     (new_app (codes "pairtree2ocfl"))
 
--- the program, whose parser reads the values of `migrate` and of `audit` from these words
-abbrev pub program : Spelled → Spelled → App
-program words others =
-    with_subcommand (with_subcommand (with_subcommand (with_subcommand top_app names_app.top) (migrate_app words).top)
-    (audit_app others).top) check_app.top
+-- the words that the parser reads the values of each command from
+pub record Spellings : Type 0 where
+  pub migrate : Spelled
+  pub audit : Spelled
+  pub check : Bor (List (Bor Text))
+  pub spells_check : SpellsTimes check
+
+-- the program, whose parser reads the values of its commands from these words
+abbrev pub program : Spellings → App
+program words =
+    with_subcommand (with_subcommand (with_subcommand (with_subcommand top_app names_app.top) (migrate_app words.migrate).top)
+    (audit_app words.audit).top) (check_app words.check).top
 
 -- the program, whose values are spelled somewhere
 abbrev pub IsProgram : App → Type 0
-IsProgram app = (words : Spelled) × (others : Spelled) × (app ≡ program words others)
+IsProgram app = (words : Spellings) × (app ≡ program words)

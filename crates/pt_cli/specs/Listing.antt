@@ -1,4 +1,4 @@
--- The list of identifiers that `--list` names, and the job that takes those.
+-- The list of identifiers that `--list` names, and the share that takes those.
 use Rattle.std.specs.Prelude.{ℕ, ◌≡◌, ◌≢◌, ◌⊎◌, ◌==◌, ◌&&◌, ⊤, codes, List, [], ◌∷◌, ◌++◌, Option, None, Some, Result, Ok, Err, String, Vec, map, if◌then◌else◌}
 use Rattle.std.specs.Global.{Global}
 use Rattle.std.specs.List.{FoldsTo}
@@ -9,7 +9,6 @@ use Rattle.std.specs.declared.io.ErrorKind.TheVariants.{OutOfMemory}
 use Rattle.clap.specs.Words.{Text}
 use Rattle.pt_folder.specs.Runs.{GivesPiece, Reads}
 use Rattle.pt_name.specs.Share.{ListsAs, Portion, begins_with}
-use Rattle.pt_state.specs.declared.job.Job.{Job}
 use Rattle.pt_messages.specs.Reading.{FileWords}
 use Rattle.pt_cli.specs.Lines.{line_fault, lines_from, next_number}
 use Rattle.pt_cli.specs.declared.list_fault.BadLine.{BadLine}
@@ -146,24 +145,24 @@ ReadsOpened reads (Err error) answer = answer ≡ Err (file.Read error)
 abbrev pub ReadsList : FileWords → Text → Answer → Type 0
 ReadsList files path answer = (opened : Result files.File Error) × files.opens path opened × ReadsOpened files.reads opened answer
 
--- ---- the job
+-- ---- the share
 
 -- the share, whose list has just these identifiers
 abbrev pub IsListing : List (List ℕ) → Portion → Portion → Type 0
 IsListing lines share taken = (ids : List (List ℕ)) × ListsAs ids lines
     × (taken ≡ record share { list = Some ids })
 
--- the job takes these identifiers, or memory was wanting
-abbrev pub TakesIdentifiers : List (List ℕ) → Job → Result Job Untaken → Type 0
-TakesIdentifiers lines job (Ok taken) = (share : Portion) × IsListing lines job.share share × (taken ≡ record job { share = share })
-TakesIdentifiers lines job (Err untaken.Memory) = ⊤
-TakesIdentifiers lines job (Err (untaken.Refused line)) = ⊥
+-- the share takes these identifiers, or memory was wanting
+abbrev pub TakesIdentifiers : List (List ℕ) → Portion → Result Portion Untaken → Type 0
+TakesIdentifiers lines share (Ok taken) = IsListing lines share taken
+TakesIdentifiers lines share (Err untaken.Memory) = ⊤
+TakesIdentifiers lines share (Err (untaken.Refused line)) = ⊥
 
 -- a line that begins with the program's name
 abbrev pub IsOwnLine : List ℕ → Type 0
 IsOwnLine line = (rest : List ℕ) × (line ≡ codes "pairtree2ocfl: " ++ rest)
 
--- why there is no job where a file's identifiers can't be had: a line that is none is refused, and so is a file that can't be read, by a line
+-- why there is no share where a file's identifiers can't be had: a line that is none is refused, and so is a file that can't be read, by a line
 -- that says so; and want of memory is another
 abbrev pub IsUnread : FileFault → Untaken → Type 0
 IsUnread fault untaken.Memory = ⊤
@@ -171,23 +170,23 @@ IsUnread (file.Line bad) (untaken.Refused line) = IsOwnLine (string_bytes line)
 IsUnread (file.Read error) (untaken.Refused line) = (error_kind error ≢ OutOfMemory) × IsOwnLine (string_bytes line)
 IsUnread file.Memory (untaken.Refused line) = ⊥
 
--- the job takes what a file came to, or this is why not
-abbrev pub TakesAnswer : Answer → Job → Result Job Untaken → Type 0
-TakesAnswer (Ok lines) job taken = TakesIdentifiers lines job taken
-TakesAnswer (Err fault) job (Ok taken) = ⊥
-TakesAnswer (Err fault) job (Err why) = IsUnread fault why
+-- the share takes what a file came to, or this is why not
+abbrev pub TakesAnswer : Answer → Portion → Result Portion Untaken → Type 0
+TakesAnswer (Ok lines) share taken = TakesIdentifiers lines share taken
+TakesAnswer (Err fault) share (Ok taken) = ⊥
+TakesAnswer (Err fault) share (Err why) = IsUnread fault why
 
--- the same of the file of this path, which is read; without a list the job stays
-abbrev pub TakesList : FileWords → Option Text → Job → Result Job Untaken → Type 0
-TakesList files None job taken = taken ≡ Ok job
-TakesList files (Some path) job taken = (answer : Answer) × ReadsList files path answer × TakesAnswer answer job taken
+-- the same of the file of this path, which is read; without a list the share stays
+abbrev pub TakesList : FileWords → Option Text → Portion → Result Portion Untaken → Type 0
+TakesList files None share taken = taken ≡ Ok share
+TakesList files (Some path) share taken = (answer : Answer) × ReadsList files path answer × TakesAnswer answer share taken
 
--- why there is no job is told, and nothing else is asked of the machine: a refusal, or want of memory
+-- why there is no share is told, and nothing else is asked of the machine: a refusal, or want of memory
 abbrev pub IsUntaken : {H : Type 0} → MachineWords H → Untaken → H → H → ℕ → Type 0
 IsUntaken machine (untaken.Refused line) old new status = (status ≡ 2) × Tells machine (string_bytes line) old new
 IsUntaken machine untaken.Memory old new status = (status ≡ 3) × Tells machine (own_line Memory) old new
 
--- that is made with the job, if there is one
-abbrev pub MakesListed : {H : Type 0} → MachineWords H → (Job → H → H → ℕ → Type 0) → Result Job Untaken → H → H → ℕ → Type 0
-MakesListed machine makes (Ok job) old new status = makes job old new status
+-- that is made with the share, if there is one
+abbrev pub MakesListed : {H : Type 0} → MachineWords H → (Portion → H → H → ℕ → Type 0) → Result Portion Untaken → H → H → ℕ → Type 0
+MakesListed machine makes (Ok share) old new status = makes share old new status
 MakesListed machine makes (Err why) old new status = IsUntaken machine why old new status

@@ -7,6 +7,7 @@ use Rattle.clap.specs.Words.{Row, Text, all_of, first_of}
 use Rattle.pt_name.specs.Layout.{layout_of}
 use Rattle.pt_name.specs.Tuples.{Tuples}
 use Rattle.pt_name.specs.declared.layout.LayoutFault.{LayoutFault}
+use Rattle.pt_name.specs.Share.{Portion}
 use Rattle.pt_object.specs.Meta.{given_address, meta_refusal, parts_of}
 use Rattle.pt_object.specs.MetaParts.{MetaParts}
 use Rattle.pt_object.specs.declared.meta.MetaFault.{MetaFault}
@@ -54,21 +55,27 @@ meta_in rows = do
   message ← needed (first_of (codes "message") rows)
   described created name (first_of (codes "address") rows) message
 
+-- what of a store is taken, but for a list
+abbrev pub portion_in : List Row → Result Portion Unread
+portion_in rows = do
+  numbered ← judged unread.Share (share_asked (first_of (codes "share") rows))
+  share ← judged unread.Folders
+      (divided (first_of (codes "share") rows) (first_of (codes "by-folders") rows) numbered)
+  Ok (with_only (all_of (codes "only") rows) share)
+
 -- the run whose versions are described so, with the greatest limits
 abbrev pub job_in : MetaParts → List Row → Result Job Unread
 job_in meta rows = do
   algorithm ← algorithm_in rows
   layout ← layout_in rows
-  numbered ← judged unread.Share (share_asked (first_of (codes "share") rows))
-  share ← judged unread.Folders
-      (divided (first_of (codes "share") rows) (first_of (codes "by-folders") rows) numbered)
+  share ← portion_in rows
   Ok (record {
     meta = meta;
     layout = layout;
     algorithm = algorithm;
     limits = greatest_limits;
     gather = is_set_in (codes "gather") rows;
-    share = with_only (all_of (codes "only") rows) share;
+    share = share;
   })
 
 -- what is told beside the log
@@ -165,8 +172,11 @@ audit_in rows = do
 abbrev pub check_in : List Row → Result Command Unread
 check_in rows = do
   layout ← layout_in rows
+  share ← portion_in rows
   ignored ← ignored_in rows
   dest ← path_only unread.EmptyDest (first_of (codes "dest") rows)
+  feedback ← feedback_in rows
+  list ← path_only unread.EmptyList (first_of (codes "list") rows)
   source ← needed (first_of (codes "SOURCE") rows)
   Ok (Check (record {
     options = record {
@@ -175,8 +185,11 @@ check_in rows = do
       ignored = ignored;
       dest = dest;
       layout = layout;
+      share = share;
+      feedback = feedback;
     };
     source = source;
+    list = list;
   }))
 
 -- the identifier, which isn't empty

@@ -4,6 +4,7 @@ use Rattle.std.specs.IoError.{error_kind}
 use Rattle.std.specs.declared.io.Error.{Error}
 use Rattle.std.specs.declared.io.ErrorKind.TheVariants.{OutOfMemory}
 use Rattle.clap.specs.Words.{Text}
+use Rattle.pt_name.specs.Share.{Portion}
 use Rattle.pt_host.specs.Audits.{Audits, audit_call}
 use Rattle.pt_host.specs.Checking.{ChecksStore, check_call}
 use Rattle.pt_host.specs.Machine.{MachineWords}
@@ -11,12 +12,12 @@ use Rattle.pt_host.specs.Made.{Runs, run_call}
 use Rattle.pt_host.specs.Told.{Tells, own_line}
 use Rattle.pt_plan.specs.declared.fault.Fault.TheVariants.{Memory}
 use Rattle.pt_cli.specs.Calls.{TellsAsked, TellsText}
-use Rattle.pt_state.specs.declared.job.Job.{Job}
 use Rattle.pt_cli.specs.Inputs.{Beside}
 use Rattle.pt_messages.specs.Reading.{FileWords}
 use Rattle.pt_cli.specs.Listing.{MakesListed, TakesList}
 use Rattle.pt_cli.specs.Words.{ReadsWords, words_line}
 use Rattle.pt_cli.specs.declared.command.Audit.{Audit as AuditArgs}
+use Rattle.pt_cli.specs.declared.command.CheckArgs.{CheckArgs}
 use Rattle.pt_cli.specs.declared.command.Command.{Command}
 use Rattle.pt_cli.specs.declared.command.Command.TheVariants.{Audit, Check, Names, Migrate}
 use Rattle.pt_cli.specs.declared.command.Migrate.{Migrate as MigrateArgs}
@@ -38,16 +39,25 @@ Declines machine fault = Refuses machine 2 (words_line fault)
 -- what the list of a migration takes, where one is named, and the run with that; the machine before it and the one after it are a pair
 abbrev pub MakesRun : {H : Type 0} → MachineWords H → (Option Text → Type 0) → FileWords → MigrateArgs → H × H → ℕ → Type 0
 MakesRun machine asks files asked hosts status =
-    (taken : Result Job Untaken) × TakesList files asked.list asked.options.job taken
-    × MakesListed machine (λ job. Runs machine asks
-    (run_call (record asked.options { job = job }) asked.source asked.dest)) taken hosts.0 hosts.1 status
+    (taken : Result Portion Untaken) × TakesList files asked.list asked.options.job.share taken
+    × MakesListed machine (λ share. Runs machine asks
+    (run_call (record asked.options { job = record asked.options.job { share = share } }) asked.source asked.dest))
+    taken hosts.0 hosts.1 status
 
 -- the same of an audit
 abbrev pub MakesAudit : {H : Type 0} → MachineWords H → (Option Text → Type 0) → FileWords → AuditArgs → H × H → ℕ → Type 0
 MakesAudit machine asks files asked hosts status =
-    (taken : Result Job Untaken) × TakesList files asked.list asked.options.job taken
-    × MakesListed machine (λ job. Audits machine asks
-    (audit_call (record asked.options { job = job }) asked.source asked.dest)) taken hosts.0 hosts.1 status
+    (taken : Result Portion Untaken) × TakesList files asked.list asked.options.job.share taken
+    × MakesListed machine (λ share. Audits machine asks
+    (audit_call (record asked.options { job = record asked.options.job { share = share } }) asked.source asked.dest))
+    taken hosts.0 hosts.1 status
+
+-- the same of a check
+abbrev pub MakesCheck : {H : Type 0} → MachineWords H → (Option Text → Type 0) → FileWords → CheckArgs → H × H → ℕ → Type 0
+MakesCheck machine asks files asked hosts status =
+    (taken : Result Portion Untaken) × TakesList files asked.list asked.options.share taken
+    × MakesListed machine (λ share. ChecksStore machine asks
+    (check_call (record asked.options { share = share }) asked.source)) taken hosts.0 hosts.1 status
 
 -- what is done at a command: its call is made, with what its words ask for, and its status is the program's; `names` alone may ask for the input
 abbrev pub Obeys : {H : Type 0} → MachineWords H → Beside H → Command
@@ -55,7 +65,7 @@ abbrev pub Obeys : {H : Type 0} → MachineWords H → Beside H → Command
 Obeys machine beside (Names asked) old new = TellsAsked machine beside.input asked old new
 Obeys machine beside (Migrate asked) old new = MakesRun machine beside.asks beside.files asked (old, new)
 Obeys machine beside (Audit asked) old new = MakesAudit machine beside.asks beside.files asked (old, new)
-Obeys machine beside (Check asked) old new = ChecksStore machine (check_call asked.options asked.source) old new
+Obeys machine beside (Check asked) old new = MakesCheck machine beside.asks beside.files asked (old, new)
 
 -- what is done where the words were answered so
 abbrev pub Does : {H : Type 0} → MachineWords H → Beside H

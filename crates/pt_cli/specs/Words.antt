@@ -3,7 +3,7 @@ use Rattle.std.specs.Prelude.{ℕ, ◌≡◌, ◌≢◌, ◌⊎◌, ⊤, codes, 
 use Rattle.clap.specs.Words.{Kinds, IsAmong, Row, Text, fault_of, subcommand_of}
 use Rattle.clap.specs.declared.error.kind.ErrorKind.{ErrorKind}
 use Rattle.clap.specs.declared.error.kind.ErrorKind.TheVariants as kind
-use Rattle.pt_cli.specs.Grammar.{Spelled, program}
+use Rattle.pt_cli.specs.Grammar.{Spellings, program}
 use Rattle.pt_cli.specs.Options.{answer_to}
 use Rattle.pt_cli.specs.declared.command.Command.{Command}
 use Rattle.pt_cli.specs.declared.faults.Unread.{Unread}
@@ -54,8 +54,7 @@ RefusedAs k _ = ⊥
 -- what these words, the program's name first, are answered
 abbrev pub ReadsWords : List Text → Result Command WordsFault → Type 0
 ReadsWords words result =
-    (spelled : Spelled) × (others : Spelled)
-    × Answers (fault_of (program spelled others) words) (subcommand_of (program spelled others) words) result
+    (spelled : Spellings) × Answers (fault_of (program spelled) words) (subcommand_of (program spelled) words) result
 
 -- the number of a refusal
 abbrev pub words_number : WordsFault → ℕ

@@ -59,4 +59,6 @@ pub struct CheckArgs {
     pub options: CheckOptions,
     /// The folder that holds `pairtree_root`.
     pub source: Text,
+    /// The path of a list of the identifiers whose objects are checked, if one is named.
+    pub list: Option<Text>,
 }

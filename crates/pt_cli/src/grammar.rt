@@ -2,7 +2,7 @@ ghost use Rattle.std.specs.Prelude.{◌≡◌, false, IfOk, map};
 ghost use Rattle.std.specs.Result.{IsOkAnd};
 ghost use Rattle.clap.specs.Words.{AddsSubcommand, app_of};
 ghost use Rattle.clap.specs.declared.builder.command.Command.TheViews.{out-Command};
-ghost use Rattle.pt_cli.specs.Grammar.{IsAuditApp, IsMigrateApp, IsProgram, check_app, names_app};
+ghost use Rattle.pt_cli.specs.Grammar.{IsAuditApp, IsCheckApp, IsMigrateApp, IsProgram, names_app};
 ghost use Rattle.pt_cli.specs.Grammar.{top_app};
 ghost use Rattle.pt_cli.specs.Grammar.{flag_rule, number_rule, option_rule};
 ghost use Rattle.pt_cli.specs.ArgSpec.{IsLocal, IsTaker, TakesToo, defaulted_rule, needed_rule};
@@ -124,7 +124,7 @@ fn audit_parser<'a>(alloc: Global) -> Result<Parser<'a>, AllocError>
 }
 
 fn check_parser<'a>(alloc: Global) -> Result<Parser<'a>, AllocError>
-    ensures { IfOk result (λ parser. (app_of parser ≡ check_app)
+    ensures { IfOk result (λ parser. IsCheckApp (app_of parser)
         × ((out-Command parser).has_globals ≡ false)) }
 {
     let about = "Tells what in a Pairtree store would stop a run or surprise its owner";

@@ -1,15 +1,15 @@
-//! The words that say what is carried, and how: `--digest`, `--gather`, `--share`, `--by-folders`
-//! and `--only`, and those of the layout.
+//! The words that say what is carried, and how: `--digest` and `--gather`, and those of the layout
+//! and of the share.
 ghost use Rattle.std.specs.Prelude.{◌≡◌};
 ghost use Rattle.clap.specs.Words.{found_of, rows_of};
 ghost use Rattle.pt_cli.specs.Arguments.{ReadsAs, algorithm_in, algorithm_of};
 ghost use Rattle.pt_cli.specs.Options.{job_in};
 
-use crate::arguments::{is_set, require, text, texts};
+use crate::arguments::{is_set, require, text};
 use crate::faults::Unread;
-use crate::ids::{BY_FOLDERS, DIGEST, GATHER, ONLY, SHARE};
+use crate::ids::{DIGEST, GATHER};
 use crate::layout_words::layout;
-use crate::share_words::{divided, share, with_only};
+use crate::share_words::share;
 use clap::ArgMatches;
 use pt_move::Job;
 use pt_object::{Algorithm, Meta};
@@ -23,14 +23,7 @@ pub(crate) fn job(alloc: Global, matches: &ArgMatches<'_>, meta: Meta) -> Result
 {
     let algorithm = algorithm(matches)?;
     let layout = layout(matches)?;
-    let asked = text(matches, SHARE);
-    let Some(numbered) = share(asked) else {
-        return Err(Unread::Share);
-    };
-    let Some(share) = divided(asked, text(matches, BY_FOLDERS), numbered) else {
-        return Err(Unread::Folders);
-    };
-    let share = with_only(alloc, texts(matches, ONLY), share)?;
+    let share = share(alloc, matches)?;
     Ok(Job {
         meta,
         layout,

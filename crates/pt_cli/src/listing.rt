@@ -1,4 +1,4 @@
-//! The job that takes the identifiers of a list.
+//! The share that takes the identifiers of a list.
 //!
 //! Where `--list` names a file, that is read first, by `read_identifiers`, and what is made takes
 //! just the identifiers in its lines (`TakesList`); a file that can't be read or has another line
@@ -12,13 +12,12 @@ use crate::identifier_lines::read_identifiers;
 use crate::{FileFault, Text};
 use pt_host::{Reads, ReadsFiles};
 use pt_messages::escape;
-use pt_move::Job;
 use pt_name::{IdentifierList, Share};
 use pt_tree::MemoryFault;
 use std::alloc::{AllocError, AllocGlobal, Global};
 use std::{fmt, io};
 
-/// Why no job takes the identifiers of a list.
+/// Why no share takes the identifiers of a list.
 #[derive(Drop)]
 pub(crate) enum Untaken {
     /// Its file can't be read, or a line is no identifier: this line says so.
@@ -27,20 +26,20 @@ pub(crate) enum Untaken {
     Memory,
 }
 
-// The job that takes the identifiers of the list in a file too, where one is named.
+// The share that takes the identifiers of the list in a file too, where one is named.
 pub(crate) fn take_list<R: Reads + AllocGlobal>(
     rt: &R,
     list: &Option<Text>,
-    job: Job,
-) -> Result<Job, Untaken>
-    ensures { TakesList (⟦<R as ReadsFiles>⟧.file_words rt.now) list.now job result }
+    share: Share,
+) -> Result<Share, Untaken>
+    ensures { TakesList (⟦<R as ReadsFiles>⟧.file_words rt.now) list.now share result }
 {
     let Some(path) = list else {
-        return Ok(job);
+        return Ok(share);
     };
     let path = path.as_str();
     match read_list(rt, path) {
-        Ok(ids) => take_identifiers(rt.alloc(), path, ids, job),
+        Ok(ids) => take_identifiers(rt.alloc(), path, ids, share),
         Err(fault) => Err(unread(rt.alloc(), path, &fault)),
     }
 }
@@ -55,12 +54,17 @@ fn read_list<R: Reads + AllocGlobal>(rt: &R, path: &str) -> Result<Vec<String>, 
     }
 }
 
-// The job that takes these identifiers too. `Memory` where a growth was refused.
-fn take_identifiers(alloc: Global, path: &str, ids: Vec<String>, job: Job) -> Result<Job, Untaken>
-    ensures { TakesIdentifiers (map string_bytes ids.items) job result }
+// The share that takes these identifiers too. `Memory` where a growth was refused.
+fn take_identifiers(
+    alloc: Global,
+    path: &str,
+    ids: Vec<String>,
+    share: Share,
+) -> Result<Share, Untaken>
+    ensures { TakesIdentifiers (map string_bytes ids.items) share result }
 {
-    match with_list(alloc, path, ids, job.share) {
-        Ok(share) => Ok(Job { share, ..job }),
+    match with_list(alloc, path, ids, share) {
+        Ok(share) => Ok(share),
         Err(_) => Err(Untaken::Memory),
     }
 }

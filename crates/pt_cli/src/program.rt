@@ -8,10 +8,11 @@
 //! started with aren't text that is refused (2), and want of memory is 3. Why something is refused
 //! or failed is told by the machine, but for a line of `names -` that is no identifier.
 //!
-//! The options that have a part in what is said of a run or an audit: those of the job, `--list`,
-//! `--ignore`, `--sync`, `--dry-run`, `--present-ok`, `--skips-ok`, `--extra`, `--read` and
-//! `--dest` of a check, and `--expect`, whose log is asked for its end. `--verbose`, `--progress`,
-//! `--interval` and `--quiet` are taken from the words too; what they then show is tested.
+//! The options that have a part in what is said of a run, an audit or a check: those of the job,
+//! `--list`, `--ignore`, `--sync`, `--dry-run`, `--present-ok`, `--skips-ok`, `--extra`, `--read`
+//! and `--dest` of a check, and `--expect`, whose log is asked for its end. `--verbose`,
+//! `--progress`, `--interval` and `--quiet` are taken from the words too; what they then show is
+//! tested.
 ghost use Rattle.std.specs.Prelude.{◌≡◌, codes, map, string_bytes};
 ghost use Rattle.std.specs.Process.{exit_status};
 ghost use Rattle.pt_messages.specs.Expected.{AsksEnd};
@@ -19,9 +20,8 @@ ghost use Rattle.pt_cli.specs.Calls.{IsToldAs, TellsAsked, TellsNames, TellsText
 ghost use Rattle.pt_cli.specs.Calls.{names_status};
 ghost use Rattle.pt_cli.specs.Inputs.{beside};
 ghost use Rattle.pt_cli.specs.Listing.{IsUntaken};
-ghost use Rattle.pt_cli.specs.Statuses.{Declines, Ends, EndsWith, IsWordless, MakesAudit, MakesRun};
-ghost use Rattle.pt_cli.specs.Statuses.{Refuses};
-ghost use Rattle.pt_host.specs.Checking.{ChecksStore, check_call};
+ghost use Rattle.pt_cli.specs.Statuses.{Declines, Ends, EndsWith, IsWordless, MakesAudit, MakesCheck};
+ghost use Rattle.pt_cli.specs.Statuses.{MakesRun, Refuses};
 ghost use Rattle.pt_host.specs.Told.{Tells};
 
 use crate::input::{HasInput, InputMachine};
@@ -34,10 +34,10 @@ use crate::{
 };
 use pt_host::status::{DONE, REFUSED};
 use pt_host::{
-    AuditOptions, Host, Machine, Reads, ReadsFiles, RunOptions, Terminals, audit_guarded,
-    check_store, end_with_fault, run_guarded,
+    AuditOptions, CheckOptions, Host, Machine, Reads, ReadsFiles, RunOptions, Terminals,
+    audit_guarded, check_store, end_with_fault, run_guarded,
 };
-use pt_move::Fault;
+use pt_move::{Fault, Job};
 use pt_tree::write_out;
 use std::alloc::AllocGlobal;
 use std::io;
@@ -150,8 +150,10 @@ where
         dest,
         list,
     } = asked;
-    match take_list(rt, &list, options.job) {
-        Ok(job) => {
+    let job = options.job;
+    match take_list(rt, &list, job.share) {
+        Ok(share) => {
+            let job = Job { share, ..job };
             let options = RunOptions { job, ..options };
             run_guarded(rt, host, options, source.as_str(), dest.as_str())
         }
@@ -172,8 +174,10 @@ where
         dest,
         list,
     } = asked;
-    match take_list(rt, &list, options.job) {
-        Ok(job) => {
+    let job = options.job;
+    match take_list(rt, &list, job.share) {
+        Ok(share) => {
+            let job = Job { share, ..job };
             let options = AuditOptions { job, ..options };
             audit_guarded(rt, host, options, source.as_str(), dest.as_str())
         }
@@ -181,7 +185,7 @@ where
     }
 }
 
-// Says why no job takes a list, and gives the status of that.
+// Says why no share takes a list, and gives the status of that.
 fn refuse_list<H: Host>(host: &mut H, why: Untaken) -> u8
     ensures { IsUntaken ⟦<H as Machine>⟧.words why host.old host.new result }
 {
@@ -191,13 +195,25 @@ fn refuse_list<H: Host>(host: &mut H, why: Untaken) -> u8
     }
 }
 
-// Makes the check that the words ask for, and gives its status.
-fn make_check<R: AllocGlobal, H: Host>(rt: &R, host: &mut H, asked: CheckArgs) -> u8
-    ensures { ChecksStore ⟦<H as Machine>⟧.words (check_call asked.options asked.source)
-        host.old host.new result }
+// Makes the check that the words ask for, of what its list takes, and gives its status.
+fn make_check<R, H: Host>(rt: &R, host: &mut H, asked: CheckArgs) -> u8
+where
+    R: Reads + Clock + Eprint + AllocGlobal + Terminals,
+    ensures { MakesCheck ⟦<H as Machine>⟧.words (AsksEnd (⟦<R as ReadsFiles>⟧.file_words rt.now))
+        (⟦<R as ReadsFiles>⟧.file_words rt.now) asked (host.old, host.new) result }
 {
-    let CheckArgs { options, source } = asked;
-    check_store(rt, host, options, source.as_str())
+    let CheckArgs {
+        options,
+        source,
+        list,
+    } = asked;
+    match take_list(rt, &list, options.share) {
+        Ok(share) => {
+            let options = CheckOptions { share, ..options };
+            check_store(rt, host, options, source.as_str())
+        }
+        Err(why) => refuse_list(host, why),
+    }
 }
 
 // Writes the names that are asked for, of an identifier or of those on the input.

@@ -1,16 +1,36 @@
 //! The words of a share, as `2/8`, of how the store is divided, and of what is taken of the share.
 ghost use Rattle.std.specs.Prelude.{◌≡◌, IfOk, map, option_map};
 ghost use Rattle.std.specs.String.{string_bytes};
-ghost use Rattle.pt_cli.specs.Arguments.{number_of};
+ghost use Rattle.clap.specs.Words.{found_of, rows_of};
+ghost use Rattle.pt_cli.specs.Arguments.{ReadsAs, number_of};
+ghost use Rattle.pt_cli.specs.Options.{portion_in};
 ghost use Rattle.pt_cli.specs.Share.{at_depth, divided, share_asked, share_in, with_only};
 
+use crate::arguments::{text, texts};
+use crate::faults::Unread;
+use crate::ids::{BY_FOLDERS, ONLY, SHARE};
+use clap::ArgMatches;
 use pt_name::Share;
 use pt_tree::MemoryFault;
 use pt_walk::Limits;
 use std::alloc::Global;
 
+// What of a store is taken, but for a list: refused as `Share`, and then as `Folders`.
+pub(crate) fn share(alloc: Global, matches: &ArgMatches<'_>) -> Result<Share, Unread>
+    ensures { ReadsAs (portion_in (rows_of (found_of matches.now))) result }
+{
+    let asked = text(matches, SHARE);
+    let Some(numbered) = numbered(asked) else {
+        return Err(Unread::Share);
+    };
+    let Some(share) = divided(asked, text(matches, BY_FOLDERS), numbered) else {
+        return Err(Unread::Folders);
+    };
+    Ok(with_only(alloc, texts(matches, ONLY), share)?)
+}
+
 // The share that is asked for, if it is one: the whole store where none is.
-pub(crate) fn share(text: Option<&str>) -> Option<Share>
+fn numbered(text: Option<&str>) -> Option<Share>
     ensures { result ≡ share_asked (option_map (λ s. s.now) text.entry) }
 {
     match text {
@@ -21,7 +41,7 @@ pub(crate) fn share(text: Option<&str>) -> Option<Share>
 
 // The share of this number with the store divided by its folders, where a text names their depth:
 // none, where that is no depth from 1 to the greatest, or no share is asked for.
-pub(crate) fn divided(asked: Option<&str>, depth: Option<&str>, share: Share) -> Option<Share>
+fn divided(asked: Option<&str>, depth: Option<&str>, share: Share) -> Option<Share>
     ensures { result ≡ divided
         (option_map (λ s. s.now) asked.entry) (option_map (λ s. s.now) depth.entry) share }
 {
@@ -43,11 +63,7 @@ fn at_depth(share: Share, depth: u32) -> Option<Share>
 }
 
 // Of a share only what begins with these texts, where some are given. It holds copies of them.
-pub(crate) fn with_only(
-    alloc: Global,
-    texts: Option<&[&str]>,
-    share: Share,
-) -> Result<Share, MemoryFault>
+fn with_only(alloc: Global, texts: Option<&[&str]>, share: Share) -> Result<Share, MemoryFault>
     ensures { IfOk result (λ taken. taken
         ≡ with_only (option_map (λ s. map (λ t. t.now) s.now) texts.entry) share) }
 {

@@ -5,8 +5,8 @@
 //! prefix and layout, or `EmptyId` for the empty one, or `Tuples`. `migrate` gives the values of
 //! its options with their defaults and its two paths, or, in this order, `Created`, `EmptyName`,
 //! `Tuples`, `Share`, `Folders`, `Ignored`, `EmptyEvent` or `EmptyList`; `check` gives those of its
-//! own, or `Tuples`, `Ignored` or `EmptyDest`. Help, the version and `Words` come only where the
-//! parser's rules give them.
+//! own, or `Tuples`, `Share`, `Folders`, `Ignored`, `EmptyDest`, `EmptyEvent` or `EmptyList`. Help,
+//! the version and `Words` come only where the parser's rules give them.
 ghost use Rattle.std.specs.Prelude.{◌≡◌, [], map, option_map};
 ghost use Rattle.clap.specs.Words.{found_of, rows_of, subcommand_rows_of};
 ghost use Rattle.pt_cli.specs.Arguments.{IsThere, ReadsAs};
@@ -30,15 +30,15 @@ use std::convert::AsStr;
 /// Refused as `Help` where the parser was asked for help, as `Version` where for the version, and
 /// as `Words` where it refuses the words otherwise. Then for `names` as `EmptyId`, where the
 /// identifier is empty, and as `Tuples`. For `audit` as `Tuples`, `Share`, `Folders`, `Ignored`,
-/// `EmptyEvent` and `EmptyList`, as below, and for `check` as `Tuples`, `Ignored` and `EmptyDest`,
-/// where `--dest` is the empty text. For `migrate`, in this order, as `Created`, where `--created`
-/// isn't a moment of RFC 3339 to the second; as `EmptyName`, where `--name` is empty; as `Tuples`,
-/// where `--tuple-size` and `--tuples` aren't a layout of extension
-/// 0003-hash-and-id-n-tuple-storage-layout; as `Share`, where `--share` isn't `K/N` with a share's
-/// two numbers; as `Folders`, where `--by-folders` isn't a depth from 1 to 600, or `--share` isn't
-/// given; as `Ignored`, where `--ignore` isn't a name that an entry may have; as `EmptyEvent` and
-/// as `EmptyList`, where `--event` or `--list` is the empty text. As `Memory` where a growth was
-/// refused.
+/// `EmptyEvent` and `EmptyList`, as below, and for `check` as `Tuples`, `Share`, `Folders`,
+/// `Ignored`, `EmptyDest`, where `--dest` is the empty text, `EmptyEvent` and `EmptyList`. For
+/// `migrate`, in this order, as `Created`, where `--created` isn't a moment of RFC 3339 to the
+/// second; as `EmptyName`, where `--name` is empty; as `Tuples`, where `--tuple-size` and
+/// `--tuples` aren't a layout of extension 0003-hash-and-id-n-tuple-storage-layout; as `Share`,
+/// where `--share` isn't `K/N` with a share's two numbers; as `Folders`, where `--by-folders` isn't
+/// a depth from 1 to 600, or `--share` isn't given; as `Ignored`, where `--ignore` isn't a name
+/// that an entry may have; as `EmptyEvent` and as `EmptyList`, where `--event` or `--list` is the
+/// empty text. As `Memory` where a growth was refused.
 pub fn read_words<S: AsStr>(alloc: Global, words: &[S]) -> Result<Command, WordsFault>
     ensures { ReadsWords (map S.text words.now) result }
 {

@@ -1,5 +1,6 @@
 //! What help tells, and the hint that is given of words that are refused.
-use crate::words::{MIGRATE, Reading, Words, are_read, join_words};
+use crate::migrate_words::MIGRATE;
+use crate::words::{Reading, Words, are_read, join_words};
 use std::test::Fail;
 
 // Parts of the help of `migrate`, at length.

@@ -14,7 +14,6 @@ use Rattle.pt_plan.specs.declared.fault.Fault.{Fault}
 use Rattle.pt_plan.specs.Job.{Job}
 use Rattle.pt_host.specs.Audits.{root_tree, store_tree}
 use Rattle.pt_state.specs.declared.job.Job as own
-use Rattle.pt_tree.specs.Failures.{HasRisen}
 use Rattle.pt_tree.specs.Forest.{Forest}
 
 -- what is open for reading changes no tree
@@ -38,17 +37,15 @@ module _ {S : Type 0} (forest : S → List ℕ → Option Forest) where
       → tree_in (source_told (forest own path) reading) ≡ root_tree (forest system folder)
   root_is {own = own} {path = path} reading same at = tree_of_root (forest own path) reading ∙ (λ i. root_tree (forest (same i) (at i)))
 
--- an audit ends as it did, whatever its trees and its log are called, over a root that hadn't failed
-pub ends_as : (extra : Bool) (ran : Result AuditCounts Fault) (job : Job) (before failed : ℕ) {source store root folder : Option Forest}
-    {first begun now last : Option (List ℕ)} → before ≡ 0
-    → source ≡ store → root ≡ folder → first ≡ begun → now ≡ last → AuditLogs extra (HasRisen before failed) job (start_over source root first) now ran
-    → AuditLogs extra (HasRisen 0 failed) job (start_over store folder begun) last ran
-ends_as extra ran job before failed {source} {store} {root} {folder} {first} {begun} {now} {last} unfailed source_is root_is first_is now_is ends =
-    subst (λ (n : ℕ). AuditLogs extra (HasRisen n failed) job (start_over store folder begun) last ran) unfailed
-    (subst (λ (l : Option (List ℕ)). AuditLogs extra (HasRisen before failed) job (start_over store folder begun) l ran) now_is
-    (subst (λ (l : Option (List ℕ)). AuditLogs extra (HasRisen before failed) job (start_over store folder l) now ran) first_is
-    (subst (λ (t : Option Forest). AuditLogs extra (HasRisen before failed) job (start_over store t first) now ran) root_is
-    (subst (λ (t : Option Forest). AuditLogs extra (HasRisen before failed) job (start_over t root first) now ran) source_is ends))))
+-- an audit ends as it did, whatever its trees and its log are called
+pub ends_as : (extra : Bool) (failed : Type 0) (ran : Result AuditCounts Fault) (job : Job) {source store root folder : Option Forest}
+    {first begun now last : Option (List ℕ)} → source ≡ store → root ≡ folder → first ≡ begun → now ≡ last
+    → AuditLogs extra failed job (start_over source root first) now ran → AuditLogs extra failed job (start_over store folder begun) last ran
+ends_as extra failed ran job {source} {store} {root} {folder} {first} {begun} {now} {last} source_is root_is first_is now_is ends =
+    subst (λ (l : Option (List ℕ)). AuditLogs extra failed job (start_over store folder begun) l ran) now_is
+    (subst (λ (l : Option (List ℕ)). AuditLogs extra failed job (start_over store folder l) now ran) first_is
+    (subst (λ (t : Option Forest). AuditLogs extra failed job (start_over store t first) now ran) root_is
+    (subst (λ (t : Option Forest). AuditLogs extra failed job (start_over t root first) now ran) source_is ends)))
 
 -- so does what it says
 pub says_as : (ran : Result AuditCounts Fault) (job : own.Job) {source store root folder : Option Forest} → source ≡ store → root ≡ folder

@@ -17,7 +17,7 @@ use Rattle.pt_plan.specs.declared.fault.Fault.TheVariants as fault
 use Rattle.pt_state.specs.declared.job.Job.{Job}
 use Rattle.pt_state.specs.declared.job.Report.{Report}
 use Rattle.pt_tree.specs.Dest.{Writing}
-use Rattle.pt_tree.specs.Failures.{HasRisen, IsCounted}
+use Rattle.pt_tree.specs.Failures.{IsCounted}
 use Rattle.pt_tree.specs.declared.faults.TreeFault.{TreeFault}
 use Rattle.pt_tree.specs.declared.faults.TreeFault.TheVariants.{Device, Memory}
 use Rattle.pt_host.specs.DestFaultLaw.{DestFaultMeansFailedStep, HasFailedStep, IsFailedStep}

@@ -1,5 +1,5 @@
 -- What the disk of a log has after a run.
-use Rattle.std.proofs.Common.{◌≡◌, ◌∙◌, ℕ, Bool, true, false, ap, inl, inr, refl}
+use Rattle.std.proofs.Common.{◌≡◌, ◌∙◌, ℕ, List, Bool, true, false, ap, inl, inr, refl}
 use Rattle.std.specs.Prelude.{◌≢◌, ◌⊎◌, IfSome, Option, None, Some, is_some, Result, Ok, Err}
 use Rattle.std.specs.declared.io.Error.{Error}
 use Rattle.pt_move.specs.Counting.{Counts}
@@ -27,11 +27,11 @@ unfailed allowed (Ok report) before after counts none well = counts ∙ none
 unfailed allowed (Err fault) before after counts none well = absurd (well refl)
 
 -- and its file is where all stands that it wrote, if it wrote anything
-pub logged : {W E : Type 0} (puts : E → W → Result (Unit {0}) Error → E
-    → Type 0) (allowed : AllowedLines) (old new : DurableLog W E) (ran : Result Report Fault) → LogStays puts old new → Counts 3 old.failures new.failures ran
+pub logged : {W E : Type 0} (writes : W → List ℕ → Result (Unit {0}) Error → W → Type 0) (puts : E → W → Result (Unit {0}) Error → E → Type 0)
+    (allowed : AllowedLines) (old new : DurableLog W E) (ran : Result Report Fault) → LogStays writes puts old new → Counts 3 old.failures new.failures ran
     → old.failures ≡ 0
     → IsLogged puts old.file old.writer new.writer (run_status allowed ran)
-logged {W} {E} puts allowed old new ran stays counts none = by old.file refl
+logged {W} {E} writes puts allowed old new ran stays counts none = by old.file refl
   where
     of_file : (o : Option E) → is_some o ≡ true → IfSome o (IsOnDisk puts new.writer) → (after : E) × IsOnDisk puts new.writer after
     of_file None some there = absurd (cc)

@@ -4,8 +4,10 @@ use Rattle.std.specs.Prelude.{IfOk, Option, Result, Ok, Err, None, Some, if◌th
 use Rattle.std.specs.Option.{ForSome}
 use Rattle.pt_check.proofs.Readable.{no_run_fails}
 use Rattle.pt_check.specs.Counting.{stops_run}
+use Rattle.pt_check.specs.Visits.{ChecksShare}
 use Rattle.pt_check.specs.declared.numbers.Numbers.{Numbers}
 use Rattle.pt_move.specs.Counting.{Counts}
+use Rattle.pt_name.specs.Share.{Portion}
 use Rattle.pt_plan.specs.DeviceStates.{DeviceStates}
 use Rattle.pt_plan.specs.declared.fault.Fault.{Fault}
 use Rattle.pt_state.specs.declared.job.Job.{Job}
@@ -51,16 +53,18 @@ of_ok : (ran : Result Numbers Fault) (numbers : Numbers) → ran ≡ Ok numbers 
 of_ok ran numbers is P holds = subst (λ (r : Result Numbers Fault). IfOk r P) is holds
 
 pub unhalted_store : {H : Type 0} (words : MachineWords H) → NoRunIsHaltedAfterQuietCheck words
-unhalted_store words both checked carried tree at check-end end same reads checks zero made =
+unhalted_store words both checked carried tree at quiet-end end same all reads checks zero made =
     let told = quiet checks.ran (sym zero ∙ checks.status_is) in
     let failing = words.read.store_fails both.checked.store both.check.store in
     let went = of_ok checks.ran told.0 told.1 (λ numbers. ForSome (store_checked words.read both.check both.checked)
-    (ChecksTree both.check failing (words.read.output both.checked.output) (words.read.output checked.output) numbers)) checks.checks in
-    let (end, held, went_over) = went tree same.checked in
+    (ChecksTree both.check failing (words.read.output both.checked.output) (words.read.output checked.output) quiet-end.unmet numbers)) checks.checks in
+    let (end, held, unmet, went_share) = went tree same.checked in
+    let was = unbegun failing (words.read.output both.checked.output) in
+    let went_over = subst (λ (s : Portion). ChecksShare says_anything s (wants_of both.check.options) tree told.0 was end) all went_share in
     let start = start_of words.written both.run both.lent in
     let source = source_of start in
     let rest : failing_paths source.failing ≡ failing = at_rest _ ∙ same.carried_fails ∙ sym same.checked_fails in
-    let still = no_run_fails says_anything (wants_of both.check.options) tree told.0 (unbegun failing (words.read.output both.checked.output)) end
+    let still = no_run_fails says_anything (wants_of both.check.options) tree told.0 was end
     went_over told.2 reads source (record source { failed = made.3.source }) same.carried rest (rests _ at same.carried_fails)
     (record { failed = made.7; still = λ fails. fails }) in
     unblamed 0 made.3.source made.4.0 (omega arith) still

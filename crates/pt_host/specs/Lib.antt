@@ -1,3 +1,4 @@
+pub mod AuditFaultLaw
 pub mod Audits
 pub mod Checking
 pub mod DestFaultLaw
@@ -12,7 +13,10 @@ pub mod Operation
 pub mod Output
 pub mod QuietCheckLaw
 pub mod QuietStoreLaw
+pub mod ReadSteps
 pub mod RehearsalLaw
 pub mod Room
 pub mod Served
+pub mod StoreFailures
 pub mod Told
+pub mod Totals

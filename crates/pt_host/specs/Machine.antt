@@ -23,9 +23,10 @@ abbrev pub host_io_words : {S D W K : Type 0} → (S → List ℕ → Option For
 host_io_words store fails folder output =
     record { store = store; store_fails = fails; folder = folder; output = output }
 
--- a machine by its words: what its calls on places and its own may come to; the syncing of the output's file, alone and
--- behind the output. And those of what it lends, as a run writes and as an audit reads it, with what serving a run leaves
--- of the destination's system, and how many calls failed then
+-- a machine by its words: what its calls on places and its own may come to; the syncing of the output's file alone; the
+-- writing of the output, and that syncing behind it. And those of what it lends, as a run writes and as an audit reads it,
+-- with what serving a run leaves of the destination's system, and how many calls failed then; and where a call failed that
+-- read a folder there
 pub record MachineWords (H : Type 0) : Type 1 where
   pub Lock : Type 0
   pub Store : Type 0
@@ -36,10 +37,12 @@ pub record MachineWords (H : Type 0) : Type 1 where
   pub places : H → PlaceCall Lock → H → Type 0
   pub host : H → HostCall OutputFile (HostIo Store Dest Output) → H → Type 0
   pub syncs : OutputFile → Result (Unit {0}) Error → OutputFile → Type 0
+  pub writes : Output → List ℕ → Result (Unit {0}) Error → Output → Type 0
   pub puts : OutputFile → Output → Result (Unit {0}) Error → OutputFile → Type 0
   pub written : HostIoWords Store Dest Output (Kept DestFile)
   pub read : HostIoWords Store Dest Output (Option Forest)
   pub serves : RunOptions → List ℕ → Dest → Dest → ℕ → Type 0
+  pub fails : List ℕ → Dest → Dest → Type 0
 
 -- what a machine lends
 abbrev pub HostIoOf : {H : Type 0} → MachineWords H → Type 0

@@ -1,8 +1,7 @@
 -- Which run was made, over what, and what it came to.
-use Rattle.std.specs.Prelude.{◌≡◌, ◌≢◌, ◌⊎◌, ⊤, ℕ, Bool, true, false, List, Option, Some, None, is_some, OnOk, Result, Ok, Err}
+use Rattle.std.specs.Prelude.{◌≡◌, ◌≢◌, ◌⊎◌, ⊤, ℕ, Bool, true, false, List, Option, Some, None, is_some, OnOk, Result, Ok, Err, codes}
 use Rattle.std.specs.IoError.{error_kind}
 use Rattle.std.specs.Option.{ForSome, option_map}
-use Rattle.std.specs.Result.{result_err}
 use Rattle.std.specs.declared.io.Error.{Error}
 use Rattle.std.specs.declared.io.ErrorKind.TheVariants.{InvalidInput}
 use Rattle.pt_folder.specs.DestHeld.{told_with as dest_told}
@@ -33,12 +32,13 @@ use Rattle.pt_tree.specs.Failing.{Failing}
 use Rattle.pt_tree.specs.Path.{Path}
 use Rattle.pt_tree.specs.Source.{tree_in}
 use Rattle.pt_tree.specs.declared.source.Source.{Ghosts as OfSource}
-use Rattle.pt_host.specs.Durable.{IsLogged}
+use Rattle.pt_host.specs.Durable.{IsLogged, LogFailsBy}
 use Rattle.pt_host.specs.Ends.{EndsWithList, guard_status, run_status}
-use Rattle.pt_host.specs.Events.{IsRecorded}
+use Rattle.pt_host.specs.Events.{EventHead, IsRecorded, event_head}
 use Rattle.pt_host.specs.HostCall.{Lend, OpenOutput, TakeBack}
 use Rattle.pt_host.specs.Machine.{HostIoOf, HostIoWords, MachineWords}
-use Rattle.pt_host.specs.Told.{CameTo, TellsEnd, Tells, refusal_line}
+use Rattle.pt_host.specs.Totals.{run_totals}
+use Rattle.pt_host.specs.Told.{CameTo, TellsEnd, TellsList, Tells, refusal_line}
 use Rattle.pt_host.specs.declared.host.HostIo.{HostIo}
 use Rattle.pt_host.specs.declared.operation.Conclusion.{Conclusion}
 use Rattle.pt_host.specs.declared.options.RunOptions.{RunOptions}
@@ -57,11 +57,11 @@ pub record IsRun (job : Job) (rehearse : Bool) (was : Option Writing) (old new :
   pub tells : is_some plays ≡ is_some was
   pub promises : Migrates job (seen rehearse was old) (seen rehearse plays new) ran
 
--- and this is its status, its fault, and what it left unmet
+-- and this is its status, its fault or what its report says of the lines, and what it left unmet
 abbrev pub IsMade : RunOptions → Option Writing → DeviceStates → DeviceStates → Conclusion → Type 0
 IsMade options was old new end =
     (ran : Result Report Fault) × IsRun options.job options.rehearse was old new ran
-    × (end.status ≡ run_status options.allowed ran) × CameTo Run (result_err ran) end.outcome
+    × (end.status ≡ run_status options.allowed ran) × CameTo Run (run_totals ran) end.outcome
     × OnOk ran (AreUnmetIn options.job (tree_in old.source) end.unmet)
 
 -- the paths of a run's two folders, the names of the entries that are left out of the store, and whether files are
@@ -205,18 +205,24 @@ module _ {H : Type 0} (words : MachineWords H) where
   Guarded claim folders carries old new status = (answer : Result (FolderLock words.Lock) GuardFault) × (mid : H)
       × Begins words.places claim folders old mid answer × GoesOn carries answer mid new status
 
-  -- the guard, with this lock; then what is made between the two folders, recorded where a file is named for its event; and the lock
-  abbrev pub GuardsRecord : Claim → List ℕ × List ℕ → Option (List ℕ) → (H → H → Conclusion → Type 0) → H → H → ℕ
+  -- the guard, with this lock; then what is made over its two folders, recorded where a file is named for its event; and the lock
+  abbrev pub GuardsRecord : Claim → EventHead → Option (List ℕ) → (H → H → Conclusion → Type 0) → H → H → ℕ
       → Type 0
-  GuardsRecord claim folders event makes = Guarded claim folders (IsRecorded words folders event makes)
+  GuardsRecord claim head event makes = Guarded claim head.at (IsRecorded words head event makes)
 
-  -- it is made, the fault that ended it is told, if one did, and it ends with a list or without one
+  -- it is made, the fault that ended it is told, if one did, and then each identifier of a list that is unmet; and it ends with a
+  -- list or without one
   abbrev pub OfList : Option (List (List ℕ)) → (H → H → Conclusion → Type 0) → H → H → Conclusion → Type 0
-  OfList list makes old new end = (plain : Conclusion) × (mid : H) × makes old mid plain
-      × TellsEnd words plain.outcome mid new × EndsWithList list plain.unmet plain.status end.status
-      × (end.outcome ≡ plain.outcome)
+  OfList list makes old new end = (plain : Conclusion) × (mid : H) × (told : H) × makes old mid plain
+      × TellsEnd words plain.outcome mid told × TellsList (Tells words) list plain told new
+      × EndsWithList list plain.unmet plain.status end.status × (end.outcome ≡ plain.outcome)
 
 -- ---- the run, on a machine
+
+-- what is made, in a word, by whether it is rehearsed
+abbrev pub run_word : Bool → List ℕ
+run_word true = codes "rehearsal"
+run_word false = codes "run"
 
 module _ {H : Type 0} (words : MachineWords H) where
   -- where the log is to be synced its file is asked for, and tried; else nothing is asked
@@ -227,15 +233,16 @@ module _ {H : Type 0} (words : MachineWords H) where
 
 module _ {H : Type 0} (words : MachineWords H) (asks : Option (List ℕ) → Type 0) (call : RunCall) where
   -- a run over what the machine lends, before which it is asked what is expected of it; that is given back as the run left it,
-  -- its log put onto the disk by this file, and of the destination's system what serving it left; none is made where the
-  -- log can't be put onto its disk, which is a fault
+  -- its log put onto the disk by this file, and of the destination's system what serving it left; the log is blamed only where
+  -- a piece of it couldn't be put; none is made where the log can't be put onto its disk, which is a fault
   abbrev pub GoesOver : Result (Option words.OutputFile) Error → H → H → Conclusion → Type 0
-  GoesOver (Err error) mid new end = (end.status ≡ 3) × CameTo Run (Some Log) end.outcome × (new ≡ mid)
+  GoesOver (Err error) mid new end = (end.status ≡ 3) × CameTo Run (Err Log) end.outcome × (new ≡ mid)
   GoesOver (Ok file) mid new end = asks call.options.feedback.expected
       × (host_io : HostIoOf words) × (lent : H) × words.host mid (Lend host_io) lent × (after : HostIoOf words)
       × RunsOver words.written call host_io (words.serves call.options call.folder host_io.folder after.folder)
       after end
       × IsLogged words.puts file host_io.output after.output end.status
+      × LogFailsBy words.writes words.puts file host_io.output after.output end.outcome.fault
       × words.host lent (TakeBack after) new
 
   -- a run once it may begin: the log's file, if that is to be synced, and then the run
@@ -246,5 +253,6 @@ module _ {H : Type 0} (words : MachineWords H) (asks : Option (List ℕ) → Typ
   -- what `run_guarded` does on a machine, by the words of that: the guard, with the lock for it alone, the run that is asked
   -- for, with a list or without one, with its event, and the lock
   abbrev pub Runs : H → H → ℕ → Type 0
-  Runs = GuardsRecord words Alone (call.store, call.folder) call.options.feedback.event
+  Runs = GuardsRecord words Alone (event_head (run_word call.options.rehearse) (call.store, call.folder) true)
+      call.options.feedback.event
       (OfList words call.options.job.share.list Carries)

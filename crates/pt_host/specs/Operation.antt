@@ -1,5 +1,7 @@
--- A run or an audit on a machine: guarded, recorded and held against a list alike.
+-- A run, an audit or a check on a machine: guarded, recorded and held against a list alike.
 use Rattle.std.specs.Prelude.{ℕ, List, Option}
+use Rattle.pt_guard.specs.declared.places.Claim.{Claim}
+use Rattle.pt_host.specs.Events.{EventHead, IsRecorded, event_head}
 use Rattle.pt_host.specs.Machine.{MachineWords}
 use Rattle.pt_host.specs.Made.{GuardsRecord, OfList}
 use Rattle.pt_host.specs.declared.operation.Conclusion.{Conclusion}
@@ -13,9 +15,18 @@ module _ {H A : Type 0} (words : MachineWords H) (asks : Option (List ℕ) → T
   -- it is made, with a list or without one, and a fault is told: from the machine before it to the one after it, which are a pair
   abbrev pub Makes : Asked A → H × H → Conclusion → Type 0
   Makes (folders, asked) hosts =
-      OfList words (op.job_of asked).share.list (λ old new. op.makes words asks folders asked (old, new)) hosts.0 hosts.1
+      OfList words (op.list_of asked) (λ old new. op.makes words asks folders asked (old, new)) hosts.0 hosts.1
 
-  -- the guard, with the lock that it asks for, what is asked for, recorded where a file is named for its event, and the lock
-  abbrev pub MakesGuarded : Asked A → H × H → ℕ → Type 0
-  MakesGuarded call hosts =
-      GuardsRecord words op.claims call.0 (op.feedback_of call.1).event (λ old new. Makes call (old, new)) hosts.0 hosts.1
+  -- what its event begins with
+  abbrev pub head_of : Asked A → EventHead
+  head_of call = event_head (op.word_of call.1) call.0 op.with_dest
+
+  -- what is asked for, recorded where a file is named for its event
+  abbrev pub MakesRecorded : Asked A → H × H → ℕ → Type 0
+  MakesRecorded call hosts =
+      IsRecorded words (head_of call) (op.feedback_of call.1).event (λ old new. Makes call (old, new)) hosts.0 hosts.1
+
+  -- the guard, with this lock, what is asked for, recorded where a file is named for its event, and the lock
+  abbrev pub MakesGuarded : Claim × Asked A → H × H → ℕ → Type 0
+  MakesGuarded (claim, call) hosts =
+      GuardsRecord words claim (head_of call) (op.feedback_of call.1).event (λ old new. Makes call (old, new)) hosts.0 hosts.1

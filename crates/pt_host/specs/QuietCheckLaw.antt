@@ -26,7 +26,7 @@ pub record IsSourceOf (tree : Forest) (checked : CheckState) (s s' : SourceView)
   pub failed_since : new.failures.source ≡ s'.failed
   pub fails : FailsOnlyWhereAsked s s'
 
--- where a check read each file whole and told nothing no run over its store is halted for such a source
+-- where a check of the whole store read each file whole and told nothing no run over that is halted for such a source
 abbrev pub NoRunIsHaltedForSource : Type 0
 NoRunIsHaltedForSource =
     (says : Says) (wants : Wants) (tree : Forest) (numbers : Numbers) (a b : CheckState) (job : Job) (s s' : SourceView)

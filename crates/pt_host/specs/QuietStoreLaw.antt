@@ -1,5 +1,6 @@
 -- What a check on a machine that told nothing says of a run's faults.
-use Rattle.std.specs.Prelude.{◌≡◌, ◌≢◌, Bool, true, IfErr, Result, Some}
+use Rattle.std.specs.Prelude.{◌≡◌, ◌≢◌, Bool, true, IfErr, None, Result, Some}
+use Rattle.pt_name.specs.Share.{whole}
 use Rattle.pt_plan.specs.declared.fault.Fault.{Fault}
 use Rattle.pt_plan.specs.declared.fault.Fault.TheVariants as fault
 use Rattle.pt_state.specs.declared.job.Report.{Report}
@@ -7,6 +8,7 @@ use Rattle.pt_tree.specs.Forest.{Forest}
 use Rattle.pt_tree.specs.Path.{Path}
 use Rattle.pt_tree.specs.Source.{tree_in}
 use Rattle.pt_host.specs.Checking.{CheckCall, ChecksOver, store_checked}
+use Rattle.pt_host.specs.Durable.{LogFails}
 use Rattle.pt_host.specs.Machine.{HostIoOf, MachineWords}
 use Rattle.pt_host.specs.Made.{RunCall, RunsOver, start_of}
 use Rattle.pt_host.specs.declared.operation.Conclusion.{Conclusion}
@@ -35,11 +37,12 @@ abbrev pub ran_over : {H : Type 0} (words : MachineWords H) (call : RunCall) (ol
     → IsCarriedOver words call old new end → Result Report Fault
 ran_over words call old new end made = made.4.0
 
--- where a check read each file whole and ended with status 0, no run over the same store is halted for it
+-- where a check of the whole store read each file whole and ended with status 0, no run over the same store is halted for it
 abbrev pub NoRunIsHaltedAfterQuietCheck : {H : Type 0} → MachineWords H → Type 0
 NoRunIsHaltedAfterQuietCheck words =
     (both : CheckAndRun words) (checked carried : HostIoOf words) (tree : Forest) (at : Path → Bool) (quiet end : Conclusion)
-    → SeesSame words both tree at → both.check.options.reads ≡ true
-    → ChecksOver words.read both.check both.checked checked quiet → quiet.status ≡ 0
+    → SeesSame words both tree at → both.check.options.share ≡ whole → both.check.options.reads ≡ true
+    → ChecksOver words.read (LogFails words.writes words.puts None) both.check both.checked checked quiet
+    → quiet.status ≡ 0
     → (made : IsCarriedOver words both.run both.lent carried end)
     → IfErr (ran_over words both.run both.lent carried end made) (λ why. why ≢ fault.Source)

@@ -1,9 +1,14 @@
--- What standard error is told of how something ended: a fault, a refusal, and why there is no event.
-use Rattle.std.specs.Prelude.{◌≡◌, ◌⊎◌, ◌++◌, ℕ, List, Option, None, Some, codes}
+-- What standard error is told of how something ended: a fault, a refusal, why there is no event, and each identifier of a list that is unmet.
+use Rattle.std.specs.Prelude.{◌≡◌, ◌⊎◌, ◌++◌, ℕ, zero, suc, IfOk, List, [], ◌∷◌, Option, None, Some, Result, codes}
+use Rattle.std.specs.Result.{result_err}
+use Rattle.std.specs.Str.{chars}
 use Rattle.pt_guard.specs.declared.file.FileFault.TheVariants as place
 use Rattle.pt_guard.specs.declared.guard.GuardFault.{GuardFault}
 use Rattle.pt_guard.specs.declared.guard.GuardFault.TheVariants as guard
+use Rattle.pt_messages.specs.Counts.{HasTotals}
+use Rattle.pt_messages.specs.Escaped.{IsEscaped}
 use Rattle.pt_messages.specs.FaultLines.{fault_line}
+use Rattle.pt_messages.specs.declared.counted.Totals.{Totals}
 use Rattle.pt_messages.specs.declared.event.Outcome.{Outcome}
 use Rattle.pt_messages.specs.declared.watch.Words.{Words}
 use Rattle.pt_messages.specs.declared.watch.Words.TheVariants.{Run}
@@ -13,10 +18,12 @@ use Rattle.pt_host.specs.HostCall.{Tell}
 use Rattle.pt_host.specs.Machine.{MachineWords}
 use Rattle.pt_host.specs.declared.event.EventFault.{EventFault}
 use Rattle.pt_host.specs.declared.event.EventFault.TheVariants as event
+use Rattle.pt_host.specs.declared.operation.Conclusion.{Conclusion}
 
--- it came to this fault, or to none, with a log of these words
-abbrev pub CameTo : Words → Option Fault → Outcome → Type 0
-CameTo kind fault outcome = (outcome.words ≡ kind) × (outcome.fault ≡ fault)
+-- it ended so, with a log of these words: by this fault, or with counts that have what it says itself of the lines
+abbrev pub CameTo : Words → Result Totals Fault → Outcome → Type 0
+CameTo kind ended outcome = (outcome.words ≡ kind) × (outcome.fault ≡ result_err ended)
+    × IfOk ended (λ totals. HasTotals totals outcome.counts)
 
 -- the line of a fault, by its own text
 abbrev pub own_line : Fault → List ℕ
@@ -39,6 +46,38 @@ event_text (event.Stands path) = codes "FILE of --event stands already, or FILE.
 event_text (event.Unseen error) = codes "FILE.part of --event cannot be looked at"
 event_text (event.Unwritten path error) = codes "cannot write FILE of --event"
 event_text event.Memory = codes "out of memory"
+
+-- the line of an identifier of which no object was met, with what is shown of it
+abbrev pub unmet_line : List ℕ → List ℕ
+unmet_line shown = codes "pairtree2ocfl: no object was met: " ++ shown ++ codes "\n"
+
+-- a line is that of this identifier: it is shown escaped; or, where there is no memory for that, the line says so
+abbrev pub IsUnmetLine : List ℕ → List ℕ → Type 0
+IsUnmetLine id line = ((shown : List ℕ) × IsEscaped (chars id) shown × (line ≡ unmet_line shown))
+    ⊎ (line ≡ unmet_line (codes "an identifier that there is no memory to show"))
+
+-- of calls that tell a text
+module _ {H : Type 0} (tells : List ℕ → H → H → Type 0) where
+  -- an identifier of which no object was met is told by its line
+  abbrev pub TellsOne : List ℕ → H → H → Type 0
+  TellsOne id old new = (line : List ℕ) × IsUnmetLine id line × tells line old new
+
+  -- each of these that is unmet is told, in their order, and nothing else is
+  abbrev pub TellsUnmet : List (Option (List ℕ)) → H → H → Type 0
+  TellsUnmet [] old new = new ≡ old
+  TellsUnmet (None ∷ more) old new = TellsUnmet more old new
+  TellsUnmet (Some id ∷ more) old new = (told : H) × TellsOne id old told × TellsUnmet more told new
+
+  -- with this status, which is more than 1 where a fault ended it or a check told what stops a run, and then nothing is told
+  abbrev pub TellsUnlessFault : ℕ → List (Option (List ℕ)) → H → H → Type 0
+  TellsUnlessFault zero unmet old new = TellsUnmet unmet old new
+  TellsUnlessFault (suc zero) unmet old new = TellsUnmet unmet old new
+  TellsUnlessFault (suc (suc more)) unmet old new = new ≡ old
+
+  -- the same where there is a list; else nothing is told
+  abbrev pub TellsList : Option (List (List ℕ)) → Conclusion → H → H → Type 0
+  TellsList None plain old new = new ≡ old
+  TellsList (Some ids) plain old new = TellsUnlessFault plain.status plain.unmet old new
 
 module _ {H : Type 0} (words : MachineWords H) where
   -- a text is told, and nothing else is asked

@@ -1,20 +1,22 @@
-//! What is told of a run or an audit beside its log, from its beginning to its end: how far it is,
-//! how much was left out, its summary, why a fault ended it, and what its event records.
+//! What is told of a run, an audit or a check beside its log, from its beginning to its end: how
+//! far it is, how much was left out, its summary, why a fault ended it, and what its event records.
 ghost use Rattle.std.specs.Prelude.{◌≡◌};
 ghost use Rattle.pt_host.specs.Told.{CameTo};
 
 use crate::Feedback;
 use crate::folders::Folders;
+use crate::watched_store::WatchedStore;
 use pt_folder::{HostSource, System};
 use pt_messages::{
-    CountedLog, Explanation, LastCalls, Outcome, Reads, Tally, Terminals, Watch, Watching, reason,
+    CountedLog, Explanation, LastCalls, Outcome, Reads, Tally, Terminals, Totals, Watch, Watching,
+    reason,
 };
 use pt_move::Fault;
-use pt_tree::{Ignored, Ignoring, Log, Watched};
+use pt_tree::{Ignored, Ignoring, Log};
 use std::alloc::AllocGlobal;
 use std::rt::Clock;
 
-/// How a run or an audit is watched and told of.
+/// How a run, an audit or a check is watched and told of.
 #[derive(Clone, Copy)]
 pub(crate) struct Account<'a> {
     watching: Watching,
@@ -23,16 +25,16 @@ pub(crate) struct Account<'a> {
     folders: Folders<'a>,
 }
 
-/// The store of a run or an audit without the entries that are left out, and its log, while both
-/// are watched.
+/// The store of a run, an audit or a check without the entries that are left out, and its log,
+/// while both are watched.
 pub(crate) type WatchedIo<'w, 'a, R, S, L> = (
-    Watched<Ignoring<HostSource<'a, S>>, Watch<'w, R>>,
+    WatchedStore<Ignoring<HostSource<'a, S>>, Watch<'w, R>>,
     CountedLog<L>,
 );
 
 impl<'a> Account<'a> {
-    /// The account of a run or an audit with this feedback, between these folders, which leaves out
-    /// the entries of these names.
+    /// The account of a run, an audit or a check with this feedback, over these folders, which
+    /// leaves out the entries of these names.
     pub fn new(
         watching: Watching,
         feedback: &Feedback,
@@ -64,38 +66,42 @@ impl<'a> Account<'a> {
     {
         let watch = Watch::new(rt, rt.alloc(), tally, self.watching);
         let log = CountedLog::new(log, watch.sums() | self.records);
-        (Watched::new(source, watch), log)
+        (WatchedStore::new(source, watch), log)
     }
 
-    /// Ends what is shown of it, which ended with this fault if there is one, and gives the source
-    /// with all its entries, the log, and what it came to.
+    /// Ends what is shown of it, which ended by this fault or says this itself of its lines, and
+    /// gives the source with all its entries, the log, and what it came to.
     pub fn close<R, S: System, L: Log>(
         self,
         rt: &R,
         io: WatchedIo<'_, 'a, R, S, L>,
-        fault: Option<Fault>,
+        ended: Result<Totals, Fault>,
         dest: LastCalls<'_>,
     ) -> (HostSource<'a, S>, L, Outcome)
     where
         R: Reads + Clock + Eprint + AllocGlobal + Terminals,
         ensures source { result.0 ≡ io.entry.0.source.source }
         ensures log { result.1 ≡ io.entry.1.log }
-        ensures outcome { CameTo self.entry.watching.words fault result.2 }
+        ensures outcome { CameTo self.entry.watching.words ended result.2 }
     {
         let (source, log) = io;
-        source.watcher().end(log.counts_if(fault.is_none()));
+        let counts = match ended {
+            Ok(totals) => log.counts().with_totals(totals),
+            Err(_) => log.counts(),
+        };
+        source.watcher().end(ended.is_ok().then_some(&counts));
         let ignoring = source.into_source();
         let tells = self.watching.verbose & self.ignores;
         reason::tell_left_out(rt, tells, ignoring.left_out());
         let source = ignoring.into_source();
-        let why = match &fault {
-            Some(fault) => reason::of_fault(rt, fault, &source, self.folders.store, dest),
-            None => Explanation::Nothing,
+        let why = match &ended {
+            Err(fault) => reason::of_fault(rt, fault, &source, self.folders.store, dest),
+            Ok(_) => Explanation::Nothing,
         };
         let outcome = Outcome {
             words: self.watching.words,
-            counts: log.counts(),
-            fault,
+            counts,
+            fault: ended.err(),
             why,
         };
         (source, log.into_log(), outcome)

@@ -8,12 +8,11 @@ use crate::auditing::audit_over;
 use crate::devices::DeviceParts;
 use crate::folders::Folders;
 use crate::guarded::make_guarded;
-use crate::operation::{Conclusion, Operation};
+use crate::operation::{Conclusion, Guarded, Operation, has_list};
 use crate::recorded_options::options_of_audit;
 use crate::{AuditOptions, Feedback, Host, Machine};
 use pt_guard::Claim;
 use pt_messages::{Members, Reads, ReadsFiles, Terminals, lines_expected};
-use pt_move::Job;
 use std::alloc::{AllocError, AllocGlobal, Global};
 use std::rt::Clock;
 
@@ -27,8 +26,8 @@ use std::rt::Clock;
 /// The guard is asked first, and for a lock that other audits may share. Where the audit may begin
 /// it is made over what the machine lends, which is given back then; and at last the lock is given
 /// back. Where it ends well the output has got its log, of both folders as their systems keep them.
-/// Nothing is made or changed in either folder. Where a file is named for its event, that is made
-/// and replaced as of a run.
+/// Nothing is made or changed in either folder. A device is blamed only where it failed
+/// (`IsOfFailed`). Where a file is named for its event, that is made and replaced as of a run.
 ///
 /// Skip lines count as others, unless the options say that they are well. The log that `--expect`
 /// names may be one of a rehearsal, a run or an audit.
@@ -51,24 +50,32 @@ where
     make_guarded(rt, host, options, folders)
 }
 
-impl Operation for AuditOptions {
+impl Guarded for AuditOptions {
     ghost use Rattle.pt_guard.specs.declared.places.Claim.TheVariants.{Shared};
 
     ghost claims = { Shared };
 
-    ghost job_of = { λ options. options.job };
+    fn claim(&self) -> Claim {
+        Claim::Shared
+    }
+}
+
+impl Operation for AuditOptions {
+    ghost use Rattle.std.specs.Prelude.{codes, true};
+
+    ghost list_of = { λ options. options.job.share.list };
 
     ghost feedback_of = { λ options. options.feedback };
+
+    ghost word_of = { λ _. codes "audit" };
+
+    ghost with_dest = { true };
 
     ghost makes = { λ words asks folders options hosts.
         Compares words asks (audit_call options folders.0 folders.1) hosts.0 hosts.1 };
 
-    fn claim(&self) -> Claim {
-        Claim::Shared
-    }
-
-    fn job(&self) -> &Job {
-        &self.job
+    fn has_list(&self) -> bool {
+        has_list(&self.job.share)
     }
 
     fn feedback(&self) -> &Feedback {
@@ -77,6 +84,10 @@ impl Operation for AuditOptions {
 
     fn word(&self) -> &'static str {
         "audit"
+    }
+
+    fn has_dest(&self) -> bool {
+        true
     }
 
     fn members(&self, alloc: Global) -> Result<Members, AllocError> {

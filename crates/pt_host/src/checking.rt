@@ -1,103 +1,158 @@
 //! A check of the store in a folder, on a machine.
 //!
-//! Where it ends well the output has got its lines, of the tree that the store's system keeps,
-//! without the entries that are left out; else its fault is the output's, or want of memory. After
-//! any answer that system keeps the same tree, what stood in the output stands, the destination's
-//! system is as it was, and the status follows from the answer (`ChecksOver`).
+//! Where it ends well the output has got its lines, of what is the share's own in the tree that the
+//! store's system keeps, without the entries that are left out; else its fault is want of memory,
+//! or the log's, of which a piece couldn't be put (`IsFaultOfCheck`). After any answer that system
+//! keeps the same tree, what stood in the output stands, the destination's system is as it was, and
+//! the status follows from the answer (`ChecksOver`).
 ghost use Rattle.std.specs.Prelude.{◌≡◌};
-ghost use Rattle.pt_host.specs.Checking.{ChecksOver, ChecksStore, check_call, check_status};
-ghost use Rattle.pt_host.specs.Checking.{wants_of as wants_of_options};
+ghost use Rattle.pt_messages.specs.Expected.{AsksEnd};
+ghost use Rattle.pt_host.specs.Checking.{ChecksLent, ChecksOver, ChecksStore, check_call};
+ghost use Rattle.pt_host.specs.Checking.{check_status, wants_of as wants_of_options};
+ghost use Rattle.pt_host.specs.Durable.{LogFails};
 ghost use Rattle.pt_host.specs.Machine.{host_io_words};
+ghost use Rattle.pt_host.specs.Totals.{check_totals};
 
-use crate::devices::DeviceParts;
-use crate::durable_log::{DurableLog, SyncsOutput};
+use crate::account::Account;
+use crate::devices::{CheckedStore, DeviceParts, open_store};
+use crate::durable_log::{SyncsOutput, Writes};
 use crate::explaining::LastFailure;
-use crate::operation::{Conclusion, fault_in};
+use crate::folders::Folders;
+use crate::guarded::make_recorded;
+use crate::operation::{Conclusion, Operation, has_list};
+use crate::recorded_options::options_of_check;
 use crate::room::room_in;
-use crate::saying::tell_end;
 use crate::status::{DONE, FAILED, INCOMPLETE};
-use crate::{CheckOptions, Host, HostIo, Machine};
+use crate::{CheckOptions, Feedback, Host, HostIo, Machine};
 use pt_check::{Check, CheckDevices, Numbers, Wants};
-use pt_folder::{HostSource, System};
-use pt_messages::{Outcome, Words};
+use pt_folder::System;
+use pt_messages::{
+    LastCalls, Members, Reads, ReadsFiles, Tally, Terminals, Totals, Words, entries_expected,
+};
 use pt_move::Fault;
-use pt_name::UnmetIdentifiers;
-use pt_tree::Ignoring;
 use pt_walk::Form;
-use std::alloc::AllocGlobal;
-use std::io::Write;
+use std::alloc::{AllocError, AllocGlobal, Global};
+use std::rt::Clock;
 
 /// Checks the store in a folder on a machine, and gives the exit status: 0 nothing was told; 1 the
-/// output has lines that tell of something, none of which would stop a run; 3 it has one that
-/// would, or a fault, of which standard error tells.
+/// output has lines that tell of something, none of which would stop a run, or no object was met of
+/// an identifier of the list; 2 the file of its event may not lie where it is named, or stands; 3
+/// the output has a line of what would stop a run, or a fault, of which standard error tells, as of
+/// 2 and of these identifiers.
 ///
-/// The machine is asked for no lock and no file. What it lends is given back, that of a destination
-/// as it was. What the source fails at is told on the output, and passed; so a fault is the
-/// output's, or want of memory.
+/// Of a share what is its own is told and counted, and no folder is listed that a run of the share
+/// doesn't list.
+///
+/// The machine is asked for no lock. What it lends is given back, that of a destination as it was.
+/// What the source fails at is told on the output, and passed; so a fault is the output's, or want
+/// of memory. Where a file is named for its event, that is made and replaced as of a run; it may
+/// not lie in the store. The log that `--expect` names may be one of a check.
 pub fn check_store<R, H: Host>(rt: &R, host: &mut H, options: CheckOptions, store: &str) -> u8
 where
-    R: AllocGlobal,
-    ensures { ChecksStore ⟦<H as Machine>⟧.words (check_call options store.now)
-        host.old host.new result }
+    R: Reads + Clock + Eprint + AllocGlobal + Terminals,
+    ensures { ChecksStore ⟦<H as Machine>⟧.words
+        (AsksEnd (⟦<R as ReadsFiles>⟧.file_words rt.now))
+        (check_call options store.now) host.old host.new result }
 {
-    let host_io = host.lend();
-    let file: Option<H::File> = None;
-    let parts = DeviceParts { host_io, file };
-    let (
-        host_io,
-        Conclusion {
-            status,
-            outcome,
-            ..
-        },
-    ) = check_over(rt, parts, options, store);
-    host.take_back(host_io);
-    tell_end(host, &outcome);
-    status
+    let folders = Folders {
+        store,
+        folder: store,
+    };
+    make_recorded(rt, host, options, folders)
 }
 
-// Checks a store over what is lent. Gives what was lent, and how the check ended.
-fn check_over<R, S: System, D: System, W: Write, F: SyncsOutput<W> + Drop>(
+impl Operation for CheckOptions {
+    ghost use Rattle.std.specs.Prelude.{codes, false};
+
+    ghost list_of = { λ options. options.share.list };
+
+    ghost feedback_of = { λ options. options.feedback };
+
+    ghost word_of = { λ _. codes "check" };
+
+    ghost with_dest = { false };
+
+    ghost makes = { λ words asks folders options hosts.
+        ChecksLent words asks (check_call options folders.0) hosts.0 hosts.1 };
+
+    fn has_list(&self) -> bool {
+        has_list(&self.share)
+    }
+
+    fn feedback(&self) -> &Feedback {
+        &self.feedback
+    }
+
+    fn word(&self) -> &'static str {
+        "check"
+    }
+
+    fn has_dest(&self) -> bool {
+        false
+    }
+
+    fn members(&self, alloc: Global) -> Result<Members, AllocError> {
+        options_of_check(alloc, self)
+    }
+
+    fn make<R, H: Host>(self, rt: &R, host: &mut H, folders: Folders<'_>) -> Conclusion
+    where
+        R: Reads + Clock + Eprint + AllocGlobal + Terminals,
+    {
+        let expected = entries_expected(rt, self.feedback.expected_log());
+        let host_io = host.lend();
+        // A check's log can be made again, so it isn't put onto its disk.
+        let file: Option<H::File> = None;
+        let parts = DeviceParts { host_io, file };
+        let (host_io, conclusion) = check_over(rt, parts, self, expected, folders);
+        host.take_back(host_io);
+        conclusion
+    }
+}
+
+// Checks a store over what is lent, watched as the options say. Gives what was lent, and how the
+// check ended. `expected` is how many files and folders it may meet, where that is known.
+fn check_over<R, S: System, D: System, W: Writes, F: SyncsOutput<W> + Drop>(
     rt: &R,
     parts: DeviceParts<S, D, W, F>,
     options: CheckOptions,
-    store: &str,
+    expected: Option<u64>,
+    folders: Folders<'_>,
 ) -> (HostIo<S, D, W>, Conclusion)
 where
-    R: AllocGlobal,
+    R: Reads + Clock + Eprint + AllocGlobal + Terminals,
     ensures { ChecksOver (host_io_words S.forest S.failing D.forest W.contents)
-        (check_call options store.now) parts.host_io result.0 result.1 }
+        (LogFails W.writes F.puts parts.file)
+        (check_call options folders.entry.store.now) parts.host_io result.0 result.1 }
 {
-    let alloc = rt.alloc();
-    let DeviceParts { host_io, file } = parts;
-    let HostIo {
-        store: system,
-        folder,
-        output,
-    } = host_io;
+    let tally = Tally::new();
+    let watching = options.feedback.watching(Words::Check, expected);
+    let account = Account::new(watching, &options.feedback, &options.ignored, folders);
     let wants = wants_of(&options);
-    let source = Ignoring::new(HostSource::new(system, alloc, store), options.ignored);
-    let log = DurableLog::new(output, file);
+    let CheckedStore {
+        source,
+        folder,
+        log,
+    } = open_store(rt.alloc(), parts, options.ignored, folders.store);
+    let (source, log) = account.watch(rt, &tally, source, log);
     let devices = CheckDevices {
         source,
         log,
         explains: LastFailure,
     };
-    let mut check = Check::new(alloc, devices, wants);
+    let mut check = Check::new(rt.alloc(), devices, wants).of_share(options.share);
     let ran = check.run();
-    let (source, log) = check.into_devices();
-    let status = status_of(&ran);
-    let fault = fault_in(&ran);
-    let outcome = Outcome::without_lines(Words::Run, fault);
+    let (watched, unmet) = check.into_parts();
+    let (source, log, outcome) = account.close(rt, watched, ended(&ran), LastCalls::none());
     let host_io = HostIo {
-        store: source.into_source().into_system(),
+        store: source.into_system(),
         folder,
         output: log.into_writer(),
     };
     let conclusion = Conclusion {
-        status,
+        status: status_of(&ran),
         outcome,
-        unmet: UnmetIdentifiers::none(alloc),
+        unmet,
     };
     (host_io, conclusion)
 }
@@ -119,6 +174,21 @@ fn wants_of(options: &CheckOptions) -> Wants
         },
         room,
         layout: options.layout,
+    }
+}
+
+// How a check ended: by a fault, or with what it says itself of the lines and what it met.
+fn ended(ran: &Result<Numbers, Fault>) -> Result<Totals, Fault>
+    ensures { result ≡ check_totals ran.now }
+{
+    match ran {
+        Ok(numbers) => Ok(Totals::Check {
+            told: numbers.told,
+            objects: numbers.objects,
+            files: numbers.files,
+            bytes: numbers.bytes,
+        }),
+        Err(fault) => Err(*fault),
     }
 }
 

@@ -1,5 +1,5 @@
-//! The devices of a run (`open_devices`) and of an audit (`open_sides`), as they are asked for,
-//! each field by an equation.
+//! The devices of a run (`open_devices`), of an audit (`open_sides`) and of a check (`open_store`),
+//! as they are asked for, each field by an equation.
 ghost use Rattle.std.specs.Prelude.{◌≡◌, ◌+◌, None};
 ghost use Rattle.pt_host.specs.Devices.{ReadsFrom, WritesInto};
 ghost use Rattle.pt_host.specs.Room.{place_overhead};
@@ -83,8 +83,9 @@ pub(crate) fn open_sides<'a, S: System, D: System, W: Write, F: SyncsOutput<W> +
     ensures store { ReadsFrom result.source.source parts.host_io.store folders.entry.store.now }
     ensures left_out { result.source.names ≡ ignored }
     ensures folder { ReadsFrom result.root parts.host_io.folder folders.entry.folder.now }
-    ensures unread { result.root.failures ≡ 0 }
-    ensures log { result.log.writer ≡ parts.host_io.output }
+    ensures unread { (result.source.source.reading ≡ None) × (result.source.source.failures ≡ 0) }
+    ensures unasked { result.root.failures ≡ 0 }
+    ensures log { (result.log.writer ≡ parts.host_io.output) × (result.log.failures ≡ 0) }
     ensures log_synced { result.log.file ≡ parts.file }
 {
     let DeviceParts { host_io, file } = parts;
@@ -95,5 +96,44 @@ pub(crate) fn open_sides<'a, S: System, D: System, W: Write, F: SyncsOutput<W> +
         ),
         root: HostSource::new(host_io.folder, alloc, folders.folder),
         log: DurableLog::new(host_io.output, file),
+    }
+}
+
+/// The store of a check, its log, and the system of a destination, of which it asks nothing.
+#[derive(Drop)]
+pub(crate) struct CheckedStore<'a, S: System, D, W: Write, F: SyncsOutput<W> + Drop> {
+    /// The folder of the store, without the entries that are left out.
+    pub source: Ignoring<HostSource<'a, S>>,
+    /// The system.
+    pub folder: D,
+    /// The log.
+    pub log: DurableLog<W, F>,
+}
+
+/// What a check is made over, of the store in a folder. Its entries that have these names are left
+/// out.
+pub(crate) fn open_store<'a, S: System, D, W: Write, F: SyncsOutput<W> + Drop>(
+    alloc: Global,
+    parts: DeviceParts<S, D, W, F>,
+    ignored: Ignored,
+    store: &'a str,
+) -> CheckedStore<'a, S, D, W, F>
+    ensures store { ReadsFrom result.source.source parts.host_io.store store.entry.now }
+    ensures unread { (result.source.source.reading ≡ None) × (result.source.source.failures ≡ 0) }
+    ensures left_out { result.source.names ≡ ignored }
+    ensures folder { result.folder ≡ parts.host_io.folder }
+    ensures log { (result.log.writer ≡ parts.host_io.output) × (result.log.failures ≡ 0) }
+    ensures log_synced { result.log.file ≡ parts.file }
+{
+    let DeviceParts { host_io, file } = parts;
+    let HostIo {
+        store: system,
+        folder,
+        output,
+    } = host_io;
+    CheckedStore {
+        source: Ignoring::new(HostSource::new(system, alloc, store), ignored),
+        folder,
+        log: DurableLog::new(output, file),
     }
 }

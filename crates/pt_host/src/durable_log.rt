@@ -3,15 +3,17 @@
 //! `DurableLog` is a log. Where its `put` is answered Ok, and it has a file, that was asked after
 //! the writing to put onto the disk all that its writer has written, and answered Ok
 //! (`IsPutBehind`). It has its file to its end, and unless it failed all that it wrote was put onto
-//! the disk (`LogStays`). That is proved whatever `puts`, the word for it, means of a file and a
-//! writer (`SyncsOutput`). What a disk then has no contract says.
-ghost use Rattle.std.specs.Prelude.{◌≡◌, IsSome, OnErr, OnOk};
+//! the disk; and it failed only where a writing failed, or such an asking (`LogStays`). That is
+//! proved whatever `puts`, the word for it, means of a file and a writer (`SyncsOutput`), and
+//! `writes` of a writer (`Writes`). What a disk then has no contract says.
+ghost use Rattle.std.specs.Prelude.{◌≡◌, ℕ, IsSome, List, OnErr, OnOk};
 ghost use Rattle.std.specs.declared.io.Error.{Error};
 ghost use Rattle.std.specs.declared.result.Result.{Result};
 ghost use Rattle.std.specs.Io.KnownBytes.{Appends};
 ghost use Rattle.pt_tree.specs.Failures.{HasRisen, IsCounted};
 ghost use Rattle.pt_tree.specs.Log.{AppendsFront};
-ghost use Rattle.pt_host.specs.Durable.{IsPutBehind, LogStays, stays_itself, stays_on};
+ghost use Rattle.pt_host.specs.Durable.{IsPutBehind, IsSyncedBy, LogStays, Put, stays_itself};
+ghost use Rattle.pt_host.specs.Durable.{stays_on};
 
 use pt_tree::{Log, TreeFault, write_out};
 use std::io;
@@ -44,6 +46,31 @@ impl<W: Write, F: Syncs> SyncsOutput<W> for F {
 
     fn sync_output(&mut self, _: &W) -> io::Result<()> {
         self.sync()
+    }
+}
+
+/// What takes the pieces of a log: each writer. What is proved over these holds whatever `writes`
+/// means, and so says which writing failed.
+pub trait Writes: Write {
+    /// Writing this piece out may answer so, and leave the writer so.
+    ghost writes: { Self → List ℕ → Result (Unit {0}) Error → Self → Type 0 };
+
+    /// Writes a piece out, as `write_out` does.
+    fn write_piece(&mut self, piece: &[u8]) -> io::Result<()>
+        ensures ok { OnOk result (Appends (Self.contents self.old) (Self.contents self.new)
+            piece.now) }
+        ensures part { OnErr result (AppendsFront (Self.contents self.old)
+            (Self.contents self.new) piece.now) }
+        ensures written { writes self.old piece.now result self.new };
+}
+
+impl<W: Write> Writes for W {
+    ghost use Rattle.std.specs.Prelude.{⊤};
+
+    ghost writes = { λ _ _ _ _. ⊤ };
+
+    fn write_piece(&mut self, piece: &[u8]) -> io::Result<()> {
+        write_out(self, piece)
     }
 }
 
@@ -88,18 +115,18 @@ impl<W: Write, F: SyncsOutput<W> + Drop> DurableLog<W, F> {
     }
 }
 
-impl<W: Write, F: SyncsOutput<W> + Drop> Log for DurableLog<W, F> {
+impl<W: Writes, F: SyncsOutput<W> + Drop> Log for DurableLog<W, F> {
     ghost told = { λ l. W.contents l.writer };
 
     ghost failed = { λ l. l.failures };
 
-    // Where its output is put onto the disk it goes on to be; and unless it failed all of it is
-    // there, once something was put.
-    ghost keeps = { LogStays F.puts };
+    // Where its output is put onto the disk it goes on to be; unless it failed all of it is there,
+    // once something was put; and it failed only where a writing or such a putting did.
+    ghost keeps = { LogStays W.writes F.puts };
 
-    ghost is_kept = { stays_itself F.puts };
+    ghost is_kept = { stays_itself W.writes F.puts };
 
-    ghost keeps_on = { stays_on F.puts };
+    ghost keeps_on = { stays_on W.writes F.puts };
 
     fn failures(&self) -> u64 {
         self.failures
@@ -113,22 +140,38 @@ impl<W: Write, F: SyncsOutput<W> + Drop> Log for DurableLog<W, F> {
         ensures synced { OnOk result
             (IsPutBehind F.puts self.new.writer self.old.file self.new.file) }
         ensures failures { IsCounted self.old.failures self.new.failures result }
-        ensures keeps { LogStays F.puts self.old self.new }
+        ensures keeps { LogStays W.writes F.puts self.old self.new }
     {
-        if write_out(&mut self.writer, piece).is_err() {
-            return Err(self.count_failure());
-        }
-        match sync_there(&mut self.file, &self.writer) {
+        match put_through(&mut self.writer, &mut self.file, piece) {
             Ok(()) => Ok(()),
             Err(_) => Err(self.count_failure()),
         }
     }
 }
 
+// Writes a piece, and puts all that the writer has written onto the disk of its file, where there
+// is one.
+fn put_through<W: Writes, F: SyncsOutput<W>>(
+    writer: &mut W,
+    file: &mut Option<F>,
+    piece: &[u8],
+) -> io::Result<()>
+    ensures ok { OnOk result (Appends (W.contents writer.old) (W.contents writer.new) piece.now) }
+    ensures part { OnErr result (AppendsFront (W.contents writer.old) (W.contents writer.new)
+        piece.now) }
+    ensures synced { OnOk result (IsPutBehind F.puts writer.new file.old file.new) }
+    ensures still { IsSome file.old → IsSome file.new }
+    ensures put { Put W.writes F.puts (writer.old, file.old) (writer.new, file.new) result }
+{
+    writer.write_piece(piece)?;
+    sync_there(file, writer)
+}
+
 // Puts all that a writer has written onto the disk of its file, where there is one.
 fn sync_there<W: Write, F: SyncsOutput<W>>(file: &mut Option<F>, writer: &W) -> io::Result<()>
     ensures synced { OnOk result (IsPutBehind F.puts writer.now file.old file.new) }
     ensures still { IsSome file.old → IsSome file.new }
+    ensures asked { IsSyncedBy F.puts writer.now file.old file.new result }
 {
     match file {
         Some(file) => match file.sync_output(writer) {

@@ -1,18 +1,24 @@
-//! The file in which a run or an audit is recorded as an event: made before it, and replaced after
-//! it.
+//! The file in which a run, an audit or a check is recorded as an event: made before it, and
+//! replaced after it.
 //!
-//! Once the lock is held, and before all else, where the file may lie is judged (`judge_file` of
-//! pt_guard), what stands at its path with `.part` behind it is asked for, and the file is made
-//! where nothing stands (`MakesEvent`). Where one of these refuses, that is the status
-//! (`event_status`), and no run or audit is made. After it, and before the lock is given back,
-//! another is made at the path with `.part` behind it and renamed to the file (`EndsFile`); where
-//! that fails the status is 3. No other path is named in these calls. Where no file is named none
-//! of them is made. Why there is no event, or none with an end, is told by its own text
-//! (`TellsEvent`). What the file's texts say isn't promised.
-ghost use Rattle.std.specs.Prelude.{◌≡◌, ◌++◌, Err, IfOk, List, codes, string_bytes, ℕ};
-ghost use Rattle.pt_host.specs.Events.{BeginsEvent, EndsEvent, EndsFile, MakesEvent, MakesNew};
-ghost use Rattle.pt_host.specs.Events.{MakesBy, MakesUnlessLeft, MovesOver, Replaces, event_status};
-ghost use Rattle.pt_host.specs.Events.{fault_of};
+//! Once the lock is held, which a check doesn't ask for, and before all else, where the file may
+//! lie is judged (`judge_file` of pt_guard), what stands at its path with `.part` behind it is
+//! asked for, and the file is made where nothing stands (`MakesEvent`). Where one of these refuses,
+//! that is the status (`event_status`), and no run, audit or check is made. After it, and before
+//! the lock is given back, another is made at the path with `.part` behind it and renamed to the
+//! file (`EndsFile`); where that fails the status is 3. No other path is named in these calls.
+//! Where no file is named none of them is made. Why there is no event, or none with an end, is told
+//! by its own text (`TellsEvent`). The first text has what is made, in a word, and the folders as
+//! they were given (`BeginsWith`), and the second has its members too, and the status, the counts
+//! and the fault of what was made (`IsEndText`).
+ghost use Rattle.std.specs.Prelude.{◌≡◌, ◌++◌, Err, IfOk, List, OnOk, Some, codes, option_map};
+ghost use Rattle.std.specs.Prelude.{string_bytes, ℕ};
+ghost use Rattle.std.specs.Result.{result_ok};
+ghost use Rattle.pt_messages.specs.EventMembers.{event_members};
+ghost use Rattle.pt_messages.specs.Members.{line_of};
+ghost use Rattle.pt_host.specs.Events.{BeginsEvent, BeginsWith, EndsEvent, EndsFile, IsEndText};
+ghost use Rattle.pt_host.specs.Events.{MakesBy, MakesEvent, MakesNew, MakesUnlessLeft, MovesOver};
+ghost use Rattle.pt_host.specs.Events.{PutsDest, Replaces, event_head, event_status, fault_of};
 ghost use Rattle.pt_host.specs.Told.{TellsEvent, TellsLong, event_text};
 
 use crate::folders::Folders;
@@ -174,7 +180,7 @@ pub(crate) struct EventFile {
 }
 
 impl EventFile {
-    // The file of what is asked for between two folders, as it begins; nothing is made. `Memory`
+    // The file of what is asked for over two folders, as it begins; nothing is made. `Memory`
     // where a growth was refused.
     fn of<R: Reads + Clock + AllocGlobal, O: Operation>(
         rt: &R,
@@ -184,10 +190,16 @@ impl EventFile {
     ) -> Result<EventFile, MemoryFault>
         ensures path { IfOk result (λ file. file.path ≡ path.now) }
         ensures part { IfOk result (λ file. file.part ≡ path.now ++ codes ".part") }
+        ensures begun { IfOk result (λ file. BeginsWith
+            (event_head (O.word_of operation.now)
+            (folders.entry.store.now, folders.entry.folder.now) O.with_dest)
+            (event_members file.event)) }
+        ensures text { IfOk result (λ file. string_bytes file.text
+            ≡ line_of (event_members file.event)) }
     {
         let mut event = Event::begin(rt, operation.word(), operation.members(rt.alloc())?)?;
         event.put_folder(rt, "source", folders.store)?;
-        event.put_folder(rt, "dest", folders.folder)?;
+        put_dest(rt, &mut event, operation, folders.folder)?;
         let text = event.line()?;
         let part = Text::join(rt.alloc(), path, PART)?;
         let path = Text::of(rt.alloc(), path)?;
@@ -229,7 +241,8 @@ impl<'a> EventPaths<'a> {
     ) -> Result<(), EventFault>
         ensures { MakesEvent ⟦<H as Machine>⟧.words
             (folders.entry.store.now, folders.entry.folder.now)
-            (self.entry.file.now, self.entry.part.now) host.old host.new result }
+            (record { file = self.entry.file.now; part = self.entry.part.now; text = text.now })
+            host.old host.new result }
     {
         judge_file(host, rt.alloc(), self.file, folders.store, folders.folder)?;
         self.make_unless_left(host, text)
@@ -238,7 +251,8 @@ impl<'a> EventPaths<'a> {
     // The same where it may lie.
     fn make_unless_left<H: Host>(self, host: &mut H, text: &str) -> Result<(), EventFault>
         ensures { MakesUnlessLeft ⟦<H as Machine>⟧.words
-            (self.entry.file.now, self.entry.part.now) host.old host.new result }
+            (record { file = self.entry.file.now; part = self.entry.part.now; text = text.now })
+            host.old host.new result }
     {
         match host.look(self.part) {
             Ok(()) => Err(EventFault::Stands(EventPath::Part)),
@@ -249,7 +263,7 @@ impl<'a> EventPaths<'a> {
     // The same where the look for what is to replace it gave this error: it is made where that says
     // that nothing stands there.
     fn make_by<H: Host>(self, host: &mut H, text: &str, error: io::Error) -> Result<(), EventFault>
-        ensures { MakesBy ⟦<H as Machine>⟧.words self.entry.file.now (Err error)
+        ensures { MakesBy ⟦<H as Machine>⟧.words (self.entry.file.now, text.now) (Err error)
             host.old host.new result }
     {
         match error.kind() {
@@ -267,8 +281,9 @@ impl<'a> EventPaths<'a> {
         host: &mut H,
         text: Result<String, AllocError>,
     ) -> Result<(), EventFault>
-        ensures { EndsFile ⟦<H as Machine>⟧.words
-            (self.entry.file.now, self.entry.part.now) host.old host.new result }
+        ensures { EndsFile ⟦<H as Machine>⟧.words (self.entry.file.now, self.entry.part.now)
+            (λ bytes. option_map string_bytes (result_ok text) ≡ Some bytes)
+            host.old host.new result }
     {
         self.replace(host, text?.as_str())
     }
@@ -276,11 +291,28 @@ impl<'a> EventPaths<'a> {
     // Replaces the file by one with this text, which is made at the other path first.
     fn replace<H: Host>(self, host: &mut H, text: &str) -> Result<(), EventFault>
         ensures { Replaces ⟦<H as Machine>⟧.words
-            (self.entry.file.now, self.entry.part.now) host.old host.new result }
+            (record { file = self.entry.file.now; part = self.entry.part.now; text = text.now })
+            host.old host.new result }
     {
         make_new(host, (EventPath::Part, self.part), text)?;
         move_over(host, self.part, self.file)
     }
+}
+
+// Puts the destination of what is asked for into its event, if it has one.
+fn put_dest<R: Reads + AllocGlobal, O: Operation>(
+    rt: &R,
+    event: &mut Event,
+    operation: &O,
+    folder: &str,
+) -> Result<(), AllocError>
+    ensures { OnOk result (PutsDest O.with_dest folder.now
+        (event_members event.old) (event_members event.new)) }
+{
+    if !operation.has_dest() {
+        return Ok(());
+    }
+    event.put_folder(rt, "dest", folder)
 }
 
 // The text of an event of what ended so.
@@ -288,14 +320,16 @@ fn end_text<R: Clock + AllocGlobal>(
     rt: &R,
     mut event: Event,
     made: &Conclusion,
-) -> Result<String, AllocError> {
+) -> Result<String, AllocError>
+    ensures { IfOk result (λ text. IsEndText (event_members event) made.now (string_bytes text)) }
+{
     event.end(rt, made.status, &made.outcome)?;
     event.line()
 }
 
 // Makes a file at one of an event's paths, where nothing stands.
 fn make_new<H: Host>(host: &mut H, at: (EventPath, &str), text: &str) -> Result<(), EventFault>
-    ensures { MakesNew ⟦<H as Machine>⟧.words at.entry.0 at.entry.1.now
+    ensures { MakesNew ⟦<H as Machine>⟧.words at.entry.0 (at.entry.1.now, text.now)
         host.old host.new result }
 {
     match host.create_new(at.1, text) {
@@ -314,8 +348,8 @@ fn move_over<H: Host>(host: &mut H, from: &str, to: &str) -> Result<(), EventFau
     }
 }
 
-/// Begins the event of what is asked for between a store and a destination, where a file is named
-/// for it: makes the file, with what is known as the run or the audit begins.
+/// Begins the event of what is asked for over a store and a destination, where a file is named for
+/// it: makes the file, with what is known as the run, the audit or the check begins.
 ///
 /// `Memory` where a growth was refused: of a text, before anything is asked, or by the system.
 /// `Place` as of `judge_file`; then `Stands`, where something stands at the path with `.part`
@@ -331,7 +365,8 @@ pub(crate) fn begin_event<R, H: Host, O: Operation>(
 where
     R: Reads + Clock + AllocGlobal,
     ensures { BeginsEvent ⟦<H as Machine>⟧.words
-        (folders.entry.store.now, folders.entry.folder.now)
+        (event_head (O.word_of operation.now)
+        (folders.entry.store.now, folders.entry.folder.now) O.with_dest)
         (O.feedback_of operation.now).event host.old host.new result }
 {
     let Some(path) = operation.feedback().event() else {
@@ -350,7 +385,7 @@ pub(crate) fn end_event<R: Clock + AllocGlobal, H: Host>(
     event: Option<EventFile>,
     made: &Conclusion,
 ) -> u8
-    ensures { EndsEvent ⟦<H as Machine>⟧.words event made.now.status host.old host.new result }
+    ensures { EndsEvent ⟦<H as Machine>⟧.words event made.now host.old host.new result }
 {
     let Some(file) = event else {
         return made.status;

@@ -8,11 +8,10 @@ ghost use Rattle.pt_host.specs.HostCall.{HostCall, Lend, MakeFile, MoveFile, Ope
 ghost use Rattle.pt_host.specs.HostCall.{TakeBack, Tell};
 ghost use Rattle.pt_host.specs.declared.host.HostIo.{HostIo};
 
-use crate::durable_log::SyncsOutput;
+use crate::durable_log::{SyncsOutput, Writes};
 use pt_folder::System;
 use pt_guard::Places;
 use std::io;
-use std::io::Write;
 
 /// What a run is made over: the system that keeps the store, the one that keeps the destination,
 /// and what takes the log.
@@ -32,7 +31,7 @@ pub trait Host: Places {
 
     type Folder: System;
 
-    type Output: Write;
+    type Output: Writes;
 
     type File: SyncsOutput<Self::Output> + Drop;
 

@@ -17,19 +17,19 @@
 //!   answer (`run_status`), with a list by what is unmet too (`EndsWithList`).
 //! - `audit_guarded`: the guard, with a lock that others may share, the audit over what is lent,
 //!   which is given back, and the lock (`Audits`, `AuditsOver`).
-//! - `check_store`: the check of pt_check is made over SOURCE and the output, which are lent and
-//!   given back, and a fault is told; nothing else is asked (`ChecksStore`, `ChecksOver`).
+//! - `check_store`: the check of the share that is asked for, over SOURCE and the output, which are
+//!   lent and given back; it asks for no lock (`ChecksStore`, `ChecksOver`).
 //! - The fault that ended one of these is told once, by its own line (`TellsEnd`); so is why one
 //!   may not begin (`refusal_line`), and why there is no event (`TellsEvent`).
-//! - Where a file is named for its event, a run or an audit is recorded in it (`IsRecorded`).
+//! - Where a file is named for its event, each of them is recorded in it (`IsRecorded`).
 //! - A rehearsal leaves all that the system keeps of DEST (`LeavesKept`); where it and the run that
-//!   it rehearses both end well, their logs get the same text, and their statuses are the same
-//!   (`RehearsalTellsTheRun`).
+//!   it rehearses both end well, logs and statuses are the same (`RehearsalTellsTheRun`).
 //! - `DurableLog`: a log whose lines are put onto the disk where it has a file (`IsPutBehind`).
-//! - Where a check read each file whole and told nothing, no run over its store answers `Source`,
-//!   if the source tells the paths at which it fails (`NoRunIsHaltedForSource`,
-//!   `NoRunIsHaltedAfterQuietCheck`). A run, and no rehearsal, that answers fault 2 made a call of
-//!   DEST that failed (`DestFaultMeansFailedStep`).
+//! - Where a check of a whole store read each file whole and told nothing, no run over it answers
+//!   `Source`, if the source tells where it fails (`NoRunIsHaltedForSource`,
+//!   `NoRunIsHaltedAfterQuietCheck`).
+//! - The fault of an audit comes of what failed (`AuditFaultMeansFailedCall`). So do fault 3 of a
+//!   run and a check (`LogFailsBy`), and 2 of a run, not a rehearsal (`DestFaultMeansFailedStep`).
 //!
 //! Guarantees of README that rest on its definitions: An audit is exact.
 #![tactic(auto)]
@@ -56,12 +56,15 @@ mod run;
 mod running;
 mod saying;
 pub mod status;
+mod stepped;
 mod text;
+mod traced;
 mod unmet;
+mod watched_store;
 
 pub use audit::audit_guarded;
 pub use checking::check_store;
-pub use durable_log::{DurableLog, Syncs, SyncsOutput};
+pub use durable_log::{DurableLog, Syncs, SyncsOutput, Writes};
 pub use event::EventFault;
 pub use host::{Host, HostIo};
 pub use machine::Machine;

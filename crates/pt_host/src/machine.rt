@@ -1,8 +1,9 @@
 //! What a machine's calls may answer and leave, as one word.
 ghost use Rattle.pt_host.specs.Machine.{MachineWords, host_io_words};
+ghost use Rattle.pt_host.specs.ReadSteps.{FailsBetween};
 ghost use Rattle.pt_host.specs.Served.{Serves};
 
-use crate::{Host, SyncsOutput};
+use crate::{Host, SyncsOutput, Writes};
 
 /// A machine by all its words: those of its own calls, and those of what it lends. Each host is
 /// one, and this alone is where it gets them, so that `⟦<H as Machine>⟧.words` in a contract is the
@@ -15,6 +16,7 @@ pub trait Machine: Host {
 impl<H: Host> Machine for H
 where
     H::File: SyncsOutput<H::Output>,
+    H::Output: Writes,
 {
     ghost words = { record {
       Lock = H.Lock;
@@ -26,10 +28,13 @@ where
       places = H.Places.does;
       host = H.Host.does;
       syncs = H.File.syncs;
+      writes = H.Output.writes;
       puts = H.File.puts;
       written = host_io_words H.Store.forest H.Store.failing H.Folder.kept H.Output.contents;
       read = host_io_words H.Store.forest H.Store.failing H.Folder.forest H.Output.contents;
       serves = Serves H.Folder.System H.Folder.File.Handle.own
+          H.Folder.File.Input H.Folder.Dir.Input;
+      fails = FailsBetween H.Folder.System H.Folder.File.Handle.own
           H.Folder.File.Input H.Folder.Dir.Input;
     } };
 }

@@ -1,12 +1,11 @@
-//! What is made on a machine between a store and a destination: a run, or an audit.
+//! What is made on a machine over a store: a run, an audit or a check.
 //!
-//! Each says which lock it wants, what its event records, and what making it comes to; how it is
-//! guarded, recorded and held against a list is the same for both (guarded.rt).
-ghost use Rattle.std.specs.Prelude.{◌≡◌, ℕ, List, Option};
-ghost use Rattle.std.specs.Result.{result_err};
+//! Each says what its event records, and what making it comes to, and a run and an audit which lock
+//! they want; how one is guarded, recorded and held against a list is the same for all
+//! (guarded.rt).
+ghost use Rattle.std.specs.Prelude.{◌≡◌, ℕ, Bool, is_some, List, Option};
 ghost use Rattle.pt_guard.specs.declared.places.Claim.{Claim};
 ghost use Rattle.pt_messages.specs.Expected.{AsksEnd};
-ghost use Rattle.pt_state.specs.declared.job.Job.{Job};
 ghost use Rattle.pt_host.specs.Machine.{MachineWords};
 ghost use Rattle.pt_host.specs.declared.operation.Conclusion.{Conclusion};
 ghost use Rattle.pt_host.specs.declared.options.Feedback.{Feedback};
@@ -15,12 +14,11 @@ use crate::folders::Folders;
 use crate::{Feedback, Host, Machine};
 use pt_guard::Claim;
 use pt_messages::{Members, Outcome, Reads, ReadsFiles, Terminals};
-use pt_move::{Fault, Job};
-use pt_name::UnmetIdentifiers;
+use pt_name::{Share, UnmetIdentifiers};
 use std::alloc::{AllocError, AllocGlobal, Global};
 use std::rt::Clock;
 
-/// How a run or an audit ended: its exit status, and what its event records of that.
+/// How a run, an audit or a check ended: its exit status, and what its event records of that.
 #[derive(Drop)]
 pub(crate) struct Conclusion {
     /// The exit status, but for what is unmet.
@@ -30,46 +28,47 @@ pub(crate) struct Conclusion {
     pub unmet: UnmetIdentifiers,
 }
 
-/// The fault that ended what came to this, if one did.
-pub(crate) fn fault_in<T>(ran: &Result<T, Fault>) -> Option<Fault>
-    ensures { result ≡ result_err ran.now }
+/// Whether a list says which objects there are.
+pub(crate) fn has_list(share: &Share) -> bool
+    ensures { result ≡ is_some share.now.list }
 {
-    match ran {
-        Ok(_) => None,
-        Err(fault) => Some(*fault),
-    }
+    share.list().is_some()
 }
 
-/// A run or an audit that is asked for, by all that its options say.
+/// A run, an audit or a check that is asked for, by all that its options say.
 pub(crate) trait Operation {
-    /// The lock that it asks for.
-    ghost claims: { Claim };
-
-    /// Which objects there are, and where they lie.
-    ghost job_of: { Self → Job };
+    /// The identifiers of its list, if it has one.
+    ghost list_of: { Self → Option (List (List ℕ)) };
 
     /// What is told of it beside its log.
     ghost feedback_of: { Self → Feedback };
 
-    /// Making it between these two folders takes a machine, by its words, from one state to
-    /// another, which are a pair, and ends so. The log that `--expect` names is asked for its end.
+    /// What is done, in a word.
+    ghost word_of: { Self → List ℕ };
+
+    /// Whether it has a destination.
+    ghost with_dest: { Bool };
+
+    /// Making it over these two folders takes a machine, by its words, from one state to another,
+    /// which are a pair, and ends so. The log that `--expect` names is asked for its end.
     ghost makes: { {H : Type 0} → MachineWords H → (Option (List ℕ) → Type 0)
         → List ℕ × List ℕ → Self → H × H → Conclusion → Type 0 };
 
-    /// The lock that it asks for.
-    fn claim(&self) -> Claim
-        ensures { result ≡ claims };
-
-    /// Which objects there are, and where they lie.
-    fn job(&self) -> &Job
-        ensures { result.now ≡ job_of self.now };
+    /// Whether it has a list.
+    fn has_list(&self) -> bool
+        ensures { result ≡ is_some (list_of self.now) };
 
     /// What is told of it beside its log.
     fn feedback(&self) -> &Feedback
         ensures { result.now ≡ feedback_of self.now };
 
-    /// What is done, in a word: `run`, `rehearsal` or `audit`.
-    fn word(&self) -> &'static str;
+    /// What is done, in a word: `run`, `rehearsal`, `audit` or `check`.
+    fn word(&self) -> &'static str
+        ensures { result.now ≡ word_of self.now };
+
+    /// Whether it has a destination, which is recorded then; else both its folders are the store.
+    fn has_dest(&self) -> bool
+        ensures { result ≡ with_dest };
 
     /// Every option by its name, with what it says or means where it isn't given; one that has
     /// nothing to say is left out. An error where a growth was refused.
@@ -83,4 +82,14 @@ pub(crate) trait Operation {
         ensures { makes ⟦<H as Machine>⟧.words (AsksEnd (⟦<R as ReadsFiles>⟧.file_words rt.now))
             (folders.entry.store.now, folders.entry.folder.now) self (host.old, host.new)
             result };
+}
+
+/// A run or an audit, which is made behind the guard.
+pub(crate) trait Guarded: Operation {
+    /// The lock that it asks for.
+    ghost claims: { Claim };
+
+    /// The lock that it asks for.
+    fn claim(&self) -> Claim
+        ensures { result ≡ claims };
 }

@@ -5,7 +5,7 @@ ghost use Rattle.std.specs.Prelude.{◌≡◌, option_map};
 use crate::Text;
 use pt_messages::{Progress, Watching, Words};
 use pt_move::Job;
-use pt_name::Layout;
+use pt_name::{Layout, Share};
 use pt_tree::Ignored;
 
 /// All that the options of a run say.
@@ -65,10 +65,15 @@ pub struct CheckOptions {
     pub dest: Option<Text>,
     /// How the places in a destination would be cut, whether one is named or not.
     pub layout: Layout,
+    /// What of the store is told and counted: that of the objects that a run of the share carries,
+    /// and of what it passes over.
+    pub share: Share,
+    /// What is shown of it beside its log.
+    pub feedback: Feedback,
 }
 
-/// What is told of a run or an audit beside its log: what standard error shows, and the file of its
-/// event.
+/// What is told of a run, an audit or a check beside its log: what standard error shows, and the
+/// file of its event.
 #[derive(Debug, Drop)]
 pub struct Feedback {
     /// Whether the reason of a fault is told too, and a summary at the end.
@@ -79,9 +84,10 @@ pub struct Feedback {
     pub progress: Progress,
     /// How many seconds pass between two lines that show it, where they don't go to a terminal.
     pub interval: u32,
-    /// The path of a log, of a rehearsal say, whose end line tells how many lines there may be.
+    /// The path of a log, of a rehearsal say, whose end line tells how many lines there may be; of
+    /// a check that of an earlier one, whose end line tells how many files and folders.
     pub expected: Option<Text>,
-    /// The path of the file in which the run or the audit is recorded as an event.
+    /// The path of the file in which the run, the audit or the check is recorded as an event.
     pub event: Option<Text>,
 }
 
@@ -106,8 +112,8 @@ impl Feedback {
         }
     }
 
-    // How a run or an audit with this feedback is watched: its log has lines of this kind, and so
-    // many, where that is known.
+    // How a run, an audit or a check with this feedback is watched: its log has lines of this kind,
+    // and so many, of a check so many files and folders, where that is known.
     pub(crate) fn watching(&self, words: Words, expected: Option<u64>) -> Watching
         ensures { result ≡ record {
           when = self.now.progress;

@@ -1,8 +1,8 @@
-//! The options of a run and of an audit as an event records them.
-use crate::{AuditOptions, Feedback, RunOptions};
+//! The options of a run, of an audit and of a check as an event records them.
+use crate::{AuditOptions, CheckOptions, Feedback, RunOptions, Text};
 use pt_messages::{Members, Progress};
 use pt_move::Job;
-use pt_name::Division;
+use pt_name::{Division, Layout, Share};
 use std::alloc::{AllocError, Global};
 
 /// Those of `migrate`. An error where a growth was refused.
@@ -37,20 +37,46 @@ pub(crate) fn options_of_audit(
     Ok(members)
 }
 
+/// Those of `check`. An error where a growth was refused.
+pub(crate) fn options_of_check(
+    alloc: Global,
+    options: &CheckOptions,
+) -> Result<Members, AllocError> {
+    let mut members = Members::new(alloc);
+    members.put_flag("read", options.reads)?;
+    members.put_flag("gather", options.gather)?;
+    members.put_given("dest", options.dest.as_ref().map(Text::as_str))?;
+    put_layout(&mut members, &options.layout)?;
+    put_share(alloc, &mut members, &options.share)?;
+    members.put_names("ignore", options.ignored.names())?;
+    put_feedback(&mut members, &options.feedback)?;
+    Ok(members)
+}
+
 // Those that say which objects there are, and where they lie.
 fn put_job(alloc: Global, members: &mut Members, job: &Job) -> Result<(), AllocError> {
     members.put_text("digest", job.algorithm.word())?;
-    members.put_number("tuple-size", u64::from(job.layout.size()))?;
-    members.put_number("tuples", u64::from(job.layout.count()))?;
+    put_layout(members, &job.layout)?;
     members.put_flag("gather", job.gather)?;
-    let (index, count) = (job.share.index(), job.share.count());
-    let share = format!(in alloc; "{index}/{count}")?;
-    members.put_text("share", share.as_str())?;
-    if let Division::Folders(depth) = job.share.division() {
+    put_share(alloc, members, &job.share)
+}
+
+// Those that say what of a store is taken.
+fn put_share(alloc: Global, members: &mut Members, share: &Share) -> Result<(), AllocError> {
+    let (index, count) = (share.index(), share.count());
+    let number = format!(in alloc; "{index}/{count}")?;
+    members.put_text("share", number.as_str())?;
+    if let Division::Folders(depth) = share.division() {
         members.put_number("by-folders", u64::from(depth))?;
     }
-    members.put_texts("only", job.share.texts())?;
-    members.put_given("list", job.share.list().map(|list| list.name()))
+    members.put_texts("only", share.texts())?;
+    members.put_given("list", share.list().map(|list| list.name()))
+}
+
+// Those that say how places are cut.
+fn put_layout(members: &mut Members, layout: &Layout) -> Result<(), AllocError> {
+    members.put_number("tuple-size", u64::from(layout.size()))?;
+    members.put_number("tuples", u64::from(layout.count()))
 }
 
 // Those that say what is told beside the log.

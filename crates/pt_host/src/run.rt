@@ -9,13 +9,13 @@
 //! the start (of the store's without the entries that are left out). Lines of what was present or
 //! passed over don't count for the status where they are allowed (`uncarried`). Where the log has a
 //! file and no fault ended the run, all that the output then holds was put onto the disk by it, or
-//! nothing was written (`IsLogged`). The system of DEST is left as calls left it of a destination
-//! that is set as wanted, to its end (`Serves`); of a rehearsal, which makes nothing there, that
-//! isn't said.
+//! nothing was written (`IsLogged`); and the log is blamed only where a piece of it couldn't be put
+//! (`LogFailsBy`). The system of DEST is left as calls left it of a destination that is set as
+//! wanted, to its end (`Serves`); of a rehearsal, which makes nothing there, that isn't said.
 ghost use Rattle.pt_messages.specs.Expected.{AsksEnd};
 ghost use Rattle.pt_messages.specs.declared.watch.Words.TheVariants.{Run};
 ghost use Rattle.pt_plan.specs.declared.fault.Fault.TheVariants.{Log};
-ghost use Rattle.std.specs.Prelude.{◌≡◌, Some};
+ghost use Rattle.std.specs.Prelude.{◌≡◌, Err};
 ghost use Rattle.pt_host.specs.Made.{Carries, FindsLog, Runs, run_call};
 ghost use Rattle.pt_host.specs.Told.{CameTo};
 
@@ -23,14 +23,14 @@ use crate::devices::{DeviceParts, open_devices};
 use crate::durable_log::Syncs;
 use crate::folders::Folders;
 use crate::guarded::make_guarded;
-use crate::operation::{Conclusion, Operation};
+use crate::operation::{Conclusion, Guarded, Operation, has_list};
 use crate::recorded_options::options_of_run;
 use crate::running::run_over;
 use crate::status::FAILED;
 use crate::{Feedback, Host, Machine, RunOptions};
 use pt_guard::Claim;
 use pt_messages::{Members, Outcome, Reads, ReadsFiles, Terminals, Words, lines_expected, reason};
-use pt_move::{Fault, Job};
+use pt_move::Fault;
 use pt_name::UnmetIdentifiers;
 use std::alloc::{AllocError, AllocGlobal, Global};
 use std::io;
@@ -69,24 +69,33 @@ where
     make_guarded(rt, host, options, folders)
 }
 
-impl Operation for RunOptions {
+impl Guarded for RunOptions {
     ghost use Rattle.pt_guard.specs.declared.places.Claim.TheVariants.{Alone};
 
     ghost claims = { Alone };
 
-    ghost job_of = { λ options. options.job };
+    fn claim(&self) -> Claim {
+        Claim::Alone
+    }
+}
+
+impl Operation for RunOptions {
+    ghost use Rattle.std.specs.Prelude.{true};
+    ghost use Rattle.pt_host.specs.Made.{run_word};
+
+    ghost list_of = { λ options. options.job.share.list };
 
     ghost feedback_of = { λ options. options.feedback };
+
+    ghost word_of = { λ options. run_word options.rehearse };
+
+    ghost with_dest = { true };
 
     ghost makes = { λ words asks folders options hosts.
         Carries words asks (run_call options folders.0 folders.1) hosts.0 hosts.1 };
 
-    fn claim(&self) -> Claim {
-        Claim::Alone
-    }
-
-    fn job(&self) -> &Job {
-        &self.job
+    fn has_list(&self) -> bool {
+        has_list(&self.job.share)
     }
 
     fn feedback(&self) -> &Feedback {
@@ -95,6 +104,10 @@ impl Operation for RunOptions {
 
     fn word(&self) -> &'static str {
         if self.rehearse { "rehearsal" } else { "run" }
+    }
+
+    fn has_dest(&self) -> bool {
+        true
     }
 
     fn members(&self, alloc: Global) -> Result<Members, AllocError> {
@@ -122,7 +135,7 @@ impl Operation for RunOptions {
 // The end of a run whose output can't be put onto its disk: that failed.
 fn unsynced_end(alloc: Global) -> Conclusion
     ensures status { result.status ≡ 3 }
-    ensures fault { CameTo Run (Some Log) result.outcome }
+    ensures fault { CameTo Run (Err Log) result.outcome }
 {
     Conclusion {
         status: FAILED,

@@ -5,17 +5,19 @@
 //! Its devices stay at the folders that they were made for (`RunsFrom`). After any answer a
 //! rehearsal leaves all that the system keeps of DEST (`LeavesKept`). Something is unsynced at the
 //! end only where syncing was wanted and a fault ended the run (`IsUnsyncedBy`). Over a store whose
-//! system tells where it fails the source failed only at what a run asks for (`FailsByAsking`).
+//! system tells where it fails the source failed only at what a run asks for (`FailsByAsking`). The
+//! log is blamed only where a piece of it couldn't be put (`LogFailsBy`).
 ghost use Rattle.std.specs.Prelude.{◌≡◌, IfOk, OnOk};
 ghost use Rattle.pt_audit.specs.Auditing.{AreUnmetIn};
 ghost use Rattle.pt_folder.specs.HostDest.{folder_path as dest_path, kept_by};
 ghost use Rattle.pt_folder.specs.HostSource.{failing, folder_path as store_path};
 ghost use Rattle.pt_host.specs.Devices.{seen_without, told_at_rest};
-ghost use Rattle.pt_host.specs.Durable.{IsLogged};
+ghost use Rattle.pt_host.specs.Durable.{IsLogged, LogFailsBy};
 ghost use Rattle.pt_host.specs.Ends.{run_status};
 ghost use Rattle.pt_host.specs.Machine.{host_io_words};
 ghost use Rattle.pt_host.specs.Made.{IsRun, IsSameSource, IsUnsyncedBy, LeavesKept, RunsFrom};
 ghost use Rattle.pt_host.specs.Served.{IsServed, ServesTo};
+ghost use Rattle.pt_host.specs.Totals.{run_totals};
 ghost use Rattle.pt_host.specs.declared.options.AllowedLines.{AllowedLines};
 ghost use Rattle.pt_move.specs.Unmet.{report_of};
 ghost use Rattle.pt_state.specs.Outside.{states_of};
@@ -23,25 +25,24 @@ ghost use Rattle.pt_tree.specs.Source.{tree_in};
 
 use crate::account::Account;
 use crate::devices::RunDevices;
-use crate::durable_log::{DurableLog, SyncsOutput};
+use crate::durable_log::{DurableLog, SyncsOutput, Writes};
 use crate::folders::Folders;
-use crate::operation::{Conclusion, fault_in};
+use crate::operation::Conclusion;
 use crate::status::{DONE, FAILED, INCOMPLETE};
 use crate::{AllowedLines, HostIo, RunOptions};
 use pt_folder::{HostDest, HostSource, System};
-use pt_messages::{LastCalls, Reads, Tally, Terminals, Words};
+use pt_messages::{LastCalls, Reads, Tally, Terminals, Totals, Words};
 use pt_move::{Completion, Fault, Job, Report, migrate_observed};
 use pt_name::UnmetIdentifiers;
 use pt_rehearsal::Rehearsal;
 use pt_tree::{Dest, Ignoring, Log, Source};
 use std::alloc::{AllocGlobal, Global};
-use std::io::Write;
 use std::rt::Clock;
 
 /// Makes the run that is asked for over its devices, or rehearses it, watched as its options say.
 /// `expected` is how many lines its log may come to, where that is known, and `folders` has the
 /// paths that are told. Gives back what the devices were made over, and how the run ended.
-pub(crate) fn run_over<R, S: System, D: System, W: Write, F: SyncsOutput<W> + Drop>(
+pub(crate) fn run_over<R, S: System, D: System, W: Writes, F: SyncsOutput<W> + Drop>(
     rt: &R,
     devices: RunDevices<'_, S, D, W, F>,
     options: RunOptions,
@@ -69,6 +70,9 @@ where
     ensures logged { devices.entry.log.failures ≡ 0
         → IsLogged F.puts devices.entry.log.file devices.entry.log.writer
         result.0.output result.1.status }
+    ensures log_fails { devices.entry.log.failures ≡ 0
+        → LogFailsBy W.writes F.puts devices.entry.log.file devices.entry.log.writer
+        result.0.output result.1.outcome.fault }
 {
     let tally = Tally::new();
     let RunDevices { source, dest, log } = devices;
@@ -81,15 +85,10 @@ where
         rehearse: options.rehearse,
         tally: &tally,
     };
-    let RunEnd { ran, unmet, dest } = run_or_rehearse(
-        rt.alloc(),
-        &mut source,
-        dest,
-        &mut log,
-        task,
-    );
+    let made = run_or_rehearse(rt.alloc(), &mut source, dest, &mut log, task);
+    let RunEnd { ran, unmet, dest } = made;
     let calls = LastCalls::of_dest(&dest);
-    let (source, log, outcome) = account.close(rt, (source, log), fault_in(&ran), calls);
+    let (source, log, outcome) = account.close(rt, (source, log), ended(&ran), calls);
     let status = status_of(&ran, options.allowed);
     let host_io = HostIo {
         store: source.into_system(),
@@ -180,6 +179,20 @@ fn end_of<D: System>(
             unmet: UnmetIdentifiers::none(alloc),
             dest,
         },
+    }
+}
+
+// How a run ended: by a fault, or with what its report says of the lines.
+fn ended(ran: &Result<Report, Fault>) -> Result<Totals, Fault>
+    ensures { result ≡ run_totals ran.now }
+{
+    match ran {
+        Ok(report) => Ok(Totals::Run {
+            done: report.done,
+            present: report.present,
+            skips: report.skipped,
+        }),
+        Err(fault) => Err(*fault),
     }
 }
 

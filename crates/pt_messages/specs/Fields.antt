@@ -15,8 +15,12 @@ AreOnlyCounts c = c ≡ record {
   absent = c.absent;
   extra = c.extra;
   stray = c.stray;
+  differs = c.differs;
+  skips = c.skips;
+  told = c.told;
   differing = c.differing;
   skipped = c.skipped;
+  kinds = c.kinds;
 }
 
 -- a log whose lines are counted is that log, its counts, and whether they are wanted

@@ -1,4 +1,9 @@
+pub mod Counts
+pub mod Escaped
+pub mod EventMembers
 pub mod Expected
 pub mod FaultLines
 pub mod Fields
+pub mod Members
+pub mod Plain
 pub mod Reading

@@ -1,6 +1,10 @@
 //! A log whose lines are counted, for the summary at the end.
-ghost use Rattle.std.specs.Prelude.{◌≡◌};
+ghost use Rattle.std.specs.List.{zip};
+ghost use Rattle.std.specs.Prelude.{◌≡◌, IfOk, OnOk, map};
+ghost use Rattle.pt_messages.specs.Counts.{put_audit_kinds, put_beside, put_counts, put_kinds};
+ghost use Rattle.pt_messages.specs.Counts.{put_line_counts, put_skips, with_totals};
 ghost use Rattle.pt_messages.specs.Fields.{IsOnlyCounted};
+ghost use Rattle.pt_messages.specs.Members.{members_of};
 
 use crate::members::Members;
 use crate::numbers::{count_text, group_digits, size};
@@ -15,10 +19,35 @@ const CAUSES: [&str; 9] = [
 
 const REASONS: [&str; 5] = ["missing", "extra", "kind", "bytes", "twin"];
 
+// What the lines of a check tell of.
+const TROUBLES: [&str; 20] = [
+    "missing",
+    "unreadable",
+    "prefix",
+    "doubtful",
+    "deep",
+    "root",
+    "empty",
+    "split",
+    "name",
+    "utf8",
+    "reserved",
+    "past",
+    "spelling",
+    "other",
+    "long",
+    "many",
+    "large",
+    "place",
+    "width",
+    "desktop",
+];
+
 /// The lines of a log, how many there are of each kind.
 #[derive(Clone, Copy)]
 pub struct LineCounts {
-    // Those of objects that were carried, or are the same; and what these hold.
+    // Those of objects that were carried, or are the same; and what these hold. Of a check that
+    // ended, the objects and the files that it met, and the bytes that it read.
     well: u64,
     files: u64,
     bytes: u64,
@@ -27,9 +56,54 @@ pub struct LineCounts {
     // Those of what the store lacks.
     extra: u64,
     stray: u64,
-    // Those of objects that differ, and of skips, by the words above.
+    // Those of objects that differ, of skips, and of a check; and by the words above.
+    differs: u64,
+    skips: u64,
+    told: u64,
     differing: [u64; 5],
     skipped: [u64; 9],
+    kinds: [u64; 20],
+}
+
+/// What a run, an audit or a check that came to its end says itself: how many lines of these kinds
+/// its log has, and of a check what it met.
+#[derive(Clone, Copy)]
+pub enum Totals {
+    /// Of a run.
+    Run {
+        /// The objects that were carried.
+        done: u64,
+        /// Those whose place was taken.
+        present: u64,
+        /// What was passed over.
+        skips: u64,
+    },
+    /// Of an audit.
+    Audit {
+        /// The objects that are the same.
+        same: u64,
+        /// Those at whose place nothing stands.
+        absent: u64,
+        /// Those that differ.
+        differs: u64,
+        /// What was passed over.
+        skips: u64,
+        /// The objects that the store lacks.
+        extra: u64,
+        /// What else stands there and isn't of it.
+        stray: u64,
+    },
+    /// Of a check.
+    Check {
+        /// The lines.
+        told: u64,
+        /// The objects that were met.
+        objects: u64,
+        /// The files that were met.
+        files: u64,
+        /// The bytes that were read.
+        bytes: u64,
+    },
 }
 
 /// A log whose lines are counted where that is wanted, and is the log in all else. Each piece that
@@ -52,11 +126,6 @@ impl<L: Log> CountedLog<L> {
             counts: LineCounts::none(),
             counting,
         }
-    }
-
-    /// The lines so far, of a log that is whole.
-    pub fn counts_if(&self, whole: bool) -> Option<&LineCounts> {
-        if whole { Some(&self.counts) } else { None }
     }
 
     /// The lines so far.
@@ -109,8 +178,58 @@ impl LineCounts {
             absent: 0,
             extra: 0,
             stray: 0,
+            differs: 0,
+            skips: 0,
+            told: 0,
             differing: [0; 5],
             skipped: [0; 9],
+            kinds: [0; 20],
+        }
+    }
+
+    /// These with what was said itself in the place of what was counted of it.
+    pub fn with_totals(self, totals: Totals) -> LineCounts
+        ensures { result ≡ with_totals totals self }
+    {
+        match totals {
+            Totals::Run {
+                done,
+                present,
+                skips,
+            } => LineCounts {
+                well: done,
+                present,
+                skips,
+                ..self
+            },
+            Totals::Audit {
+                same,
+                absent,
+                differs,
+                skips,
+                extra,
+                stray,
+            } => LineCounts {
+                well: same,
+                absent,
+                differs,
+                skips,
+                extra,
+                stray,
+                ..self
+            },
+            Totals::Check {
+                told,
+                objects,
+                files,
+                bytes,
+            } => LineCounts {
+                told,
+                well: objects,
+                files,
+                bytes,
+                ..self
+            },
         }
     }
 
@@ -129,46 +248,100 @@ impl LineCounts {
             "absent" => self.absent = self.absent.saturating_add(1),
             "extra" => self.extra = self.extra.saturating_add(1),
             "stray" => self.stray = self.stray.saturating_add(1),
-            "differs" => add_word(&REASONS, &mut self.differing, last_word(rest)),
-            "skip" => add_word(&CAUSES, &mut self.skipped, last_word(rest)),
-            _ => {}
+            "differs" => {
+                self.differs = self.differs.saturating_add(1);
+                add_word(&REASONS, &mut self.differing, last_word(rest));
+            }
+            "skip" => {
+                self.skips = self.skips.saturating_add(1);
+                add_word(&CAUSES, &mut self.skipped, last_word(rest));
+            }
+            "end" => {}
+            kind => {
+                self.told = self.told.saturating_add(1);
+                add_word(&TROUBLES, &mut self.kinds, kind);
+            }
         }
     }
 
     /// Puts into a record how many lines there are of each kind, skips by their cause and differing
-    /// objects by their reason, and what the objects that were carried, or are the same, hold.
-    pub(crate) fn put_into(&self, record: &mut Members, words: Words) -> Result<(), AllocError> {
-        let mut lines = record.empty();
+    /// objects by their reason, and what the objects that were carried, or are the same, hold; of a
+    /// check how many objects and files it met, and how many bytes it read.
+    pub(crate) fn put_into(&self, event: &mut Members, words: Words) -> Result<(), AllocError>
+        ensures { OnOk result (members_of event.new
+            ≡ put_line_counts words self.now (members_of event.old)) }
+    {
+        self.put_beside(event, words)?;
+        let lines = self.with_kinds(event.empty(), words)?;
+        event.put_members("lines", lines)?;
+        event.put_number("files", self.files)?;
+        event.put_number("bytes", self.bytes)
+    }
+
+    // Puts, of a run, how many skips there are by their cause; of an audit how many objects differ
+    // by their reason too; of a check how many objects it met.
+    fn put_beside(&self, event: &mut Members, words: Words) -> Result<(), AllocError>
+        ensures { OnOk result (members_of event.new
+            ≡ put_beside words self.now (members_of event.old)) }
+    {
+        match words {
+            Words::Run => self.put_skips(event),
+            Words::Audit | Words::BothWays => {
+                self.put_skips(event)?;
+                let whys = with_counts(event.empty(), &REASONS, &self.differing)?;
+                event.put_members("differs", whys)
+            }
+            Words::Check => event.put_number("objects", self.well),
+        }
+    }
+
+    // Puts how many skips there are by their cause.
+    fn put_skips(&self, event: &mut Members) -> Result<(), AllocError>
+        ensures { OnOk result (members_of event.new
+            ≡ put_skips self.now (members_of event.old)) }
+    {
+        let causes = with_counts(event.empty(), &CAUSES, &self.skipped)?;
+        event.put_members("skips", causes)
+    }
+
+    // These with how many lines there are of each kind.
+    fn with_kinds(&self, mut lines: Members, words: Words) -> Result<Members, AllocError>
+        ensures { IfOk result (λ made. members_of made
+            ≡ put_kinds words self.now (members_of lines)) }
+    {
         match words {
             Words::Run => {
                 lines.put_number("done", self.well)?;
                 lines.put_number("present", self.present)?;
             }
-            Words::Audit | Words::BothWays => {
-                lines.put_number("absent", self.absent)?;
-                lines.put_number("differs", sum(&self.differing))?;
-                lines.put_number("same", self.well)?;
-                let whys = with_counts(record.empty(), &REASONS, &self.differing)?;
-                record.put_members("differs", whys)?;
+            Words::Audit => self.put_audit_kinds(&mut lines)?,
+            Words::BothWays => {
+                self.put_audit_kinds(&mut lines)?;
+                lines.put_number("extra", self.extra)?;
+                lines.put_number("stray", self.stray)?;
             }
+            Words::Check => return with_counts(lines, &TROUBLES, &self.kinds),
         }
-        if let Words::BothWays = words {
-            lines.put_number("extra", self.extra)?;
-            lines.put_number("stray", self.stray)?;
-        }
-        lines.put_number("skip", sum(&self.skipped))?;
-        record.put_members("lines", lines)?;
-        let causes = with_counts(record.empty(), &CAUSES, &self.skipped)?;
-        record.put_members("skips", causes)?;
-        record.put_number("files", self.files)?;
-        record.put_number("bytes", self.bytes)
+        lines.put_number("skip", self.skips)?;
+        Ok(lines)
+    }
+
+    // Puts how many lines of objects an audit has of each kind.
+    fn put_audit_kinds(&self, lines: &mut Members) -> Result<(), AllocError>
+        ensures { OnOk result (members_of lines.new
+            ≡ put_audit_kinds self.now (members_of lines.old)) }
+    {
+        lines.put_number("absent", self.absent)?;
+        lines.put_number("differs", self.differs)?;
+        lines.put_number("same", self.well)
     }
 
     /// How many lines there are of each kind, and what the objects that were carried, or are the
-    /// same, hold: as `200 done, 1 present, 9 skipped (split 7, other 2), 1,560 files, 7.1 MB`.
+    /// same, hold: as `200 done, 1 present, 9 skipped (split 7, other 2), 1,560 files, 7.1 MB`. Of
+    /// a check: `200 objects, 9 told (unreadable 2, split 7), 1,560 files, 7.1 MB read`.
     pub(crate) fn summary(&self, alloc: Global, words: Words) -> Result<String, AllocError> {
         let well = group_digits(alloc, self.well)?;
-        let skipped = with_words(alloc, "skipped", &CAUSES, &self.skipped)?;
+        let skipped = with_words(alloc, (self.skips, "skipped"), &CAUSES, &self.skipped)?;
         let files = count_text(alloc, self.files, "file", "files")?;
         let bytes = size(alloc, self.bytes)?;
         match words {
@@ -188,13 +361,23 @@ impl LineCounts {
                     "{well} same, {others}, {extra} extra, {stray} stray, {skipped}, {files}, {bytes}"
                 )
             }
+            Words::Check => {
+                let objects = count_text(alloc, self.well, "object", "objects")?;
+                let told = with_words(alloc, (self.told, "told"), &TROUBLES, &self.kinds)?;
+                format!(in alloc; "{objects}, {told}, {files}, {bytes} read")
+            }
         }
     }
 
     // How many objects an audit found otherwise: as `2 absent, 1 different (bytes 1)`.
     fn others(&self, alloc: Global) -> Result<String, AllocError> {
         let absent = group_digits(alloc, self.absent)?;
-        let differ = with_words(alloc, "different", &REASONS, &self.differing)?;
+        let differ = with_words(
+            alloc,
+            (self.differs, "different"),
+            &REASONS,
+            &self.differing,
+        )?;
         format!(in alloc; "{absent} absent, {differ}")
     }
 }
@@ -233,45 +416,34 @@ fn add_word(words: &[&str], counts: &mut [u64], word: &str) {
     }
 }
 
-// How many there are in all.
-fn sum(counts: &[u64]) -> u64 {
-    let mut sum = 0u64;
-    for count in counts {
-        sum = sum.saturating_add(*count);
-    }
-    sum
-}
-
 // How many there are of each word.
-fn with_counts(
-    mut members: Members,
-    words: &[&str],
-    counts: &[u64],
-) -> Result<Members, AllocError> {
+fn with_counts(mut members: Members, words: &[&str], counts: &[u64]) -> Result<Members, AllocError>
+    ensures { IfOk result (λ made. members_of made
+        ≡ put_counts (zip (map (λ word. word.now) words.now) counts.now) (members_of members)) }
+{
     for (word, count) in words.iter().zip(counts.iter()) {
         members.put_number(word, *count)?;
     }
     Ok(members)
 }
 
-// How many there are in all, and of which words: `9 skipped (split 7, other 2)`.
+// How many there are, as this word says, and of which words: `9 skipped (split 7, other 2)`.
 fn with_words(
     alloc: Global,
-    name: &str,
+    counted: (u64, &str),
     words: &[&str],
     counts: &[u64],
 ) -> Result<String, AllocError> {
-    let mut sum = 0u64;
     let mut parts = String::new(alloc);
     for (word, count) in words.iter().zip(counts.iter()) {
         if *count > 0 {
-            sum = sum.saturating_add(*count);
             let front = if parts.is_empty() { " (" } else { ", " };
             let count = group_digits(alloc, *count)?;
             parts.push_str(format!(in alloc; "{front}{word} {count}")?.as_str())?;
         }
     }
-    let sum = group_digits(alloc, sum)?;
     let end = if parts.is_empty() { "" } else { ")" };
-    format!(in alloc; "{sum} {name}{parts}{end}")
+    let (total, name) = counted;
+    let total = group_digits(alloc, total)?;
+    format!(in alloc; "{total} {name}{parts}{end}")
 }

@@ -1,7 +1,10 @@
-//! The record of a run or an audit beside its log: what an archive's record of preservation events
-//! wants of it (PREMIS 3.0, "Event"), as one JSON object on a line. It has two texts: as the run
-//! begins, and with how it ended.
-ghost use Rattle.std.specs.Prelude.{◌≡◌};
+//! The record of a run, an audit or a check beside its log: what an archive's record of
+//! preservation events wants of it (PREMIS 3.0, "Event"), as one JSON object on a line. It has two
+//! texts: as it begins, and with how it ended.
+ghost use Rattle.std.specs.Prelude.{◌≡◌, IfOk, OnOk, codes, string_bytes};
+ghost use Rattle.pt_messages.specs.EventMembers.{BeginsAs, EndsSo, PutsFault, PutsFolder, PutsIf};
+ghost use Rattle.pt_messages.specs.EventMembers.{event_members, fault_members};
+ghost use Rattle.pt_messages.specs.Members.{line_of, members_of};
 
 use crate::counted::LineCounts;
 use crate::members::Members;
@@ -23,14 +26,14 @@ const PROGRAM: &str = "pairtree2ocfl";
 // Where Linux tells the name of the machine.
 const HOST: &str = "/proc/sys/kernel/hostname";
 
-/// The record of a run or an audit. Each call that puts something into it or makes its line gives
-/// an error where a growth was refused.
+/// The record of a run, an audit or a check. Each call that puts something into it or makes its
+/// line gives an error where a growth was refused.
 #[derive(Drop)]
 pub struct Event {
     members: Members,
 }
 
-/// What a run or an audit came to.
+/// What a run, an audit or a check came to.
 #[derive(Drop)]
 pub struct Outcome {
     /// Which lines its log has.
@@ -65,17 +68,13 @@ impl Event {
         rt: &R,
         word: &str,
         options: Members,
-    ) -> Result<Event, AllocError> {
-        let mut members = Members::new(rt.alloc());
+    ) -> Result<Event, AllocError>
+        ensures { IfOk result (λ event. BeginsAs word.now (members_of options)
+            (event_members event)) }
+    {
+        let mut members = surroundings(rt)?;
         members.put_text("as", word)?;
-        members.put_text("program", PROGRAM)?;
-        if let Some((version, toolchain)) = VERSION.split_once('\n') {
-            members.put_text("version", version)?;
-            members.put_text("toolchain", toolchain)?;
-        }
         members.put_members("options", options)?;
-        put_host(rt, &mut members)?;
-        put_moment(rt, &mut members, "begin")?;
         Ok(Event { members })
     }
 
@@ -86,13 +85,13 @@ impl Event {
         rt: &R,
         key: &str,
         path: &str,
-    ) -> Result<(), AllocError> {
+    ) -> Result<(), AllocError>
+        ensures { OnOk result (PutsFolder key.now path.now
+            (event_members self.old) (event_members self.new)) }
+    {
         let mut folder = self.members.empty();
+        put_place(rt, &mut folder, path)?;
         folder.put_text("given", path)?;
-        match rt.find_place(rt.alloc(), path) {
-            Ok(place) => folder.put_text("resolved", place.as_str())?,
-            Err(error) => pass_unless_wanting(&error)?,
-        }
         self.members.put_members(key, folder)
     }
 
@@ -102,36 +101,75 @@ impl Event {
         rt: &R,
         status: u8,
         outcome: &Outcome,
-    ) -> Result<(), AllocError> {
+    ) -> Result<(), AllocError>
+        ensures { OnOk result (EndsSo (status, outcome.now)
+            (event_members self.old) (event_members self.new)) }
+    {
         put_moment(rt, &mut self.members, "end")?;
         self.members.put_number("status", u64::from(status))?;
         outcome.counts.put_into(&mut self.members, outcome.words)?;
-        if let Some(fault) = &outcome.fault {
-            let fault = outcome.fault_members(rt.alloc(), fault)?;
-            self.members.put_members("fault", fault)?;
-        }
-        Ok(())
+        outcome.put_fault(&mut self.members)
     }
 
     /// The record as a line.
-    pub fn line(&self) -> Result<String, AllocError> {
+    pub fn line(&self) -> Result<String, AllocError>
+        ensures { IfOk result (λ line. string_bytes line ≡ line_of (event_members self.now)) }
+    {
         self.members.line()
     }
 }
 
 impl Outcome {
-    // What is told of its fault: the number and the text, and the path and the reason where it has
-    // these.
-    fn fault_members(&self, alloc: Global, fault: &Fault) -> Result<Members, AllocError> {
-        let mut told = Members::new(alloc);
-        told.put_number("number", u64::from(fault.number()))?;
-        told.put_text("text", self.words.text_of(fault))?;
-        match &self.why {
-            Explanation::Known(reason) => reason.put_into(&mut told)?,
-            Explanation::Nothing => {}
-            Explanation::NoMemory => return Err(AllocError),
+    // Puts the fault that ended it, if one did.
+    fn put_fault(&self, event: &mut Members) -> Result<(), AllocError>
+        ensures { OnOk result (PutsFault self.now (members_of event.old) (members_of event.new)) }
+    {
+        match &self.fault {
+            Some(fault) => {
+                let mut told = event.empty();
+                self.why.put_into(&mut told)?;
+                self.put_told(&mut told, fault)?;
+                event.put_members("fault", told)
+            }
+            None => Ok(()),
         }
-        Ok(told)
+    }
+
+    // Puts what is told of its fault: the number and the text.
+    fn put_told(&self, told: &mut Members, fault: &Fault) -> Result<(), AllocError>
+        ensures { OnOk result (members_of told.new
+            ≡ fault_members self.now.words fault.now (members_of told.old)) }
+    {
+        told.put_number("number", u64::from(fault.number()))?;
+        told.put_text("text", self.words.text_of(fault))
+    }
+}
+
+// What is known of the program and its machine as it begins. An error where a growth was refused.
+fn surroundings<R: Reads + Clock + AllocGlobal>(rt: &R) -> Result<Members, AllocError> {
+    let mut members = Members::new(rt.alloc());
+    members.put_text("program", PROGRAM)?;
+    if let Some((version, toolchain)) = VERSION.split_once('\n') {
+        members.put_text("version", version)?;
+        members.put_text("toolchain", toolchain)?;
+    }
+    put_host(rt, &mut members)?;
+    put_moment(rt, &mut members, "begin")?;
+    Ok(members)
+}
+
+// Puts where a path leads, links resolved, if it leads anywhere.
+fn put_place<R: Reads + AllocGlobal>(
+    rt: &R,
+    folder: &mut Members,
+    path: &str,
+) -> Result<(), AllocError>
+    ensures { OnOk result (PutsIf (codes "resolved") (members_of folder.old)
+        (members_of folder.new)) }
+{
+    match rt.find_place(rt.alloc(), path) {
+        Ok(place) => folder.put_text("resolved", place.as_str()),
+        Err(error) => pass_unless_wanting(&error),
     }
 }
 
@@ -147,22 +185,31 @@ fn put_host<R: Reads + AllocGlobal>(rt: &R, members: &mut Members) -> Result<(),
     }
 }
 
-// Puts at a key the clock's moment to the second, in UTC, as RFC 3339 writes it. None is put where
-// there is no clock.
+// Puts at a key the clock's moment. None is put where there is no clock.
 fn put_moment<R: Clock + AllocGlobal>(
     rt: &R,
     members: &mut Members,
     key: &str,
-) -> Result<(), AllocError> {
+) -> Result<(), AllocError>
+    ensures { OnOk result (PutsIf key.now (members_of members.old) (members_of members.new)) }
+{
+    match moment_now(rt)? {
+        Some(moment) => members.put_text(key, moment.as_str()),
+        None => Ok(()),
+    }
+}
+
+// The clock's moment to the second, in UTC, as RFC 3339 writes it; none where there is no clock.
+fn moment_now<R: Clock + AllocGlobal>(rt: &R) -> Result<Option<String>, AllocError> {
     let Ok(passed) = rt.since_1970() else {
-        return Ok(());
+        return Ok(None);
     };
     let Ok(second) = i64::try_from(passed.as_secs()) else {
-        return Ok(());
+        return Ok(None);
     };
     match Timestamp::from_second(second) {
-        Ok(moment) => members.put_text(key, moment.to_string(rt.alloc())?.as_str()),
-        Err(_) => Ok(()),
+        Ok(moment) => Ok(Some(moment.to_string(rt.alloc())?)),
+        Err(_) => Ok(None),
     }
 }
 

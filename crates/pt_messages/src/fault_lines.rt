@@ -1,9 +1,12 @@
 //! What is told of a fault: a line with its number and its text.
 ghost use Rattle.std.specs.Prelude.{◌≡◌};
-ghost use Rattle.pt_messages.specs.FaultLines.{dest_line, fault_line};
+ghost use Rattle.pt_messages.specs.FaultLines.{dest_line, fault_line, fault_text};
 
 use crate::watch::Words;
 use pt_move::Fault;
+
+// How many bytes stand before the text in the line of a fault whose number has one digit.
+const FRONT: usize = 24;
 
 impl Words {
     /// The line that standard error is told of a fault.
@@ -31,23 +34,28 @@ impl Words {
         }
     }
 
-    // That of the destination's: an audit only reads its destination.
+    // That of the destination's: an audit only reads its destination, and a check has none.
     fn line_of_dest(self) -> &'static str
         ensures { result.now ≡ dest_line self }
     {
         match self {
             Words::Run => "pairtree2ocfl: fault 2: cannot write the destination\n",
-            Words::Audit | Words::BothWays =>
-                "pairtree2ocfl: fault 2: cannot read the destination\n",
+            Words::Audit | Words::BothWays | Words::Check => {
+                "pairtree2ocfl: fault 2: cannot read the destination\n"
+            }
         }
     }
 
     /// The text of a fault: what its line says behind the number.
-    pub(crate) fn text_of(self, fault: &Fault) -> &'static str {
+    pub(crate) fn text_of(self, fault: &Fault) -> &'static str
+        ensures { result.now ≡ fault_text self fault.now }
+    {
         let line = self.line_of(fault);
-        match line.rsplit_once(": ") {
-            Some((_, text)) => text.trim_end(),
-            None => line,
-        }
+        let front = if fault.number() < 10 {
+            FRONT
+        } else {
+            FRONT + 1
+        };
+        &line[front..line.len() - 1]
     }
 }

@@ -1,5 +1,5 @@
-//! What standard error is told of a run or an audit beside how it ended: how far it is, why a fault
-//! came, and what is doubtful.
+//! What standard error is told of a run, an audit or a check beside how it ended: how far it is,
+//! why a fault came, and what is doubtful.
 //!
 //! Read `Watch` first, and then `tell` of reason.rt. A path or a text from outside is shown by
 //! `escape`:
@@ -11,8 +11,8 @@
 //! What it promises:
 //!
 //! - `Watch` is told of each call of a source (pt_tree, `Watched`), and can't touch it; so what is
-//!   proved of a run holds of a watched one. What is shown and said has no contract, but that each
-//!   function is safe and ends.
+//!   proved of a run holds of a watched one. What it shows has no contract, but that each function
+//!   is safe and ends.
 //! - `line_of` gives the line of a fault, with its number and its own text (`fault_line`).
 //! - `Watch` and `CountedLog` have the fields that Fields.antt lists, and no other: nothing that
 //!   grows with a run.
@@ -20,10 +20,11 @@
 //!   and a store's prefix. Its calls change nothing. `lines_expected` asks for the end of the log
 //!   that is named, if one is (`AsksEnd`): how long it is, and then for its last bytes. What it
 //!   makes of them is shown only.
-//! - `Event` is the record of a run or an audit that `--event` asks for, as a text; who calls it
-//!   writes that.
+//! - `Event` is the record of a run, an audit or a check that `--event` asks for, as a text; who
+//!   calls it writes that. Its members are those that were put (`BeginsAs`, `PutsFolder`,
+//!   `EndsSo`).
 //!
-//! No guarantee of README rests on its definitions.
+//! Guarantees of README that rest on its definitions: An audit is exact.
 #![tactic(auto)]
 
 mod counted;
@@ -40,9 +41,9 @@ mod tally;
 mod terminal;
 mod watch;
 
-pub use counted::{CountedLog, LineCounts};
+pub use counted::{CountedLog, LineCounts, Totals};
 pub use event::{Event, Outcome, VERSION};
-pub use expected::lines_expected;
+pub use expected::{entries_expected, lines_expected};
 pub use members::Members;
 pub use reads::{Reads, ReadsFiles};
 pub use reason::{Explanation, FaultReason, LastCalls};

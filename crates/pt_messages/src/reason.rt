@@ -1,5 +1,8 @@
 //! Why a run failed, in a line of its own: the path of the call that failed, and the system's text,
 //! or the program's where no call failed.
+ghost use Rattle.std.specs.Prelude.{OnOk};
+ghost use Rattle.pt_messages.specs.Members.{PutsWhy, members_of};
+
 use crate::members::Members;
 use crate::reads::Reads;
 use crate::shown::escape;
@@ -32,7 +35,7 @@ pub struct FaultReason {
     reason: String,
 }
 
-/// What is known of why a run or an audit ended.
+/// What is known of why a run, an audit or a check ended.
 #[derive(Drop)]
 pub enum Explanation {
     /// Nothing that has a path: no fault ended it, or the fault's own text says all.
@@ -44,6 +47,17 @@ pub enum Explanation {
 }
 
 impl Explanation {
+    /// Puts what is known into a record of the fault; an error where there is no memory for it.
+    pub(crate) fn put_into(&self, fault: &mut Members) -> Result<(), AllocError>
+        ensures { OnOk result (PutsWhy (members_of fault.old) (members_of fault.new)) }
+    {
+        match self {
+            Explanation::Known(reason) => reason.put_into(fault),
+            Explanation::Nothing => Ok(()),
+            Explanation::NoMemory => Err(AllocError),
+        }
+    }
+
     // What such an answer explains.
     fn of(found: Result<Option<FaultReason>, AllocError>) -> Explanation {
         match found {
@@ -63,6 +77,14 @@ pub struct LastCalls<'a> {
 }
 
 impl<'a> LastCalls<'a> {
+    /// None, of what has no destination.
+    pub fn none() -> LastCalls<'a> {
+        LastCalls {
+            failure: None,
+            looked_path: "",
+        }
+    }
+
     /// Those on the destination of a run.
     pub fn of_dest<D: System>(dest: &'a HostDest<'_, D>) -> LastCalls<'a> {
         LastCalls {
@@ -101,15 +123,17 @@ impl FaultReason {
         }
     }
 
-    /// Puts it into a record of the fault.
-    pub(crate) fn put_into(&self, fault: &mut Members) -> Result<(), AllocError> {
+    // Puts it into a record of the fault.
+    fn put_into(&self, fault: &mut Members) -> Result<(), AllocError>
+        ensures { OnOk result (PutsWhy (members_of fault.old) (members_of fault.new)) }
+    {
         fault.put_text("path", self.path.as_str())?;
         fault.put_text("reason", self.reason.as_str())
     }
 }
 
-/// Why a run or an audit over these folders ended with a fault, where that has a path: its source,
-/// at this path, and what its destination tells. `NoMemory` where a growth was refused.
+/// Why a run, an audit or a check over these folders ended with a fault, where that has a path: its
+/// source, at this path, and what its destination tells. `NoMemory` where a growth was refused.
 pub fn of_fault<R: Reads + AllocGlobal, S: System>(
     rt: &R,
     fault: &Fault,
@@ -164,8 +188,8 @@ fn of_no_store<R: Reads + AllocGlobal>(
     FaultReason::at(alloc, store, &reason)
 }
 
-// The folder of the store whose `pairtree_root` a path leads to, links resolved; none where it leads
-// to no such folder, or that can't be told.
+// The folder of the store whose `pairtree_root` a path leads to, links resolved; none where it
+// leads to no such folder, or that can't be told.
 fn store_above<R: Reads + AllocGlobal>(rt: &R, path: &str) -> Option<PathBuf> {
     let mut above = rt.find_place(rt.alloc(), path).ok()?;
     if above.file_name() != Some(ROOT) || !above.pop() {

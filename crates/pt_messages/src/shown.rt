@@ -1,25 +1,43 @@
 //! Texts as they may be shown on a terminal.
+ghost use Rattle.std.specs.Prelude.{◌≡◌, IfOk, string_bytes};
+ghost use Rattle.std.specs.Str.{chars};
+ghost use Rattle.pt_messages.specs.Escaped.{IsEscaped, IsShownAs};
+
 use std::alloc::{AllocError, Global};
 
 /// A text on one line in which each character is seen: a control or format character, a blank that
 /// is no space, and a space at an end of the text are `\u{..}` with their number in hex, and `\` is
 /// doubled, so that two texts are never shown alike. An error where a growth was refused.
-pub fn escape(alloc: Global, text: &str) -> Result<String, AllocError> {
+pub fn escape(alloc: Global, text: &str) -> Result<String, AllocError>
+    ensures { IfOk result (λ shown. IsEscaped (chars text.now) (string_bytes shown)) }
+{
     let begin = text.len().saturating_sub(text.trim_start().len());
     let end = text.trim_end().len();
     let mut shown = String::with_capacity(alloc, text.len())?;
-    for (at, c) in text.char_indices() {
+    let mut at = 0usize;
+    for c in text.chars() {
         let is_inner = begin <= at && at < end;
-        if c == '\\' {
-            shown.push_str("\\\\")?;
-        } else if is_seen(c) || c == ' ' && is_inner {
-            shown.push(c)?;
-        } else {
-            let code = u32::from(c);
-            shown.push_str(format!(in alloc; "\\u{{{code:x}}}")?.as_str())?;
-        }
+        let piece = piece_of(alloc, c, is_inner)?;
+        shown.push_str(piece.as_str())?;
+        at = at.saturating_add(c.len_utf8());
     }
     Ok(shown)
+}
+
+// How a character is shown, between others that are seen or at an end.
+fn piece_of(alloc: Global, c: char, is_inner: bool) -> Result<String, AllocError>
+    ensures { IfOk result (λ piece. IsShownAs c (string_bytes piece)) }
+{
+    if c == '\\' {
+        return String::from_str(alloc, "\\\\");
+    }
+    if is_seen(c) || c == ' ' && is_inner {
+        let mut piece = String::new(alloc);
+        piece.push(c)?;
+        return Ok(piece);
+    }
+    let code = u32::from(c);
+    format!(in alloc; "\\u{{{code:x}}}")
 }
 
 // Whether a character is neither a control or format character nor a blank.

@@ -1,15 +1,17 @@
-//! How far a run or an audit is.
+//! How far a run, an audit or a check is.
 
 use pt_audit::Counts;
 use pt_move::{Observer, Report};
 use std::cell::Cell;
 
-/// The lines of each kind that were put, and the bytes that were read.
+/// The lines of each kind that were put, how often something was come to, and the bytes that were
+/// read.
 #[derive(Drop)]
 pub struct Tally {
     done: Cell<u64>,
     present: Cell<u64>,
     skipped: Cell<u64>,
+    met: Cell<u64>,
     bytes: Cell<u64>,
 }
 
@@ -20,6 +22,7 @@ impl Tally {
             done: Cell::new(0),
             present: Cell::new(0),
             skipped: Cell::new(0),
+            met: Cell::new(0),
             bytes: Cell::new(0),
         }
     }
@@ -37,6 +40,23 @@ impl Tally {
     /// The lines of what isn't carried.
     pub fn skipped(&self) -> u64 {
         self.skipped.get()
+    }
+
+    /// The lines of all kinds.
+    pub(crate) fn lines(&self) -> u64 {
+        let objects = self.done().saturating_add(self.present());
+        objects.saturating_add(self.skipped())
+    }
+
+    /// How often a file was come to, to open it, or a folder, to list it, while that was shown: of
+    /// a check each is counted once.
+    pub(crate) fn met(&self) -> u64 {
+        self.met.get()
+    }
+
+    /// One more was come to.
+    pub(crate) fn add_met(&self) {
+        self.met.set(self.met.get().saturating_add(1));
     }
 
     /// The bytes that were read of files, each time that they were.

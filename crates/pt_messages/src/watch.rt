@@ -1,9 +1,10 @@
-//! What watches a source: as that is called, it shows on standard error how far the run is.
+//! What watches a source: as that is called, it shows on standard error how far the run, the audit
+//! or the check is.
 
 ghost use Rattle.pt_messages.specs.Fields.{IsOnlyWatch};
 
 use crate::counted::LineCounts;
-use crate::numbers::{group_digits, size, time};
+use crate::numbers::{count_text, group_digits, size, time};
 use crate::shown::escape;
 use crate::tally::Tally;
 use crate::terminal::{Terminals, columns};
@@ -11,7 +12,7 @@ use pt_tree::{NamePath, Watcher};
 use std::alloc::{AllocError, AllocGlobal, Global};
 use std::rt::Clock;
 
-/// When to show how far a run is.
+/// When to show how far a run, an audit or a check is.
 #[derive(Clone, Copy, Debug, PartialEq, Eq)]
 pub enum Progress {
     /// Where standard error is a terminal and standard output isn't.
@@ -32,7 +33,8 @@ pub struct Watching {
     pub when: Progress,
     /// How many seconds pass between two lines that don't go to a terminal.
     pub interval: u32,
-    /// How many lines its log may come to, where that is known.
+    /// How many lines its log may come to, of a check how many files and folders there may be,
+    /// where that is known.
     pub expected: Option<u64>,
     /// Which lines its log has.
     pub words: Words,
@@ -51,6 +53,8 @@ pub enum Words {
     Audit,
     /// Those of an audit that tells of what the store lacks too.
     BothWays,
+    /// Those of a check.
+    Check,
 }
 
 /// Shows how far a run is, as its source is called.
@@ -179,34 +183,40 @@ impl<'a, R: Clock + Eprint + Terminals> Watch<'a, R> {
     // most in front.
     fn line(&self, passed: u64) -> Result<String, AllocError> {
         let alloc = self.alloc;
-        let (done, present, skipped) = (
-            self.tally.done(),
-            self.tally.present(),
-            self.tally.skipped(),
-        );
-        let lines = done.saturating_add(present).saturating_add(skipped);
+        let count = match self.words {
+            Words::Check => self.tally.met(),
+            _ => self.tally.lines(),
+        };
         let ahead = match self.expected {
-            Some(expected) => ahead(alloc, lines, expected, passed)?,
+            Some(expected) => ahead(alloc, count, expected, passed)?,
             None => String::new(alloc),
         };
-        let (carried, other) = match self.words {
-            Words::Run => ("done", "present"),
-            Words::Audit | Words::BothWays => ("same", "not the same"),
+        let counted = match self.words {
+            Words::Run => self.counted("done", "present")?,
+            Words::Audit | Words::BothWays => self.counted("same", "not the same")?,
+            Words::Check => count_text(alloc, count, "file or folder", "files and folders")?,
         };
-        let (done, present) = (group_digits(alloc, done)?, group_digits(alloc, present)?);
-        let skipped = group_digits(alloc, skipped)?;
-        let spent = self.rate_text(lines, passed)?;
-        format!(in alloc; "{ahead}{done} {carried}, {present} {other}, {skipped} skipped, {spent}")
+        let spent = self.rate_text(count, passed)?;
+        format!(in alloc; "{ahead}{counted}, {spent}")
     }
 
-    // The time that passed, the lines and bytes a second, the bytes that were read, and what is
-    // read just now.
-    fn rate_text(&self, lines: u64, passed: u64) -> Result<String, AllocError> {
+    // The lines of each kind, of which the first two go by these words.
+    fn counted(&self, carried: &str, other: &str) -> Result<String, AllocError> {
+        let alloc = self.alloc;
+        let done = group_digits(alloc, self.tally.done())?;
+        let present = group_digits(alloc, self.tally.present())?;
+        let skipped = group_digits(alloc, self.tally.skipped())?;
+        format!(in alloc; "{done} {carried}, {present} {other}, {skipped} skipped")
+    }
+
+    // The time that passed, how many of what is counted and how many bytes a second, the bytes that
+    // were read, and what is read just now.
+    fn rate_text(&self, count: u64, passed: u64) -> Result<String, AllocError> {
         let alloc = self.alloc;
         let bytes = self.tally.bytes();
         let read = size(alloc, bytes)?;
         let speed = size(alloc, bytes.saturating_mul(1000) / passed.max(1))?;
-        let places = group_digits(alloc, lines.saturating_mul(1000) / passed.max(1))?;
+        let places = group_digits(alloc, count.saturating_mul(1000) / passed.max(1))?;
         let passed = time(alloc, passed)?;
         let at = match str::from_utf8(self.at.as_slice()) {
             Ok(at) => escape(alloc, at)?,
@@ -216,10 +226,10 @@ impl<'a, R: Clock + Eprint + Terminals> Watch<'a, R> {
     }
 }
 
-// The share that is done after so many lines of those that are expected, and the time that is left,
-// by the time that passed.
-fn ahead(alloc: Global, lines: u64, expected: u64, passed: u64) -> Result<String, AllocError> {
-    let done = lines.min(expected);
+// The share that is done after so many of those that are expected, and the time that is left, by
+// the time that passed.
+fn ahead(alloc: Global, count: u64, expected: u64, passed: u64) -> Result<String, AllocError> {
+    let done = count.min(expected);
     let percent = done.saturating_mul(100) / expected.max(1);
     if done == 0 {
         return format!(in alloc; "{percent} %, ");
@@ -245,6 +255,7 @@ impl<'a, R: Clock + Eprint + Terminals> Watcher for Watch<'a, R> {
         if !self.shows {
             return;
         }
+        self.tally.add_met();
         if let Ok(at) = path.join() {
             self.at = at;
         }

@@ -253,7 +253,7 @@ fn tells(
     };
     let mut check = Check::new(alloc, devices, wants);
     let ran = check.run();
-    let (_, held) = check.into_devices();
+    let ((_, held), _) = check.into_parts();
     ran.is_ok() && held.bytes() == log.as_bytes()
 }
 

@@ -15,6 +15,8 @@ mod broken_runs;
 #[cfg(test)]
 mod check_lines;
 #[cfg(test)]
+mod check_shares;
+#[cfg(test)]
 mod expected_roots;
 #[cfg(test)]
 mod extras;

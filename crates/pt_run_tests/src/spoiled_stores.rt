@@ -131,7 +131,7 @@ fn check(alloc: Global, source: SpoiledSource, reads: bool) -> (Option<u64>, Spo
         Ok(numbers) => Some(numbers.told),
         Err(_) => None,
     };
-    let (source, _) = check.into_devices();
+    let ((source, _), _) = check.into_parts();
     (told, source)
 }
 

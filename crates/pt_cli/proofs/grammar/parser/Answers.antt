@@ -14,6 +14,8 @@ returns c =
     let third = audit.2.shape audit.1.1 ∙ ap₂ with_subcommand second (ap (λ (a : App). a.top) audit.1.0.1) in
     IfOk-weaker c.with_command-4.result _ _
     (λ r adds.
-    let check = built_below c.check_parser.result _ _ c.check_parser.ensures adds in
-    (migrate.1.0.0, audit.1.0.0, check.2.shape check.1.1 ∙ ap₂ with_subcommand third (ap (λ (a : App). a.top) check.1.0)))
+    let check = built_below c.check_parser.result _ _ c.check_parser.ensures adds in (
+      record { migrate = migrate.1.0.0; audit = audit.1.0.0; check = check.1.0.0; spells_check = check.1.0.1 },
+      check.2.shape check.1.1 ∙ ap₂ with_subcommand third (ap (λ (a : App). a.top) check.1.0.2),
+    ))
     c.with_command-4.ensures

@@ -3,7 +3,7 @@ use Rattle.pt_cli.proofs.program.make_audit.Goals as goal
 
 pub returns-in-Ok : goal.returns-in-Ok
 returns-in-Ok g c = (
-  Ok c.in-Ok.job,
+  Ok c.in-Ok.share,
   c.in-Ok.ensures,
   rw (c.as_str-in-Ok.ensures, c.as_str.ensures) at c.audit_guarded.ensures,
 )

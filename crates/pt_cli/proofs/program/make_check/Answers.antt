@@ -1,4 +1,8 @@
+use Rattle.std.proofs.Common.{Err, Ok}
 use Rattle.pt_cli.proofs.program.make_check.Goals as goal
 
-pub returns : goal.returns
-returns g c = rw c.as_str.ensures at c.check_store.ensures
+pub returns-in-Ok : goal.returns-in-Ok
+returns-in-Ok g c = (Ok c.in-Ok.share, c.in-Ok.ensures, rw c.as_str.ensures at c.check_store.ensures)
+
+pub returns-in-Err : goal.returns-in-Err
+returns-in-Err g c = (Err c.in-Err.why, c.in-Err.ensures, c.refuse_list.ensures)

@@ -1,18 +1,21 @@
-use Rattle.std.proofs.Common.{◌∙◌, ap, refl, sym}
-use Rattle.std.specs.Prelude.{is_some}
-use Rattle.pt_host.proofs.ListedEnds.{ends_with_list, some_mapped}
-use Rattle.pt_state.specs.declared.job.Job.{Job}
+use Rattle.std.proofs.Common.{ℕ, List, refl}
+use Rattle.pt_host.proofs.ListedEnds.{ends_with_list}
+use Rattle.pt_host.proofs.ToldUnmet.{told_list}
+use Rattle.pt_host.specs.HostCall.{Tell}
 use Rattle.pt_host.proofs.guarded.make_told.Goals as goal
 
 pub returns : goal.returns
-returns g c = (
-  c.make-status.result,
-  c.make-status.new.host,
-  c.make-status.ensures,
-  c.tell_end.ensures,
-  ends_with_list (g.O.Operation.job_of c.args.operation).share.list c.is_some-has_list.result c.make-status.result.unmet c.make-status.result.status _
-      (c.is_some-has_list.ensures ∙ sym (some_mapped (λ list. list.now.value) c.list.result)
-      ∙ ap is_some (c.list.ensures ∙ ap (λ (job : Job). job.share.list) c.job.ensures))
-      c.end_with_list-status.ensures.none c.end_with_list-status.ensures.some,
-  refl,
-)
+returns g c =
+    let tells : List ℕ → g.row.H.Denot → g.row.H.Denot → Type 0 = λ text old new. g.H.Host.does old (Tell text) new in
+    let list = g.O.Operation.list_of c.args.operation in
+    let has = c.has_list-has_list.ensures in
+    let ended = c.end_with_list-status.ensures in (
+      c.make-made.result,
+      c.make-made.new.host,
+      c.tell_end.new.host,
+      c.make-made.ensures,
+      c.tell_end.ensures,
+      told_list tells list c.has_list-has_list.result c.make-made.result c.tell_end.new.host c.end_with_list-status.new.host has ended.untold ended.told,
+      ends_with_list list c.has_list-has_list.result c.make-made.result.unmet c.make-made.result.status _ has ended.none ended.some,
+      refl,
+    )

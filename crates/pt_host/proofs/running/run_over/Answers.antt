@@ -1,20 +1,25 @@
 use Rattle.std.proofs.Common.{◌∙◌, ap, refl, sym}
+use Rattle.std.specs.Result.{result_err}
 use Rattle.pt_folder.specs.Reading.{unread_open}
+use Rattle.pt_host.proofs.LogBlamed.{log_blamed}
+use Rattle.pt_host.proofs.CameSo.{came_so, run_fault}
 use Rattle.pt_host.proofs.Logged.{log_counts, logged}
 use Rattle.pt_host.proofs.Rehearsed.{leaves_at}
+use Rattle.pt_host.specs.Totals.{run_totals}
+use Rattle.pt_messages.specs.declared.watch.Words.TheVariants.{Run}
 use Rattle.pt_host.proofs.running.run_over.Goals as goal
 
 pub returns-clause-runs : goal.returns-clause-runs
 returns-clause-runs g c =
-    let source = c.run_or_rehearse-ran.new.source.source.source in
-    let dest = c.run_or_rehearse-ran.result.dest in
-    let made = c.run_or_rehearse-ran.ensures in (
+    let source = c.run_or_rehearse-made.new.source.source.source in
+    let dest = c.run_or_rehearse-made.result.dest in
+    let made = c.run_or_rehearse-made.ensures in (
       unread_open g.S.File.Input.bytes source.reading,
       dest.unsynced,
       dest.writing,
-      record { source = source.failures; dest = dest.failures; log = c.run_or_rehearse-ran.new.log.log.failures },
+      record { source = source.failures; dest = dest.failures; log = c.run_or_rehearse-made.new.log.log.failures },
       (
-        c.run_or_rehearse-ran.result.ran,
+        c.run_or_rehearse-made.result.ran,
         rw (
           c.into_system.ensures,
           c.into_system-2.ensures,
@@ -27,10 +32,8 @@ returns-clause-runs g c =
           ← c.watch-source.ensures.log,
         ) (rw (made.source.keeps.1.folder, made.source.keeps.0, made.dest) at made.promises),
         c.status_of-status.ensures,
-        (
-          c.close-source.ensures.outcome.0 ∙ ap (λ w. w.words) (c.new-account.ensures ∙ c.watching-watching.ensures),
-          c.close-source.ensures.outcome.1 ∙ c.fault_in.ensures,
-        ),
+        came_so _ Run _ (run_totals c.run_or_rehearse-made.result.ran) c.close-source.result.2
+            (ap (λ w. w.words) (c.new-account.ensures ∙ c.watching-watching.ensures)) c.ended.ensures c.close-source.ensures.outcome,
         rw (
           ← c.new-ignoring.ensures.source,
           ← c.new-ignoring.ensures.names,
@@ -46,9 +49,19 @@ returns-clause-runs g c =
 
 pub returns-clause-logged : goal.returns-clause-logged
 returns-clause-logged g c =
-    let made = c.run_or_rehearse-ran.ensures in
-    let ran = c.run_or_rehearse-ran.result.ran in
+    let made = c.run_or_rehearse-made.ensures in
+    let ran = c.run_or_rehearse-made.result.ran in
     let counts = log_counts c.args.options.job c.args.options.rehearse _ _ _ ran made.promises in
     λ none. rw (c.into_writer.ensures, c.close-source.ensures.log, c.status_of-status.ensures, ← c.watch-source.ensures.log)
-    (logged g.F.SyncsOutput.puts c.args.options.allowed c.watch-source.result.1.log c.run_or_rehearse-ran.new.log.log ran made.log counts
+    (logged g.W.Writes.writes g.F.SyncsOutput.puts c.args.options.allowed c.watch-source.result.1.log c.run_or_rehearse-made.new.log.log ran made.log counts
     (ap (λ l. l.failures) c.watch-source.ensures.log ∙ none))
+
+pub returns-clause-log_fails : goal.returns-clause-log_fails
+returns-clause-log_fails g c =
+    let made = c.run_or_rehearse-made.ensures in
+    let ran = c.run_or_rehearse-made.result.ran in
+    let counts = log_counts c.args.options.job c.args.options.rehearse _ _ _ ran made.promises in
+    λ none. rw (c.into_writer.ensures, c.close-source.ensures.log, ← c.watch-source.ensures.log)
+    (log_blamed g.W.Writes.writes g.F.SyncsOutput.puts c.watch-source.result.1.log c.run_or_rehearse-made.new.log.log ran _ made.log counts
+    (ap (λ l. l.failures) c.watch-source.ensures.log ∙ none)
+    (c.close-source.ensures.outcome.1 ∙ ap (λ e. result_err e) c.ended.ensures ∙ run_fault ran))

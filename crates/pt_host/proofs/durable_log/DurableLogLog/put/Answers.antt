@@ -1,15 +1,14 @@
-use Rattle.std.proofs.Common.{length, rules, take, sym, subst}
-use Rattle.std.proofs.Math.Seq.{take-length}
-use Rattle.std.specs.Io.KnownBytes.{Appends}
+use Rattle.std.proofs.Common.{refl}
+use Rattle.pt_host.proofs.LogPut.{stays_failed, stays_put}
 use Rattle.pt_host.proofs.durable_log.DurableLogLog.put.Goals as goal
 
-pub returns-in-Err-clause-part : goal.returns-in-Err-clause-part
-returns-in-Err-clause-part g c =
-    let before = g.W.Write.contents c.args.self.now.writer in
-    let piece = c.args.piece.now in
-    let contents = g.W.Write.contents in
-    let written : Appends before (contents c.write_out.new.out) piece = search rules in (
-      length piece,
-      subst (λ w. Appends before (contents w) (take (length piece) piece)) (sym c.count_failure-in-Err.ensures.same)
-          (subst (λ bytes. Appends before (contents c.write_out.new.out) bytes) (sym (take-length piece)) written),
-    )
+pub returns-in-Ok-clause-keeps : goal.returns-in-Ok-clause-keeps
+returns-in-Ok-clause-keeps g c =
+    let own = c.in-Ok.ensures in
+    stays_put g.W.Writes.writes g.F.SyncsOutput.puts c.args.self.now _ refl own.still own.synced own.put
+
+pub returns-in-Err-clause-keeps : goal.returns-in-Err-clause-keeps
+returns-in-Err-clause-keeps g c =
+    let own = c.in-Err.ensures in
+    let counted = c.count_failure.ensures in
+    stays_failed g.W.Writes.writes g.F.SyncsOutput.puts c.args.self.now c.count_failure.new.self _ _ _ counted.same counted.file counted.risen own.still own.put

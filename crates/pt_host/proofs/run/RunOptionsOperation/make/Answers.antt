@@ -42,6 +42,7 @@ returns g c =
             ))
             c.run_over-host_io.result.0 c.run_over-host_io.result.1 c.run_over-host_io.ensures.runs,
         rw (made.log_synced, made.log.0) at (c.run_over-host_io.ensures.logged made.log.1),
+        rw (made.log_synced, made.log.0) at (c.run_over-host_io.ensures.log_fails made.log.1),
         c.take_back.ensures,
       ),
     )

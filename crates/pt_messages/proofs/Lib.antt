@@ -1,0 +1,4 @@
+mod EventPuts
+mod FaultTexts
+mod PlainPut
+mod PutCounts
