@@ -28,7 +28,7 @@ ENDS = {("done", "present", "skip"): "run", AUDIT: "audit", (*AUDIT, "extra", "s
 CLASSES = {"sites_at": 33, "objects_at": 33, "files_of": 21, "bytes_of": 21}
 # The end line of a check has one of these too for each kind that it told, for each class of which it counted something, and for objects that are renamed.
 BESIDE = {"check": {*TROUBLES, "renamed", *(f"{word}_{number:02}" for word, count in CLASSES.items() for number in range(count))}}
-# The keys by which an event is told from a log, and how many bytes one has at most: more than a command line may have.
+# The keys by which an event is told from a log, and how many bytes one has at most: more than a command line may have. A check has no destination.
 EVENT_KEYS = {"as", "begin", "dest", "options", "source"}
 LONGEST = 1 << 26
 COLUMNS = ("as", "at", "id", "to", "files", "bytes", "empty", "cause", "path", "why", "reason")
@@ -122,8 +122,13 @@ def event_in(path):
             event = json.loads(text.decode())
         except (ValueError, RecursionError):
             return None
-        is_event = isinstance(event, dict) and EVENT_KEYS <= set(event) and not any(line.strip() for line in file)
+        is_event = isinstance(event, dict) and keys_of(event) <= set(event) and not any(line.strip() for line in file)
         return event if is_event else None
+
+
+def keys_of(event):
+    """The keys that an object has to have if it is an event."""
+    return EVENT_KEYS - {"dest"} if event.get("as") == "check" else EVENT_KEYS
 
 
 def may_name(line, twins):

@@ -63,6 +63,12 @@ def as_counts(lines):
     return ", ".join(f"{number(count)} {kind}" for kind, count in lines.items() if number(count))
 
 
+def lines_of(event):
+    """The lines of an event, of a check only the kinds that there are."""
+    lines = member(event, "lines", dict)
+    return {kind: count for kind, count in lines.items() if count} if event.get("as") == "check" else lines
+
+
 def as_fault(fault):
     """The fault of an event as standard error tells it, with the path and the reason where it has them."""
     what, text, path, reason = number(fault.get("number")), *(member(fault, key) for key in ("text", "path", "reason"))
@@ -265,7 +271,7 @@ class Page:
         end = told(member(event, "end")) if "end" in event or not event else "no end"
         counted = [f'<td class="n">{number(event.get(key))}</td>' for key in ("status", "files", "bytes")]
         begun = cells(*map(told, (path, member(event, "as"), *folders, as_words(member(event, "options", dict)), member(event, "begin"))), end)
-        lines, fault = (cells(told(text)) for text in (as_counts(member(event, "lines", dict)), as_fault(member(event, "fault", dict))))
+        lines, fault = (cells(told(text)) for text in (as_counts(lines_of(event)), as_fault(member(event, "fault", dict))))
         return begun + counted[:1] + lines + counted[1:] + fault
 
     def counted(self, title, name, heads, of, meanings):

@@ -45,7 +45,7 @@ class Verdict:
 
     def rehearsed(self):
         """A warning where each event is of a rehearsal."""
-        of = [event["as"] for event in self.events if event["as"] != "audit"]
+        of = [event["as"] for event in self.events if event["as"] not in ("audit", "check")]
         rehearsed = of and all(kind == "rehearsal" for kind in of)
         return "This was a rehearsal, which carries nothing: what follows is what a run would leave. " if rehearsed else ""
 

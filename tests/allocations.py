@@ -178,10 +178,11 @@ class Looking(Case):
 
 
 class Checking(Looking):
-    """A check, which has no destination."""
+    """A check with these words too, which has no destination."""
 
-    def __init__(self):
-        super().__init__("a check", ["check", "--read", "--ignore", "loose.txt"], None, ())
+    def __init__(self, *words):
+        notices = [word for word in words if word in NOTICES]
+        super().__init__(" ".join(["a check", *words]), ["check", "--read", "--ignore", "loose.txt", *words], None, notices)
         self.words.remove("d")
 
 
@@ -252,7 +253,8 @@ def forget_events(folder):
 def is_whole(event):
     """Whether a text is a record, as it begins or with how it ended."""
     keys = json.loads(event).keys() if event.endswith("}\n") else ()
-    return {"as", "begin", "dest", "options", "source"} <= keys and ("end" in keys) == ("status" in keys)
+    named = {"as", "begin", "options", "source"} <= keys and ("dest" in keys) == ('"as":"check"' not in event)
+    return named and ("end" in keys) == ("status" in keys)
 
 
 def rewritten(entry, beside):
@@ -297,6 +299,10 @@ CASES = [
     Case("the version", ["--version"]),
     Case("a check of what isn't there", ["check", "none"]),
     Checking(),
+    Checking("--event", "ev"),
+    Checking("--verbose", "--progress", "always", "--interval", "86400"),
+    Checking("--share", "1/2", "--by-folders", "2", "--only", "uc1.ab"),
+    Checking("--list", "ids"),
     CheckingPast(),
     *cases_over(None),
     *cases_over("small"),

@@ -1,6 +1,6 @@
 """The built program's tests over real folders. tests/cases has the cases: carrying, refusing and options those of `migrate`, auditing and twins
-those of `audit`, extras those of `--extra`, checking those of `check`, watching of progress, events of the records beside the log, sharing of
-shares, dividing of shares by folders, scripted of tools/shares.py, guarding of what it
+those of `audit`, extras those of `--extra`, checking those of `check`, checkingshares of those of shares, watching of progress, events of the records
+beside the log, sharing of shares, dividing of shares by folders, scripted of tools/shares.py, guarding of what it
 doesn't begin, sharestatus of what it tells of shares, started of how scripts are started,
 choosing of lists, peers beside plain Rust, surroundings of what is around a run, calls of single calls of the system, completions of what is made of
 the grammar, packages of what is shipped, anywhere of its programs, guide, guideroots and guidestores of the guide's commands, joining,
@@ -25,6 +25,7 @@ import auditing
 import calls
 import carrying
 import checking
+import checkingshares
 import choosing
 import completions
 import dividing
@@ -60,8 +61,8 @@ import watching
 from tally import Tally
 
 FILES = (
-    carrying, auditing, twins, extras, checking, refusing, options, events, watching, surroundings, calls, sharing, dividing, scripted, guarding, sharestatus,
-    started, choosing, peers, guide, guideroots, guidestores, joining, joiningfolders, sums, aside, report, reportevents, reportstate, odd,
+    carrying, auditing, twins, extras, checking, checkingshares, refusing, options, events, watching, surroundings, calls, sharing, dividing, scripted,
+    guarding, sharestatus, started, choosing, peers, guide, guideroots, guidestores, joining, joiningfolders, sums, aside, report, reportevents, reportstate, odd,
     completions, packages, anywhere, documents, resting, gate,
 )
 CASES = [case for file in FILES for case in file.CASES]

@@ -283,6 +283,8 @@ CASES = [
     Case("a check that ignores what is no name", ["check", "--ignore", "a/b", "s"], 2, b"", NOT_A_NAME),
     Case("a check into an empty word", ["check", "--dest", "", "s"], 2, b"", b"pairtree2ocfl: --dest is empty\n"),
     Case("a check that ignores what is no name, into an empty word", ["check", "--dest=", "--ignore=", "s"], 2, b"", NOT_A_NAME),
+    Case("a check with an empty event", ["check", "--event", "", "s"], 2, b"", b"pairtree2ocfl: --event is empty\n"),
+    Case("a check into an empty word with an empty event", ["check", "--event=", "--dest=", "s"], 2, b"", b"pairtree2ocfl: --dest is empty\n"),
     Case("an audit with an empty event", ["audit", "--event", "", "s", "d"], 2, b"", b"pairtree2ocfl: --event is empty\n"),
     Case("an audit of an empty list", ["audit", "--list", "", "s", "d"], 2, b"", b"pairtree2ocfl: --list is empty\n"),
     Case("a check of what isn't there", ["check", "/none"], 3, ABSENT),

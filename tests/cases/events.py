@@ -1,4 +1,4 @@
-"""Cases of --event: the record of a run, a rehearsal or an audit, where its file may lie, and what is left where it can't be written.
+"""Cases of --event: the record of a run, a rehearsal, an audit or a check, where its file may lie, and what is left where it can't be written.
 """
 
 import itertools
@@ -22,12 +22,15 @@ NO_FOLDER = "cannot write FILE of --event: %s: No such file or directory (os err
 NO_END = f"the event has no end: {STANDS}: ev.part"
 CAUSES = ("root", "empty", "split", "past", "name", "utf8", "other", "limit", "reserved")
 REASONS = ("missing", "extra", "kind", "bytes", "twin")
+TROUBLES = ("missing", "unreadable", "prefix", "doubtful", "deep", "root", "empty", "split", "name", "utf8", "reserved", "past")
+TROUBLES += ("spelling", "other", "long", "many", "large", "place", "width", "desktop")
 
 # What the options say that both commands take, where none is given.
 BOTH = {"digest": "sha512", "tuple-size": 3, "tuples": 3, "gather": False, "share": "1/1", "only": [], "ignore": [], "verbose": False, "quiet": False}
 BOTH |= {"progress": "auto", "interval": 10}
 OF_RUN = {**BOTH, "created": MEANT[1], "name": MEANT[3], "message": "Migrated from Pairtree", "sync": False, "dry-run": False, "present-ok": False, "skips-ok": False}
 OF_AUDIT = {**BOTH, "skips-ok": False, "extra": False}
+OF_CHECK = {key: BOTH[key] for key in BOTH if key != "digest"} | {"read": False}
 
 
 def line(text):
@@ -61,12 +64,12 @@ def recorded(path):
     return members, len(moments), faults
 
 
-def wanted(program, folder, word, options, **ends):
+def wanted(program, folder, word, options, folders=(("source", "s"), ("dest", "d")), **ends):
     """What is recorded of a command over the folders of a test, by what is known of it without the program's records."""
     version = subprocess.run([program, "--version"], capture_output=True, timeout=60, check=True).stdout.decode().splitlines()
     with open("/proc/sys/kernel/hostname", encoding="utf-8") as file:
         host = file.read().rstrip("\n")
-    paths = {key: {"given": name, "resolved": os.path.realpath(f"{folder}/{name}")} for key, name in (("source", "s"), ("dest", "d"))}
+    paths = {key: {"given": name, "resolved": os.path.realpath(f"{folder}/{name}")} for key, name in folders}
     begun = {"as": word, "host": host, "options": options, "program": version[0].split()[0], "toolchain": version[1], "version": version[0].split()[1]}
     return {**begun, **paths, **ends}
 
@@ -145,6 +148,53 @@ def of_an_audit(program, folder):
     options = {**OF_AUDIT, "event": "d/ev"}
     faults += differs(record=(found, wanted(program, folder, "audit", options, **ends)), moments=(moments, 2), why=(len(whys), 1))
     return faults + differs(status=(done[0], 1), err=(done[2], b""), dest=(read_tree(f"{folder}/d"), stands))
+
+
+def of_a_check(program, folder):
+    """A check, whose log is as without the option, with every option; and one whose output fails. It has no destination, and asks nothing of the folder
+    that --dest names."""
+    build(f"{folder}/s/pairtree_root", {"ab/c/obj/l": Link("none"), "ab/d": DIR, "ab/e": DIR, "xy/obj/f": b"12345"})
+    plain = answer(program, folder, "check", "--read", "s")
+    done = answer(program, folder, "check", "--read", "--event", "ev", "s")
+    found, moments, faults = recorded(f"{folder}/ev")
+    place = [("source", "s")]
+    ends = {"lines": counts(TROUBLES, {"empty": 2, "other": 1}), "objects": 2, "files": 2, "bytes": 8, "status": 1}
+    faults += differs(record=(found, wanted(program, folder, "check", {**OF_CHECK, "read": True, "event": "ev"}, place, **ends)), moments=(moments, 2))
+    faults += differs(answer=(done, plain), status=(done[0], 1))
+    build(folder, {"D/ocfl": DIR, "old.log": done[1]})
+    words = ["--gather", "--dest", "D", "--tuple-size", "2", "--tuples", "1", "--ignore", "l", "-v", "-q"]
+    words += ["--progress", "always", "--interval", "7", "--expect", "old.log"]
+    done = answer(program, folder, "check", *words, "--event", "D/ocfl/ev", "s")
+    found, _, more = recorded(f"{folder}/D/ocfl/ev")
+    options = {**OF_CHECK, "gather": True, "dest": "D", "tuple-size": 2, "tuples": 1, "ignore": ["l"], "verbose": True, "quiet": True}
+    options |= {"progress": "always", "interval": 7, "expect": "old.log", "event": "D/ocfl/ev"}
+    faults += more + differs(options=(found["options"], options), status=((done[0], found["status"]), (1, 1)))
+    with open("/dev/full", "wb") as full:
+        command = [program, "check", "--event", "failed", "s"]
+        done = subprocess.run(command, cwd=folder, stdout=full, stderr=subprocess.PIPE, timeout=120)
+    found, moments, more = recorded(f"{folder}/failed")
+    told = {"number": 3, "text": "cannot write the output"}
+    faults += more + differs(fault=(found.get("fault"), told), status=((done.returncode, found["status"], moments), (3, 3, 2)))
+    return faults + differs(err=(done.stderr, b"pairtree2ocfl: fault 3: cannot write the output\n"))
+
+
+def of_a_check_refused(program, folder):
+    """A check's file is refused in the store, and where it or FILE.part stands; then nothing is told or made. One that can't be made is no check."""
+    build(folder, {"to_s": Link("s"), "stands": b"mine", "left.part": b"mine"})
+    faults, before = [], read_tree(folder)
+    for path in ("s/ev", "s/pairtree_root/ab/ev", "to_s/ev", "d/../s/ev"):
+        done = answer(program, folder, "check", "--event", path, "s")
+        faults += differs(**{path: (done, (2, b"", INSIDE))})
+    for path, what in (("stands", "stands"), ("left", "left.part")):
+        done = answer(program, folder, "check", "--event", path, "s")
+        faults += differs(**{path: (done, (2, b"", line(f"{STANDS}: {what}")))})
+    done = answer(program, folder, "check", "--event", "absent/ev", "s")
+    faults += differs(absent=(done, (3, b"", line(NO_FOLDER % "absent/ev"))), changed=(read_tree(folder), before))
+    done = answer(program, folder, "check", "--event", "ev", "none")
+    found, moments, more = recorded(f"{folder}/ev")
+    counted = {"lines": counts(TROUBLES, {"unreadable": 1}), "objects": 0, "files": 0, "bytes": 0, "status": 3, "source": {"given": "none"}}
+    told = {key: found.get(key) for key in counted}
+    return faults + more + differs(none=((done[0], done[2], moments), (3, b"", 2)), counted=(told, counted))
 
 
 def waiting(program, folder, *words):
@@ -329,6 +379,8 @@ CASES = [
     Alone("the event of every option", of_every_option),
     Alone("the event of a rehearsal", of_a_rehearsal),
     Alone("the event of an audit", of_an_audit),
+    Alone("the event of a check", of_a_check),
+    Alone("the events of checks that are refused", of_a_check_refused),
     Alone("the event of a killed run", of_a_killed_run),
     Alone("an event whose end can't be recorded", without_an_end),
     Alone("events whose file stands", that_stand),

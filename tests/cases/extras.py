@@ -1,5 +1,6 @@
 """Cases of `audit --extra`: what the root has and the store lacks is planted, and each line of it is told, and no other."""
 
+import hashlib
 import json
 import os
 import re
@@ -9,6 +10,7 @@ import sys
 
 from alone import Alone, differs
 from auditing import audit, fresh, migrate
+from inventories import NO_JSON, SPELLED
 from running import as_nobody, timeless
 from stores import ABC, DIR, FIFO, ONE, Link, build, object_files, place, read_tree, store, stored, text_of
 from tally import needs
@@ -124,6 +126,22 @@ PLANTED = {
     ),
 }
 
+PLANTED.update({f"an identifier with {name}": (with_id(place(text), b'{"id":"' + raw + b'"}'), [extra(text)]) for name, (raw, text) in SPELLED.items()})
+PLANTED.update({f"no JSON: {name}": (with_id(ABD, text), [stray(ABD)]) for name, text in NO_JSON.items()})
+PLANTED.update(
+    {
+        "a key that begins as the identifier's": (with_id(ABD, b'{"id":"abd","idx":"x","i":"y","ID":"z","\\u0069d2":"u","id\\n":"v"}'), [extra("abd")]),
+        "the last of many identifiers, each with other escapes": (
+            with_id(ABD, rb'{"id":"x","\u0069d":1,"\u0069\u0064":{"id":"y"},"i\u0064":"abd"}'),
+            [extra("abd")],
+        ),
+        "an identifier behind each kind of space": (with_id(ABD, b'\t\r\n {\t"id"\r:\n"abd" }\t\r\n '), [extra("abd")]),
+        "the greatest numbers": (with_id(ABD, b'{"id":"abd","of":[1.7976931348623157e308,-9223372036854775809,1e-999,-0,0e1,1E+2]}'), [extra("abd")]),
+        "a brace as deep as may be": (with_id(ABD, b'{"id":"abd","of":' + b'{"a":' * 126 + b"0" + b"}" * 126 + b"}"), [extra("abd")]),
+        "a brace that is too deep": (with_id(ABD, b'{"id":"abd","of":' + b'{"a":' * 127 + b"0" + b"}" * 127 + b"}"), [stray(ABD)]),
+    }
+)
+
 # What is planted where the store and the options are others: the store, what is planted behind the run, the options of both, those of the audit alone,
 # the lines, and whether the objects of the store are told as ever.
 OTHERS = {
@@ -141,6 +159,13 @@ OTHERS = {
     "a folder that is gathered": (store({"ab/d/f": b"1"}), {}, ("--gather",), (), []),
     "an ignored folder": (store(TWO), {}, (), ("--ignore", "d"), [extra("abd")]),
     "an ignored name": (ONE, {"ocfl/.DS_Store": b""}, ("--ignore", ".DS_Store"), (), [stray(".DS_Store")]),
+    "identifiers whose sites are as deep as may be, and deeper": (
+        store({"ab/" * 600 + "obj/f": b"1"}),
+        {**stored("ab" * 600 + "c", ABC), **stored("ab" * 601, ABC), **stored("ab" * 599 + "a", ABC)},
+        (),
+        (),
+        [extra("ab" * 600 + "c"), extra("ab" * 601), extra("ab" * 599 + "a")],
+    ),
     "--only": (ONE, {**stored("abd", ABC), **stored("xyz", ABC), "ocfl/a": b""}, (), ("--only", "ab"), [extra("abd"), stray("a")]),
     "--list": (ONE, {**stored("abd", ABC), **stored("xyz", ABC), "ocfl/a": b"", "ids": b"abc\nabd\n"}, (), ("--list", "{folder}/d/ids"), [extra("abd"), stray("a")]),
 }
@@ -363,20 +388,56 @@ def has_checks(program):
         return b"__asan_init" in file.read()
 
 
-def in_little_memory(program, folder):
-    """Of an inventory the identifier alone is kept, whatever else it holds: by one of 48 MB, whose values as a tree took 24 times as much, an audit
-    takes less than three times its length and 32 MB; less than 400 MB as the toolchain builds the program with checks."""
-    migrate(program, folder)
-    text = b'{"of":[' + b"0," * (24 << 20) + b'0],"id":"abd"}'
-    build(f"{folder}/d", with_id(ABD, text))
-    status, plain, _ = audit(program, folder)
+def peak_of(program, folder):
+    """What an audit with extras answers, and how many bytes of memory it took at most."""
     command = [os.path.realpath(program), "audit", "--extra", f"{folder}/s", f"{folder}/d"]
     done = subprocess.run([sys.executable, "-B", "-c", MEASURED, f"{folder}/peak", *command], capture_output=True, timeout=600)
     with open(f"{folder}/peak", encoding="utf-8") as file:
-        peak = int(file.read()) << 10
-    most = 400 << 20 if has_checks(program) else 3 * len(text) + (32 << 20)
-    found = status, done.returncode, done.stdout, done.stderr
-    return differs(whole=(found, (0, 1, with_extras(plain, [extra("abd")]), b"")), small=(peak if peak >= most else "small", "small"))
+        return (done.returncode, done.stdout, done.stderr), int(file.read()) << 10
+
+
+LONG = 64 << 20
+
+# Inventories of 64 MB, and the line of what is told of the object that each is of, whose place the line names. Each is made only where it is tried.
+HOSTILE = {
+    "numbers": lambda: (b'{"of":[' + b"0," * (LONG >> 1) + b'0],"id":"abd"}', extra("abd")),
+    "a string of escapes": lambda: (b'{"of":"' + b"\\u00e9" * (LONG // 6) + b'","id":"abd"}', extra("abd")),
+    "a key of escapes": lambda: (b'{"' + b"\\ud834\\udd1e" * (LONG // 12) + b'":0,"id":"abd"}', extra("abd")),
+    "many identifiers": lambda: (b"{" + b'"\\u0069d":"x",' * (LONG // 15) + b'"i\\u0064":"abd"}', extra("abd")),
+    "an identifier": lambda: (b'{"id":"' + b"a" * LONG + b'"}', stray(ABD)),
+    "an identifier at its place": lambda: (b'{"id":"' + b"a" * LONG + b'"}', extra("a" * LONG)),
+    "an identifier of escapes at its place": lambda: (b'{"id":"' + b"\\u0001" * (LONG // 6) + b'"}', extra("\x01" * (LONG // 6))),
+    "an identifier of quotes at its place": lambda: (b'{"id":"' + b'\\"' * (LONG >> 1) + b'"}', extra('"' * (LONG >> 1))),
+    "a string that doesn't end": lambda: (b'{"id":"abd","of":"' + b"a" * LONG, stray(ABD)),
+    "brackets": lambda: (b'{"id":"abd","of":' + b"[" * LONG, stray(ABD)),
+    "a number": lambda: (b'{"of":' + b"1" * LONG + b'e-99999999,"id":"abd"}', extra("abd")),
+    "spaces": lambda: (b" " * LONG + b'{"id":"abd"}', extra("abd")),
+}
+
+
+def brief(status, out, err):
+    """An answer whose log may be long."""
+    return status, len(out), hashlib.sha256(out).hexdigest(), err
+
+
+def in_little_memory(name):
+    """Of an inventory the identifier alone is kept, whatever else it holds, and its line is made where it stands: an audit takes no more than the
+    inventory's length and 16 MB beside what it takes of a small one. As the toolchain builds the program with checks it takes several times that."""
+
+    def case(program, folder):
+        text, entry = HOSTILE[name]()
+        migrate(program, folder)
+        plain = audit(program, folder)[1]
+        build(f"{folder}/d", with_id(ABD, b'{"id":"abd"}'))
+        small = peak_of(program, folder)[1]
+        shutil.rmtree(f"{folder}/d/ocfl/{ABD.split('/', maxsplit=1)[0]}")
+        build(f"{folder}/d", with_id(entry["to"], text))
+        answer, peak = peak_of(program, folder)
+        most = small + (6 if has_checks(program) else 1) * (len(text) + (16 << 20))
+        faults = differs(answer=(brief(*answer), brief(1, with_extras(plain, [entry]), b"")))
+        return faults + differs(memory=(peak if peak > most else "small", "small"))
+
+    return case
 
 
 CASES = [
@@ -391,5 +452,5 @@ CASES = [
     Alone("audit: extra, an inventory that can't be read", unreadable_file),
     Alone("audit: extra, names that aren't UTF-8", unnamed),
     Alone("audit: extra, what it asks of the store", looked_up),
-    Alone("audit: extra, an inventory in little memory", in_little_memory),
+    *(Alone(f"audit: extra, an inventory in little memory: {name}", in_little_memory(name)) for name in HOSTILE),
 ]

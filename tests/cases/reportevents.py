@@ -55,6 +55,22 @@ def of_events(program, folder):
     return faults + differs(single=((said, list(single.tables), single.headings, single.tiles, single.notes), ((0, ""), ["events"], ["Events: 1"], [], [])))
 
 
+def of_a_check(program, folder):
+    """The event of a check, which has no destination, has a row too; and beside that of a rehearsal the page still says that it was one."""
+    build(f"{folder}/s", {"pairtree_root/ab/d": DIR})
+    done = subprocess.run([program, "check", "--event", "check.json", "s"], cwd=folder, capture_output=True, timeout=120)
+    with open(f"{folder}/check.json", "rb") as file:
+        check = json.load(file)
+    words = "--event check.json --interval 10 --progress auto --share 1/1 --tuple-size 3 --tuples 3"
+    found, said = page(folder, "check.json")
+    row = ["check.json", "check", "s", "", words, check["begin"], check["end"], "1", "1 empty", "1", "0", ""]
+    faults = differs(status=(done.returncode, 1), said=(said, (0, "")), events=(found.table("events"), [row]))
+    recorded(program, folder, "rehearsal", "migrate", *MEANT, "--dry-run", "--ignore", "d")
+    found, said = page(folder, "check.json", "rehearsal.json", "rehearsal.log")
+    warned = found.texts["verdict"][0].split(":")[0]
+    return faults + differs(both=(said, (0, "")), warned=(warned, "This was a rehearsal, which carries nothing"))
+
+
 # What an event has otherwise than the least one, and its cells from the second on: what is unknown is empty.
 EVENTS = [
     ({}, ["run", "s", "d", "", "2024-05-01T12:00:00Z", "no end", "", "", "", "", ""]),
@@ -106,6 +122,7 @@ def no_events(program, folder):
 
 CASES = [
     Alone("the report of events", of_events),
+    Alone("the report of a check's event", of_a_check),
     Alone("what is unknown in the report's events", unknown_in_events),
     Alone("the report takes nothing else for an event", no_events),
 ]

@@ -1,4 +1,4 @@
-"""Cases of what is shown while a run or an audit goes on, and of the summary at its end.
+"""Cases of what is shown while a run, an audit or a check goes on, and of the summary at its end.
 """
 
 import contextlib
@@ -19,6 +19,7 @@ NUMBER = rb"\d\d?\d?(?:,\d\d\d)*"
 COUNTS = {
     "migrate": rb"%s done, %s present, %s skipped" % (NUMBER, NUMBER, NUMBER),
     "audit": rb"%s same, %s not the same, %s skipped" % (NUMBER, NUMBER, NUMBER),
+    "check": rb"(?:1 file or folder|%s files and folders)" % NUMBER,
 }
 SPENT = rb", %s, %s/s, %s/s, %s read, at [^\r\n]*" % (TIME, NUMBER, SIZE, SIZE)
 AHEAD = rb"(\d+) %%(?:, (%s) left)?, " % TIME
@@ -237,15 +238,58 @@ def expected_of_extras(program, folder):
     return faults
 
 
-def ahead(program, folder, command, log):
+def ahead(program, folder, command, log, places=("s", "d")):
     """What goes wrong where the share done is shown at each call of a command, which does what the log says."""
-    words = [program, *command, "--progress", "always", "--interval", "0", "--expect", log, "s", "d"]
+    words = [program, *command, "--progress", "always", "--interval", "0", "--expect", log, *places]
     done = subprocess.run(words, cwd=folder, capture_output=True, stdin=subprocess.DEVNULL, timeout=120)
     line = line_of(command[0], b"pairtree2ocfl: " + AHEAD)
     told = [line.fullmatch(text) for text in done.stderr.splitlines()[:-1]]
     shares = [int(line[1]) for line in told if line]
     faults = differs(status=(done.returncode, 0), lines=(len(told) - len(shares), 0), rises=(shares, sorted(shares)))
     return faults + differs(first=(shares[:1], [0]), last=(shares[-1:] >= [99], True), left=(all(line[2] for line in told if line and line[1] != b"0"), True))
+
+
+def checks(program, folder, *words):
+    """A check of the store of a test."""
+    return subprocess.run([program, "check", *words, "s"], cwd=folder, capture_output=True, stdin=subprocess.DEVNULL, timeout=120)
+
+
+def of_a_check(program, folder):
+    """A check shows the files and folders that it came to, by an earlier check's log the share done too, and then its summary; its log stays. The log of a
+    run has no end line of a check."""
+    many(folder, b"x" * 100)
+    plain = checks(program, folder)
+    build(folder, {"log": plain.stdout, "run": run(program, folder, "--dry-run").stdout})
+    faults = ahead(program, folder, ["check"], "log", ["s"]) + ahead(program, folder, ["check", "--read"], "log", ["s"])
+    said = b"pairtree2ocfl: 1,297 objects, 0 told, 1,297 files, %s read\n"
+    for words, read in ((["-v"], b"0 bytes"), (["--read", "--verbose"], b"129.6 kB"), (["--progress", "always"], b"0 bytes"), (["-vq"], None)):
+        done = checks(program, folder, *words)
+        wanted = b"" if read is None else said % read
+        faults += differs(**{" ".join(words): ((done.returncode, timeless(done.stderr)), (0, wanted))})
+        faults += differs(log=("--read" in words or done.stdout == plain.stdout, True))
+    each = checks(program, folder, "--read", "--progress", "always", "--interval", "0").stderr.splitlines()
+    right = [line_of("check", b"pairtree2ocfl: ").fullmatch(text) for text in each[:-1]]
+    faults += differs(lines=(len(right) > 1297, True), right=(all(right), True), silent=(plain.stderr, b""))
+    other = checks(program, folder, "--expect", "run")
+    return faults + differs(other=((other.returncode, other.stderr), (0, b"pairtree2ocfl: run: it has no end line of a log\n")))
+
+
+def summed_of_check(program, folder):
+    """Of a check what is told is counted by its kind, and, with a name that is ignored, how often that was left out."""
+    build(f"{folder}/s", {f"pairtree_root/{path}": content for path, content in MIXED.items()})
+    faults = []
+    told = b"pairtree2ocfl: 4 objects, %s, %d files, %s read\n"
+    kinds, others = b"6 told (root 1, empty 1, split 2, spelling 1, other 1)", b"5 told (empty 1, split 2, spelling 1, other 1)"
+    left = b"pairtree2ocfl: left out by their names: 1\n"
+    for words, said in (
+        (["-v"], told % (kinds, 8, b"0 bytes")),
+        (["-v", "--read"], told % (kinds, 8, b"1.5 kB")),
+        (["-v", "--ignore", "README"], told % (others, 7, b"0 bytes") + left),
+        (["-vq", "--ignore", "README"], left),
+    ):
+        done = checks(program, folder, *words)
+        faults += differs(**{" ".join(words): ((done.returncode, timeless(done.stderr)), (1, said))})
+    return faults
 
 
 def far_off(program, folder):
@@ -265,6 +309,7 @@ QUICK = [
     Alone("progress of a short run", short),
     Alone("the summary of a run", summed),
     Alone("the summary of an audit", summed_of_audit),
+    Alone("the summary of a check", summed_of_check),
 ]
 CASES = [
     *QUICK,
@@ -272,5 +317,6 @@ CASES = [
     Alone("progress elsewhere", seldom),
     Alone("progress by a rehearsal's log", expected),
     Alone("progress of an audit by a log", expected_of_audit),
+    Alone("progress of a check", of_a_check),
     Alone("progress of what takes long", far_off),
 ]

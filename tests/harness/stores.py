@@ -138,7 +138,7 @@ def text_of(value):
 
 def encoded(identifier):
     """The identifier as the last name of its place, shortened where it is long."""
-    name = "".join(chr(byte) if byte in PLAIN else f"%{byte:02x}" for byte in identifier.encode())
+    name = "".join(chr(byte) if byte in PLAIN else f"%{byte:02x}" for byte in identifier.encode()[:101])
     return name if len(name) <= 100 else f"{name[:100]}-{hashlib.sha256(identifier.encode()).hexdigest()}"
 
 
