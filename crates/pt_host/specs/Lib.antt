@@ -16,6 +16,7 @@ pub mod QuietStoreLaw
 pub mod ReadSteps
 pub mod RehearsalLaw
 pub mod Room
+pub mod Running
 pub mod Served
 pub mod StoreFailures
 pub mod Told

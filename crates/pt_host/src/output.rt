@@ -1,7 +1,7 @@
 //! The file of a machine's own output.
 //!
-//! A program is lent nothing of its own output by which that could be put onto the disk: so its file
-//! is opened once more, by the name that the system has for it.
+//! A program is lent nothing of its own output by which that could be put onto the disk: so its
+//! file is opened once more, by the name that the system has for it.
 ghost use Rattle.std.specs.Prelude.{Bool};
 ghost use Rattle.std.specs.declared.io.Error.{Error};
 ghost use Rattle.std.specs.declared.result.Result.{Result};

@@ -1,22 +1,22 @@
 //! A run over its devices, and what it came to.
 //!
-//! A run is one over the destination's folder, and a rehearsal one over a destination that at first
-//! tells what the folder holds, and at the end the tree that it plays (`run_or_rehearse`, `IsRun`).
-//! Its devices stay at the folders that they were made for (`RunsFrom`). After any answer a
-//! rehearsal leaves all that the system keeps of DEST (`LeavesKept`). Something is unsynced at the
-//! end only where syncing was wanted and a fault ended the run (`IsUnsyncedBy`). Over a store whose
-//! system tells where it fails the source failed only at what a run asks for (`FailsByAsking`). The
-//! log is blamed only where a piece of it couldn't be put (`LogFailsBy`).
+//! What a run over its devices comes to is `RunsOn`. A run is one over the destination's folder,
+//! and a rehearsal one over a destination that at first tells what the folder holds, and at the end
+//! the tree that it plays (`run_or_rehearse`, `IsRun`). Its devices stay at the folders that they
+//! were made for (`RunsFrom`). After any answer a rehearsal leaves all that the system keeps of
+//! DEST (`LeavesKept`). Something is unsynced at the end only where syncing was wanted and a fault
+//! ended the run (`IsUnsyncedBy`). Over a store whose system tells where it fails the source failed
+//! only at what a run asks for (`FailsByAsking`). The log is blamed only where a piece of it
+//! couldn't be put (`LogFailsBy`).
 ghost use Rattle.std.specs.Prelude.{◌≡◌, IfOk, OnOk};
 ghost use Rattle.pt_audit.specs.Auditing.{AreUnmetIn};
-ghost use Rattle.pt_folder.specs.HostDest.{folder_path as dest_path, kept_by};
-ghost use Rattle.pt_folder.specs.HostSource.{failing, folder_path as store_path};
-ghost use Rattle.pt_host.specs.Devices.{seen_without, told_at_rest};
-ghost use Rattle.pt_host.specs.Durable.{IsLogged, LogFailsBy};
+ghost use Rattle.pt_folder.specs.HostDest.{kept_by};
+ghost use Rattle.pt_host.specs.Devices.{told_at_rest};
 ghost use Rattle.pt_host.specs.Ends.{run_status};
 ghost use Rattle.pt_host.specs.Machine.{host_io_words};
-ghost use Rattle.pt_host.specs.Made.{IsRun, IsSameSource, IsUnsyncedBy, LeavesKept, RunsFrom};
-ghost use Rattle.pt_host.specs.Served.{IsServed, ServesTo};
+ghost use Rattle.pt_host.specs.Made.{IsRun, IsSameSource, IsUnsyncedBy, LeavesKept};
+ghost use Rattle.pt_host.specs.Running.{RunsOn};
+ghost use Rattle.pt_host.specs.Served.{IsServed};
 ghost use Rattle.pt_host.specs.Totals.{run_totals};
 ghost use Rattle.pt_host.specs.declared.options.AllowedLines.{AllowedLines};
 ghost use Rattle.pt_move.specs.Unmet.{report_of};
@@ -25,12 +25,12 @@ ghost use Rattle.pt_tree.specs.Source.{tree_in};
 
 use crate::account::Account;
 use crate::devices::RunDevices;
-use crate::durable_log::{DurableLog, SyncsOutput, Writes};
+use crate::durable_log::{SyncsOutput, Writes};
 use crate::folders::Folders;
 use crate::operation::Conclusion;
 use crate::status::{DONE, FAILED, INCOMPLETE};
 use crate::{AllowedLines, HostIo, RunOptions};
-use pt_folder::{HostDest, HostSource, System};
+use pt_folder::{HostDest, System};
 use pt_messages::{LastCalls, Reads, Tally, Terminals, Totals, Words};
 use pt_move::{Completion, Fault, Job, Report, migrate_observed};
 use pt_name::UnmetIdentifiers;
@@ -51,28 +51,8 @@ pub(crate) fn run_over<R, S: System, D: System, W: Writes, F: SyncsOutput<W> + D
 ) -> (HostIo<S, D, W>, Conclusion)
 where
     R: Reads + Clock + Eprint + AllocGlobal + Terminals,
-    ensures runs { RunsFrom (host_io_words S.forest S.failing D.kept W.contents) options
-        (record {
-          at = record {
-            store = store_path devices.entry.source;
-            folder = dest_path devices.entry.dest;
-            ignored = options.ignored;
-            synced = devices.entry.dest.synced;
-          };
-          states = seen_without options.ignored (states_of ⟦<HostSource<'static, S> as Source>⟧
-              ⟦<HostDest<'static, D> as Dest>⟧ ⟦<DurableLog<W, F> as Log>⟧
-              devices.entry.source devices.entry.dest devices.entry.log);
-          failing = failing devices.entry.source;
-          kept = kept_by devices.entry.dest;
-        })
-        (ServesTo options.rehearse devices.entry.dest result.0.folder)
-        result.0 result.1 }
-    ensures logged { devices.entry.log.failures ≡ 0
-        → IsLogged F.puts devices.entry.log.file devices.entry.log.writer
-        result.0.output result.1.status }
-    ensures log_fails { devices.entry.log.failures ≡ 0
-        → LogFailsBy W.writes F.puts devices.entry.log.file devices.entry.log.writer
-        result.0.output result.1.outcome.fault }
+    ensures { RunsOn (host_io_words S.forest S.failing D.kept W.contents) W.writes F.puts options
+        devices.entry result }
 {
     let tally = Tally::new();
     let RunDevices { source, dest, log } = devices;
