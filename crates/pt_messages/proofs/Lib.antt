@@ -1,4 +1,5 @@
 mod EventPuts
 mod FaultTexts
+mod Grouping
 mod PlainPut
 mod PutCounts

@@ -5,5 +5,6 @@ pub mod Expected
 pub mod FaultLines
 pub mod Fields
 pub mod Members
+pub mod Numbers
 pub mod Plain
 pub mod Reading
