@@ -1,12 +1,11 @@
 -- What standard error is told of how something ended: a fault, a refusal, why there is no event, and each identifier of a list that is unmet.
 use Rattle.std.specs.Prelude.{◌≡◌, ◌⊎◌, ◌++◌, ℕ, zero, suc, IfOk, List, [], ◌∷◌, Option, None, Some, Result, codes}
 use Rattle.std.specs.Result.{result_err}
-use Rattle.std.specs.Str.{chars}
 use Rattle.pt_guard.specs.declared.file.FileFault.TheVariants as place
 use Rattle.pt_guard.specs.declared.guard.GuardFault.{GuardFault}
 use Rattle.pt_guard.specs.declared.guard.GuardFault.TheVariants as guard
 use Rattle.pt_messages.specs.Counts.{HasTotals}
-use Rattle.pt_messages.specs.Escaped.{IsEscaped}
+use Rattle.pt_messages.specs.Escaped.{escaped}
 use Rattle.pt_messages.specs.FaultLines.{fault_line}
 use Rattle.pt_messages.specs.declared.counted.Totals.{Totals}
 use Rattle.pt_messages.specs.declared.event.Outcome.{Outcome}
@@ -53,7 +52,7 @@ unmet_line shown = codes "pairtree2ocfl: no object was met: " ++ shown ++ codes 
 
 -- a line is that of this identifier: it is shown escaped; or, where there is no memory for that, the line says so
 abbrev pub IsUnmetLine : List ℕ → List ℕ → Type 0
-IsUnmetLine id line = ((shown : List ℕ) × IsEscaped (chars id) shown × (line ≡ unmet_line shown))
+IsUnmetLine id line = (line ≡ unmet_line (escaped id))
     ⊎ (line ≡ unmet_line (codes "an identifier that there is no memory to show"))
 
 -- of calls that tell a text

@@ -1,3 +1,4 @@
+mod Escaping
 mod EventPuts
 mod FaultTexts
 mod Grouping
