@@ -1,3 +1,4 @@
+mod Cutting
 mod Escaping
 mod EventPuts
 mod FaultTexts

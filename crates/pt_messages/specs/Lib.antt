@@ -7,4 +7,5 @@ pub mod Fields
 pub mod Members
 pub mod Numbers
 pub mod Plain
+pub mod Progress
 pub mod Reading

@@ -11,8 +11,10 @@
 //! What it promises:
 //!
 //! - `Watch` is told of each call of a source (pt_tree, `Watched`), and can't touch it; so what is
-//!   proved of a run holds of a watched one. What it shows has no contract, but that each function
-//!   is safe and ends.
+//!   proved of a run holds of a watched one. What it shows is a text of what was seen
+//!   (`progress_text`, `over_text`, `summary_text`); when, and what was seen, has no contract.
+//! - `escape` shows a text so (`escaped`). `of_fault` explains a fault by this path and reason
+//!   (`IsOfFault`).
 //! - `line_of` gives the line of a fault, with its number and its own text (`fault_line`).
 //! - `Watch` and `CountedLog` have the fields that Fields.antt lists, and no other: nothing that
 //!   grows with a run.
@@ -34,6 +36,7 @@ mod fault_lines;
 mod members;
 mod numbers;
 pub mod prefix;
+mod progress;
 mod reads;
 pub mod reason;
 mod shown;
@@ -48,6 +51,6 @@ pub use members::Members;
 pub use reads::{Reads, ReadsFiles};
 pub use reason::{Explanation, FaultReason, LastCalls};
 pub use shown::escape;
-pub use tally::Tally;
+pub use tally::{Seen, Tally};
 pub use terminal::Terminals;
 pub use watch::{Progress, Watch, Watching, Words};

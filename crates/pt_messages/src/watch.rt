@@ -1,11 +1,12 @@
 //! What watches a source: as that is called, it shows on standard error how far the run, the audit
 //! or the check is.
 
+ghost use Rattle.std.specs.Prelude.{◌≡◌, IfOk, string_bytes};
 ghost use Rattle.pt_messages.specs.Fields.{IsOnlyWatch};
+ghost use Rattle.pt_messages.specs.Progress.{IsProgress, IsSummary};
 
 use crate::counted::LineCounts;
-use crate::numbers::{count_text, group_digits, size, time};
-use crate::shown::escape;
+use crate::progress::{Moment, over, summary};
 use crate::tally::Tally;
 use crate::terminal::{Terminals, columns};
 use pt_tree::{NamePath, Watcher};
@@ -138,10 +139,11 @@ impl<'a, R: Clock + Eprint + Terminals> Watch<'a, R> {
     }
 
     // What these lines of the log come to, and how long it took.
-    fn summary(&self, counts: &LineCounts, passed: u64) -> Result<String, AllocError> {
+    fn summary(&self, counts: &LineCounts, passed: u64) -> Result<String, AllocError>
+        ensures { IfOk result (λ text. IsSummary passed (string_bytes text)) }
+    {
         let lines = counts.summary(self.alloc, self.words)?;
-        let passed = time(self.alloc, passed)?;
-        format!(in self.alloc; "{lines}, {passed}")
+        summary(self.alloc, lines.as_str(), passed)
     }
 
     // Shows how far the run is, where it is time to.
@@ -159,84 +161,43 @@ impl<'a, R: Clock + Eprint + Terminals> Watch<'a, R> {
         };
         if !self.on_terminal {
             let _ = eprintln!(self.rt; "pairtree2ocfl: {line}");
-        } else if let Ok(line) = self.over(line.as_str()) {
+        } else if let Ok(line) = over(self.alloc, self.columns, line.as_str()) {
             let _ = eprint!(self.rt; "{line}");
         }
     }
 
-    // What writes a line over the one that a terminal shows: it wraps none meanwhile, and so cuts
-    // what is longer.
-    fn over(&self, line: &str) -> Result<String, AllocError> {
-        let room = match self.columns {
-            Some(columns) => columns.saturating_sub(1),
-            None => line.len(),
-        };
-        let mut text = String::from_str(self.alloc, "\r\x1b[?7l")?;
-        for c in line.chars().take(room) {
-            text.push(c)?;
+    // How far the run is after so many milliseconds, and how fast it was, on one line.
+    fn line(&self, passed: u64) -> Result<String, AllocError>
+        ensures { IfOk result (λ text. IsProgress self.now.words self.now.expected passed
+            (string_bytes text)) }
+    {
+        self.moment(passed).line(self.alloc, self.place())
+    }
+
+    // What is read just now, where that is text.
+    fn place(&self) -> &str {
+        match str::from_utf8(self.at.as_slice()) {
+            Ok(at) => at,
+            Err(_) => "",
         }
-        text.push_str("\x1b[K\x1b[?7h")?;
-        Ok(text)
     }
 
-    // How far the run is after so many milliseconds, and how fast it was, on one line, what matters
-    // most in front.
-    fn line(&self, passed: u64) -> Result<String, AllocError> {
-        let alloc = self.alloc;
-        let count = match self.words {
-            Words::Check => self.tally.met(),
-            _ => self.tally.lines(),
-        };
-        let ahead = match self.expected {
-            Some(expected) => ahead(alloc, count, expected, passed)?,
-            None => String::new(alloc),
-        };
-        let counted = match self.words {
-            Words::Run => self.counted("done", "present")?,
-            Words::Audit | Words::BothWays => self.counted("same", "not the same")?,
-            Words::Check => count_text(alloc, count, "file or folder", "files and folders")?,
-        };
-        let spent = self.rate_text(count, passed)?;
-        format!(in alloc; "{ahead}{counted}, {spent}")
+    // How far it is after so many milliseconds. No clause knows what a tally holds.
+    fn moment(&self, passed: u64) -> Moment
+        ensures { result ≡ record {
+          words = self.now.words;
+          expected = self.now.expected;
+          seen = result.seen;
+          passed = passed;
+        } }
+    {
+        Moment {
+            words: self.words,
+            expected: self.expected,
+            seen: self.tally.seen(),
+            passed,
+        }
     }
-
-    // The lines of each kind, of which the first two go by these words.
-    fn counted(&self, carried: &str, other: &str) -> Result<String, AllocError> {
-        let alloc = self.alloc;
-        let done = group_digits(alloc, self.tally.done())?;
-        let present = group_digits(alloc, self.tally.present())?;
-        let skipped = group_digits(alloc, self.tally.skipped())?;
-        format!(in alloc; "{done} {carried}, {present} {other}, {skipped} skipped")
-    }
-
-    // The time that passed, how many of what is counted and how many bytes a second, the bytes that
-    // were read, and what is read just now.
-    fn rate_text(&self, count: u64, passed: u64) -> Result<String, AllocError> {
-        let alloc = self.alloc;
-        let bytes = self.tally.bytes();
-        let read = size(alloc, bytes)?;
-        let speed = size(alloc, bytes.saturating_mul(1000) / passed.max(1))?;
-        let places = group_digits(alloc, count.saturating_mul(1000) / passed.max(1))?;
-        let passed = time(alloc, passed)?;
-        let at = match str::from_utf8(self.at.as_slice()) {
-            Ok(at) => escape(alloc, at)?,
-            Err(_) => String::new(alloc),
-        };
-        format!(in alloc; "{passed}, {places}/s, {speed}/s, {read} read, at {at}")
-    }
-}
-
-// The share that is done after so many of those that are expected, and the time that is left, by
-// the time that passed.
-fn ahead(alloc: Global, count: u64, expected: u64, passed: u64) -> Result<String, AllocError> {
-    let done = count.min(expected);
-    let percent = done.saturating_mul(100) / expected.max(1);
-    if done == 0 {
-        return format!(in alloc; "{percent} %, ");
-    }
-    let left = passed.saturating_mul(expected.saturating_sub(done)) / done;
-    let left = time(alloc, left)?;
-    format!(in alloc; "{percent} %, {left} left, ")
 }
 
 // The clock's milliseconds, or 0 where there is none.
