@@ -1,6 +1,7 @@
 mod Cutting
 mod Escaping
 mod EventPuts
+mod Explained
 mod FaultTexts
 mod Grouping
 mod PlainPut

@@ -9,3 +9,4 @@ pub mod Numbers
 pub mod Plain
 pub mod Progress
 pub mod Reading
+pub mod Reasons

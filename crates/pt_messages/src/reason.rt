@@ -1,7 +1,11 @@
 //! Why a run failed, in a line of its own: the path of the call that failed, and the system's text,
 //! or the program's where no call failed.
-ghost use Rattle.std.specs.Prelude.{OnOk};
+ghost use Rattle.std.specs.Option.{option_map};
+ghost use Rattle.std.specs.Prelude.{◌≡◌, IfOk, OnOk, string_bytes};
+ghost use Rattle.pt_folder.specs.HostSource.{failure_of};
 ghost use Rattle.pt_messages.specs.Members.{PutsWhy, members_of};
+ghost use Rattle.pt_messages.specs.Reasons.{Explains, IsAt, IsOfFailure, IsOfFault};
+ghost use Rattle.pt_messages.specs.Reasons.{IsOfNoStore, explanation_of, reason_line};
 
 use crate::members::Members;
 use crate::reads::Reads;
@@ -9,13 +13,16 @@ use crate::shown::escape;
 use pt_folder::{Failure, HostDest, HostSource, System};
 use pt_move::Fault;
 use std::alloc::{AllocError, AllocGlobal, Global};
+use std::io;
 use std::io::ErrorKind;
 use std::path::PathBuf;
-use std::{fmt, io};
 
 const ROOT: &str = "pairtree_root";
 
 const VERSION: &str = "pairtree_version0_1";
+
+// Of what stands where a run stages.
+const STAGING_STANDS: &str = "it stands there already";
 
 // Of what stands where a root, or one of its files, would be.
 const ANOTHER_ROOT: &str = "it is not what this program makes there with these tuples";
@@ -59,7 +66,9 @@ impl Explanation {
     }
 
     // What such an answer explains.
-    fn of(found: Result<Option<FaultReason>, AllocError>) -> Explanation {
+    fn of(found: Result<Option<FaultReason>, AllocError>) -> Explanation
+        ensures { result ≡ explanation_of found }
+    {
         match found {
             Ok(Some(reason)) => Explanation::Known(reason),
             Ok(None) => Explanation::Nothing,
@@ -104,14 +113,12 @@ impl<'a> LastCalls<'a> {
 
 impl FaultReason {
     // This reason at a path.
-    fn at(
-        alloc: Global,
-        path: &str,
-        reason: &impl fmt::Display,
-    ) -> Result<Option<FaultReason>, AllocError> {
+    fn at(alloc: Global, path: &str, reason: &str) -> Result<Option<FaultReason>, AllocError>
+        ensures { IfOk result (IsAt path.now reason.now) }
+    {
         Ok(Some(FaultReason {
             path: String::from_str(alloc, path)?,
-            reason: reason.to_string(alloc)?,
+            reason: String::from_str(alloc, reason)?,
         }))
     }
 
@@ -121,6 +128,15 @@ impl FaultReason {
             Some(rest) => !rest.trim_matches('/').contains('/'),
             None => false,
         }
+    }
+
+    // The line by which it is told, without LF.
+    fn line(&self, alloc: Global) -> Result<String, AllocError>
+        ensures { IfOk result (λ line. string_bytes line ≡ reason_line self.now) }
+    {
+        let path = escape(alloc, self.path.as_str())?;
+        let reason = &self.reason;
+        format!(in alloc; "pairtree2ocfl: {path}: {reason}")
     }
 
     // Puts it into a record of the fault.
@@ -140,37 +156,32 @@ pub fn of_fault<R: Reads + AllocGlobal, S: System>(
     source: &HostSource<'_, S>,
     store: &str,
     dest: LastCalls<'_>,
-) -> Explanation {
-    let alloc = rt.alloc();
-    Explanation::of(match fault {
-        Fault::Dest => of_failure(alloc, dest.failure),
-        Fault::StagingLeft => {
-            FaultReason::at(alloc, dest.looked_path, &"it stands there already")
-        }
-        Fault::Target => FaultReason::at(alloc, dest.looked_path, &ANOTHER_ROOT),
-        _ => of_source(rt, fault, source, store),
-    })
+) -> Explanation
+    ensures { Explains (IsOfFault fault.now store.now (failure_of source.now) dest.entry) result }
+{
+    Explanation::of(find(rt, fault, source, store, dest))
 }
 
-// Why a fault of the source ended a run or an audit, where that has a path.
-fn of_source<R: Reads + AllocGlobal, S: System>(
+// The same, where there is memory for it.
+fn find<R: Reads + AllocGlobal, S: System>(
     rt: &R,
     fault: &Fault,
     source: &HostSource<'_, S>,
     store: &str,
-) -> Result<Option<FaultReason>, AllocError> {
+    dest: LastCalls<'_>,
+) -> Result<Option<FaultReason>, AllocError>
+    ensures { IfOk result (IsOfFault fault.now store.now (failure_of source.now) dest.entry) }
+{
+    let alloc = rt.alloc();
     match fault {
-        Fault::Source => of_failure(rt.alloc(), source.last_failure()),
+        Fault::Source => of_failure(alloc, source.last_failure()),
+        Fault::Dest => of_failure(alloc, dest.failure),
         Fault::NotPairtree => of_no_store(rt, store),
-        Fault::Prefix => FaultReason::at(rt.alloc(), store, &NO_PREFIX),
-        Fault::Changed => FaultReason::at(rt.alloc(), source.opened_path(), &CHANGED),
-        Fault::Dest
-        | Fault::Log
-        | Fault::Memory
-        | Fault::StagingLeft
-        | Fault::Target
-        | Fault::Turns
-        | Fault::Ended => Ok(None),
+        Fault::Prefix => FaultReason::at(alloc, store, NO_PREFIX),
+        Fault::StagingLeft => FaultReason::at(alloc, dest.looked_path, STAGING_STANDS),
+        Fault::Target => FaultReason::at(alloc, dest.looked_path, ANOTHER_ROOT),
+        Fault::Changed => FaultReason::at(alloc, source.opened_path(), CHANGED),
+        Fault::Log | Fault::Memory | Fault::Turns | Fault::Ended => Ok(None),
     }
 }
 
@@ -178,14 +189,16 @@ fn of_source<R: Reads + AllocGlobal, S: System>(
 fn of_no_store<R: Reads + AllocGlobal>(
     rt: &R,
     store: &str,
-) -> Result<Option<FaultReason>, AllocError> {
+) -> Result<Option<FaultReason>, AllocError>
+    ensures { IfOk result (IsOfNoStore store.now) }
+{
     let alloc = rt.alloc();
     let Some(above) = store_above(rt, store) else {
-        return FaultReason::at(alloc, store, &NO_STORE);
+        return FaultReason::at(alloc, store, NO_STORE);
     };
     let above = escape(alloc, above.as_str())?;
     let reason = format!(in alloc; "it is the pairtree_root of a store: name {above}")?;
-    FaultReason::at(alloc, store, &reason)
+    FaultReason::at(alloc, store, reason.as_str())
 }
 
 // The folder of the store whose `pairtree_root` a path leads to, links resolved; none where it
@@ -201,18 +214,22 @@ fn store_above<R: Reads + AllocGlobal>(rt: &R, path: &str) -> Option<PathBuf> {
 }
 
 // Why a call failed.
-fn of_failure(alloc: Global, failure: Option<&Failure>) -> Result<Option<FaultReason>, AllocError> {
+fn of_failure(alloc: Global, failure: Option<&Failure>) -> Result<Option<FaultReason>, AllocError>
+    ensures { IfOk result (IsOfFailure (option_map (λ f. f.now) failure.entry)) }
+{
     match failure {
-        Some(failure) => FaultReason::at(alloc, failure.path(), &failure.cause()),
+        Some(failure) => {
+            let text = failure.cause().to_string(alloc)?;
+            FaultReason::at(alloc, failure.path(), text.as_str())
+        }
         None => Ok(None),
     }
 }
 
 /// Tells standard error why a run or an audit failed.
 pub fn tell<R: Eprint + AllocGlobal>(rt: &R, why: &FaultReason) {
-    if let Ok(path) = escape(rt.alloc(), why.path.as_str()) {
-        let reason = &why.reason;
-        let _ = eprintln!(rt; "pairtree2ocfl: {path}: {reason}");
+    if let Ok(line) = why.line(rt.alloc()) {
+        let _ = eprintln!(rt; "{line}");
     }
 }
 
